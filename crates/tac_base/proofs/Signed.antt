@@ -1,0 +1,73 @@
+-- Signed numerals, and the bytes that no numeral has.
+use Rattle.std.proofs.Common.{◌≡◌, ℕ, zero, suc, ◌^◌, ◌<◌, ◌≤◌, Bool, true, false, cond, eqb, List, [], ◌∷◌, Option, Some, None, length, refl, ap, arith, ℤ, pos, negsuc, decimal}
+use Rattle.std.specs.Prelude.{option_and_then, option_map, unsigned_abs}
+use Rattle.std.specs.Fmt.{signed_decimal}
+use Rattle.std.specs.Str.{all_ascii_digits}
+use Rattle.std.specs.List.{AllByRecursion}
+use Rattle.std.proofs.lemmas.Bool.{eqb-true}
+use Rattle.std.proofs.lemmas.Bool.Decides.{nat_tests}
+use Rattle.tac_base.specs.Numerals.{numeral, signed_numeral, opposite}
+use Rattle.tac_base.proofs.NumeralLaws.{both_true, numeral_is, numeral_again, short_value, decimal_digits, numeral_digits}
+
+opposite_is : (o : Option ℕ) (z : ℤ) → option_and_then opposite o ≡ Some z → (n : ℕ) × (o ≡ Some (suc n)) × (z ≡ negsuc n)
+opposite_is None z h = absurd cc
+opposite_is (Some zero) z h = absurd cc
+opposite_is (Some (suc n)) z h = (n, refl, cc)
+
+pub positive_is : (o : Option ℕ) (z : ℤ) → option_map pos o ≡ Some z → (n : ℕ) × (o ≡ Some n) × (z ≡ pos n)
+positive_is None z h = absurd cc
+positive_is (Some n) z h = (n, refl, cc)
+
+signed_by : (digits : ℕ) (first : ℕ) (rest : List ℕ) (z : ℤ) (b : Bool) → digits ≤ 18 → eqb first 45 ≡ b → cond b (option_and_then opposite (numeral digits rest)) (option_map pos (numeral digits (first ∷ rest))) ≡ Some z → first ∷ rest ≡ signed_decimal z
+signed_by digits first rest z true few e h =
+    let o = opposite_is (numeral digits rest) z h in
+    let small : suc o.0 < 10 ^ 18 = short_value digits rest (suc o.0) few o.1 in
+    let is = numeral_is digits rest (suc o.0) o.1 (omega (arith, small)) in
+    let minus : first ≡ 45 = eqb-true _ _ e in
+    rw (o.2, minus) (ap (λ (bytes : List ℕ). 45 ∷ bytes) is.0)
+signed_by digits first rest z false few e h =
+    let o = positive_is (numeral digits (first ∷ rest)) z h in
+    let small : o.0 < 10 ^ 18 = short_value digits (first ∷ rest) o.0 few o.1 in
+    let is = numeral_is digits (first ∷ rest) o.0 o.1 (omega (arith, small)) in
+    rw o.2 is.0
+
+-- a word that is a signed numeral is its number, printed
+pub signed_is : (digits : ℕ) (word : List ℕ) (z : ℤ) → digits ≤ 18 → signed_numeral digits word ≡ Some z → word ≡ signed_decimal z
+unfolding signed_numeral
+signed_is digits [] z few h = absurd cc
+signed_is digits (first ∷ rest) z few h = signed_by digits first rest z (eqb first 45) few refl h
+
+-- a numeral is a signed numeral
+pub signed_from : (digits : ℕ) (word : List ℕ) (n : ℕ) → numeral digits word ≡ Some n → signed_numeral digits word ≡ Some (pos n)
+unfolding signed_numeral
+signed_from digits [] n h = absurd (let d = numeral_digits digits [] n h in let some = d.some in omega arith)
+signed_from digits (first ∷ rest) n h =
+    let d = numeral_digits digits (first ∷ rest) n h in
+    let digit = (both_true _ (all_ascii_digits rest) d.digits).0 in
+    let test : eqb first 45 ≡ false = grind (arith, nat_tests, digit) in
+    rw (test, h) refl
+
+-- a number that is printed is a signed numeral again
+pub signed_again : (digits : ℕ) (z : ℤ) → unsigned_abs z < 2 ^ 64 → length (decimal (unsigned_abs z)) ≤ digits → signed_numeral digits (signed_decimal z) ≡ Some z
+unfolding signed_numeral
+signed_again digits (pos n) lt few = signed_from digits (decimal n) n (numeral_again digits n lt few)
+signed_again digits (negsuc n) lt few = rw (numeral_again digits (suc n) lt few) refl
+
+-- ---- bytes that a word lacks
+
+abbrev pub Lacks : ℕ → List ℕ → Type 0
+Lacks byte word = AllByRecursion (λ b. eqb b byte ≡ false) word
+
+pub digits_lack : (byte : ℕ) (word : List ℕ) → byte < 48 → all_ascii_digits word ≡ true → Lacks byte word
+digits_lack byte [] lt h = tt
+digits_lack byte (first ∷ rest) lt h =
+    let both = both_true _ (all_ascii_digits rest) h in
+    let digit = both.0 in
+    (grind (arith, nat_tests, digit), digits_lack byte rest lt both.1)
+
+pub decimal_lacks : (byte n : ℕ) → byte < 48 → n < 2 ^ 64 → Lacks byte (decimal n)
+decimal_lacks byte n lt small = digits_lack byte (decimal n) lt (decimal_digits n small)
+
+pub signed_lacks : (byte : ℕ) (z : ℤ) → byte < 45 → unsigned_abs z < 2 ^ 64 → Lacks byte (signed_decimal z)
+signed_lacks byte (pos n) lt small = decimal_lacks byte n (omega (arith, lt)) small
+signed_lacks byte (negsuc n) lt small = (grind (arith, nat_tests, lt), decimal_lacks byte (suc n) (omega (arith, lt)) small)
