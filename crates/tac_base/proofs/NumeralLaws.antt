@@ -1,6 +1,7 @@
 -- What a word that is a numeral is, and what a number is printed as.
-use Rattle.std.proofs.Common.{◌≡◌, ℕ, zero, suc, ◌+◌, ◌-◌, ◌*◌, ◌^◌, ◌<◌, ◌≤◌, Bool, true, false, cond, not, ◌&&◌, eqb, ltb, leb, List, [], ◌∷◌, Option, Some, None, length, get_or, drop, add-one, refl, sym, ap, ◌∙◌, arith, rules, ℤ, pos, decimal, inl, inr}
+use Rattle.std.proofs.Common.{◌≡◌, ℕ, zero, suc, ◌+◌, ◌-◌, ◌*◌, ◌^◌, ◌<◌, ◌≤◌, Bool, true, false, cond, not, ◌&&◌, eqb, ltb, leb, List, [], ◌∷◌, Option, Some, None, length, get_or, drop, add-one, refl, sym, ap, subst, ◌∙◌, arith, rules, ℤ, pos, decimal, inl, inr}
 use Rattle.std.proofs.lemmas.Bool.Decides.{nat_tests}
+use Rattle.std.proofs.lemmas.Option.{cond_some}
 use Rattle.std.proofs.lemmas.Str.Parse.{IsNumeralModel, numerals_by_fold, digits_value_short}
 use Rattle.std.proofs.lemmas.Fmt.{digits_decimal, digits_value-decimal, decimal-digits_value, decimal_nonempty, first_decimal, decimal_digit}
 use Rattle.std.specs.Str.{all_ascii_digits}
@@ -85,16 +86,11 @@ positive_none (Some n) h = let past : 2 ^ 64 ≤ n = is_past (2 ^ 64) n (sym h) 
 
 -- ---- what is read is what is printed
 
--- a test that gave a number
-chosen : (b : Bool) (m n : ℕ) → cond b (Some m) None ≡ Some n → (b ≡ true) × (m ≡ n)
-chosen true m n h = (refl, cc)
-chosen false m n h = absurd cc
-
 -- a word that is a numeral is its number, printed
 pub numeral_is : (digits : ℕ) (word : List ℕ) (n : ℕ) → numeral digits word ≡ Some n → n < 2 ^ 64 → (word ≡ decimal n) × (length word ≤ digits)
 unfolding numeral
 numeral_is digits word n h lt =
-    let c = chosen (is_numeral word && leb (length word) digits) (value_from 0 word) n h in
+    let c = cond_some (is_numeral word && leb (length word) digits) (value_from 0 word) n h in
     let both = both_true (is_numeral word) (leb (length word) digits) c.0 in
     let parts = numeral_parts word both.0 in
     let small : value_from 0 word < 2 ^ 64 = omega (arith, c.1, lt) in
@@ -122,15 +118,18 @@ numeral_again digits n lt few =
 
 -- ---- a numeral of few digits has a small number
 
-pub short_value : (digits : ℕ) (word : List ℕ) (n : ℕ) → digits ≤ 18 → numeral digits word ≡ Some n → n < 10 ^ 18
+-- a numeral of at most so many digits has a number of so many
+pub numeral_limit : (digits limit : ℕ) (word : List ℕ) (n : ℕ) → digits ≤ limit → numeral digits word ≡ Some n → n < 10 ^ limit
 unfolding numeral
-short_value digits word n few h =
-    let c = chosen (is_numeral word && leb (length word) digits) (value_from 0 word) n h in
+numeral_limit digits limit word n few h =
+    let c = cond_some (is_numeral word && leb (length word) digits) (value_from 0 word) n h in
     let both = both_true (is_numeral word) (leb (length word) digits) c.0 in
     let parts = numeral_parts word both.0 in
-    let long : length word ≤ 18 = omega (arith, leb-true _ _ both.1, few) in
-    let small : value_from 0 word < 10 ^ 18 = digits_value_short own word 18 parts.digits long in
-    omega (arith, small, c.1)
+    let long : length word ≤ limit = omega (arith, leb-true _ _ both.1, few) in
+    subst (λ (v : ℕ). v < 10 ^ limit) c.1 (digits_value_short own word limit parts.digits long)
+
+pub short_value : (digits : ℕ) (word : List ℕ) (n : ℕ) → digits ≤ 18 → numeral digits word ≡ Some n → n < 10 ^ 18
+short_value digits word n few h = numeral_limit digits 18 word n few h
 
 below_is : (limit : ℕ) (o : Option ℕ) → ((n : ℕ) → o ≡ Some n → n < limit) → below limit o ≡ o
 below_is limit None h = refl
@@ -169,5 +168,5 @@ decimal_digits n lt = digits_decimal own n lt
 pub numeral_digits : (digits : ℕ) (word : List ℕ) (n : ℕ) → numeral digits word ≡ Some n → IsSpelled word
 unfolding numeral
 numeral_digits digits word n h =
-    let c = chosen (is_numeral word && leb (length word) digits) (value_from 0 word) n h in
+    let c = cond_some (is_numeral word && leb (length word) digits) (value_from 0 word) n h in
     numeral_parts word (both_true (is_numeral word) (leb (length word) digits) c.0).0

@@ -7,7 +7,7 @@ use Rattle.std.specs.List.{AllByRecursion}
 use Rattle.std.proofs.lemmas.Bool.{eqb-true}
 use Rattle.std.proofs.lemmas.Bool.Decides.{nat_tests}
 use Rattle.tac_base.specs.Numerals.{numeral, signed_numeral, opposite}
-use Rattle.tac_base.proofs.NumeralLaws.{both_true, numeral_is, numeral_again, short_value, decimal_digits, numeral_digits}
+use Rattle.tac_base.proofs.NumeralLaws.{both_true, numeral_is, numeral_again, numeral_limit, decimal_digits, numeral_digits}
 
 opposite_is : (o : Option ℕ) (z : ℤ) → option_and_then opposite o ≡ Some z → (n : ℕ) × (o ≡ Some (suc n)) × (z ≡ negsuc n)
 opposite_is None z h = absurd cc
@@ -18,24 +18,48 @@ pub positive_is : (o : Option ℕ) (z : ℤ) → option_map pos o ≡ Some z →
 positive_is None z h = absurd cc
 positive_is (Some n) z h = (n, refl, cc)
 
-signed_by : (digits : ℕ) (first : ℕ) (rest : List ℕ) (z : ℤ) (b : Bool) → digits ≤ 18 → eqb first 45 ≡ b → cond b (option_and_then opposite (numeral digits rest)) (option_map pos (numeral digits (first ∷ rest))) ≡ Some z → first ∷ rest ≡ signed_decimal z
-signed_by digits first rest z true few e h =
+-- what a word with a number of at most so many digits is
+pub record IsSigned (digits : ℕ) (word : List ℕ) (z : ℤ) : Type 0 where
+  pub spelled : word ≡ signed_decimal z
+  pub short : length (decimal (unsigned_abs z)) ≤ digits
+
+signed_by : (digits : ℕ) (first : ℕ) (rest : List ℕ) (z : ℤ) (b : Bool) → unsigned_abs z < 2 ^ 64 → eqb first 45 ≡ b → cond b (option_and_then opposite (numeral digits rest)) (option_map pos (numeral digits (first ∷ rest))) ≡ Some z → IsSigned digits (first ∷ rest) z
+signed_by digits first rest z true small e h =
     let o = opposite_is (numeral digits rest) z h in
-    let small : suc o.0 < 10 ^ 18 = short_value digits rest (suc o.0) few o.1 in
-    let is = numeral_is digits rest (suc o.0) o.1 (omega (arith, small)) in
+    let size : unsigned_abs z ≡ suc o.0 = ap unsigned_abs o.2 in
+    let is = numeral_is digits rest (suc o.0) o.1 (omega (arith, small, size)) in
     let minus : first ≡ 45 = eqb-true _ _ e in
-    rw (o.2, minus) (ap (λ (bytes : List ℕ). 45 ∷ bytes) is.0)
-signed_by digits first rest z false few e h =
+    record {
+      spelled = rw (o.2, minus) (ap (λ (bytes : List ℕ). 45 ∷ bytes) is.0);
+      short = rw (size, ← is.0) is.1;
+    }
+signed_by digits first rest z false small e h =
     let o = positive_is (numeral digits (first ∷ rest)) z h in
-    let small : o.0 < 10 ^ 18 = short_value digits (first ∷ rest) o.0 few o.1 in
-    let is = numeral_is digits (first ∷ rest) o.0 o.1 (omega (arith, small)) in
-    rw o.2 is.0
+    let size : unsigned_abs z ≡ o.0 = ap unsigned_abs o.2 in
+    let is = numeral_is digits (first ∷ rest) o.0 o.1 (omega (arith, small, size)) in
+    record {
+      spelled = rw o.2 is.0;
+      short = rw (size, ← is.0) is.1;
+    }
 
 -- a word that is a signed numeral is its number, printed
-pub signed_is : (digits : ℕ) (word : List ℕ) (z : ℤ) → digits ≤ 18 → signed_numeral digits word ≡ Some z → word ≡ signed_decimal z
+pub signed_spelled : (digits : ℕ) (word : List ℕ) (z : ℤ) → unsigned_abs z < 2 ^ 64 → signed_numeral digits word ≡ Some z → IsSigned digits word z
 unfolding signed_numeral
-signed_is digits [] z few h = absurd cc
-signed_is digits (first ∷ rest) z few h = signed_by digits first rest z (eqb first 45) few refl h
+signed_spelled digits [] z small h = absurd cc
+signed_spelled digits (first ∷ rest) z small h = signed_by digits first rest z (eqb first 45) small refl h
+
+limit_by : (digits limit : ℕ) (first : ℕ) (rest : List ℕ) (z : ℤ) (b : Bool) → digits ≤ limit → cond b (option_and_then opposite (numeral digits rest)) (option_map pos (numeral digits (first ∷ rest))) ≡ Some z → unsigned_abs z < 10 ^ limit
+limit_by digits limit first rest z true few h = let o = opposite_is (numeral digits rest) z h in rw o.2 (numeral_limit digits limit rest (suc o.0) few o.1)
+limit_by digits limit first rest z false few h = let o = positive_is (numeral digits (first ∷ rest)) z h in rw o.2 (numeral_limit digits limit (first ∷ rest) o.0 few o.1)
+
+-- a signed numeral of at most so many digits has a number of so many
+pub signed_limit : (digits limit : ℕ) (word : List ℕ) (z : ℤ) → digits ≤ limit → signed_numeral digits word ≡ Some z → unsigned_abs z < 10 ^ limit
+unfolding signed_numeral
+signed_limit digits limit [] z few h = absurd cc
+signed_limit digits limit (first ∷ rest) z few h = limit_by digits limit first rest z (eqb first 45) few h
+
+pub signed_is : (digits : ℕ) (word : List ℕ) (z : ℤ) → digits ≤ 18 → signed_numeral digits word ≡ Some z → word ≡ signed_decimal z
+signed_is digits word z few h = let small : unsigned_abs z < 10 ^ 18 = signed_limit digits 18 word z few h in (signed_spelled digits word z (omega (arith, small)) h).spelled
 
 -- a numeral is a signed numeral
 pub signed_from : (digits : ℕ) (word : List ℕ) (n : ℕ) → numeral digits word ≡ Some n → signed_numeral digits word ≡ Some (pos n)

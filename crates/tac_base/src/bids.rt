@@ -1,25 +1,27 @@
-ghost use Rattle.std.specs.Prelude.{◌≡◌, ℕ, ◌+◌, ◌<◌, ◌≤◌, ◌≢◌, ◌↔◌, List, [], Option, Some, None, IsOk, IfOk, IfErr, length, All};
-ghost use Rattle.tac_base.specs.Bids.{fault_of, left_fault, total_size, point_fault, size_of, buys_of};
+ghost use Rattle.std.specs.Prelude.{◌≡◌, ℕ, ◌+◌, ◌<◌, ◌≤◌, ◌≢◌, ◌↔◌, List, [], ◌∷◌, ◌++◌, pos, Option, Some, None, IsOk, IfOk, IfErr, IfNone, unsigned_abs, OnOk, OnErr, length, All};
+ghost use Rattle.tac_base.specs.Bids.{fault_of, left_fault, total_size, point_at, point_fault, size_of, buys_of};
 
 use arrayvec::ArrayVec;
 use std::marker::Model;
 
-/// So many units at a price: positive units buy, negative units sell.
+/// So many units at a price each.
 #[derive(Clone, Copy, Debug, Default, PartialEq, Eq)]
 pub struct Point {
+    /// Positive units are bought, negative ones sold.
     pub units: i8,
+    /// The most that a unit may cost, or the least that it must bring, in dollars.
     pub price: u16,
 }
 
 impl Point {
-    /// Whether the point buys.
+    /// Whether the point buys; units of 0 count as buying.
     pub fn buys(&self) -> bool
         ensures { result ≡ buys_of self.now.units }
     {
         self.units >= 0
     }
 
-    /// How many units the point buys or sells.
+    /// How many units the point buys or sells, at most 128.
     pub fn size(&self) -> u8
         ensures value { result ≡ size_of self.now }
         ensures bound { result ≤ 128 }
@@ -28,49 +30,119 @@ impl Point {
     }
 }
 
-/// Why a list of points is no bid.
+/// Why a list of points is no bid. The limits are our own.
 #[derive(Clone, Copy, Debug, PartialEq, Eq)]
 pub enum BidFault {
+    /// The text is no list of points, or the list is empty.
     Syntax,
+    /// There is a 17th point.
     TooManyPoints,
+    /// The units, buys and sells counted without sign, pass 16.
     TooManyUnits,
+    /// A price is outside 1..10000 dollars.
     Price,
+    /// A point has no units.
     ZeroUnits,
 }
 
-/// What is wrong with a point, after `count` points with `used` units.
-fn fault_at(count: usize, used: u8, point: &Point) -> Option<BidFault>
+/// What is wrong with the next point, after `count` points with `used` units. The order of the tests is our own.
+fn fault_at(count: usize, used: u8, size: u64, price: u64) -> Option<BidFault>
     requires { used ≤ 16 }
-    ensures { result ≡ point_fault count used point.now }
+    ensures { result ≡ point_fault count used (point_at (pos size) price) }
 {
-    let size = point.size();
     if count == 16 {
         Some(BidFault::TooManyPoints)
     } else if size == 0 {
         Some(BidFault::ZeroUnits)
-    } else if point.price < 1 {
+    } else if price < 1 {
         Some(BidFault::Price)
-    } else if 10000 < point.price {
+    } else if 10000 < price {
         Some(BidFault::Price)
-    } else if 16 < used + size {
+    } else if 16 < size || 16 < u64::from(used) + size {
         Some(BidFault::TooManyUnits)
     } else {
         None
     }
 }
 
-/// The first fault of the points, tested from the left.
-fn first_of(list: &[Point]) -> Option<BidFault>
-    ensures { result ≡ left_fault list.now }
-{
-    let mut used = 0;
-    for (count, point) in list.iter().enumerate() {
-        if let Some(fault) = fault_at(count, used, point) {
-            return Some(fault);
+/// The points of a bid so far, within the limits of a bid: at most 16 of them, with at most 16 units.
+#[derive(Debug, Drop)]
+pub struct BidDraft {
+    list: ArrayVec<Point, 16>,
+    used: u8,
+}
+
+impl Model for BidDraft {
+    ghost use Rattle.std.specs.Prelude.{◌≡◌, List, None};
+    ghost use Rattle.tac_base.specs.declared.bids.Point.{Point};
+    ghost use Rattle.tac_base.specs.Bids.{left_fault, total_size};
+
+    ghost Value = { List Point };
+
+    ghost view = { λ d. d.list.items };
+
+    ghost invariant = { λ d. (left_fault d.list.items ≡ None) × (d.used ≡ total_size d.list.items) };
+}
+
+impl BidDraft {
+    /// No point yet.
+    pub fn new() -> Self
+        ensures { result ≡ [] }
+    {
+        BidDraft {
+            list: ArrayVec::new(),
+            used: 0,
         }
-        used += point.size();
     }
-    None
+
+    /// Adds a point of any units and price, where it brings no fault. After a fault the draft is as before.
+    #[tactic(auto, using(crate::proofs::Faults::list_units))]
+    pub fn push(&mut self, units: i64, price: u64) -> Result<(), BidFault>
+        ensures variant { IsOk result ↔ (left_fault (self.old ++ point_at units price ∷ []) ≡ None) }
+        ensures fault { IfErr result (λ fault. left_fault (self.old ++ point_at units price ∷ []) ≡ Some fault) }
+        ensures ok { OnOk result (self.new ≡ self.old ++ point_at units price ∷ []) }
+        ensures err { OnErr result (self.new ≡ self.old) }
+    {
+        if let Some(fault) = self.fault_with(units, price) {
+            return Err(fault);
+        }
+        self.list.push(Point {
+            units: units as i8,
+            price: price as u16,
+        });
+        self.used += units.unsigned_abs() as u8;
+        Ok(())
+    }
+
+    /// Adds a point as `push` does.
+    fn push_point(&mut self, point: &Point) -> Result<(), BidFault>
+        ensures variant { IsOk result ↔ (left_fault (self.old ++ point.now ∷ []) ≡ None) }
+        ensures fault { IfErr result (λ fault. left_fault (self.old ++ point.now ∷ []) ≡ Some fault) }
+        ensures ok { OnOk result (self.new ≡ self.old ++ point.now ∷ []) }
+    {
+        self.push(i64::from(point.units), u64::from(point.price))
+    }
+
+    /// What would be wrong with the points after one more.
+    #[tactic(auto, using(crate::proofs::Faults::list_units))]
+    fn fault_with(&self, units: i64, price: u64) -> Option<BidFault>
+        ensures value { result ≡ left_fault (self.now ++ point_at units price ∷ []) }
+        ensures limits { IfNone result ((length self.now < 16) × (unsigned_abs units ≤ 16) × (price ≤ 10000)) }
+    {
+        fault_at(self.list.len(), self.used, units.unsigned_abs(), price)
+    }
+
+    /// The bid of these points: a bid has at least one.
+    pub fn finish(self) -> Result<Points, BidFault>
+        ensures variant { IsOk result ↔ (fault_of self ≡ None) }
+        ensures value { IfOk result (λ points. points ≡ self) }
+        ensures fault { IfErr result (λ fault. fault_of self ≡ Some fault) }
+    {
+        if self.list.is_empty() {
+            return Err(BidFault::Syntax);
+        }
+        Ok(Points { list: self.list })
+    }
 }
 
 /// The points, where there are at most 16.
@@ -85,7 +157,7 @@ pub(crate) fn copied(list: &[Point]) -> ArrayVec<Point, 16>
     kept
 }
 
-/// The points of a bid: 1 to 16 of them within the limits.
+/// The points of a bid: 1 to 16 of them, each with units and a price of 1..10000 dollars, and at most 16 units in all.
 #[derive(Debug, Drop)]
 pub struct Points {
     list: ArrayVec<Point, 16>,
@@ -104,21 +176,21 @@ impl Model for Points {
 }
 
 impl Points {
-    /// Refused by the first fault of the list.
+    /// The bid of a list, which is refused by the first fault from the left; an empty list is refused as `Syntax`.
+    #[tactic(auto, using(crate::proofs::Faults::fault_found))]
     pub fn new(list: &[Point]) -> Result<Self, BidFault>
         ensures variant { IsOk result ↔ (fault_of list.now ≡ None) }
         ensures value { IfOk result (λ points. points ≡ list.now) }
         ensures fault { IfErr result (λ fault. fault_of list.now ≡ Some fault) }
     {
-        if list.is_empty() {
-            return Err(BidFault::Syntax);
+        let mut draft = BidDraft::new();
+        for point in list {
+            draft.push_point(point)?;
         }
-        match first_of(list) {
-            Some(fault) => Err(fault),
-            None => Ok(Points { list: copied(list) }),
-        }
+        draft.finish()
     }
 
+    /// The points in the order of the bid.
     #[tactic(auto, using(crate::proofs::Faults::bid_points, crate::proofs::Faults::bid_units, crate::proofs::Faults::bid_prices, crate::proofs::Faults::bid_sizes))]
     pub fn as_slice(&self) -> &[Point]
         ensures value { result.now ≡ self.now }
@@ -131,7 +203,7 @@ impl Points {
         self.list.as_slice()
     }
 
-    /// The same points.
+    /// The same bid again.
     #[tactic(auto, using(crate::proofs::Faults::bid_points, crate::proofs::Faults::bid_prices))]
     pub fn copy(&self) -> Self
         ensures value { result ≡ self.now }
@@ -143,7 +215,7 @@ impl Points {
     }
 }
 
-/// The standing points of an agent: at most 16 within the limits.
+/// The standing points of an agent: none, or points within the limits of a bid.
 #[derive(Debug, Drop)]
 pub struct Left {
     list: ArrayVec<Point, 16>,
@@ -171,7 +243,7 @@ impl Left {
         }
     }
 
-    /// The points, which are within the limits.
+    /// The points of a list within the limits.
     #[tactic(auto, using(crate::proofs::Faults::list_points))]
     pub fn new(list: &[Point]) -> Self
         requires { left_fault list.now ≡ None }
@@ -180,9 +252,12 @@ impl Left {
         Left { list: copied(list) }
     }
 
+    /// The points in the order of the bid.
+    #[tactic(auto, using(crate::proofs::Faults::list_points))]
     pub fn as_slice(&self) -> &[Point]
         ensures value { result.now ≡ self.now }
         ensures within { left_fault self.now ≡ None }
+        ensures few { length self.now ≤ 16 }
     {
         self.list.as_slice()
     }

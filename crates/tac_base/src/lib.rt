@@ -1,4 +1,5 @@
-//! Numbers, bids, trades, calls and replies of the auctions, clients, and the numerals of every text.
+//! The words that every part of the game speaks in: the numbers of agents, goods and ticks, bids, trades, calls and
+//! replies of the auctions, clients, short texts and numerals. Each value keeps its range, and no call takes memory.
 #![tactic(auto)]
 
 mod bids;
@@ -6,9 +7,11 @@ mod calls;
 mod clients;
 mod numbers;
 mod numerals;
+#[cfg(test)]
+mod tests;
 mod text;
 
-pub use bids::{BidFault, Left, Point, Points};
+pub use bids::{BidDraft, BidFault, Left, Point, Points};
 pub use calls::{Board, Call, Entry, Fills, Nets, Reply, Trade};
 pub use clients::Client;
 pub use numbers::{Agent, Caller, Good, Kind, OutOfRange, Party, Tick};

@@ -3,13 +3,10 @@ use Rattle.std.proofs.Common.{◌≡◌, ℕ, suc, ◌+◌, ◌≤◌, ◌-◌, 
 use Rattle.std.specs.Prelude.{◌==◌}
 use Rattle.std.specs.List.{slice_split, position_or_len, position}
 use Rattle.std.proofs.lemmas.Bool.{ltb-true, ltb-false}
+use Rattle.std.proofs.lemmas.Option.{cond_some}
 use Rattle.std.proofs.lemmas.List.{take_rest}
 use Rattle.std.proofs.lemmas.List.Splits.{slice_split_first}
 use Rattle.text_forms.specs.Words.{parts_of}
-
-chosen : (b : Bool) (m n : ℕ) → cond b (Some m) None ≡ Some n → (b ≡ true) × (m ≡ n)
-chosen true m n h = (refl, cc)
-chosen false m n h = absurd cc
 
 not_chosen : (b : Bool) (m : ℕ) → cond b (Some m) None ≡ None → b ≡ false
 not_chosen true m h = absurd cc
@@ -17,7 +14,7 @@ not_chosen false m h = refl
 
 split_found : (p : ℕ → Bool) (xs : List ℕ) (i : ℕ) → position p xs ≡ Some i → slice_split p xs ≡ take i xs ∷ slice_split p (drop (i + 1) xs)
 split_found p xs i h =
-    let c = chosen (ltb (position_or_len p xs) (length xs)) (position_or_len p xs) i h in
+    let c = cond_some (ltb (position_or_len p xs) (length xs)) (position_or_len p xs) i h in
     subst (λ (k : ℕ). slice_split p xs ≡ take k xs ∷ slice_split p (drop (k + 1) xs)) c.1 (slice_split_first p xs 0 (ltb-true _ _ c.0))
 
 -- where the first passes no test, and no other does

@@ -1,0 +1,20 @@
+-- What clients want.
+use Rattle.std.specs.Prelude.{◌≡◌, ℕ, ◌<◌, ◌≤◌, List, length, All}
+
+-- the days, the hotel premium and the values of the three ticket types, in dollars
+pub record Preferences : Type 0 where
+  pub arrive : ℕ
+  pub depart : ℕ
+  pub premium : ℕ
+  pub values : List ℕ
+
+-- preferences that lie in the ranges of the game
+pub record IsClient (wants : Preferences) : Type 0 where
+  pub arrives_first : 1 ≤ wants.arrive
+  pub arrives_last : wants.arrive ≤ 4
+  pub departs_later : wants.arrive < wants.depart
+  pub departs_last : wants.depart ≤ 5
+  pub premium_low : 50 ≤ wants.premium
+  pub premium_high : wants.premium ≤ 150
+  pub three : length wants.values ≡ 3
+  pub values_high : All (λ value. value ≤ 200) wants.values
