@@ -1,0 +1,4 @@
+pub mod Fronts
+pub mod Laws
+pub mod PrintedPoints
+pub mod Worked

@@ -1,0 +1,54 @@
+-- How a bid string is read.
+use Rattle.std.specs.Prelude.{ℕ, ◌-◌, ◌==◌, ◌&&◌, nat_le, if◌then◌else◌, List, [], ◌∷◌, ℤ, Option, Some, None, Result, Ok, Err, length, take, drop, slice_index, option_map}
+use Rattle.tac_base.specs.declared.bids.Point.{Point}
+use Rattle.tac_base.specs.declared.bids.BidFault.{BidFault}
+use Rattle.tac_base.specs.declared.bids.BidFault.TheVariants.{Syntax}
+use Rattle.tac_base.specs.Bids.{fault_of}
+use Rattle.tac_base.specs.Numerals.{numeral, signed_numeral}
+use Rattle.text_forms.specs.Words.{words_of}
+
+-- the bytes of a list without the last
+abbrev pub front : List ℕ → List ℕ
+front bytes = take (length bytes - 1) bytes
+
+abbrev pub last : List ℕ → ℕ
+last bytes = slice_index bytes (length bytes - 1)
+
+-- the point of these units and this price
+abbrev pub paired : Option ℤ → Option ℕ → Option Point
+paired None price = None
+paired (Some units) None = None
+paired (Some units) (Some price) = Some (record { units = units; price = price })
+
+-- a point is two words: `(` and its units, its price and `)`
+unfoldable pub point_of : List ℕ → List ℕ → Option Point
+point_of left right = if slice_index left 0 == 40 && last right == 41 then paired (signed_numeral 5 (drop 1 left)) (numeral 5 (front right)) else None
+
+-- a point before others
+abbrev pub followed_by : Option Point → Option (List Point) → Option (List Point)
+followed_by None others = None
+followed_by (Some point) others = option_map (λ points. point ∷ points) others
+
+-- the points of so many words
+abbrev pub points_from : List (List ℕ) → Option (List Point)
+points_from [] = Some []
+points_from (left ∷ []) = None
+points_from (left ∷ right ∷ words) = followed_by (point_of left right) (points_from words)
+
+-- the points of a text: `(`, the points parted by single spaces, `)`
+unfoldable pub points_of : List ℕ → Option (List Point)
+points_of text = if nat_le 2 (length text) && (slice_index text 0 == 40 && last text == 41) then points_from (words_of (take (length text - 2) (drop 1 text))) else None
+
+-- a list of points, or what is wrong with it
+abbrev pub verdict : List Point → Option BidFault → Result (List Point) BidFault
+verdict points None = Ok points
+verdict points (Some fault) = Err fault
+
+abbrev pub judged : Option (List Point) → Result (List Point) BidFault
+judged None = Err Syntax
+judged (Some points) = verdict points (fault_of points)
+
+-- what is wrong with points after a point with a fault
+abbrev pub refusal : BidFault → Option (List Point) → BidFault
+refusal fault None = Syntax
+refusal fault (Some points) = fault

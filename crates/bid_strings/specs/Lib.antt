@@ -1,0 +1,3 @@
+pub mod BidForm
+pub mod Spelling
+pub use Rattle.tac_base.specs.Bids
