@@ -1,0 +1,32 @@
+-- The ask of a hotel, which by the game description is the price that all winning units pay, and its published price. That a
+-- closing publishes too, and that quotes may be live, are our own rules.
+use Rattle.std.specs.Prelude.{ℕ, max, Bool, true, false, ◌&&◌, nat_le, if◌then◌else◌, List, [], ◌∷◌, map, filter, fold, count_by}
+use Rattle.tac_base.specs.declared.calls.Call.{Call}
+use Rattle.tac_base.specs.declared.calls.Call.TheVariants.{Publish, Close}
+use Rattle.auction_rules.specs.declared.units.BidUnit.{BidUnit}
+use Rattle.auction_rules.specs.Setup.{HotelRules}
+use Rattle.auction_rules.specs.History.{Entry, is_admission, is_bid}
+use Rattle.auction_rules.specs.Standing.{stand}
+
+-- how many of the units have the price or more
+abbrev pub units_at : List BidUnit → ℕ → ℕ
+units_at units price = count_by (λ u. nat_le price u.price) units
+
+-- the greatest price among the units that at least as many of them as there are rooms have or exceed; 0 where there are fewer units
+abbrev pub ask : ℕ → List BidUnit → ℕ
+ask rooms units = fold max 0 (map (λ u. u.price) (filter (λ u. nat_le rooms (units_at units u.price)) units))
+
+-- whether a call publishes the ask of the units that it finds
+abbrev pub publishes : Call → Bool
+publishes Publish = true
+publishes Close = true
+publishes call = false
+
+-- the published price: the ask at the last admitted `Publish` or `Close`; where quotes are live, an admitted `Bid` publishes
+-- too, the ask of the units that stand with it
+abbrev pub published : ℕ → Bool → List Entry → ℕ
+published rooms live [] = 0
+published rooms live (e ∷ past) =
+    if is_admission e.reply && publishes e.call then ask rooms (stand (HotelRules rooms live) past)
+    else if is_admission e.reply && (is_bid e.call && live) then ask rooms (stand (HotelRules rooms live) (e ∷ past))
+    else published rooms live past

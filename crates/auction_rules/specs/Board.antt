@@ -1,0 +1,37 @@
+-- What is shown of an auction.
+use Rattle.std.specs.Prelude.{ℕ, max, min, not, List, [], ◌∷◌, length, map, filter, fold}
+use Rattle.tac_base.specs.declared.calls.Board.{Board}
+use Rattle.auction_rules.specs.declared.units.BidUnit.{BidUnit}
+use Rattle.auction_rules.specs.Setup.{Rules, FlightRules, HotelRules, TicketRules}
+use Rattle.auction_rules.specs.History.{Entry, is_closed}
+use Rattle.auction_rules.specs.FlightRule.{price}
+use Rattle.auction_rules.specs.Standing.{stand}
+use Rattle.auction_rules.specs.Ask.{published}
+
+-- the highest price of a buying unit, 0 where there is none
+abbrev pub highest_buy : List BidUnit → ℕ
+highest_buy units = fold max 0 (map (λ u. u.price) (filter (λ u. u.buys) units))
+
+-- the least of the numbers, 0 where there is none
+abbrev pub lowest : List ℕ → ℕ
+lowest [] = 0
+lowest (n ∷ ns) = fold min n ns
+
+-- the lowest price of a selling unit, 0 where there is none
+abbrev pub lowest_sell : List BidUnit → ℕ
+lowest_sell units = lowest (map (λ u. u.price) (filter (λ u. not u.buys) units))
+
+-- the bid that is shown
+abbrev pub shown_bid : Rules → List Entry → ℕ
+shown_bid TicketRules past = highest_buy (stand TicketRules past)
+shown_bid rules past = 0
+
+-- the ask that is shown
+abbrev pub shown_ask : Rules → List Entry → ℕ
+shown_ask (FlightRules first bound) past = price first bound past
+shown_ask (HotelRules rooms live) past = published rooms live past
+shown_ask TicketRules past = lowest_sell (stand TicketRules past)
+
+-- the board of a past
+abbrev pub board : Rules → List Entry → Board
+board rules past = record { count = length past; bid = shown_bid rules past; ask = shown_ask rules past; closed = is_closed past }

@@ -1,0 +1,45 @@
+-- What trades give and cost a party.
+use Rattle.std.specs.Prelude.{ℕ, ◌*◌, ◌==◌, if◌then◌else◌, List, ℤ, pos, ◌+ℤ◌, ◌-ℤ◌, map, sum_by, filter, slice_index_or}
+use Rattle.std.specs.List.{flat_map}
+use Rattle.tac_base.specs.declared.calls.Trade.{Trade}
+use Rattle.auction_rules.specs.Goods.{house, parties}
+use Rattle.auction_rules.specs.Setup.{Setup}
+use Rattle.auction_rules.specs.History.{Entry}
+
+-- the trades in which the party buys, and those in which it sells
+abbrev pub buys_by : List Trade → ℕ → List Trade
+buys_by trades party = filter (λ t. t.buyer == party) trades
+
+abbrev pub sales_by : List Trade → ℕ → List Trade
+sales_by trades party = filter (λ t. t.seller == party) trades
+
+-- the units that the party buys, and those that it sells
+abbrev pub bought : List Trade → ℕ → ℕ
+bought trades party = sum_by (λ t. t.units) (buys_by trades party)
+
+abbrev pub sold : List Trade → ℕ → ℕ
+sold trades party = sum_by (λ t. t.units) (sales_by trades party)
+
+-- units bought less units sold
+abbrev pub net_units : List Trade → ℕ → ℤ
+net_units trades party = pos (bought trades party) -ℤ pos (sold trades party)
+
+-- units times price over the party's sales, less the same over its purchases
+abbrev pub dollars : List Trade → ℕ → ℤ
+dollars trades party = pos (sum_by (λ t. t.units * t.price) (sales_by trades party)) -ℤ pos (sum_by (λ t. t.units * t.price) (buys_by trades party))
+
+-- the dollars of each party in order
+abbrev pub nets : List Trade → List ℤ
+nets trades = map (dollars trades) parties
+
+-- the trades of all entries
+abbrev pub all_trades : List Entry → List Trade
+all_trades past = flat_map (λ e. e.trades) past
+
+-- how many units of the good the party holds at first: the house none
+abbrev pub endowment : Setup → ℕ → ℤ
+endowment setup party = if party == house then pos 0 else slice_index_or setup.endow party (pos 0)
+
+-- how many units of the good the party holds: those that it held at first, and the net units of all trades
+abbrev pub holding : Setup → List Entry → ℕ → ℤ
+holding setup past party = endowment setup party +ℤ net_units (all_trades past) party

@@ -1,0 +1,91 @@
+-- Flights: the price, and the points that the house sells whole. That a price stays in 150..800 is the game description's;
+-- how a draw changes it is our own rule.
+use Rattle.std.specs.Prelude.{ℕ, zero, suc, ◌+◌, ◌%◌, ◌==◌, min, max, Bool, true, false, not, ◌&&◌, nat_lt, nat_le, if◌then◌else◌, List, [], ◌∷◌, ◌++◌, ℤ, pos, negsuc, neg_ℤ, ◌+ℤ◌, ◌-ℤ◌, ◌*ℤ◌, int_lt, unsigned_abs, filter}
+use Rattle.std.specs.Int.{int_div_euclid}
+use Rattle.std.specs.List.{flat_map}
+use Rattle.tac_base.specs.declared.bids.Point.{Point}
+use Rattle.tac_base.specs.declared.calls.Trade.{Trade}
+use Rattle.tac_base.specs.declared.calls.Call.{Call}
+use Rattle.tac_base.specs.declared.calls.Call.TheVariants.{Bid, Update}
+use Rattle.tac_base.specs.Bids.{size_of}
+use Rattle.auction_rules.specs.declared.units.BidUnit.{BidUnit}
+use Rattle.auction_rules.specs.declared.units.Placed.{Placed}
+use Rattle.auction_rules.specs.Goods.{house}
+use Rattle.auction_rules.specs.Units.{units_of, point_units, common_units}
+use Rattle.auction_rules.specs.History.{Entry, is_admission}
+
+-- how far the price is led at a tick: 10 and the floor of t * (bound - 10) / 54, since the divisor is positive
+abbrev pub drift : ℤ → ℕ → ℤ
+drift bound tick = pos 10 +ℤ int_div_euclid (pos tick *ℤ (bound -ℤ pos 10)) (pos 54)
+
+-- the interval's ends: from -10 to a positive drift, from a negative one to 10, and else from -10 to 10
+abbrev pub low_end : ℤ → ℤ
+low_end x = if int_lt x (pos 0) then x else neg_ℤ (pos 10)
+
+abbrev pub high_end : ℤ → ℤ
+high_end x = if int_lt (pos 0) x then x else pos 10
+
+-- the number of the interval that the draw names
+abbrev pub change : ℤ → ℤ → ℕ → ℤ
+change lo hi draw = lo +ℤ pos (draw % (unsigned_abs (hi -ℤ lo) + 1))
+
+-- a sum, clamped to 150..800
+abbrev pub clamped : ℤ → ℕ
+clamped (pos n) = max 150 (min 800 n)
+clamped (negsuc n) = 150
+
+-- the price after an update
+abbrev pub next_price : ℕ → ℤ → ℕ → ℕ → ℕ
+next_price price bound tick draw = clamped (pos price +ℤ change (low_end (drift bound tick)) (high_end (drift bound tick)) draw)
+
+-- the price after an admitted call
+abbrev pub price_after : ℤ → ℕ → Call → ℕ
+price_after bound price (Update tick draw) = next_price price bound tick draw
+price_after bound price call = price
+
+-- the price of a flight with a first price and a bound
+abbrev pub price : ℕ → ℤ → List Entry → ℕ
+price first bound [] = first
+price first bound (e ∷ past) = if is_admission e.reply then price_after bound (price first bound past) e.call else price first bound past
+
+-- whether the house may sell in a call
+abbrev pub is_sale : Call → Bool
+is_sale (Bid points) = true
+is_sale (Update tick draw) = true
+is_sale call = false
+
+-- the units that a call looks at: those that stand, but of the caller of a bid the new ones
+abbrev pub looked_at : List BidUnit → ℕ → ℕ → Call → List BidUnit
+looked_at standing position caller (Bid points) =
+    filter (λ u. not (u.agent == caller)) standing ++ units_of (record { agent = caller; position = position; points = points })
+looked_at standing position caller call = standing
+
+-- the bids that these units are of, the new one among them
+abbrev pub bids_looked_at : List Placed → ℕ → ℕ → Call → List Placed
+bids_looked_at bids position caller (Bid points) =
+    filter (λ bid. not (bid.agent == caller)) bids ++ record { agent = caller; position = position; points = points } ∷ []
+bids_looked_at bids position caller call = bids
+
+-- one trade for each point at or above the current price that has a unit among those looked at; their units are numbered from an index
+abbrev pub point_trades : ℕ → ℕ → List BidUnit → Placed → ℕ → List Point → List Trade
+point_trades good current units bid from [] = []
+point_trades good current units bid from (point ∷ points) =
+    let count = common_units (point_units bid.agent bid.position from point) units in
+    let more = point_trades good current units bid (from + size_of point) points in
+    if nat_le current point.price && nat_lt 0 count
+    then record { buyer = bid.agent; seller = house; good = good; units = count; price = current } ∷ more
+    else more
+
+-- the positions below a number, in order
+abbrev pub positions_below : ℕ → List ℕ
+positions_below zero = []
+positions_below (suc n) = positions_below n ++ n ∷ []
+
+-- the trades of the bids, which were made below a position: by bid position, and then by point
+abbrev pub flight_trades : ℕ → ℕ → List BidUnit → List Placed → ℕ → List Trade
+flight_trades good current units bids end =
+    flat_map (λ position. flat_map (λ bid. point_trades good current units bid 0 bid.points) (filter (λ bid. bid.position == position) bids)) (positions_below end)
+
+-- the units that are sold
+abbrev pub flight_gone : ℕ → List BidUnit → List BidUnit
+flight_gone current units = filter (λ u. nat_le current u.price) units

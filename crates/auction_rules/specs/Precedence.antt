@@ -1,0 +1,18 @@
+-- Which of two units of a hotel comes first, and which units win: by the game description the highest units, as many as there
+-- are rooms. The order at equal prices is our own rule.
+use Rattle.std.specs.Prelude.{ℕ, ◌==◌, Bool, ◌&&◌, ◌||◌, nat_lt, List, count_by}
+use Rattle.auction_rules.specs.declared.units.BidUnit.{BidUnit}
+
+-- the first unit precedes the second: its price is higher, or at equal prices its bid is earlier, or in one bid its index is lower
+abbrev pub precedes : BidUnit → BidUnit → Bool
+precedes u v =
+    nat_lt v.price u.price
+    || ((u.price == v.price) && (nat_lt u.position v.position || ((u.position == v.position) && nat_lt u.index v.index)))
+
+-- how many of the units precede one
+abbrev pub predecessors : List BidUnit → BidUnit → ℕ
+predecessors units v = count_by (λ u. precedes u v) units
+
+-- whether a unit has fewer predecessors than there are rooms
+abbrev pub wins : ℕ → List BidUnit → BidUnit → Bool
+wins rooms units u = nat_lt (predecessors units u) rooms

@@ -1,0 +1,69 @@
+-- The six refusals of a call, in their order, which is our own rule.
+use Rattle.std.specs.Prelude.{ℕ, ◌==◌, Bool, true, false, not, ◌&&◌, ◌||◌, nat_le, if◌then◌else◌, List, Option, Some, None}
+use Rattle.std.specs.List.{list_any}
+use Rattle.tac_base.specs.declared.bids.Point.{Point}
+use Rattle.tac_base.specs.declared.calls.Call.{Call}
+use Rattle.tac_base.specs.declared.calls.Call.TheVariants.{Bid, Withdraw, Own as OwnCall, Update, Publish}
+use Rattle.tac_base.specs.declared.calls.Reply.{Reply}
+use Rattle.tac_base.specs.declared.calls.Reply.TheVariants.{Closed, WrongCall, NoBid, Sell, SelfCross, BelowQuote}
+use Rattle.tac_base.specs.Bids.{buys_of}
+use Rattle.auction_rules.specs.Goods.{clock}
+use Rattle.auction_rules.specs.Setup.{Rules, FlightRules, HotelRules, TicketRules}
+use Rattle.auction_rules.specs.History.{Entry, is_own, is_closed}
+use Rattle.auction_rules.specs.Standing.{stand}
+use Rattle.auction_rules.specs.BeatQuote.{need, quote_to_beat, offered, is_below_quote}
+
+-- whether the caller is not one of those that may make the call: the clock updates, publishes and closes, agents do the rest
+abbrev pub is_wrong_caller : ℕ → Call → Bool
+is_wrong_caller caller (Bid points) = caller == clock
+is_wrong_caller caller Withdraw = caller == clock
+is_wrong_caller caller OwnCall = caller == clock
+is_wrong_caller caller call = not (caller == clock)
+
+-- whether auctions of this kind do not have the call
+abbrev pub is_wrong_place : Rules → Call → Bool
+is_wrong_place (HotelRules rooms live) Withdraw = true
+is_wrong_place (HotelRules rooms live) (Update tick draw) = true
+is_wrong_place (FlightRules first bound) Publish = true
+is_wrong_place TicketRules (Update tick draw) = true
+is_wrong_place TicketRules Publish = true
+is_wrong_place rules call = false
+
+-- whether a unit of the agent stands
+abbrev pub has_standing : Rules → List Entry → ℕ → Bool
+has_standing rules past agent = list_any (λ u. u.agent == agent) (stand rules past)
+
+-- whether some point sells
+abbrev pub sells : List Point → Bool
+sells points = list_any (λ point. not (buys_of point.units)) points
+
+-- whether a price is at least that of some selling point
+abbrev pub meets_own : List Point → ℕ → Bool
+meets_own points price = list_any (λ sell. not (buys_of sell.units) && nat_le sell.price price) points
+
+-- whether some buying point has at least the price of a selling one
+abbrev pub crosses_itself : List Point → Bool
+crosses_itself points = list_any (λ buy. buys_of buy.units && meets_own points buy.price) points
+
+-- the refusals that a bid alone has
+abbrev pub bid_refusal : Rules → List Entry → ℕ → List Point → Option Reply
+bid_refusal (FlightRules first bound) past caller points = if sells points then Some Sell else None
+bid_refusal (HotelRules rooms live) past caller points =
+    if sells points then Some Sell
+    else if is_below_quote rooms live past caller points
+    then Some (BelowQuote (need rooms live past caller) (quote_to_beat rooms live past) (offered points (quote_to_beat rooms live past)))
+    else None
+bid_refusal TicketRules past caller points = if crosses_itself points then Some SelfCross else None
+
+-- the refusals that one kind of call has
+abbrev pub call_refusal : Rules → List Entry → ℕ → Call → Option Reply
+call_refusal rules past caller (Bid points) = bid_refusal rules past caller points
+call_refusal rules past caller Withdraw = if has_standing rules past caller then None else Some NoBid
+call_refusal rules past caller call = None
+
+-- the first refusal that applies
+abbrev pub refusal : Rules → List Entry → ℕ → Call → Option Reply
+refusal rules past caller call =
+    if not (is_own call) && is_closed past then Some Closed
+    else if is_wrong_caller caller call || is_wrong_place rules call then Some WrongCall
+    else call_refusal rules past caller call

@@ -1,0 +1,54 @@
+-- Which units stand, and which of an agent's points are left. That a new bid replaces the whole earlier one is our own rule.
+use Rattle.std.specs.Prelude.{ℕ, ◌+◌, ◌==◌, if◌then◌else◌, List, [], ◌∷◌, ◌++◌, length, ℤ, pos, neg_ℤ, Option, Some, None}
+use Rattle.tac_base.specs.declared.bids.Point.{Point}
+use Rattle.tac_base.specs.declared.calls.Call.{Call}
+use Rattle.tac_base.specs.Bids.{buys_of, size_of}
+use Rattle.auction_rules.specs.declared.units.BidUnit.{BidUnit}
+use Rattle.auction_rules.specs.declared.units.Placed.{Placed}
+use Rattle.auction_rules.specs.Setup.{Rules, FlightRules, HotelRules, TicketRules}
+use Rattle.auction_rules.specs.Units.{point_units, without, common_units}
+use Rattle.auction_rules.specs.History.{Entry, is_admission, is_closed, last_bid, bid_units}
+use Rattle.auction_rules.specs.FlightRule.{price, price_after, is_sale, looked_at, flight_gone}
+use Rattle.auction_rules.specs.TicketMatch.{arriving, ticket_gone}
+
+-- the units that an admitted call trades away, where `standing` are those that stand after the past
+abbrev pub gone_by : Rules → List Entry → List BidUnit → ℕ → Call → List BidUnit
+gone_by (FlightRules first bound) past standing caller call =
+    if is_sale call then flight_gone (price_after bound (price first bound past) call) (looked_at standing (length past) caller call) else []
+gone_by (HotelRules rooms live) past standing caller call = []
+gone_by TicketRules past standing caller call = ticket_gone standing (arriving (length past) caller call)
+
+-- what stands where some units are gone: nothing after a closing, and else what is left of the last bids
+abbrev pub left_standing : List Entry → List BidUnit → List BidUnit
+left_standing past gone = if is_closed past then [] else without (bid_units past) gone
+
+-- the units that all admitted calls traded away
+abbrev pub gone : Rules → List Entry → List BidUnit
+gone rules [] = []
+gone rules (e ∷ past) =
+    (if is_admission e.reply then gone_by rules past (left_standing past (gone rules past)) e.caller e.call else []) ++ gone rules past
+
+-- the standing units
+abbrev pub stand : Rules → List Entry → List BidUnit
+stand rules past = left_standing past (gone rules past)
+
+-- so many units, signed as those of a point
+abbrev pub signed_as : ℤ → ℕ → ℤ
+signed_as units count = if buys_of units then pos count else neg_ℤ (pos count)
+
+-- the points with those of their units that stand, empty points dropped; the units are numbered from an index
+abbrev pub left_points : List BidUnit → ℕ → ℕ → ℕ → List Point → List Point
+left_points standing agent position from [] = []
+left_points standing agent position from (point ∷ points) =
+    let count = common_units (point_units agent position from point) standing in
+    let more = left_points standing agent position (from + size_of point) points in
+    if count == 0 then more else record { units = signed_as point.units count; price = point.price } ∷ more
+
+-- what is left of a bid, if there is one
+abbrev pub left_of : List BidUnit → Option Placed → List Point
+left_of standing None = []
+left_of standing (Some bid) = left_points standing bid.agent bid.position 0 bid.points
+
+-- the agent's standing units put together again as points, in the order of its bid
+abbrev pub left : Rules → List Entry → ℕ → List Point
+left rules past agent = left_of (stand rules past) (last_bid agent past)

@@ -1,0 +1,126 @@
+ghost use Rattle.std.specs.Prelude.{◌≡◌, ℕ, ◌+◌, ◌<◌, ◌≤◌, ◌++◌, length, All};
+ghost use Rattle.tac_base.specs.Bids.{size_of, total_size};
+ghost use Rattle.auction_rules.specs.Units as spec;
+ghost use Rattle.auction_rules.specs.Refusals as refusals;
+
+use arrayvec::ArrayVec;
+use tac_base::{Agent, Point, Points};
+
+/// A bid, and the position in the history at which it was made.
+#[derive(Debug, Drop)]
+pub struct Placed {
+    pub agent: Agent,
+    pub position: u32,
+    pub points: Points,
+}
+
+/// One unit of a bid: whose it is, its side and price in dollars, the position of its bid, and its
+/// number in the bid, from 0.
+#[derive(Clone, Copy, Debug, Default, PartialEq, Eq)]
+pub struct BidUnit {
+    pub agent: Agent,
+    pub buys: bool,
+    pub price: u16,
+    pub position: u32,
+    pub index: u8,
+}
+
+/// Whether some point sells.
+pub fn sells(points: &[Point]) -> bool
+    ensures { result ≡ refusals.sells points.now }
+{
+    points.iter().any(|point| !point.buys())
+}
+
+/// Appends so many units like the first, numbered on.
+#[tactic(auto, using(crate::proofs::Blocks::block_more))]
+fn push_block<const N: usize>(out: &mut ArrayVec<BidUnit, N>, first: &BidUnit, count: u8)
+    requires room { length out.old.items + count ≤ N }
+    requires numbered { first.now.index + count ≤ 16 }
+    ensures units { out.new.items ≡ out.old.items ++ spec.block first.now count }
+    ensures len { length out.new.items ≡ length out.old.items + count }
+{
+    for i in 0..count {
+        out.push(BidUnit {
+            index: first.index + i,
+            ..*first
+        });
+    }
+}
+
+/// Appends the units of a point of a bid, numbered from `from`. Answers how many they are.
+fn push_point<const N: usize>(
+    out: &mut ArrayVec<BidUnit, N>,
+    bid: &Placed,
+    from: u8,
+    point: &Point,
+) -> u8
+    requires room { length out.old.items + size_of point.now ≤ N }
+    requires numbered { from + size_of point.now ≤ 16 }
+    ensures units { out.new.items ≡ out.old.items ++ spec.point_units bid.now.agent bid.now.position from point.now }
+    ensures len { length out.new.items ≡ length out.old.items + result }
+    ensures size { result ≡ size_of point.now }
+{
+    let size = point.size();
+    let first = BidUnit {
+        agent: bid.agent,
+        buys: point.buys(),
+        price: point.price,
+        position: bid.position,
+        index: from,
+    };
+    push_block(out, &first, size);
+    size
+}
+
+/// Appends the units of a bid, of which there are at most 16, each at a price of at most 10000.
+pub fn push_units<const N: usize>(out: &mut ArrayVec<BidUnit, N>, bid: &Placed)
+    requires { length out.old.items + 16 ≤ N }
+    ensures units { out.new.items ≡ out.old.items ++ spec.units_of bid.now }
+    ensures len { length out.new.items ≤ length out.old.items + 16 }
+    ensures priced { All (λ u. u.price ≤ 10000) (spec.units_of bid.now) }
+{
+    let mut from = 0;
+    for point in bid.points.as_slice() {
+        from += push_point(out, bid, from, point);
+    }
+}
+
+#[cfg(test)]
+mod tests {
+    use super::*;
+    use std::test::Fail;
+
+    #[test]
+    fn units_are_numbered_through_the_points(rt: HostRuntime) -> Result<(), Fail> {
+        let agent = Agent::new(3)?;
+        let points = Points::new(&[
+            Point {
+                units: 2,
+                price: 150,
+            },
+            Point {
+                units: -1,
+                price: 160,
+            },
+        ])?;
+        assert!(rt; sells(points.as_slice()));
+        let bid = Placed {
+            agent,
+            position: 7,
+            points,
+        };
+        let mut out: ArrayVec<BidUnit, 32> = ArrayVec::new();
+        push_units(&mut out, &bid);
+        let unit = |buys, price, index| BidUnit {
+            agent,
+            buys,
+            price,
+            position: 7,
+            index,
+        };
+        let wanted = [unit(true, 150, 0), unit(true, 150, 1), unit(false, 160, 2)];
+        assert_eq!(rt; out.as_slice(), wanted.as_slice());
+        Ok(())
+    }
+}
