@@ -1,0 +1,188 @@
+-- What one more entry changes of what a hotel keeps.
+use Rattle.std.proofs.Common.{◌≡◌, ℕ, ◌≤◌, Bool, true, false, cond, List, [], ◌∷◌, ◌++◌, length, refl, sym, ap, ◌∙◌, arith, set, Option, Some, None}
+use Rattle.std.specs.Prelude.{if◌then◌else◌, ◌==◌}
+use Rattle.std.proofs.lemmas.Bool.Decides.{nat_tests}
+use Rattle.tac_base.specs.declared.bids.Point.{Point}
+use Rattle.tac_base.specs.declared.calls.Trade.{Trade}
+use Rattle.tac_base.specs.declared.calls.Call.{Call}
+use Rattle.tac_base.specs.declared.calls.Call.TheVariants.{Bid, Publish, Close}
+use Rattle.tac_base.specs.declared.calls.Reply.{Reply}
+use Rattle.tac_base.specs.declared.calls.Reply.TheVariants.{Taken, Sold, Done}
+use Rattle.auction_rules.specs.declared.units.Placed.{Placed}
+use Rattle.auction_rules.specs.declared.units.BidUnit.{BidUnit}
+use Rattle.auction_rules.specs.Goods.{clock}
+use Rattle.auction_rules.specs.Units.{without}
+use Rattle.auction_rules.specs.Setup.{Setup, Rules, HotelRules}
+use Rattle.auction_rules.specs.History.{Entry, is_admission, is_closed, last_bid, last_bids, bid_units, units_of_bids}
+use Rattle.auction_rules.specs.Standing.{gone, stand}
+use Rattle.auction_rules.specs.Ask.{ask, published}
+use Rattle.auction_rules.specs.HotelClosing.{sold_units, closing_trades}
+use Rattle.auction_rules.specs.Refusals.{refusal}
+use Rattle.auction_rules.specs.Follows.{Follows}
+use Rattle.auction_rules.proofs.Steps.{refused_entry, entry_refused, entry_admitted, refusal_refuses, follows}
+use Rattle.auction_rules.proofs.Histories.{agents_set}
+use Rattle.hotel_book.specs.Book.{HotelBook, hotel_book, StandsFor, open_refusal, book_refusal}
+
+-- ---- what stands in a hotel
+
+either_none : {A : Type 0} (b : Bool) (xs : List A) → cond b [] [] ++ xs ≡ xs
+either_none true xs = refl
+either_none false xs = refl
+
+-- nothing is gone from a hotel
+nothing_gone : (rooms : ℕ) (live : Bool) (past : List Entry) → gone (HotelRules rooms live) past ≡ []
+nothing_gone rooms live [] = refl
+nothing_gone rooms live (e ∷ past) = either_none (is_admission e.reply) (gone (HotelRules rooms live) past) ∙ nothing_gone rooms live past
+
+keep_all : (units : List BidUnit) → without units [] ≡ units
+keep_all [] = refl
+keep_all (u ∷ units) = ap (λ (us : List BidUnit). u ∷ us) (keep_all units)
+
+-- in an open hotel the units of the last bids stand
+pub open_stand : (rooms : ℕ) (live : Bool) (past : List Entry) → is_closed past ≡ false → stand (HotelRules rooms live) past ≡ bid_units past
+open_stand rooms live past h = rw (h, nothing_gone rooms live past) (keep_all (bid_units past))
+
+-- ---- the refusal of a bid
+
+not_clock : (agent : ℕ) → agent ≤ 7 → (agent == clock) ≡ false
+not_clock agent le = grind (arith, nat_tests)
+
+refusal_open : (rooms : ℕ) (live : Bool) (past : List Entry) (agent : ℕ) (points : List Point) → agent ≤ 7 → is_closed past ≡ false →
+    refusal (HotelRules rooms live) past agent (Bid points) ≡ open_refusal rooms (bid_units past) (published rooms live past) agent points
+refusal_open rooms live past agent points le h = let agents_bid = not_clock agent le in let stands = open_stand rooms live past h in rw (stands, h, agents_bid)
+
+refusal_is : (rooms : ℕ) (live : Bool) (past : List Entry) (agent : ℕ) (points : List Point) → agent ≤ 7 →
+    refusal (HotelRules rooms live) past agent (Bid points) ≡ book_refusal rooms (bid_units past) (published rooms live past) (is_closed past) agent points
+refusal_is rooms live past agent points le = by_state (is_closed past) refl
+  where
+    by_state : (b : Bool) → is_closed past ≡ b → refusal (HotelRules rooms live) past agent (Bid points) ≡ book_refusal rooms (bid_units past) (published rooms live past) b agent points
+    by_state true h = rw h
+    by_state false h = refusal_open rooms live past agent points le h
+
+-- what the rules refuse, by what the book keeps
+refused_by : (setup : Setup) (past : List Entry) (book : HotelBook) (agent : ℕ) (points : List Point) → StandsFor book setup past → agent ≤ 7 →
+    refusal setup.rules past agent (Bid points) ≡ book_refusal book.rooms (units_of_bids book.bids) book.published book.closed agent points
+refused_by setup past book agent points stood le =
+    ap (λ (rules : Rules). refusal rules past agent (Bid points)) stood.rules ∙ refusal_is book.rooms book.live past agent points le
+    ∙ sym (ap (λ (b : HotelBook). book_refusal book.rooms (units_of_bids b.bids) b.published b.closed agent points) stood.kept)
+
+is_open : (rooms : ℕ) (units : List BidUnit) (price : ℕ) (closed : Bool) (agent : ℕ) (points : List Point) → book_refusal rooms units price closed agent points ≡ None → closed ≡ false
+is_open rooms units price true agent points h = absurd cc
+is_open rooms units price false agent points h = refl
+
+-- ---- the calls
+
+-- a refused call changes nothing that a hotel keeps
+refused_keeps : (book : HotelBook) (setup : Setup) (past : List Entry) (e : Entry) → is_admission e.reply ≡ false → StandsFor book setup past → StandsFor book setup (e ∷ past)
+refused_keeps book setup past e h stood = record { rules = stood.rules; kept = stood.kept ∙ sym same }
+  where
+    same : hotel_book setup.good book.rooms book.live (e ∷ past) ≡ hotel_book setup.good book.rooms book.live past
+    same = rw h
+
+follows_refused : (setup : Setup) (past : List Entry) (caller : ℕ) (call : Call) (book : HotelBook) (reply : Reply) (trades : List Trade) →
+    StandsFor book setup past → refusal setup.rules past caller call ≡ Some reply → trades ≡ [] → Follows setup past caller call reply trades (StandsFor book setup)
+follows_refused setup past caller call book reply trades stood refused none =
+    follows setup past caller call (refused_entry caller call reply) reply trades (StandsFor book setup) (entry_refused setup past caller call reply refused) refl none
+    (refused_keeps book setup past (refused_entry caller call reply) (refusal_refuses setup.rules past caller call reply refused) stood)
+
+-- a bid that the book refuses
+pub follows_refused_bid : (setup : Setup) (past : List Entry) (agent : ℕ) (points : List Point) (book : HotelBook) (reply : Reply) (trades : List Trade) → agent ≤ 7 →
+    StandsFor book setup past → book_refusal book.rooms (units_of_bids book.bids) book.published book.closed agent points ≡ Some reply → trades ≡ [] →
+    Follows setup past agent (Bid points) reply trades (StandsFor book setup)
+follows_refused_bid setup past agent points book reply trades le stood refused none =
+    follows_refused setup past agent (Bid points) book reply trades stood (refused_by setup past book agent points stood le ∙ refused) none
+
+-- an admitted bid
+abbrev taken_entry : ℕ → List Point → Entry
+taken_entry agent points = record { caller = agent; call = Bid points; reply = Taken 0 0; trades = [] }
+
+published_by_bid : (rooms : ℕ) (live : Bool) (agent : ℕ) (points : List Point) (past : List Entry) → is_closed past ≡ false →
+    published rooms live (taken_entry agent points ∷ past) ≡ (if live then ask rooms (bid_units (taken_entry agent points ∷ past)) else published rooms live past)
+published_by_bid rooms true agent points past h = ap (ask rooms) (open_stand rooms true (taken_entry agent points ∷ past) h)
+published_by_bid rooms false agent points past h = refl
+
+-- a book, and that two of the same rules are one where the rest is
+abbrev pub book_of : ℕ → Bool → ℕ → List (Option Placed) → ℕ → Bool → HotelBook
+book_of rooms live good bids price closed = record { good = good; rooms = rooms; live = live; bids = bids; published = price; closed = closed }
+
+same_books : (rooms : ℕ) (live : Bool) (good good' : ℕ) (bids bids' : List (Option Placed)) (price price' : ℕ) (closed closed' : Bool) →
+    good ≡ good' → bids ≡ bids' → price ≡ price' → closed ≡ closed' → book_of rooms live good bids price closed ≡ book_of rooms live good' bids' price' closed'
+same_books rooms live good good' bids bids' price price' closed closed' g b p c = rw (g, b, p, c)
+
+pub follows_taken : (setup : Setup) (past : List Entry) (at agent : ℕ) (points : List Point) (book : HotelBook) (bids : List (Option Placed)) (price : ℕ) (trades : List Trade) →
+    agent ≤ 7 → at ≡ length past → StandsFor book setup past → book_refusal book.rooms (units_of_bids book.bids) book.published book.closed agent points ≡ None →
+    bids ≡ set book.bids agent (Some (record { agent = agent; position = at; points = points })) →
+    price ≡ (if book.live then ask book.rooms (units_of_bids bids) else book.published) → trades ≡ [] →
+    Follows setup past agent (Bid points) (Taken 0 0) trades (StandsFor (record book { bids = bids; published = price }) setup)
+follows_taken setup past at agent points book bids price trades le here stood taken placed quoted none =
+    follows setup past agent (Bid points) (taken_entry agent points) (Taken 0 0) trades (StandsFor (record book { bids = bids; published = price }) setup)
+    (entry_admitted setup past agent (Bid points) (refused_by setup past book agent points stood le ∙ taken) ∙ rw stood.rules) refl none
+    (record { rules = stood.rules; kept = same_books book.rooms book.live _ _ _ _ _ _ _ _ good now quote closed })
+  where
+    good : book.good ≡ setup.good
+    good = ap (λ (b : HotelBook). b.good) stood.kept
+
+    closed : book.closed ≡ is_closed past
+    closed = ap (λ (b : HotelBook). b.closed) stood.kept
+
+    was : book.published ≡ published book.rooms book.live past
+    was = ap (λ (b : HotelBook). b.published) stood.kept
+
+    now : bids ≡ last_bids (taken_entry agent points ∷ past)
+    now = placed ∙ rw (here, ap (λ (b : HotelBook). b.bids) stood.kept)
+        (sym (agents_set agent (Some (record { agent = agent; position = length past; points = points })) (λ (a : ℕ). last_bid a past) le))
+
+    still_open : is_closed past ≡ false
+    still_open = sym closed ∙ is_open book.rooms (units_of_bids book.bids) book.published book.closed agent points taken
+
+    quote : price ≡ published book.rooms book.live (taken_entry agent points ∷ past)
+    quote = quoted ∙ rw (now, was) (sym (published_by_bid book.rooms book.live agent points past still_open))
+
+-- an admitted publication
+pub follows_published : (setup : Setup) (past : List Entry) (book : HotelBook) (price : ℕ) →
+    StandsFor book setup past → book.closed ≡ false → price ≡ ask book.rooms (units_of_bids book.bids) →
+    Follows setup past clock Publish Done [] (StandsFor (record book { published = price }) setup)
+follows_published setup past book price stood not_closed priced =
+    follows setup past clock Publish (record { caller = clock; call = Publish; reply = Done; trades = [] }) Done [] (StandsFor (record book { published = price }) setup)
+    (rw (stood.rules, still_open)) refl refl
+    (record { rules = stood.rules; kept = same_books book.rooms book.live _ _ _ _ _ _ _ _ good bids asked closed })
+  where
+    good : book.good ≡ setup.good
+    good = ap (λ (b : HotelBook). b.good) stood.kept
+
+    bids : book.bids ≡ last_bids past
+    bids = ap (λ (b : HotelBook). b.bids) stood.kept
+
+    closed : book.closed ≡ is_closed past
+    closed = ap (λ (b : HotelBook). b.closed) stood.kept
+
+    still_open : is_closed past ≡ false
+    still_open = sym closed ∙ not_closed
+
+    asked : price ≡ ask book.rooms (stand (HotelRules book.rooms book.live) past)
+    asked = priced ∙ ap (λ (bs : List (Option Placed)). ask book.rooms (units_of_bids bs)) bids ∙ ap (ask book.rooms) (sym (open_stand book.rooms book.live past still_open))
+
+-- an admitted closing
+pub follows_closed : (setup : Setup) (past : List Entry) (book : HotelBook) (sold price : ℕ) (trades : List Trade) →
+    StandsFor book setup past → book.closed ≡ false →
+    sold ≡ sold_units book.rooms (units_of_bids book.bids) → price ≡ ask book.rooms (units_of_bids book.bids) → trades ≡ closing_trades book.good book.rooms (units_of_bids book.bids) →
+    Follows setup past clock Close (Sold sold price) trades (StandsFor (record book { published = price; closed = true }) setup)
+follows_closed setup past book sold price trades stood not_closed counted priced traded =
+    follows setup past clock Close (record { caller = clock; call = Close; reply = Sold sold price; trades = trades }) (Sold sold price) trades (StandsFor (record book { published = price; closed = true }) setup)
+    (rw (stood.rules, still_open, units, counted, priced, traded, good)) refl refl
+    (record { rules = stood.rules; kept = same_books book.rooms book.live _ _ _ _ _ _ true true good bids asked refl })
+  where
+    good : book.good ≡ setup.good
+    good = ap (λ (b : HotelBook). b.good) stood.kept
+
+    bids : book.bids ≡ last_bids past
+    bids = ap (λ (b : HotelBook). b.bids) stood.kept
+
+    still_open : is_closed past ≡ false
+    still_open = sym (ap (λ (b : HotelBook). b.closed) stood.kept) ∙ not_closed
+
+    units : stand (HotelRules book.rooms book.live) past ≡ units_of_bids book.bids
+    units = open_stand book.rooms book.live past still_open ∙ sym (ap units_of_bids bids)
+
+    asked : price ≡ ask book.rooms (stand (HotelRules book.rooms book.live) past)
+    asked = priced ∙ ap (ask book.rooms) (sym units)

@@ -1,0 +1,5 @@
+pub mod Offers
+pub mod Prices
+pub mod Keeping
+pub mod Owning
+pub mod Runs

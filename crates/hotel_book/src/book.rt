@@ -1,0 +1,148 @@
+ghost use Rattle.std.specs.Prelude.{◌≡◌, ℕ, ◌≤◌, [], length, List, false};
+ghost use Rattle.tac_base.specs.Kinds.{kind_of};
+ghost use Rattle.auction_rules.specs.Goods.{clock};
+ghost use Rattle.auction_rules.specs.Setup.{Setup, HotelRules};
+ghost use Rattle.auction_rules.specs.History.{Entry};
+ghost use Rattle.auction_rules.specs.Standing.{left};
+ghost use Rattle.auction_rules.specs.Board.{board};
+ghost use Rattle.auction_rules.specs.Follows.{Follows};
+ghost use Rattle.hotel_book.specs.Book.{StandsFor};
+
+use crate::closing::fill;
+use crate::counting::{ask, sold_units, units_of};
+use crate::quotes::refusal;
+use auction_rules::Placed;
+use std::marker::Model;
+use tac_base::{Agent, Board, Call, Fills, Good, Kind, Left, Points, Reply};
+
+/// The rooms of a hotel on a night.
+const ROOMS: usize = 16;
+
+/// The auction of a hotel night, by the game description: its rooms go to the highest units, at the
+/// price of the last one that wins. A bid has to beat the published price, in dollars, which is a rule
+/// after TAC; bids do not change that price. No call takes memory.
+#[derive(Debug, Drop)]
+pub struct Hotel {
+    good: Good,
+    bids: [Option<Placed>; 8],
+    published: u16,
+    closed: bool,
+}
+
+impl Model for Hotel {
+    ghost use Rattle.std.specs.Prelude.{◌≤◌, false};
+    ghost use Rattle.hotel_book.specs.Book.{HotelBook};
+
+    ghost Value = { HotelBook };
+
+    ghost view = { λ h. record { good = h.good; rooms = 16; live = false; bids = h.bids; published = h.published; closed = h.closed } };
+
+    ghost invariant = { λ h. h.published ≤ 10000 };
+}
+
+impl Hotel {
+    /// An open hotel in which nobody has bid. It has 16 rooms.
+    pub fn new(good: Good) -> Self
+        requires { kind_of good ≡ Kind.Hotel }
+        ensures { (setup : Setup) → setup.good ≡ good → setup.rules ≡ HotelRules 16 false →
+            StandsFor result setup [] }
+    {
+        Hotel {
+            good,
+            bids: [None, None, None, None, None, None, None, None],
+            published: 0,
+            closed: false,
+        }
+    }
+
+    /// A bid of an agent. It replaces the agent's earlier one, and where it is refused changes nothing.
+    /// `fills` is left empty.
+    pub fn bid(&mut self, at: u32, agent: Agent, points: &Points, fills: &mut Fills) -> Reply
+        ensures { (setup : Setup) (past : List Entry) →
+            StandsFor self.old setup past → at ≡ length past →
+            Follows setup past agent (Call.Bid points.now) result fills.new (StandsFor self.new setup) }
+    {
+        let number = agent.get() as usize;
+        fills.clear();
+        match refusal(
+            ROOMS,
+            &self.bids,
+            self.published,
+            self.closed,
+            agent,
+            points,
+        ) {
+            Some(reply) => reply,
+            None => {
+                self.bids[number] = Some(Placed {
+                    agent,
+                    position: at,
+                    points: points.copy(),
+                });
+                Reply::Taken { bought: 0, sold: 0 }
+            }
+        }
+    }
+
+    /// The clock's publication of the ask. It is refused in a closed hotel, and changes nothing there.
+    #[tactic(auto, using(crate::proofs::Prices::ask_le))]
+    pub fn publish(&mut self, at: u32) -> Reply
+        ensures { (setup : Setup) (past : List Entry) →
+            StandsFor self.old setup past → at ≡ length past →
+            Follows setup past clock Call.Publish result [] (StandsFor self.new setup) }
+    {
+        if self.closed {
+            return Reply::Closed;
+        }
+        self.published = ask(ROOMS, &units_of(&self.bids));
+        Reply::Done
+    }
+
+    /// The clock's closing, which sells the rooms and publishes the ask. `fills` then holds its trades.
+    /// It is refused in a closed hotel, and changes nothing there.
+    #[tactic(auto, using(crate::proofs::Prices::ask_le))]
+    pub fn close(&mut self, at: u32, fills: &mut Fills) -> Reply
+        ensures { (setup : Setup) (past : List Entry) →
+            StandsFor self.old setup past → at ≡ length past →
+            Follows setup past clock Call.Close result fills.new (StandsFor self.new setup) }
+    {
+        if self.closed {
+            fills.clear();
+            return Reply::Closed;
+        }
+        let units = units_of(&self.bids);
+        fill(fills, self.good, ROOMS, &units);
+        let price = ask(ROOMS, &units);
+        self.published = price;
+        self.closed = true;
+        Reply::Sold {
+            units: sold_units(ROOMS, &units) as u8,
+            price,
+        }
+    }
+
+    /// The standing points of an agent, in the order of its bid: none in a closed hotel.
+    pub fn own(&self, agent: Agent) -> Left
+        ensures { (setup : Setup) (past : List Entry) → StandsFor self.now setup past →
+            result ≡ left setup.rules past agent }
+    {
+        match &self.bids[agent.get() as usize] {
+            Some(bid) if !self.closed => Left::new(bid.points.as_slice()),
+            _ => Left::none(),
+        }
+    }
+
+    /// What is shown of the hotel after `count` entries. Its bid is 0, and its ask the published price.
+    pub fn board(&self, count: u32) -> Board
+        ensures board { (setup : Setup) (past : List Entry) →
+            StandsFor self.now setup past → count ≡ length past → result ≡ board setup.rules past }
+        ensures ask_within { result.ask ≤ 10000 }
+    {
+        Board {
+            count,
+            bid: 0,
+            ask: self.published,
+            closed: self.closed,
+        }
+    }
+}
