@@ -1,0 +1,27 @@
+-- The calls of an object in memory.
+use Rattle.std.specs.Prelude.{ℕ, ◌+◌, ◌-◌, ◌^◌, List, Contains, min, Result, is_err, if◌then◌else◌}
+
+-- Those that are to fail, counted from 1; how many were made; and how many failed. A count stays at the last value of a u64.
+pub record Calls : Type 0 where
+  pub failing : List ℕ
+  pub made : ℕ
+  pub faults : ℕ
+
+-- no call was made yet
+abbrev pub no_calls : List ℕ → Calls
+no_calls failing = record { failing = failing; made = 0; faults = 0 }
+
+abbrev pub one_more : ℕ → ℕ
+one_more count = min (count + 1) (2 ^ 64 - 1)
+
+-- the next call is to fail
+abbrev pub IsNextToFail : Calls → Type 0
+IsNextToFail calls = Contains calls.failing (one_more calls.made)
+
+-- one more call was made, and answered this
+abbrev pub after_call : {T E : Type 0} → Calls → Result T E → Calls
+after_call calls result = record {
+  failing = calls.failing;
+  made = one_more calls.made;
+  faults = if is_err result then one_more calls.faults else calls.faults;
+}

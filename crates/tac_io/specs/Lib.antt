@@ -1,0 +1,10 @@
+pub mod Counts
+pub mod Told
+pub mod Reading
+pub mod Calls
+pub mod FileList
+pub mod MemFiles
+pub mod MemSink
+pub mod MemLink
+pub mod MemLinks
+pub mod MemTicker

@@ -1,0 +1,12 @@
+-- A ticker in memory, as its clauses show it.
+use Rattle.std.specs.Prelude.{ℕ, List, Bool}
+use Rattle.std.specs.declared.option.Option.{Option}
+use Rattle.tac_io.specs.declared.mem_ticker.MemTicker.{MemTicker}
+
+-- the pace, if one was set
+abbrev pub ticker_pace : MemTicker → Option ℕ
+ticker_pace s = s.pace
+
+-- the ticks that were waited for, in order, each with whether it lapsed
+abbrev pub ticker_waited : MemTicker → List (ℕ × Bool)
+ticker_waited s = s.waited.items

@@ -1,0 +1,121 @@
+// Whole files.
+ghost use Rattle.std.specs.Prelude.{◌≡◌, ◌<◌, ◌≤◌, ◌+◌, [], ◌∷◌, ℕ, length, take, drop, vec_len, IsTrue, IfSome, IfOk, OnOk, OnErr, IsErrOf, MatchResult};
+ghost use Rattle.tac_io.specs.Counts.{HasCause};
+ghost use Rattle.tac_io.specs.Reading.{HasFileCause, IsFile, IsTooLong};
+ghost use Rattle.tac_io.specs.Told.{IsAtEnd, and_then_told, before_told};
+
+use crate::{Failed, Files};
+use std::alloc::{AllocError, Global};
+use thiserror::Error;
+
+/// Why a file was not read.
+#[derive(Clone, Copy, Debug, PartialEq, Eq, Error)]
+pub enum FileFault {
+    /// A call failed, and the files counted it.
+    #[error("the file could not be read")]
+    Failed,
+    /// No call failed, and the file has more bytes than the limit.
+    #[error("the file is too long")]
+    TooLong,
+    /// Memory was refused.
+    #[error("out of memory")]
+    Memory,
+}
+
+impl From<Failed> for FileFault {
+    ghost use Rattle.std.specs.Prelude.{◌≡◌};
+    ghost use Rattle.tac_io.specs.declared.reading.FileFault.TheVariants.{Failed};
+
+    ghost from_gives = { λ _ fault. fault ≡ Failed };
+
+    fn from(_failed: Failed) -> FileFault {
+        FileFault::Failed
+    }
+}
+
+impl From<AllocError> for FileFault {
+    ghost use Rattle.std.specs.Prelude.{◌≡◌};
+    ghost use Rattle.tac_io.specs.declared.reading.FileFault.TheVariants.{Memory};
+
+    ghost from_gives = { λ _ fault. fault ≡ Memory };
+
+    fn from(_refused: AllocError) -> FileFault {
+        FileFault::Memory
+    }
+}
+
+/// How many bytes the first read asks for.
+const FIRST_READ: usize = 65_536;
+
+/// All bytes of the file of that name, if it has at most `limit`. It selects this name, once.
+/// `Failed` comes exactly where the files counted a fault in this call, and `TooLong` exactly where
+/// they did not and the file has more than `limit` bytes. Which file is selected afterwards, and
+/// what is left of it, is open.
+pub fn read_file<F: Files>(
+    alloc: Global,
+    files: &mut F,
+    name: &str,
+    limit: usize,
+) -> Result<Vec<u8>, FileFault>
+    requires { IfSome (F.names files.old) (λ names.
+        (length names < 128) × (length name.now ≤ 1024)) }
+    ensures whole { IfOk result (λ bytes. IsFile (F.content files.old) name.now bytes.items) }
+    ensures within { IfOk result (λ bytes. length bytes.items ≤ limit) }
+    ensures long { IsErrOf result FileFault.TooLong → IsTooLong (F.content files.old) name.now limit }
+    ensures names { F.names files.new ≡ and_then_told (F.names files.old) (name.now ∷ []) }
+    ensures content { F.content files.new ≡ F.content files.old }
+    ensures cause { HasFileCause (F.faults files.old) (F.faults files.new) result }
+{
+    files.select(name)?;
+    let mut bytes = Vec::new(alloc);
+    let mut filled = 0;
+    loop {
+        make_room(&mut bytes, filled, limit)?;
+        let count = read_at(files, &mut bytes, filled)?;
+        if count == 0 {
+            bytes.truncate(filled);
+            return Ok(bytes);
+        }
+        filled += count;
+        if filled > limit {
+            return Err(FileFault::TooLong);
+        }
+    }
+}
+
+// Makes the buffer longer where it is filled, by as much as is filled, and by one byte past the
+// limit at most: a file that fills that byte is too long.
+fn make_room(bytes: &mut Vec<u8>, filled: usize, limit: usize) -> Result<(), AllocError>
+    requires within { filled ≤ vec_len bytes.old }
+    requires limited { vec_len bytes.old ≤ limit + 1 }
+    requires going { filled ≤ limit }
+    ensures room { OnOk result ((filled < vec_len bytes.new) × (vec_len bytes.new ≤ limit + 1)) }
+    ensures front { take filled bytes.new.items ≡ take filled bytes.old.items }
+{
+    if filled < bytes.len() {
+        return Ok(());
+    }
+    let twice = filled.max(FIRST_READ);
+    let rest = limit - filled;
+    let more = if twice < rest { twice } else { rest + 1 };
+    bytes.reserve_exact(more)?;
+    bytes.resize(filled + more, 0)
+}
+
+// Reads into the buffer from a place on.
+fn read_at<F: Files>(files: &mut F, bytes: &mut [u8], at: usize) -> Result<usize, Failed>
+    requires room { at < length bytes.old }
+    requires selected { IsTrue (F.selected files.old) }
+    ensures front { take at bytes.new ≡ take at bytes.old }
+    ensures given { MatchResult result
+        (λ n. (at + n ≤ length bytes.new)
+        × (F.left files.old ≡ before_told (take n (drop at bytes.new)) (F.left files.new))
+        × (n ≡ 0 → IsAtEnd (F.left files.old)))
+        (λ _. F.left files.new ≡ F.left files.old) }
+    ensures selected { IsTrue (F.selected files.new) }
+    ensures names { F.names files.new ≡ F.names files.old }
+    ensures content { F.content files.new ≡ F.content files.old }
+    ensures cause { HasCause (F.faults files.old) (F.faults files.new) result }
+{
+    files.read(&mut bytes[at..])
+}

@@ -1,0 +1,21 @@
+// Whole texts to a sink.
+ghost use Rattle.std.specs.Prelude.{◌≡◌, OnOk, OnErr};
+ghost use Rattle.tac_io.specs.Counts.{HasCause};
+ghost use Rattle.tac_io.specs.Told.{TakesSome, and_then_told};
+
+use crate::{Failed, Sink};
+
+/// Writes all bytes, in as many writes as the sink asks for. After a fault the first of them were
+/// written, but not all. No bytes are written by no call.
+pub fn write_all<K: Sink>(sink: &mut K, bytes: &[u8]) -> Result<(), Failed>
+    ensures whole { OnOk result (K.taken sink.new ≡ and_then_told (K.taken sink.old) bytes.now) }
+    ensures failed { OnErr result (TakesSome (K.taken sink.old) (K.taken sink.new) bytes.now) }
+    ensures cause { HasCause (K.faults sink.old) (K.faults sink.new) result }
+{
+    let mut done = 0;
+    while done < bytes.len() {
+        let (_, rest) = bytes.split_at(done);
+        done += sink.write(rest)?;
+    }
+    Ok(())
+}
