@@ -1,0 +1,64 @@
+-- What a line of a hotel script asks.
+use Rattle.std.specs.Prelude.{ℕ, ◌-◌, ◌&&◌, nat_le, if◌then◌else◌, List, [], ◌∷◌, Bool, false, Option, Some, None, Result, Ok, Err, codes}
+use Rattle.std.specs.List.{join_with_byte}
+use Rattle.std.specs.Str.{bytes_eq}
+use Rattle.tac_base.specs.declared.bids.Point.{Point}
+use Rattle.tac_base.specs.declared.bids.BidFault.{BidFault}
+use Rattle.tac_base.specs.declared.calls.Call.{Call}
+use Rattle.tac_base.specs.declared.calls.Call.TheVariants as calls
+use Rattle.tac_base.specs.Bids.{buys_of}
+use Rattle.text_forms.specs.Words.{words_of}
+use Rattle.bid_strings.specs.BidForm.{points_of, judged}
+use Rattle.auction_rules.specs.Goods.{clock}
+use Rattle.script_run.specs.declared.hotel_lines.HotelLine.{HotelLine}
+use Rattle.script_run.specs.declared.hotel_lines.HotelLine.TheVariants.{Bid, Publish, Close}
+
+-- a line of one word is the clock's
+abbrev pub clock_line : List ℕ → Result HotelLine ℕ
+clock_line word =
+    if bytes_eq word (codes "publish") then Ok Publish
+    else if bytes_eq word (codes "close") then Ok Close
+    else Err 1
+
+-- an agent is one digit `0` to `7`
+abbrev pub agent_of : List ℕ → Option ℕ
+agent_of [] = None
+agent_of (digit ∷ []) = if nat_le 48 digit && nat_le digit 55 then Some (digit - 48) else None
+agent_of (digit ∷ other ∷ more) = None
+
+-- whether there is one point, and it buys
+abbrev pub is_one_buy : List Point → Bool
+is_one_buy [] = false
+is_one_buy (point ∷ []) = buys_of point.units
+is_one_buy (point ∷ other ∷ more) = false
+
+-- a bid of one point that buys; other bids cannot be run yet
+abbrev pub one_point : ℕ → Result (List Point) BidFault → Result HotelLine ℕ
+one_point agent (Err fault) = Err 9
+one_point agent (Ok points) = if is_one_buy points then Ok (Bid agent points) else Err 9
+
+-- a line of an agent, a word and points
+abbrev pub bid_line : Option ℕ → List ℕ → List ℕ → Result HotelLine ℕ
+bid_line None keyword points = Err 1
+bid_line (Some agent) keyword points = if bytes_eq keyword (codes "bid") then one_point agent (judged (points_of points)) else Err 1
+
+-- a line of an agent and a word; `own` cannot be answered yet
+abbrev pub own_line : Option ℕ → List ℕ → Result HotelLine ℕ
+own_line None keyword = Err 1
+own_line (Some agent) keyword = if bytes_eq keyword (codes "own") then Err 9 else Err 1
+
+abbrev pub line_of_words : List (List ℕ) → Result HotelLine ℕ
+line_of_words [] = Err 1
+line_of_words (word ∷ []) = clock_line word
+line_of_words (agent ∷ keyword ∷ []) = own_line (agent_of agent) keyword
+line_of_words (agent ∷ keyword ∷ word ∷ words) = bid_line (agent_of agent) keyword (join_with_byte 32 (word ∷ words))
+
+-- what a line asks, or the reason why it is bad in itself: 1 where it has no form, 9 where it cannot be run yet
+unfoldable pub line_of : List ℕ → Result HotelLine ℕ
+line_of line = line_of_words (words_of line)
+
+-- the caller and the call of a line
+abbrev pub asked : HotelLine → ℕ × Call
+asked (Bid agent points) = (agent, calls.Bid points)
+asked Publish = (clock, calls.Publish)
+asked Close = (clock, calls.Close)

@@ -1,0 +1,24 @@
+-- A hotel that is run by the lines of a script.
+use Rattle.std.specs.Prelude.{◌≡◌, ℕ, ◌+◌, ⊤, List, ◌∷◌, length, Result, Ok, Err}
+use Rattle.hotel_book.specs.Book.{StandsFor}
+use Rattle.script_run.specs.declared.hotel_lines.HotelLine.{HotelLine}
+use Rattle.script_run.specs.declared.hotel_run.HotelRun.{HotelRun}
+use Rattle.script_run.specs.declared.fault.ScriptFault.{ScriptFault}
+use Rattle.script_run.specs.declared.fault.ScriptFault.TheVariants.{Line, TooLong, Failed, Memory}
+use Rattle.script_run.specs.HotelLines.{line_of}
+use Rattle.script_run.specs.HotelScripts.{judged, one_hotel, script_past, hotel_out}
+use Rattle.script_run.specs.LineCounts.{Counts}
+
+-- the run has come to the end of these lines, the last line first
+pub record HasRun (lines : List HotelLine) (run : HotelRun) : Type 0 where
+  pub stands : StandsFor run.hotel one_hotel (script_past lines)
+  pub counted : Counts lines run.counts
+  pub text : run.text.items ≡ hotel_out lines
+
+-- a line after others was run, or is bad, or there was no memory for its text
+abbrev pub Steps : List HotelLine → List ℕ → HotelRun → Result (Unit {0}) ScriptFault → Type 0
+Steps lines line run (Ok done) = (asked : HotelLine) × (judged lines (line_of line) ≡ Ok asked) × HasRun (asked ∷ lines) run
+Steps lines line run (Err (Line number reason)) = (number ≡ length lines + 1) × (judged lines (line_of line) ≡ Err reason)
+Steps lines line run (Err TooLong) = ⊥
+Steps lines line run (Err Failed) = ⊥
+Steps lines line run (Err Memory) = ⊤

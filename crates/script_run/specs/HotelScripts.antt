@@ -1,0 +1,64 @@
+-- Hotel scripts: which are run, and what is written of their run.
+use Rattle.std.specs.Prelude.{ℕ, ◌+◌, ◌==◌, nat_le, if◌then◌else◌, List, [], ◌∷◌, ◌++◌, length, map, count_by, replicate, pos, Result, Ok, Err, false}
+use Rattle.std.specs.List.{flat_map}
+use Rattle.text_forms.specs.Words.{parts_of}
+use Rattle.auction_rules.specs.Setup.{Setup, HotelRules}
+use Rattle.auction_rules.specs.History.{Entry}
+use Rattle.auction_rules.specs.Legal.{past_of, cap}
+use Rattle.script_run.specs.declared.hotel_lines.HotelLine.{HotelLine}
+use Rattle.script_run.specs.HotelLines.{line_of, asked}
+use Rattle.script_run.specs.Replies.{reply_line, trade_line}
+
+-- how many of the lines are the caller's
+abbrev pub lines_of : List HotelLine → ℕ → ℕ
+lines_of lines caller = count_by (λ line. (asked line).0 == caller) lines
+
+-- a line after others, where there are not too many: of the script, or of its caller
+abbrev pub limited : List HotelLine → HotelLine → Result HotelLine ℕ
+limited lines line =
+    if nat_le 8256 (length lines) then Err 4
+    else if nat_le (cap (asked line).0) (lines_of lines (asked line).0) then Err 5
+    else Ok line
+
+-- what a line after others asks, or the first reason why it is bad
+abbrev pub judged : List HotelLine → Result HotelLine ℕ → Result HotelLine ℕ
+judged lines (Err reason) = Err reason
+judged lines (Ok line) = limited lines line
+
+-- the number of the first bad line, with its first reason
+abbrev pub BadLine : Type 0
+BadLine = ℕ × ℕ
+
+-- what follows of a good line, or the reason with the line's number
+abbrev pub at_line : ℕ → Result HotelLine ℕ → (HotelLine → Result (List HotelLine) BadLine) → Result (List HotelLine) BadLine
+at_line number (Err reason) follows = Err (number, reason)
+at_line number (Ok line) follows = follows line
+
+-- the lines of the parts of a text that was cut at its line ends, the last line first, after the lines before; or the first bad line.
+-- Nothing may stand after the last line end
+abbrev pub lines_from : List HotelLine → List (List ℕ) → Result (List HotelLine) BadLine
+lines_from lines [] = Ok lines
+lines_from lines (last ∷ []) = if length last == 0 then Ok lines else Err (length lines + 1, 3)
+lines_from lines (part ∷ next ∷ parts) =
+    at_line (length lines + 1) (judged lines (line_of part)) (λ line. lines_from (line ∷ lines) (next ∷ parts))
+
+-- the lines of a script, the last line first, or the first bad line
+abbrev pub script_of : List ℕ → Result (List HotelLine) BadLine
+script_of text = lines_from [] (parts_of 10 text)
+
+-- the hotel of a script: the first night of Shoreline Shanties with 16 rooms, quotes that are not live and no endowments
+abbrev pub one_hotel : Setup
+one_hotel = record { good = 8; rules = HotelRules 16 false; endow = replicate 8 (pos 0) }
+
+-- the history of a script's lines, the newest entry first
+abbrev pub script_past : List HotelLine → List Entry
+script_past lines = past_of one_hotel (map asked lines)
+
+-- what is written of a history: the line of each reply, and then the lines of its trades
+abbrev pub past_text : List Entry → List ℕ
+past_text [] = []
+past_text (e ∷ past) = past_text past ++ (reply_line (length past) e.reply ++ flat_map trade_line e.trades)
+
+-- what is written of a script
+abbrev pub hotel_out : List HotelLine → List ℕ
+hotel_out lines = past_text (script_past lines)

@@ -1,0 +1,129 @@
+// The lines of a hotel script.
+ghost use Rattle.std.specs.Prelude.{◌≡◌, ◌≤◌, [], ◌∷◌, List, Some, option_map};
+ghost use Rattle.bid_strings.specs.BidForm.{points_of, judged};
+ghost use Rattle.script_run.specs.HotelLines as lines;
+
+use bid_strings::read_points;
+use tac_base::{Agent, Caller, Points};
+use text_forms::Words;
+
+/// What a line asks.
+#[derive(Debug, Drop)]
+pub enum HotelLine {
+    Bid { agent: Agent, points: Points },
+    Publish,
+    Close,
+}
+
+impl HotelLine {
+    /// Who calls.
+    pub(crate) fn caller(&self) -> Caller
+        ensures { result ≡ (lines.asked self.now).0 }
+    {
+        match self {
+            HotelLine::Bid { agent, .. } => agent.caller(),
+            HotelLine::Publish => Caller::clock(),
+            HotelLine::Close => Caller::clock(),
+        }
+    }
+}
+
+// A line of one word.
+fn clock_line(word: &[u8]) -> Result<HotelLine, u8>
+    ensures { result ≡ lines.clock_line word.now }
+{
+    if word == b"publish".as_slice() {
+        Ok(HotelLine::Publish)
+    } else if word == b"close".as_slice() {
+        Ok(HotelLine::Close)
+    } else {
+        Err(1)
+    }
+}
+
+fn agent_of(word: &[u8]) -> Option<Agent>
+    ensures { result ≡ lines.agent_of word.now }
+{
+    match word {
+        [digit] => agent_of_digit(*digit),
+        _ => None,
+    }
+}
+
+fn agent_of_digit(digit: u8) -> Option<Agent>
+    ensures { result ≡ lines.agent_of (digit ∷ []) }
+{
+    if 48 <= digit && digit <= 55 {
+        Agent::new(digit - 48).ok()
+    } else {
+        None
+    }
+}
+
+// Whether there is one point, and it buys.
+fn is_one_buy(points: &Points) -> bool
+    ensures { result ≡ lines.is_one_buy points.now }
+{
+    match points.as_slice() {
+        [point] => point.buys(),
+        _ => false,
+    }
+}
+
+// The bid of a text of points.
+fn one_point(agent: Agent, text: &[u8]) -> Result<HotelLine, u8>
+    ensures { result ≡ lines.one_point agent (judged (points_of text.now)) }
+{
+    let Ok(points) = read_points(text) else {
+        return Err(9);
+    };
+    if is_one_buy(&points) {
+        Ok(HotelLine::Bid { agent, points })
+    } else {
+        Err(9)
+    }
+}
+
+// A line of an agent and a word.
+fn own_line(agent: Option<Agent>, keyword: &[u8]) -> Result<HotelLine, u8>
+    ensures { result ≡ lines.own_line agent keyword.now }
+{
+    if agent.is_some() && keyword == b"own".as_slice() {
+        Err(9)
+    } else {
+        Err(1)
+    }
+}
+
+// A line of an agent, a word and points.
+fn bid_line(agent: Option<Agent>, keyword: &[u8], points: &[u8]) -> Result<HotelLine, u8>
+    ensures { result ≡ lines.bid_line agent keyword.now points.now }
+{
+    let Some(agent) = agent else {
+        return Err(1);
+    };
+    if keyword == b"bid".as_slice() {
+        one_point(agent, points)
+    } else {
+        Err(1)
+    }
+}
+
+/// What a line asks, or the reason why it is bad in itself: 1 or 9.
+#[tactic(auto, unfolding(crate::specs::HotelLines::line_of))]
+pub(crate) fn line_of(line: &[u8]) -> Result<HotelLine, u8>
+    ensures { result ≡ lines.line_of line.now }
+{
+    let mut words = Words::new(line);
+    let Some(first) = words.next() else {
+        return Err(1);
+    };
+    let Some(keyword) = words.next() else {
+        return clock_line(first);
+    };
+    let agent = agent_of(first);
+    match words.rest() {
+        None => own_line(agent, keyword),
+        Some(points) => bid_line(agent, keyword, points),
+    }
+}

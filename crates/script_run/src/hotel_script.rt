@@ -1,0 +1,51 @@
+// A hotel that is run from a script.
+ghost use Rattle.std.specs.Prelude.{◌≡◌, ◌≤◌, length};
+ghost use Rattle.script_run.specs.HotelOuts.{RunsScript, RunsLines};
+
+use crate::ScriptFault;
+use crate::hotel_run::HotelRun;
+use std::alloc::Global;
+use tac_io::{Sink, write_all};
+use text_forms::cut;
+
+/// The most bytes of a script.
+const LONGEST_SCRIPT: usize = 67_108_864;
+
+/// The run of all lines of a script.
+fn run_lines(alloc: Global, script: &[u8]) -> Result<HotelRun, ScriptFault>
+    ensures { RunsLines script.now result }
+{
+    let mut run = HotelRun::new(alloc);
+    let mut rest = script;
+    while let Some((line, after)) = cut(rest, b'\n') {
+        run.step(line)?;
+        rest = after;
+    }
+    if rest.is_empty() {
+        Ok(run)
+    } else {
+        Err(ScriptFault::Line {
+            line: run.lines() + 1,
+            reason: 3,
+        })
+    }
+}
+
+/// Runs one hotel, the first night of Shoreline Shanties, by the lines of a script, and writes the
+/// replies and trades. All lines are tested before anything is written.
+pub fn run_hotel_script<K: Sink>(
+    alloc: Global,
+    text: &[u8],
+    sink: &mut K,
+) -> Result<(), ScriptFault>
+    ensures { RunsScript text.now (K.taken sink.old) (K.taken sink.new) (K.faults sink.old) (K.faults sink.new) result }
+{
+    if text.len() > LONGEST_SCRIPT {
+        return Err(ScriptFault::TooLong);
+    }
+    let run = run_lines(alloc, text)?;
+    match write_all(sink, run.text()) {
+        Ok(()) => Ok(()),
+        Err(_) => Err(ScriptFault::Failed),
+    }
+}
