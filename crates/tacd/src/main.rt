@@ -1,0 +1,75 @@
+//! The program `tac`: its commands over the files and the output of the system.
+#![tactic(auto)]
+
+mod commands;
+mod ends;
+mod host_files;
+mod std_sink;
+mod telling;
+#[cfg(test)]
+mod tests;
+mod top;
+
+ghost use Rattle.std.specs.Prelude.{◌≡◌, ◌≤◌, All, IfOk, string_len, true};
+
+use ends::End;
+use host_files::HostFiles;
+use std::env::Env;
+use std::io::ErrorKind;
+use std::process::ExitCode;
+use std::{env, io};
+use std_sink::StdSink;
+use tac_io::{MemLink, MemLinks, MemTicker};
+use telling::finish;
+use top::tac;
+
+/// The words of the command line after the program's name. One that is no UTF-8, or longer than
+/// the name of a file may be, is in no command of the list.
+fn words<R: Env + AllocGlobal>(rt: &R) -> Result<Vec<String>, End>
+    ensures { IfOk result (λ words. All (λ word. string_len word ≤ 1024) words.items) }
+{
+    match collected(rt) {
+        Ok(words) if are_short(&words) => Ok(words),
+        Ok(_) => Err(End::Usage),
+        Err(error) if error.kind() == ErrorKind::OutOfMemory => Err(End::Memory),
+        Err(_) => Err(End::Usage),
+    }
+}
+
+fn collected<R: Env + AllocGlobal>(rt: &R) -> io::Result<Vec<String>> {
+    let mut words = Vec::new(rt.alloc());
+    for word in env::args(rt)?.skip(1) {
+        words.push(word)?;
+    }
+    Ok(words)
+}
+
+/// Whether each word is short enough for the name of a file.
+fn are_short(words: &[String]) -> bool
+    ensures { result ≡ true → All (λ word. string_len word ≤ 1024) words.now }
+{
+    words.iter().all(|word| word.len() <= 1024)
+}
+
+fn main(rt: HostRuntime) -> ExitCode {
+    let mut out = StdSink::new(io::writer(&rt));
+    let words = match words(&rt) {
+        Ok(words) => words,
+        Err(end) => return ExitCode::from(finish(&mut out, end)),
+    };
+    let Ok(mut ticker) = MemTicker::new(rt.alloc()) else {
+        return ExitCode::from(finish(&mut out, End::Memory));
+    };
+    let mut files = HostFiles::new(&rt);
+    let mut links = MemLinks::<MemLink>::new(rt.alloc());
+    let answer = tac(
+        &rt,
+        rt.alloc(),
+        &words,
+        &mut files,
+        &mut out,
+        &mut links,
+        &mut ticker,
+    );
+    ExitCode::from(answer.code)
+}

@@ -1,0 +1,218 @@
+// The commands over the outside in memory, and the system's ends of the outside.
+ghost use Rattle.std.specs.Prelude.{◌≡◌, [], IfOk};
+
+use crate::are_short;
+use crate::host_files::HostFiles;
+use crate::std_sink::StdSink;
+use crate::top::tac;
+use std::alloc::Global;
+use std::fs::File;
+use std::rt::Clock;
+use std::sync::Wait;
+use std::test::Fail;
+use std::thread::Threads;
+use tac_io::{Files, MemFile, MemFiles, MemLink, MemLinks, MemSink, MemTicker, Sink, read_file};
+
+// What a run left: its code, and what it wrote.
+#[derive(Drop)]
+struct Ran {
+    code: u8,
+    text: Vec<u8>,
+}
+
+// The calls of the files and of the sink that are to fail, and how many bytes the sink takes at once.
+#[derive(Clone, Copy)]
+struct Faults {
+    read: u64,
+    write: u64,
+    most_at_once: usize,
+}
+
+const NO_FAULT: Faults = Faults {
+    read: 0,
+    write: 0,
+    most_at_once: 1_000_000,
+};
+
+// Runs the words of a line, parted by spaces, where `script` is the one file.
+fn run<R: Threads + Sync + Wait + Clock>(
+    rt: &R,
+    alloc: Global,
+    line: &str,
+    script: &[u8],
+    faults: Faults,
+) -> Result<Ran, Fail> {
+    let mut words = Vec::new(alloc);
+    for word in line.split_whitespace() {
+        words.push(String::from_str(alloc, word)?)?;
+    }
+    if !are_short(&words) {
+        return Err(Fail::from("a word is too long"));
+    }
+    let file = MemFile {
+        name: String::from_str(alloc, "script")?,
+        bytes: script.to_vec(alloc)?,
+    };
+    let mut files = MemFiles::new(
+        alloc,
+        vec![in alloc; file]?,
+        1_000_000,
+        vec![in alloc; faults.read]?,
+    )?;
+    let mut out = MemSink::new(
+        alloc,
+        1_000_000,
+        faults.most_at_once,
+        vec![in alloc; faults.write]?,
+    )?;
+    let mut links = MemLinks::<MemLink>::new(alloc);
+    let mut ticker = MemTicker::new(alloc)?;
+    let answer = tac(
+        rt,
+        alloc,
+        &words,
+        &mut files,
+        &mut out,
+        &mut links,
+        &mut ticker,
+    );
+    Ok(Ran {
+        code: answer.code,
+        text: out.bytes().to_vec(alloc)?,
+    })
+}
+
+#[test]
+fn scripts_give_their_texts(rt: HostRuntime) -> Result<(), Fail> {
+    let alloc = rt.alloc();
+    for (script, code, text) in [
+        ("close\n", 0, "@0 sold 0 0\n"),
+        ("", 0, ""),
+        (
+            "0 bid ((15 100))\nclose\n",
+            0,
+            "@0 taken 0 0\n@1 sold 15 0\ntrade 0 8 15 0\n",
+        ),
+        (
+            "0 bid ((15 200))\n1 bid ((1 150))\n2 bid ((1 150))\nclose\n",
+            0,
+            "@0 taken 0 0\n@1 taken 0 0\n@2 taken 0 0\n@3 sold 16 150\ntrade 0 8 15 150\ntrade 1 8 1 150\n",
+        ),
+        (
+            "0 bid ((13 100))\n1 bid ((3 120))\npublish\n2 bid ((14 101))\n1 bid ((3 101))\nclose\n",
+            0,
+            "@0 taken 0 0\n@1 taken 0 0\n@2 done\n@3 taken 0 0\n@4 taken 0 0\n@5 sold 16 101\ntrade 1 8 2 101\ntrade 2 8 14 101\n",
+        ),
+        (
+            "close\n0 bid ((1 5))\nclose\n",
+            0,
+            "@0 sold 0 0\n@1 no closed\n@2 no closed\n",
+        ),
+        (
+            "0 bid ((15 10))\npublish\n0 bid ((1 1))\n",
+            0,
+            "@0 taken 0 0\n@1 done\n@2 no belowquote 15 1 1\n",
+        ),
+        ("8 bid ((1 5))\n", 8, "text 1 1\n"),
+        ("0 own\n", 8, "text 1 9\n"),
+        ("close\n0 bid\n", 8, "text 2 1\n"),
+        ("close\nclose", 8, "text 2 3\n"),
+    ] {
+        let ran = run(&rt, alloc, "hotel script", script.as_bytes(), NO_FAULT)?;
+        assert_eq!(rt; ran.text.as_slice(), text.as_bytes(), "of {script}");
+        assert_eq!(rt; ran.code, code, "of {script}");
+    }
+    Ok(())
+}
+
+#[test]
+fn an_agent_has_1024_lines_and_a_clock_64(rt: HostRuntime) -> Result<(), Fail> {
+    let alloc = rt.alloc();
+    for (line, count, text) in [
+        ("0 bid ((1 1))\n", 1025, "text 1025 5\n"),
+        ("publish\n", 65, "text 65 5\n"),
+    ] {
+        let mut script = Vec::new(alloc);
+        for _ in 0..count {
+            script.extend_from_slice(line.as_bytes())?;
+        }
+        let ran = run(&rt, alloc, "hotel script", &script, NO_FAULT)?;
+        assert_eq!(rt; ran.text.as_slice(), text.as_bytes());
+        assert_eq!(rt; ran.code, 8);
+    }
+    Ok(())
+}
+
+#[test]
+fn other_words_are_no_command(rt: HostRuntime) -> Result<(), Fail> {
+    let alloc = rt.alloc();
+    for line in [
+        "",
+        "hotel",
+        "Hotel script",
+        "hotel script script",
+        "show script",
+    ] {
+        let ran = run(&rt, alloc, line, b"", NO_FAULT)?;
+        assert_eq!(rt; ran.text.as_slice(), b"usage\n".as_slice(), "{line}");
+        assert_eq!(rt; ran.code, 1, "{line}");
+    }
+    Ok(())
+}
+
+#[test]
+fn each_fault_has_its_code(rt: HostRuntime) -> Result<(), Fail> {
+    let alloc = rt.alloc();
+    let script = b"0 bid ((15 100))\nclose\n";
+    let missing = run(&rt, alloc, "hotel other", script, NO_FAULT)?;
+    assert_eq!(rt; missing.text.as_slice(), b"fault read\n".as_slice());
+    assert_eq!(rt; missing.code, 3);
+    // A `select`, the read of the script, and the read of its end.
+    for read in 1..4 {
+        let ran = run(
+            &rt,
+            alloc,
+            "hotel script",
+            script,
+            Faults { read, ..NO_FAULT },
+        )?;
+        assert_eq!(rt; ran.text.as_slice(), b"fault read\n".as_slice());
+        assert_eq!(rt; ran.code, 3);
+    }
+    let due = b"@0 taken 0 0\n@1 sold 15 0\ntrade 0 8 15 0\n";
+    for (write, most_at_once, written) in [(1, 7, 0), (2, 7, 7), (3, 7, 14), (0, 0, 0)] {
+        let faults = Faults {
+            read: 0,
+            write,
+            most_at_once,
+        };
+        let ran = run(&rt, alloc, "hotel script", script, faults)?;
+        assert_eq!(rt; ran.text.as_slice(), &due[..written]);
+        assert_eq!(rt; ran.code, 4);
+    }
+    let slow = Faults {
+        most_at_once: 1,
+        ..NO_FAULT
+    };
+    let ran = run(&rt, alloc, "hotel script", script, slow)?;
+    assert_eq!(rt; ran.text.as_slice(), due.as_slice());
+    assert_eq!(rt; ran.code, 0);
+    Ok(())
+}
+
+#[test]
+fn a_file_of_the_system_is_read_as_it_was_written(rt: HostRuntime) -> Result<(), Fail> {
+    let name = "written-by-a-test";
+    let mut sink = StdSink::new(File::create(&rt, name)?);
+    assert_eq!(rt; sink.write(b"close\n").ok(), Some(6));
+    assert_eq!(rt; sink.faults(), 0);
+    drop(sink);
+    let mut files = HostFiles::new(&rt);
+    let bytes = read_file(rt.alloc(), &mut files, name, 6)
+        .ok()
+        .ok_or("read")?;
+    assert_eq!(rt; bytes.as_slice(), b"close\n".as_slice());
+    assert!(rt; files.select("no-such-file-of-a-test").is_err());
+    assert_eq!(rt; files.faults(), 1);
+    Ok(())
+}
