@@ -20,7 +20,7 @@ use Rattle.tac_base.proofs.NumeralLaws.{both_true, numeral_is, numeral_again, nu
 use Rattle.tac_base.proofs.Signed.{Lacks, signed_is, signed_again, signed_limit, decimal_lacks, signed_lacks}
 use Rattle.text_forms.proofs.Joins.{joined_parts}
 use Rattle.bid_strings.specs.BidForm.{front, last, paired, point_of, followed_by, points_from, points_of, verdict, judged}
-use Rattle.bid_strings.specs.Spelling.{left_word, right_word, point_words, spelling, HasDigits, IsBidString}
+use Rattle.bid_strings.specs.Spelling.{left_word, right_word, point_words, spelling, HasFiveDigits, IsBidString}
 
 -- a list by its last item
 nonempty : (bytes : List ℕ) → 0 < length bytes → bytes ≡ front bytes ++ last bytes ∷ []
@@ -68,7 +68,7 @@ pair_is (Some units) (Some price) point h =
 record IsPoint (left right : List ℕ) (point : Point) : Type 0 where
   opens : left ≡ left_word point
   closes : right ≡ right_word point
-  digits : HasDigits point
+  digits : HasFiveDigits point
 
 point_is : (left right : List ℕ) (point : Point) → point_of left right ≡ Some point → IsPoint left right point
 unfolding point_of
@@ -88,7 +88,7 @@ point_is (b ∷ left) right point h =
       digits = record { units = signed_limit 5 5 left point.units (lit≤ tt) numbers.first; price = small };
     }
 
-point_again : (point : Point) → HasDigits point → point_of (left_word point) (right_word point) ≡ Some point
+point_again : (point : Point) → HasFiveDigits point → point_of (left_word point) (right_word point) ≡ Some point
 unfolding point_of
 point_again point digits =
     let small = digits.units in
@@ -115,19 +115,19 @@ points_are (left ∷ right ∷ words) points h =
     let more = points_are words ps f.3 in
     ap (λ (l : List ℕ). l ∷ right ∷ words) one.opens ∙ ap (λ (r : List ℕ). left_word p ∷ r ∷ words) one.closes ∙ ap (λ (ws : List (List ℕ)). left_word p ∷ right_word p ∷ ws) more ∙ sym (ap (flat_map point_words) f.4 ∙ flat_map-cons point_words p ps)
 
-points_short : (words : List (List ℕ)) (points : List Point) → points_from words ≡ Some points → AllByRecursion HasDigits points
-points_short [] points h = subst (λ (ps : List Point). AllByRecursion HasDigits ps) (same_Some [] points h) tt
+points_short : (words : List (List ℕ)) (points : List Point) → points_from words ≡ Some points → AllByRecursion HasFiveDigits points
+points_short [] points h = subst (λ (ps : List Point). AllByRecursion HasFiveDigits ps) (same_Some [] points h) tt
 points_short (left ∷ []) points h = absurd cc
 points_short (left ∷ right ∷ words) points h =
     let f = followed_is (point_of left right) (points_from words) points h in
-    subst (λ (ps : List Point). AllByRecursion HasDigits ps) (sym f.4) ((point_is left right f.0 f.2).digits, points_short words f.1 f.3)
+    subst (λ (ps : List Point). AllByRecursion HasFiveDigits ps) (sym f.4) ((point_is left right f.0 f.2).digits, points_short words f.1 f.3)
 
 -- a line has a word, so its points are no empty list
 points_some : (line : List ℕ) (points : List Point) → words_of line ≡ flat_map point_words points → 0 < length points
 points_some line [] e = absurd (let one : length (words_of line) ≡ 0 = ap length e in omega (arith, one, length-slice_split (λ b. eqb b 32) line))
 points_some line (point ∷ points) e = omega arith
 
-points_again : (points : List Point) → AllByRecursion HasDigits points → points_from (flat_map point_words points) ≡ Some points
+points_again : (points : List Point) → AllByRecursion HasFiveDigits points → points_from (flat_map point_words points) ≡ Some points
 points_again [] h = refl
 points_again (point ∷ points) h =
     ap points_from (flat_map-cons point_words point points) ∙ rw (point_again point h.0, points_again points h.1) refl
@@ -154,7 +154,7 @@ text_is (b ∷ bytes) points h =
     let joined : inner ≡ join_with_byte 32 (flat_map point_words points) = sym (join_with_byte-slice_split 32 inner) ∙ ap (join_with_byte 32) words in
     record {
       some = points_some inner points words;
-      digits = All-from_recursion HasDigits points (points_short (words_of inner) points c.1);
+      digits = All-from_recursion HasFiveDigits points (points_short (words_of inner) points c.1);
       spelled = closed ∙ ap (λ (f : List ℕ). f ++ 41 ∷ []) (middle ∙ ap (λ (t : List ℕ). b ∷ t) (sym same ∙ joined)) ∙ ap (λ (x : ℕ). x ∷ (join_with_byte 32 (flat_map point_words points) ++ 41 ∷ [])) opened;
     }
 
@@ -162,22 +162,22 @@ lacks_append : (byte : ℕ) (xs ys : List ℕ) → Lacks byte xs → Lacks byte 
 lacks_append byte [] ys h k = k
 lacks_append byte (x ∷ xs) ys h k = (h.0, lacks_append byte xs ys h.1 k)
 
-left_lacks : (point : Point) → HasDigits point → Lacks 32 (left_word point)
+left_lacks : (point : Point) → HasFiveDigits point → Lacks 32 (left_word point)
 left_lacks point digits = let small = digits.units in (refl, signed_lacks 32 point.units (lit< tt) (omega (arith, small)))
 
-right_lacks : (point : Point) → HasDigits point → Lacks 32 (right_word point)
+right_lacks : (point : Point) → HasFiveDigits point → Lacks 32 (right_word point)
 right_lacks point digits = let small = digits.price in lacks_append 32 (decimal point.price) (41 ∷ []) (decimal_lacks 32 point.price (lit< tt) (omega (arith, small))) (refl, tt)
 
-all_lack : (points : List Point) → AllByRecursion HasDigits points → AllByRecursion (Lacks 32) (flat_map point_words points)
+all_lack : (points : List Point) → AllByRecursion HasFiveDigits points → AllByRecursion (Lacks 32) (flat_map point_words points)
 all_lack [] h = tt
 all_lack (point ∷ points) h = subst (λ (ws : List (List ℕ)). AllByRecursion (Lacks 32) ws) (sym (flat_map-cons point_words point points)) (left_lacks point h.0, (right_lacks point h.0, all_lack points h.1))
 
-words_again : (point : Point) (points : List Point) → AllByRecursion HasDigits (point ∷ points) → words_of (join_with_byte 32 (flat_map point_words (point ∷ points))) ≡ flat_map point_words (point ∷ points)
+words_again : (point : Point) (points : List Point) → AllByRecursion HasFiveDigits (point ∷ points) → words_of (join_with_byte 32 (flat_map point_words (point ∷ points))) ≡ flat_map point_words (point ∷ points)
 words_again point points h =
     let made = flat_map-cons point_words point points in
     ap (λ (ws : List (List ℕ)). words_of (join_with_byte 32 ws)) made ∙ joined_parts 32 (left_word point) (right_word point ∷ flat_map point_words points) (left_lacks point h.0) (right_lacks point h.0, all_lack points h.1) ∙ sym made
 
-text_again : (point : Point) (points : List Point) → AllByRecursion HasDigits (point ∷ points) → points_of (spelling (point ∷ points)) ≡ Some (point ∷ points)
+text_again : (point : Point) (points : List Point) → AllByRecursion HasFiveDigits (point ∷ points) → points_of (spelling (point ∷ points)) ≡ Some (point ∷ points)
 unfolding points_of
 text_again point points h =
     let all = flat_map point_words (point ∷ points) in
@@ -188,9 +188,9 @@ text_again point points h =
     let inner : take (length (40 ∷ (joined ++ 41 ∷ [])) - 2) (joined ++ 41 ∷ []) ≡ joined = take_at joined (41 ∷ []) _ n in
     rw (long, closed, inner, words_again point points h, points_again (point ∷ points) h) refl
 
-again_by : (text : List ℕ) (points : List Point) → 0 < length points → All HasDigits points → text ≡ spelling points → points_of text ≡ Some points
+again_by : (text : List ℕ) (points : List Point) → 0 < length points → All HasFiveDigits points → text ≡ spelling points → points_of text ≡ Some points
 again_by text [] some digits e = absurd (omega (arith, some))
-again_by text (point ∷ points) some digits e = ap points_of e ∙ text_again point points (recursion_from_All HasDigits (point ∷ points) digits)
+again_by text (point ∷ points) some digits e = ap points_of e ∙ text_again point points (recursion_from_All HasFiveDigits (point ∷ points) digits)
 
 -- the spelling of points is a text of their form
 pub is_text : (text : List ℕ) (points : List Point) → IsBidString text points → points_of text ≡ Some points
@@ -198,12 +198,12 @@ is_text text points is = again_by text points is.some is.digits is.spelled
 
 -- ---- the numbers of a bid
 
-lawful_point : (count used : ℕ) (point : Point) → point_fault count used point ≡ None → HasDigits point
+lawful_point : (count used : ℕ) (point : Point) → point_fault count used point ≡ None → HasFiveDigits point
 lawful_point count used point h =
     let good = good_point count used point h in
     record { units = omega (arith, good.small); price = omega (arith, good.cheap) }
 
-lawful_points : (count used : ℕ) (points : List Point) → first_fault count used points ≡ None → AllByRecursion HasDigits points
+lawful_points : (count used : ℕ) (points : List Point) → first_fault count used points ≡ None → AllByRecursion HasFiveDigits points
 lawful_points count used [] h = tt
 lawful_points count used (point ∷ points) h =
     let parts = both_none (point_fault count used point) (first_fault (count + 1) (used + size_of point) points) h in

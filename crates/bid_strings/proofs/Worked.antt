@@ -1,4 +1,4 @@
--- Worked rows, evaluated by the definitions.
+-- Bid strings and what the definitions answer to them.
 use Rattle.std.proofs.Common.{◌≡◌, ℕ, List, [], ◌∷◌, pos, negsuc, Result, Ok, Err, refl}
 use Rattle.std.specs.Prelude.{codes}
 use Rattle.tac_base.specs.declared.bids.Point.{Point}
@@ -50,6 +50,14 @@ no_price : read (codes "((1 0))") ≡ Err Price
 unfolding points_of point_of numeral signed_numeral
 no_price = refl
 
-no_units : read (codes "((0 10001))") ≡ Err ZeroUnits
+price_above_limit : read (codes "((1 10001))") ≡ Err Price
 unfolding points_of point_of numeral signed_numeral
-no_units = refl
+price_above_limit = refl
+
+units_of_zero : read (codes "((0 100))") ≡ Err ZeroUnits
+unfolding points_of point_of numeral signed_numeral
+units_of_zero = refl
+
+units_before_price : read (codes "((0 10001))") ≡ Err ZeroUnits
+unfolding points_of point_of numeral signed_numeral
+units_before_price = refl

@@ -11,6 +11,7 @@ use Rattle.text_forms.specs.Words.{words_of}
 abbrev pub front : List ℕ → List ℕ
 front bytes = take (length bytes - 1) bytes
 
+-- the last byte of a list
 abbrev pub last : List ℕ → ℕ
 last bytes = slice_index bytes (length bytes - 1)
 
@@ -44,6 +45,7 @@ abbrev pub verdict : List Point → Option BidFault → Result (List Point) BidF
 verdict points None = Ok points
 verdict points (Some fault) = Err fault
 
+-- the bid of the points that a text has, where it has points
 abbrev pub judged : Option (List Point) → Result (List Point) BidFault
 judged None = Err Syntax
 judged (Some points) = verdict points (fault_of points)

@@ -4,13 +4,15 @@ use Rattle.std.specs.Fmt.{signed_decimal}
 use Rattle.std.specs.List.{flat_map, join_with_byte}
 use Rattle.tac_base.specs.declared.bids.Point.{Point}
 
--- `(` and the units, the price and `)`
+-- `(` and the units
 abbrev pub left_word : Point → List ℕ
 left_word point = 40 ∷ signed_decimal point.units
 
+-- the price and `)`
 abbrev pub right_word : Point → List ℕ
 right_word point = decimal point.price ++ 41 ∷ []
 
+-- the two words of a point
 abbrev pub point_words : Point → List (List ℕ)
 point_words point = left_word point ∷ right_word point ∷ []
 
@@ -19,14 +21,14 @@ abbrev pub spelling : List Point → List ℕ
 spelling points = 40 ∷ (join_with_byte 32 (flat_map point_words points) ++ 41 ∷ [])
 
 -- a point whose numbers have at most five digits
-pub record HasDigits (point : Point) : Type 0 where
+pub record HasFiveDigits (point : Point) : Type 0 where
   pub units : unsigned_abs point.units < 100000
   pub price : point.price < 100000
 
 -- a text of the form: one point or more, with numbers of at most five digits, as they are spelled
 pub record IsBidString (text : List ℕ) (points : List Point) : Type 0 where
   pub some : 0 < length points
-  pub digits : All HasDigits points
+  pub digits : All HasFiveDigits points
   pub spelled : text ≡ spelling points
 
 -- the text of a point

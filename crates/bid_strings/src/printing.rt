@@ -28,7 +28,8 @@ fn print_next(count: usize, point: &Point, out: &mut Text)
     print_point(point, out);
 }
 
-/// Appends the one spelling of the points.
+/// Appends the one spelling of at most 16 points, in their order, where 256 bytes are free. Without points it is `()`,
+/// which is read as no bid.
 pub fn print_points(points: &[Point], out: &mut Text)
     requires count { length points.now ≤ 16 }
     requires room { length out.old + 256 ≤ 640 }

@@ -33,7 +33,8 @@ impl WrittenPoint {
     }
 }
 
-/// The points of a bid string, which are judged from the left once the whole text has the form.
+/// The bid of a text of points, each with units and a price in dollars, as `((2 150) (1 100))`. The whole text has to
+/// have the form; then the first fault of the points from the left is told. The form and its limits are our own.
 pub fn read_points(text: &[u8]) -> Result<Points, BidFault>
     ensures exact { result ≡ bid_form.judged (bid_form.points_of text.now) }
     // What is read is spelled so.

@@ -84,7 +84,7 @@ pub struct Board {
 /// What the trades of one entry gave each party.
 #[derive(Clone, Copy, Debug, PartialEq, Eq)]
 pub struct Nets {
-    /// What each party earned less what it paid, in dollars: the agents 0..7, then the house.
+    /// What each party gained, in dollars, with what it paid as a loss: the agents 0..7, then the house.
     pub dollars: [i32; 9],
 }
 

@@ -1,12 +1,12 @@
 -- Cutting a list at its first separator.
 use Rattle.std.proofs.Common.{◌≡◌, ℕ, suc, ◌+◌, ◌≤◌, ◌-◌, Bool, true, false, cond, not, ltb, List, [], ◌∷◌, Some, None, length, take, drop, refl, subst, arith}
-use Rattle.std.specs.Prelude.{◌==◌}
+use Rattle.std.specs.Prelude.{◌==◌, codes}
 use Rattle.std.specs.List.{slice_split, position_or_len, position}
 use Rattle.std.proofs.lemmas.Bool.{ltb-true, ltb-false}
 use Rattle.std.proofs.lemmas.Option.{cond_some}
 use Rattle.std.proofs.lemmas.List.{take_rest}
 use Rattle.std.proofs.lemmas.List.Splits.{slice_split_first}
-use Rattle.text_forms.specs.Words.{parts_of}
+use Rattle.text_forms.specs.Words.{parts_of, words_of}
 
 not_chosen : (b : Bool) (m : ℕ) → cond b (Some m) None ≡ None → b ≡ false
 not_chosen true m h = absurd cc
@@ -34,3 +34,10 @@ cut_at separator bytes i h = rw take_rest (split_found (λ b. b == separator) by
 
 pub uncut : (separator : ℕ) (bytes : List ℕ) → position (λ b. b == separator) bytes ≡ None → parts_of separator bytes ≡ bytes ∷ []
 uncut separator bytes h = no_part (λ b. b == separator) bytes (ltb-false _ _ (not_chosen (ltb (position_or_len (λ b. b == separator) bytes) (length bytes)) (position_or_len (λ b. b == separator) bytes) h))
+
+-- two spaces have an empty word between them, and so has a space at the end after it
+spaces : words_of (codes "a  bc ") ≡ codes "a" ∷ [] ∷ codes "bc" ∷ [] ∷ []
+spaces = refl
+
+no_byte : words_of [] ≡ [] ∷ []
+no_byte = refl

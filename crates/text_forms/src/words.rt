@@ -20,7 +20,8 @@ fn count(bytes: &[u8], separator: u8) -> usize
     bytes.iter().filter(|b| **b == separator).count()
 }
 
-/// The bytes before the first separator, and those after it.
+/// The bytes before the first separator and those after it, where there is a separator.
+/// Either side may be empty.
 pub fn cut(bytes: &[u8], separator: u8) -> Option<(&[u8], &[u8])>
     ensures whole { IfNone result (parts_of separator bytes.now ≡ bytes.now ∷ []) }
     ensures parts { IfSome result (λ x. parts_of separator bytes.now ≡ x.0.now ∷ parts_of separator x.1.now) }
@@ -32,14 +33,15 @@ pub fn cut(bytes: &[u8], separator: u8) -> Option<(&[u8], &[u8])>
     }
 }
 
-/// How many parts there are.
+/// How many parts the separators make, empty ones counted: one more than there are separators.
 pub fn count_parts(bytes: &[u8], separator: u8) -> usize
     ensures { result ≡ length (parts_of separator bytes.now) }
 {
     count(bytes, separator) + 1
 }
 
-/// The words of a line that are left.
+/// The words of a line that are left. Words are parted by exactly one space, so two spaces have an empty word between
+/// them, and a line without a byte is one empty word. Contracts see the list of the words.
 #[derive(Debug, Drop)]
 pub struct Words<'a> {
     rest: Option<&'a [u8]>,
@@ -72,7 +74,7 @@ impl<'a> Words<'a> {
         }
     }
 
-    /// Takes the next word.
+    /// Takes the next word, where one is left. After the last word none is left for good.
     pub fn next(&mut self) -> Option<&'a [u8]>
         ensures { MatchOption result ((self.old ≡ []) × (self.new ≡ [])) (λ word. self.old ≡ word.now ∷ self.new) }
     {
@@ -90,16 +92,11 @@ impl<'a> Words<'a> {
             },
         }
     }
-}
 
-impl<'a> Words<'a> {
-    /// All that is left, where a word is left.
+    /// All bytes that are left, with the spaces between the words, where a word is left.
     pub fn rest(self) -> Option<&'a [u8]>
         ensures { MatchOption result (self.entry ≡ []) (λ rest. (self.entry ≡ words_of rest.now) × (rest.now ≡ join_with_byte 32 self.entry)) }
     {
-        match self.rest {
-            None => None,
-            Some(line) => Some(line),
-        }
+        self.rest
     }
 }
