@@ -77,7 +77,7 @@ impl MemFiles {
 }
 
 impl Files for MemFiles {
-    ghost use Rattle.std.specs.Prelude.{◌≡◌, ◌⊎◌, ◌<◌, ◌≤◌, ◌++◌, ◌∷◌, [], Some, None, IsTrue, IsSome, MatchResult, length, take};
+    ghost use Rattle.std.specs.Prelude.{◌≡◌, ◌⊎◌, ◌↔◌, ◌<◌, ◌≤◌, ◌++◌, ◌∷◌, [], Some, None, IsTrue, IsErr, IfOk, OnOk, OnErr, length, take};
     ghost use Rattle.tac_io.specs.Calls.{IsNextToFail, after_call};
     ghost use Rattle.tac_io.specs.Counts.{HasCause};
     ghost use Rattle.tac_io.specs.MemFiles.{files_calls, files_content, files_left, files_most, files_names, files_selected, files_share};
@@ -94,12 +94,11 @@ impl Files for MemFiles {
 
     fn select(&mut self, name: &str) -> Result<(), Failed>
         requires { (length (files_names self.old) < 128) × (length name.now ≤ 1024) }
-        ensures answer { MatchResult result
-            (λ _. (files_content self.old name.now ≡ Some (files_left self.new))
-            × IsTrue (files_selected self.new))
-            (λ _. (IsNextToFail (files_calls self.old) ⊎ (files_content self.old name.now ≡ None))
-            × (files_left self.new ≡ files_left self.old)
-            × (files_selected self.new ≡ files_selected self.old)) }
+        ensures fails { IsErr result ↔ (IsNextToFail (files_calls self.old) ⊎ (files_content self.old name.now ≡ None)) }
+        ensures found { OnOk result (files_content self.old name.now ≡ Some (files_left self.new)) }
+        ensures selected { OnOk result (IsTrue (files_selected self.new)) }
+        ensures kept { OnErr result (files_left self.new ≡ files_left self.old) }
+        ensures kept_selected { OnErr result (files_selected self.new ≡ files_selected self.old) }
         ensures names { files_names self.new ≡ files_names self.old ++ name.now ∷ [] }
         ensures content { files_content self.new ≡ files_content self.old }
         ensures most { files_most self.new ≡ files_most self.old }
@@ -121,12 +120,11 @@ impl Files for MemFiles {
     fn read(&mut self, into: &mut [u8]) -> Result<usize, Failed>
         requires room { 0 < length into.old }
         requires selected { IsTrue (files_selected self.old) }
-        ensures answer { MatchResult result
-            (λ n. (n ≡ files_share self.old (length into.new))
-            × (files_left self.old ≡ take n into.new ++ files_left self.new)
-            × (n ≡ 0 → files_left self.old ≡ []))
-            (λ _. IsNextToFail (files_calls self.old)
-            × (files_left self.new ≡ files_left self.old)) }
+        ensures fails { IsErr result ↔ IsNextToFail (files_calls self.old) }
+        ensures share { IfOk result (λ n. n ≡ files_share self.old (length into.new)) }
+        ensures end { IfOk result (λ n. n ≡ 0 → files_left self.old ≡ []) }
+        ensures given { IfOk result (λ n. files_left self.old ≡ take n into.new ++ files_left self.new) }
+        ensures kept { OnErr result (files_left self.new ≡ files_left self.old) }
         ensures selected { IsTrue (files_selected self.new) }
         ensures names { files_names self.new ≡ files_names self.old }
         ensures content { files_content self.new ≡ files_content self.old }

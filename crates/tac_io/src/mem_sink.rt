@@ -52,7 +52,7 @@ impl MemSink {
 }
 
 impl Sink for MemSink {
-    ghost use Rattle.std.specs.Prelude.{◌≡◌, ◌+◌, ◌⊎◌, ◌<◌, ◌++◌, Some, MatchResult, length, take};
+    ghost use Rattle.std.specs.Prelude.{◌≡◌, ◌+◌, ◌⊎◌, ◌↔◌, ◌<◌, ◌++◌, Some, IsErr, IfOk, OnErr, length, take};
     ghost use Rattle.tac_io.specs.Calls.{IsNextToFail, after_call};
     ghost use Rattle.tac_io.specs.Counts.{HasCause};
     ghost use Rattle.tac_io.specs.MemSink.{sink_bytes, sink_calls, sink_most, sink_room, sink_share};
@@ -62,13 +62,13 @@ impl Sink for MemSink {
     ghost faults = { λ s. (sink_calls s).faults };
 
     fn write(&mut self, piece: &[u8]) -> Result<usize, Failed>
-        ensures answer { MatchResult result
-            (λ n. (0 < n) × (n ≡ sink_share self.old (length piece.now))
-            × (sink_bytes self.new ≡ sink_bytes self.old ++ take n piece.now)
-            × (sink_room self.new + n ≡ sink_room self.old))
-            (λ _. (IsNextToFail (sink_calls self.old) ⊎ (sink_share self.old (length piece.now) ≡ 0))
-            × (sink_bytes self.new ≡ sink_bytes self.old)
-            × (sink_room self.new ≡ sink_room self.old)) }
+        ensures fails { IsErr result ↔ (IsNextToFail (sink_calls self.old) ⊎ (sink_share self.old (length piece.now) ≡ 0)) }
+        ensures share { IfOk result (λ n. n ≡ sink_share self.old (length piece.now)) }
+        ensures some { IfOk result (λ n. 0 < n) }
+        ensures taken { IfOk result (λ n. sink_bytes self.new ≡ sink_bytes self.old ++ take n piece.now) }
+        ensures room { IfOk result (λ n. sink_room self.new + n ≡ sink_room self.old) }
+        ensures kept { OnErr result (sink_bytes self.new ≡ sink_bytes self.old) }
+        ensures kept_room { OnErr result (sink_room self.new ≡ sink_room self.old) }
         ensures most { sink_most self.new ≡ sink_most self.old }
         ensures calls { sink_calls self.new ≡ after_call (sink_calls self.old) result }
         ensures cause { HasCause (sink_calls self.old).faults (sink_calls self.new).faults result }
