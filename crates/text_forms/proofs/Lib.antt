@@ -1,2 +1,11 @@
 pub mod Parts
 pub mod Joins
+pub mod Stepping
+pub mod Repeats
+pub mod RowLoops
+pub mod Columns
+pub mod RowLaws
+pub mod PrintedLines
+pub mod Reading
+pub mod ReadAgain
+pub mod PrintLoops

@@ -1,6 +1,16 @@
 //! The parts of a text: what stands between separators, and the words of a line.
 #![tactic(auto)]
 
+mod lines;
+mod printing;
+mod rows;
+mod steps;
+#[cfg(test)]
+mod tests;
 mod words;
 
+pub use lines::{BadLine, Ending, Lines, NumberedLine, Reason, at_line};
+pub use printing::{PrintedPart, print_parts};
+pub use rows::{Column, print_row, read_row};
+pub use steps::{Part, repeat};
 pub use words::{Words, count_parts, cut};

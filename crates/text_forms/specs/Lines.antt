@@ -1,0 +1,85 @@
+-- The lines of a text with their numbers.
+use Rattle.std.specs.Prelude.{◌≡◌, ℕ, ◌+◌, ◌==◌, ◌&&◌, if◌then◌else◌, List, [], ◌∷◌, ◌++◌, map, Bool, true, false, Result, Ok, Err}
+use Rattle.std.specs.List.{flat_map}
+use Rattle.text_forms.specs.declared.lines.Reason.{Reason}
+use Rattle.text_forms.specs.declared.lines.Reason.TheVariants.{Keyword, WordCount, Spelling, OutOfRange, NotDue, Repeated, TextEnd}
+use Rattle.text_forms.specs.declared.lines.BadLine.{BadLine}
+use Rattle.text_forms.specs.declared.lines.Ending.{Ending}
+
+-- the number that a refusal shows of a reason
+abbrev pub number_of : Reason → ℕ
+number_of Keyword = 1
+number_of WordCount = 2
+number_of Spelling = 3
+number_of OutOfRange = 4
+number_of NotDue = 5
+number_of Repeated = 6
+number_of TextEnd = 7
+
+-- a line with its number
+pub record NumberedLine : Type 0 where
+  pub number : ℕ
+  pub bytes : List ℕ
+
+-- the lines that are left of a text, the number of what stands after the last of them, and whether nothing does
+pub record Remaining : Type 0 where
+  pub lines : List NumberedLine
+  pub last : ℕ
+  pub ended : Bool
+
+-- empty lines and lines that begin with `#`
+abbrev pub is_comment : List ℕ → Bool
+is_comment [] = true
+is_comment (first ∷ rest) = first == 35
+
+abbrev pub is_nothing : List ℕ → Bool
+is_nothing [] = true
+is_nothing (first ∷ rest) = false
+
+-- a line before others, which is left out where comments are skipped and it is one
+abbrev pub before : Bool → ℕ → List ℕ → Remaining → Remaining
+before skips number line others = if skips && is_comment line then others else record others { lines = record { number = number; bytes = line } ∷ others.lines }
+
+-- the lines of a text that was cut at its line ends, numbered from a number
+abbrev pub lines_from : Bool → ℕ → List (List ℕ) → Remaining
+lines_from skips number [] = record { lines = []; last = number; ended = true }
+lines_from skips number (rest ∷ []) = record { lines = []; last = number; ended = is_nothing rest }
+lines_from skips number (line ∷ next ∷ parts) = before skips number line (lines_from skips (number + 1) (next ∷ parts))
+
+-- the next line and those after it, or where the text ends
+abbrev pub next_in : Remaining → List NumberedLine → Result (NumberedLine × Remaining) Ending
+next_in left [] = Err (record { line = left.last; whole = left.ended })
+next_in left (line ∷ lines) = Ok (line, record left { lines = lines })
+
+abbrev pub next_of : Remaining → Result (NumberedLine × Remaining) Ending
+next_of left = next_in left left.lines
+
+-- the same where a line is due: a text that ends here ends too early
+abbrev pub due_in : Remaining → List NumberedLine → Result (NumberedLine × Remaining) BadLine
+due_in left [] = Err (record { line = left.last; reason = TextEnd })
+due_in left (line ∷ lines) = Ok (line, record left { lines = lines })
+
+abbrev pub due_of : Remaining → Result (NumberedLine × Remaining) BadLine
+due_of left = due_in left left.lines
+
+-- nothing may be left
+abbrev pub nothing_in : Remaining → List NumberedLine → Result (Unit {0}) BadLine
+nothing_in left [] = if left.ended then Ok tt else Err (record { line = left.last; reason = TextEnd })
+nothing_in left (line ∷ lines) = Err (record { line = line.number; reason = TextEnd })
+
+abbrev pub nothing_left : Remaining → Result (Unit {0}) BadLine
+nothing_left left = nothing_in left left.lines
+
+-- the reason for which a line is bad, with its number
+abbrev pub at_line : {A : Type 0} → ℕ → Result A Reason → Result A BadLine
+at_line number (Ok x) = Ok x
+at_line number (Err reason) = Err (record { line = number; reason = reason })
+
+-- each line with its line end
+abbrev pub text_of : List (List ℕ) → List ℕ
+text_of lines = flat_map (λ line. line ++ 10 ∷ []) lines
+
+-- these are the lines that are left, and the last of them has its line end
+pub record AreLeft (lines : List (List ℕ)) (left : Remaining) : Type 0 where
+  pub same : map (λ line. line.bytes) left.lines ≡ lines
+  pub ended : left.ended ≡ true

@@ -1,0 +1,213 @@
+ghost use Rattle.std.specs.Prelude.{◌≡◌, ◌+◌, ◌^◌, ◌<◌, ◌&&◌, length, true, false};
+ghost use Rattle.text_forms.specs.Lines as lines;
+ghost use Rattle.text_forms.specs.Words.{parts_of};
+
+use crate::cut;
+use std::marker::Model;
+
+/// Why a line is bad. A refusal shows the variant's number.
+#[derive(Clone, Copy, Debug, PartialEq, Eq)]
+pub enum Reason {
+    /// The first word is not the one that is due.
+    Keyword = 1,
+    /// There are too few or too many words; an empty word counts.
+    WordCount = 2,
+    /// A later word has another spelling than its place asks for, as a numeral with a leading zero.
+    Spelling = 3,
+    /// A number is outside the range of its place.
+    OutOfRange = 4,
+    /// The number that counts the lines of a kind is not the one that is due.
+    NotDue = 5,
+    /// Two words or numbers that have to differ are equal.
+    Repeated = 6,
+    /// The text ends before or within this line, or goes on after its last line.
+    TextEnd = 7,
+}
+
+impl Reason {
+    /// The number that a refusal shows, 1 to 7.
+    pub fn number(self) -> u8
+        ensures { result ≡ lines.number_of self }
+    {
+        self as u8
+    }
+}
+
+/// The first bad line of a text, with the first reason that applies to it.
+#[derive(Clone, Copy, Debug, PartialEq, Eq)]
+pub struct BadLine {
+    /// Counted from 1, comments and empty lines among them.
+    pub line: u32,
+    pub reason: Reason,
+}
+
+/// Where a text ends.
+#[derive(Clone, Copy, Debug, PartialEq, Eq)]
+pub struct Ending {
+    /// The number of what stands after the last line end.
+    pub line: u32,
+    /// Whether nothing stands there, so that the last line has its end.
+    pub whole: bool,
+}
+
+/// A line without its line end, with its number.
+#[derive(Debug, Drop)]
+pub struct NumberedLine<'a> {
+    number: u32,
+    bytes: &'a [u8],
+}
+
+impl<'a> Model for NumberedLine<'a> {
+    ghost use Rattle.text_forms.specs.Lines as lines;
+
+    ghost Value = { lines.NumberedLine };
+
+    ghost view = { λ l. record { number = l.number; bytes = l.bytes.now } };
+}
+
+impl<'a> NumberedLine<'a> {
+    /// Counted from 1, comments and empty lines among them.
+    pub fn number(&self) -> u32
+        ensures { result ≡ self.now.number }
+    {
+        self.number
+    }
+
+    pub fn bytes(&self) -> &'a [u8]
+        ensures { result.now ≡ self.now.bytes }
+    {
+        self.bytes
+    }
+}
+
+/// The lines that are left of a text.
+#[derive(Debug, Drop)]
+pub struct Lines<'a> {
+    skips_comments: bool,
+    number: u32,
+    rest: &'a [u8],
+}
+
+impl<'a> Model for Lines<'a> {
+    ghost use Rattle.std.specs.Prelude.{◌+◌, ◌^◌, ◌<◌, length};
+    ghost use Rattle.text_forms.specs.Lines as lines;
+    ghost use Rattle.text_forms.specs.Words.{parts_of};
+
+    ghost Value = { lines.Remaining };
+
+    ghost view = { λ l. lines.lines_from l.skips_comments l.number (parts_of 10 l.rest.now) };
+
+    ghost invariant = { λ l. l.number + length l.rest.now < 2 ^ 32 };
+}
+
+impl<'a> Lines<'a> {
+    /// All lines of a text.
+    pub fn new(text: &'a [u8]) -> Self
+        requires { length text.now < 2 ^ 31 }
+        ensures { result ≡ lines.lines_from false 1 (parts_of 10 text.now) }
+    {
+        Lines {
+            skips_comments: false,
+            number: 1,
+            rest: text,
+        }
+    }
+
+    /// The lines of a text but for empty lines and those that begin with `#`, which count in the numbers.
+    pub fn without_comments(text: &'a [u8]) -> Self
+        requires { length text.now < 2 ^ 31 }
+        ensures { result ≡ lines.lines_from true 1 (parts_of 10 text.now) }
+    {
+        Lines {
+            skips_comments: true,
+            number: 1,
+            rest: text,
+        }
+    }
+
+    /// The next line and those after it, or where the text ends.
+    pub fn next(self) -> Result<(NumberedLine<'a>, Lines<'a>), Ending>
+        ensures { result ≡ lines.next_of self.entry }
+    {
+        let mut number = self.number;
+        let mut rest = self.rest;
+        while let Some((line, after)) = cut(rest, b'\n') {
+            if !is_skipped(self.skips_comments, line) {
+                return Ok((
+                    NumberedLine {
+                        number,
+                        bytes: line,
+                    },
+                    Lines {
+                        skips_comments: self.skips_comments,
+                        number: number + 1,
+                        rest: after,
+                    },
+                ));
+            }
+            number += 1;
+            rest = after;
+        }
+        Err(Ending {
+            line: number,
+            whole: rest.is_empty(),
+        })
+    }
+
+    /// The next line and those after it; a text that ends here ends too early.
+    pub fn due(self) -> Result<(NumberedLine<'a>, Lines<'a>), BadLine>
+        ensures { result ≡ lines.due_of self.entry }
+    {
+        match self.next() {
+            Ok(found) => Ok(found),
+            Err(ending) => Err(BadLine {
+                line: ending.line,
+                reason: Reason::TextEnd,
+            }),
+        }
+    }
+
+    /// The text has to end here, with a line end.
+    pub fn finish(self) -> Result<(), BadLine>
+        ensures { result ≡ lines.nothing_left self.entry }
+    {
+        match self.next() {
+            Ok((line, _)) => Err(BadLine {
+                line: line.number(),
+                reason: Reason::TextEnd,
+            }),
+            Err(ending) if ending.whole => Ok(()),
+            Err(ending) => Err(BadLine {
+                line: ending.line,
+                reason: Reason::TextEnd,
+            }),
+        }
+    }
+}
+
+/// Whether a line is empty or begins with `#`.
+fn is_comment(line: &[u8]) -> bool
+    ensures { result ≡ lines.is_comment line.now }
+{
+    match line {
+        [] => true,
+        [first, ..] => *first == b'#',
+    }
+}
+
+/// Whether a line is left out.
+fn is_skipped(skips_comments: bool, line: &[u8]) -> bool
+    ensures { result ≡ (skips_comments && lines.is_comment line.now) }
+{
+    skips_comments && is_comment(line)
+}
+
+/// What was read of a line, or the line with the reason why it is bad.
+pub fn at_line<T>(line: u32, read: Result<T, Reason>) -> Result<T, BadLine>
+    ensures { result ≡ lines.at_line line read }
+{
+    match read {
+        Ok(value) => Ok(value),
+        Err(reason) => Err(BadLine { line, reason }),
+    }
+}

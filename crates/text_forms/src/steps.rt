@@ -1,0 +1,38 @@
+ghost use Rattle.std.specs.Prelude.{◌≡◌, ◌+◌, ◌≤◌, ◌<◌, length, Ok, Err, MatchResult};
+ghost use Rattle.text_forms.specs.Steps as steps;
+
+use crate::{BadLine, Lines};
+
+/// A part of a text that comes several times, numbered from 0.
+pub trait Part {
+    type Value: Drop;
+
+    ghost use Rattle.std.specs.Prelude.{ℕ, Result};
+    ghost use Rattle.text_forms.specs.Lines.{Remaining};
+    ghost use Rattle.text_forms.specs.declared.lines.BadLine.{BadLine};
+
+    ghost gives: { Self → ℕ → Remaining → Result (Self.Value × Remaining) BadLine };
+
+    /// Reads the part of this number, and gives the lines after it.
+    fn read<'a>(&self, number: u8, lines: Lines<'a>) -> Result<(Self::Value, Lines<'a>), BadLine>
+        ensures { result ≡ gives self.now number lines.entry };
+}
+
+/// Reads a part into each of the values, at most 255, and gives the lines after them.
+/// After a bad line the values before it have been written.
+pub fn repeat<'a, P: Part>(
+    part: &P,
+    values: &mut [P::Value],
+    lines: Lines<'a>,
+) -> Result<Lines<'a>, BadLine>
+    requires { length values.old < 256 }
+    ensures { MatchResult result (λ left. steps.repeat (length values.old) 0 (P.gives part.now) lines.entry ≡ Ok (values.new, left)) (λ bad. steps.repeat (length values.old) 0 (P.gives part.now) lines.entry ≡ Err bad) }
+{
+    let mut left = lines;
+    for number in 0..values.len() {
+        let (value, after) = part.read(number as u8, left)?;
+        values[number] = value;
+        left = after;
+    }
+    Ok(left)
+}
