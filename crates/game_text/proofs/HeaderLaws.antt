@@ -1,0 +1,120 @@
+-- The first line, the last line and the line of the seat words.
+use Rattle.std.proofs.Common.{◌≡◌, ℕ, ◌≤◌, ◌<◌, true, false, ◌&&◌, eqb, ltb, List, [], ◌∷◌, Ok, length, refl, sym, ap, ◌∙◌, subst, arith, ℤ, lit<, lit≤, eq-eqb}
+use Rattle.std.specs.Prelude.{codes, nat_le}
+use Rattle.std.specs.List.{list_all, join_with_byte, AllByRecursion}
+use Rattle.std.specs.Str.{bytes_eq}
+use Rattle.std.proofs.lemmas.Bool.{eqb-true, leb-true}
+use Rattle.std.proofs.lemmas.Bool.Decides.{nat_tests}
+use Rattle.std.proofs.lemmas.List.Splits.{join_with_byte-slice_split}
+use Rattle.tac_base.proofs.NumeralLaws.{both_true}
+use Rattle.tac_base.proofs.Signed.{Lacks}
+use Rattle.text_forms.specs.declared.lines.Reason.{Reason}
+use Rattle.text_forms.specs.declared.lines.Reason.TheVariants.{Keyword, WordCount, Spelling, Repeated}
+use Rattle.text_forms.specs.Words.{words_of}
+use Rattle.text_forms.specs.Rows.{row, row_text}
+use Rattle.text_forms.proofs.Joins.{joined_parts}
+use Rattle.text_forms.proofs.RowLaws.{row_is, same_word}
+use Rattle.text_forms.proofs.PrintedLines.{IsLine, lacks_from, join_lacks, join_short, starts_kept}
+use Rattle.text_forms.proofs.Reading.{bind_ok, ok_is}
+use Rattle.game_text.specs.Headers.{header_of_words, header_of, nothing_from, end_of}
+use Rattle.game_text.specs.SeatWords.{is_seat_byte, is_seat_word, are_distinct, seats_of_words, seats_of, seats_text, AreSeats}
+use Rattle.game_text.proofs.Choices.{chosen, passed}
+
+-- ---- the first line and the last
+
+header_words : (words : List (List ℕ)) (u : Unit {0}) → header_of_words words ≡ Ok u → words ≡ codes "tac" ∷ codes "1" ∷ []
+header_words [] u e = absurd cc
+header_words (first ∷ []) u e = let a = passed (bytes_eq first (codes "tac")) Keyword _ u e in absurd cc
+header_words (first ∷ second ∷ []) u e =
+    let a = passed (bytes_eq first (codes "tac")) Keyword _ u e in
+    let b = chosen (bytes_eq second (codes "1") && true) tt Keyword u a.1 in
+    let c = both_true (bytes_eq second (codes "1")) true b.0 in
+    ap (λ (w : List ℕ). w ∷ second ∷ []) (same_word first (codes "tac") a.0) ∙ ap (λ (w : List ℕ). codes "tac" ∷ w ∷ []) (same_word second (codes "1") c.0)
+header_words (first ∷ second ∷ third ∷ words) u e =
+    let a = passed (bytes_eq first (codes "tac")) Keyword _ u e in
+    let b = passed (eqb (length (second ∷ third ∷ words)) 1) WordCount _ u a.1 in
+    absurd (let n = eqb-true (length (second ∷ third ∷ words)) 1 b.0 in omega (arith, n))
+
+pub header_is : (line : List ℕ) (u : Unit {0}) → header_of line ≡ Ok u → line ≡ codes "tac 1"
+unfolding header_of
+header_is line u e = sym (join_with_byte-slice_split 32 line) ∙ ap (join_with_byte 32) (header_words (words_of line) u e)
+
+nothing_more : (numbers : List ℤ) → length numbers ≡ 0 → numbers ≡ []
+nothing_more [] len = refl
+nothing_more (number ∷ numbers) len = absurd (omega (arith, len))
+
+pub end_is : (line : List ℕ) (u : Unit {0}) → end_of line ≡ Ok u → line ≡ codes "end"
+unfolding end_of
+end_is line u e =
+    let a = bind_ok (row (codes "end") [] line) nothing_from u e in
+    let r = row_is (codes "end") [] line a.0 a.1 in
+    r.text ∙ ap (row_text (codes "end")) (nothing_more a.0 r.count)
+
+pub header_again : header_of (codes "tac 1") ≡ Ok tt
+unfolding header_of
+header_again = refl
+
+pub end_again : end_of (codes "end") ≡ Ok tt
+unfolding end_of row
+end_again = refl
+
+pub header_line : IsLine 678 (codes "tac 1")
+header_line = record { lacks = lacks_from 10 (codes "tac 1") refl; kept = refl; short = lit≤ tt }
+
+pub end_line : IsLine 678 (codes "end")
+end_line = record { lacks = lacks_from 10 (codes "end") refl; kept = refl; short = lit≤ tt }
+
+-- ---- the seat words
+
+seats_words : (all words : List (List ℕ)) → seats_of_words all ≡ Ok words → (all ≡ codes "words" ∷ words) × AreSeats words
+seats_words [] words e = absurd cc
+seats_words (first ∷ others) words e =
+    let a = passed (bytes_eq first (codes "words")) Keyword _ words e in
+    let b = passed (eqb (length others) 8) WordCount _ words a.1 in
+    let c = passed (list_all is_seat_word others) Spelling _ words b.1 in
+    let d = passed (are_distinct others) Repeated _ words c.1 in
+    subst (λ (ws : List (List ℕ)). (first ∷ others ≡ codes "words" ∷ ws) × AreSeats ws) (ok_is {E = Reason} others words d.1)
+    (ap (λ (w : List ℕ). w ∷ others) (same_word first (codes "words") a.0), record { count = eqb-true _ _ b.0; form = c.0; apart = d.0 })
+
+pub seats_is : (line : List ℕ) (words : List (List ℕ)) → seats_of line ≡ Ok words → (line ≡ seats_text words) × AreSeats words
+unfolding seats_of
+seats_is line words e =
+    let r = seats_words (words_of line) words e in
+    (sym (join_with_byte-slice_split 32 line) ∙ ap (join_with_byte 32) r.0, r.1)
+
+not_low : (byte b : ℕ) → byte < 48 → is_seat_byte b ≡ true → eqb b byte ≡ false
+not_low byte b lt h = grind (arith, nat_tests)
+
+bytes_lack : (byte : ℕ) (word : List ℕ) → byte < 48 → list_all is_seat_byte word ≡ true → Lacks byte word
+bytes_lack byte [] lt h = tt
+bytes_lack byte (b ∷ word) lt h =
+    let both = both_true (is_seat_byte b) (list_all is_seat_byte word) h in
+    (not_low byte b lt both.0, bytes_lack byte word lt both.1)
+
+seats_lack : (byte : ℕ) (words : List (List ℕ)) → byte < 48 → list_all is_seat_word words ≡ true → AllByRecursion (Lacks byte) words
+seats_lack byte [] lt h = tt
+seats_lack byte (word ∷ words) lt h =
+    let both = both_true (is_seat_word word) (list_all is_seat_word words) h in
+    let form = both_true (ltb 0 (length word) && nat_le (length word) 16) (list_all is_seat_byte word) both.0 in
+    (bytes_lack byte word lt form.1, seats_lack byte words lt both.1)
+
+seats_few : (words : List (List ℕ)) → list_all is_seat_word words ≡ true → AllByRecursion (λ word. length word ≤ 16) words
+seats_few [] h = tt
+seats_few (word ∷ words) h =
+    let both = both_true (is_seat_word word) (list_all is_seat_word words) h in
+    let form = both_true (ltb 0 (length word) && nat_le (length word) 16) (list_all is_seat_byte word) both.0 in
+    let size = both_true (ltb 0 (length word)) (nat_le (length word) 16) form.0 in
+    (leb-true _ _ size.1, seats_few words both.1)
+
+pub seats_again : (words : List (List ℕ)) → AreSeats words → seats_of (seats_text words) ≡ Ok words
+unfolding seats_of
+seats_again words is =
+    let cut : words_of (seats_text words) ≡ codes "words" ∷ words = joined_parts 32 (codes "words") words (lacks_from 32 (codes "words") refl) (seats_lack 32 words (lit< tt) is.form) in
+    rw (cut, eq-eqb (length words) 8 is.count, is.form, is.apart) refl
+
+pub seats_line : (words : List (List ℕ)) → AreSeats words → IsLine 678 (seats_text words)
+seats_line words is = record {
+  lacks = join_lacks 10 (codes "words" ∷ words) refl (lacks_from 10 (codes "words") refl, seats_lack 10 words (lit< tt) is.form);
+  kept = starts_kept 119 (codes "ords") words refl;
+  short = let all = join_short 16 (codes "words") words (seats_few words is.form) in omega (arith, all, is.count);
+}

@@ -1,0 +1,11 @@
+pub mod Choices
+pub mod FlightLaws
+pub mod EndowmentLaws
+pub mod OrderLaws
+pub mod ClientLaws
+pub mod HeaderLaws
+pub mod AgentLaws
+pub mod GameLaws
+pub mod GameTexts
+pub mod PrintedGames
+pub mod Worked

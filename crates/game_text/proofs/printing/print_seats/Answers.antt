@@ -1,0 +1,13 @@
+use Rattle.std.proofs.Common.{◌≡◌, ℕ, List, ◌∷◌, ◌++◌, [], map, arith}
+use Rattle.std.specs.Prelude.{codes}
+use Rattle.std.specs.List.{join_with_byte}
+use Rattle.std.proofs.lemmas.List.{map-id}
+use Rattle.text_forms.proofs.RowLoops.{line_done}
+use Rattle.game_text.proofs.printing.print_seats.Goals as goal
+
+pub returns : goal.returns
+returns c =
+    let words = c.args.words.now in
+    let word : List ℕ → List ℕ = λ w. w in
+    let line : c.push.new.self.items ≡ c.args.out.now.items ++ (join_with_byte 32 (codes "words" ∷ map word words) ++ 10 ∷ []) = line_done word c.args.out.now.items (codes "words") c.loop-word.out.items c.push.new.self.items words c.loop-word.word-index (omega (arith, c.told-words)) c.loop-word.invariant c.in_ok-push.ensures.items in
+    rw map-id at line

@@ -1,0 +1,9 @@
+-- The refusals of a game file.
+use Rattle.text_forms.specs.declared.lines.BadLine.{BadLine}
+use Rattle.text_forms.specs.Lines.{number_of}
+use Rattle.game_text.specs.declared.fault.GameFault.{GameFault}
+use Rattle.game_text.specs.declared.fault.GameFault.TheVariants.{Line}
+
+-- a bad line as it is shown
+abbrev pub fault_of : BadLine → GameFault
+fault_of bad = Line bad.line (number_of bad.reason)

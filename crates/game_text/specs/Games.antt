@@ -1,0 +1,82 @@
+-- The game file.
+use Rattle.std.specs.Prelude.{◌≡◌, ℕ, nat_lt, if◌then◌else◌, List, [], ◌∷◌, ◌++◌, true, Result, Ok, Err, length, codes}
+use Rattle.std.specs.List.{All}
+use Rattle.tac_base.specs.Clients.{Preferences}
+use Rattle.text_forms.specs.declared.lines.BadLine.{BadLine}
+use Rattle.text_forms.specs.Words.{parts_of}
+use Rattle.text_forms.specs.Lines.{Remaining, lines_from, nothing_left, text_of, AreLeft}
+use Rattle.text_forms.specs.Steps.{◌>>=◌, read_by, repeat, lines_of_parts, one_line}
+use Rattle.game_text.specs.declared.fault.GameFault.{GameFault}
+use Rattle.game_text.specs.declared.fault.GameFault.TheVariants.{TooLong}
+use Rattle.game_text.specs.Faults.{fault_of}
+use Rattle.game_text.specs.SeatWords.{AreSeats, seats_of, seats_text}
+use Rattle.game_text.specs.Flights.{FlightTerms, IsFlight, flight_of, flight_text}
+use Rattle.game_text.specs.ClosingOrders.{IsOrder, order_of, order_text}
+use Rattle.game_text.specs.declared.agents.Agents.{Agents}
+use Rattle.game_text.specs.AgentLines.{AreAgents, agents_in, agents_lines}
+use Rattle.game_text.specs.Headers.{header_of, end_of}
+
+-- what a game file says
+pub record GameFile : Type 0 where
+  pub words : List (List ℕ)
+  pub flights : List FlightTerms
+  pub order : List ℕ
+  pub endow : List (List ℕ)
+  pub clients : List (List Preferences)
+
+-- what it says of the agents
+abbrev pub agents_of : GameFile → Agents
+agents_of game = record { endow = game.endow; clients = game.clients }
+
+-- a game in its ranges
+pub record IsGame (game : GameFile) : Type 0 where
+  pub words : AreSeats game.words
+  pub flight_count : length game.flights ≡ 8
+  pub flights : All IsFlight game.flights
+  pub order : IsOrder game.order
+  pub agents : AreAgents (agents_of game)
+
+-- ---- the lines of a game
+
+-- the canonical lines
+abbrev pub game_lines : GameFile → List (List ℕ)
+game_lines game =
+    codes "tac 1" ∷ seats_text game.words ∷ []
+    ++ (lines_of_parts (one_line flight_text) 0 game.flights
+    ++ (order_text game.order ∷ []
+    ++ (agents_lines (agents_of game)
+    ++ codes "end" ∷ [])))
+
+-- the canonical text
+abbrev pub spelling : GameFile → List ℕ
+spelling game = text_of (game_lines game)
+
+-- a text of a game: the lines that are neither empty nor comments are the canonical ones, each with its line end
+abbrev pub IsTextOf : GameFile → List ℕ → Type 0
+IsTextOf game text = AreLeft (game_lines game) (lines_from true 1 (parts_of 10 text))
+
+-- ---- the first bad line
+
+abbrev pub flight_part : ℕ → Remaining → Result (FlightTerms × Remaining) BadLine
+flight_part good left = read_by (flight_of good) left
+
+-- the game of the lines of a text, each read by its form in turn
+unfoldable pub game_in : Remaining → Result GameFile BadLine
+game_in left = do
+  header ← read_by header_of left
+  words ← read_by seats_of header.1
+  flights ← repeat 8 0 flight_part words.1
+  order ← read_by order_of flights.1
+  agents ← agents_in order.1
+  end ← read_by end_of agents.1
+  done ← nothing_left end.1
+  Ok (record { words = words.0; flights = flights.0; order = order.0; endow = agents.0.endow; clients = agents.0.clients })
+
+-- a bad line as the refusal that it is
+abbrev pub refused : {A : Type 0} → Result A BadLine → Result A GameFault
+refused (Ok x) = Ok x
+refused (Err bad) = Err (fault_of bad)
+
+-- the game of a text, or why it is refused
+unfoldable pub game_of : List ℕ → Result GameFile GameFault
+game_of text = if nat_lt 1048576 (length text) then Err TooLong else refused (game_in (lines_from true 1 (parts_of 10 text)))

@@ -1,0 +1,10 @@
+pub mod Faults
+pub mod SeatWords
+pub mod Padding
+pub mod Flights
+pub mod ClosingOrders
+pub mod Endowments
+pub mod ClientLines
+pub mod Headers
+pub mod AgentLines
+pub mod Games

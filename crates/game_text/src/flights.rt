@@ -1,0 +1,109 @@
+ghost use Rattle.std.specs.Prelude.{◌≡◌, ◌≤◌, ◌≤ℤ◌, pos, negsuc, map, length, replicate, unsigned_abs, IsTrue};
+ghost use Rattle.std.specs.List.{list_all};
+ghost use Rattle.game_text.specs.Flights as flights;
+ghost use Rattle.text_forms.specs.Rows as rows;
+
+use crate::numbers::{dollars_at, is_due, signed_at};
+use std::marker::Model;
+use text_forms::{Column, Reason, read_row};
+
+/// How the price of a flight goes: the game description's flight rule, with draws that the file hands in.
+#[derive(Clone, Copy, Debug, PartialEq, Eq)]
+pub struct FlightLine {
+    /// The first price, 250..400 dollars.
+    pub first: u16,
+    /// The bound of the changes at the last tick, -10..30 dollars.
+    pub bound: i8,
+    /// The draws of the ticks 1..53.
+    pub draws: [u32; 53],
+}
+
+impl Model for FlightLine {
+    ghost use Rattle.game_text.specs.Flights.{FlightTerms, IsFlight};
+
+    ghost Value = { FlightTerms };
+
+    ghost view = { λ f. record { first = f.first; bound = f.bound; draws = f.draws } };
+
+    ghost invariant = { λ f. IsFlight (record { first = f.first; bound = f.bound; draws = f.draws }) };
+
+    ghost inverse = { λ t. record { first = t.first; bound = t.bound; draws = t.draws } };
+}
+
+impl FlightLine {
+    /// A flight with the draws of the ticks 1..53; each number of 32 bits is a draw.
+    pub fn new(first: u16, bound: i8, draws: &[u32]) -> Self
+        requires first_low { 250 ≤ first }
+        requires first_high { first ≤ 400 }
+        requires bound_low { negsuc 9 ≤ℤ bound }
+        requires bound_high { bound ≤ℤ pos 30 }
+        requires count { length draws.now ≡ 53 }
+        ensures { result ≡ record { first = first; bound = bound; draws = draws.now } }
+    {
+        let mut kept = [0; 53];
+        kept.copy_from_slice(draws);
+        FlightLine {
+            first,
+            bound,
+            draws: kept,
+        }
+    }
+}
+
+/// The numbers of a flight's line: the good, the first price, the bound and the draws.
+fn flight_columns() -> [Column; 56]
+    ensures { result ≡ flights.flight_columns }
+{
+    let mut columns = [Column::within(0, u32::MAX); 56];
+    columns[1] = Column::within(250, 400);
+    columns[2] = Column {
+        signed: true,
+        low: -10,
+        high: 30,
+    };
+    columns
+}
+
+/// The draws as numbers of 32 bits.
+fn draws_of(numbers: &[i64]) -> [u32; 53]
+    requires count { length numbers.now ≡ 53 }
+    requires range { IsTrue (list_all (λ n. rows.is_in flights.any n) numbers.now) }
+    ensures { result ≡ map unsigned_abs numbers.now }
+{
+    let mut draws = [0; 53];
+    for (i, number) in numbers.iter().enumerate() {
+        draws[i] = *number as u32;
+    }
+    draws
+}
+
+fn flight_from(good: u8, numbers: &[i64]) -> Result<FlightLine, Reason>
+    requires count { length numbers.now ≡ 56 }
+    requires range { IsTrue (rows.all_in flights.flight_columns numbers.now) }
+    ensures { result ≡ flights.flight_from good numbers.now }
+{
+    if !is_due(numbers, 0, good) {
+        return Err(Reason::NotDue);
+    }
+    Ok(FlightLine::new(
+        dollars_at(numbers, 1),
+        signed_at(numbers, 2),
+        &draws_of(&numbers[3..]),
+    ))
+}
+
+/// The flight of a line of this good, or the first reason that applies.
+#[tactic(auto, unfolding(crate::specs::Flights::flight_of))]
+pub(crate) fn flight_of(good: u8, line: &[u8]) -> Result<FlightLine, Reason>
+    ensures { result ≡ flights.flight_of good line.now }
+{
+    let numbers = read_row(line, b"flight", &flight_columns())?;
+    flight_from(good, &numbers)
+}
+
+/// The flight of the least first price, with bound 10 and draws 0.
+impl Default for FlightLine {
+    fn default() -> Self {
+        FlightLine::new(250, 10, &[0; 53])
+    }
+}

@@ -1,0 +1,141 @@
+ghost use Rattle.std.specs.Prelude.{◌≡◌, ◌≤◌, ◌<◌, ◌↔◌, length, IfOk, Ok};
+ghost use Rattle.game_text.specs.Games as games;
+ghost use Rattle.game_text.specs.Headers as headers;
+ghost use Rattle.game_text.specs.SeatWords as seats;
+ghost use Rattle.game_text.specs.ClosingOrders as orders;
+ghost use Rattle.text_forms.specs.Steps as steps;
+
+use crate::agents::{Agents, agents_in};
+use crate::closing_orders::order_of;
+use crate::flights::flight_of;
+use crate::headers::{end_of, header_of};
+use crate::seat_words::seats_of;
+use crate::{FlightLine, GameFault, SeatWord};
+use std::marker::Model;
+use tac_base::{Client, Good};
+use text_forms::{BadLine, Lines, Part, at_line, repeat};
+
+/// A game file has at most so many bytes.
+const MOST_BYTES: usize = 1_048_576;
+
+/// What a game file says. The ranges are those of the game description; the form of the file is this project's own.
+#[derive(Debug, Drop)]
+pub struct Game {
+    /// The word of each agent's seat, all different.
+    pub words: [SeatWord; 8],
+    /// The flights, by good 0..7.
+    pub flights: [FlightLine; 8],
+    /// The hotel nights, goods 8..15, in the order in which they close.
+    pub order: [Good; 8],
+    /// How many of the tickets 16..27 each agent has at the start, 0..16 of each.
+    pub endow: [[u8; 12]; 8],
+    /// The clients of each agent.
+    pub clients: [[Client; 8]; 8],
+}
+
+impl Model for Game {
+    ghost use Rattle.game_text.specs.Games.{GameFile, IsGame};
+
+    ghost Value = { GameFile };
+
+    ghost view = { λ g. record { words = g.words; flights = g.flights; order = g.order; endow = g.endow; clients = g.clients } };
+
+    ghost invariant = { λ g. IsGame (record { words = g.words; flights = g.flights; order = g.order; endow = g.endow; clients = g.clients }) };
+}
+
+/// Reads the first line.
+fn header_at(lines: Lines<'_>) -> Result<((), Lines<'_>), BadLine>
+    ensures { result ≡ steps.read_by headers.header_of lines.entry }
+{
+    let (line, left) = lines.due()?;
+    at_line(line.number(), header_of(line.bytes()))?;
+    Ok(((), left))
+}
+
+/// Reads the line of the seat words.
+fn seats_at(lines: Lines<'_>) -> Result<([SeatWord; 8], Lines<'_>), BadLine>
+    ensures { result ≡ steps.read_by seats.seats_of lines.entry }
+{
+    let (line, left) = lines.due()?;
+    let words = at_line(line.number(), seats_of(line.bytes()))?;
+    Ok((words, left))
+}
+
+/// The flights, each in a line of its own.
+#[derive(Drop)]
+struct Flights;
+
+impl Part for Flights {
+    type Value = FlightLine;
+
+    ghost gives = { λ _ good left. games.flight_part good left };
+
+    fn read<'a>(&self, good: u8, lines: Lines<'a>) -> Result<(FlightLine, Lines<'a>), BadLine> {
+        let (line, left) = lines.due()?;
+        let flight = at_line(line.number(), flight_of(good, line.bytes()))?;
+        Ok((flight, left))
+    }
+}
+
+/// Reads the line of the closing order.
+fn order_at(lines: Lines<'_>) -> Result<([Good; 8], Lines<'_>), BadLine>
+    ensures { result ≡ steps.read_by orders.order_of lines.entry }
+{
+    let (line, left) = lines.due()?;
+    let order = at_line(line.number(), order_of(line.bytes()))?;
+    Ok((order, left))
+}
+
+/// Reads the last line.
+fn end_at(lines: Lines<'_>) -> Result<((), Lines<'_>), BadLine>
+    ensures { result ≡ steps.read_by headers.end_of lines.entry }
+{
+    let (line, left) = lines.due()?;
+    at_line(line.number(), end_of(line.bytes()))?;
+    Ok(((), left))
+}
+
+/// The game of the lines that are left.
+#[tactic(auto, unfolding(crate::specs::Games::game_in))]
+fn game_in(lines: Lines<'_>) -> Result<Game, BadLine>
+    ensures { result ≡ games.game_in lines.entry }
+{
+    let (_, left) = header_at(lines)?;
+    let (words, left) = seats_at(left)?;
+    let mut flights = [FlightLine::default(); 8];
+    let left = repeat(&Flights, &mut flights, left)?;
+    let (order, left) = order_at(left)?;
+    let (Agents { endow, clients }, left) = agents_in(left)?;
+    let (_, left) = end_at(left)?;
+    left.finish()?;
+    Ok(Game {
+        words,
+        flights,
+        order,
+        endow,
+        clients,
+    })
+}
+
+#[tactic(auto, unfolding(crate::specs::Games::game_of))]
+fn game_of(text: &[u8]) -> Result<Game, GameFault>
+    ensures { result ≡ games.game_of text.now }
+{
+    if text.len() > MOST_BYTES {
+        return Err(GameFault::TooLong);
+    }
+    Ok(game_in(Lines::without_comments(text))?)
+}
+
+/// Reads a game file, version 1. It takes no memory.
+pub fn read_game(text: &[u8]) -> Result<Game, GameFault>
+    // Which game it is, or the first bad line with its first reason.
+    ensures exact { result ≡ games.game_of text.now }
+    ensures too_long { (result ≡ Err GameFault.TooLong) ↔ (1048576 < length text.now) }
+    // The lines that are neither empty nor comments are the game's own, and the game is in its ranges.
+    ensures found { IfOk result (λ game. games.IsTextOf game text.now × games.IsGame game) }
+    // Each text of a game is read as that game.
+    ensures only { (game : games.GameFile) → length text.now ≤ 1048576 → games.IsTextOf game text.now → games.IsGame game → result ≡ Ok game }
+{
+    game_of(text)
+}

@@ -1,0 +1,22 @@
+//! Game files.
+#![tactic(auto)]
+
+mod agents;
+mod client_lines;
+mod closing_orders;
+mod endowments;
+mod fault;
+mod flights;
+mod games;
+mod headers;
+mod numbers;
+mod printing;
+mod seat_words;
+#[cfg(test)]
+mod tests;
+
+pub use fault::{GameFault, Memory};
+pub use flights::FlightLine;
+pub use games::{Game, read_game};
+pub use printing::print_game;
+pub use seat_words::SeatWord;

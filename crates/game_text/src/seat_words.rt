@@ -1,0 +1,158 @@
+ghost use Rattle.std.specs.Prelude.{◌≡◌, ◌≤◌, ◌<◌, ◌-◌, ◌↔◌, ◌==◌, ◌∷◌, ◌++◌, length, replicate, IsTrue, IsOk, IfOk, IfSome, IfNone, Some, None, false, if◌then◌else◌};
+ghost use Rattle.std.specs.List.{list_all, list_any};
+ghost use Rattle.std.specs.Str.{bytes_eq};
+ghost use Rattle.game_text.specs.SeatWords as seats;
+
+use std::marker::Model;
+use tac_base::OutOfRange;
+use text_forms::{Reason, Words};
+
+/// The word by which an agent takes its seat: 1 to 16 bytes of `a`..`z` and `0`..`9`. The rule is this project's own.
+#[derive(Clone, Copy, Debug, PartialEq, Eq)]
+pub struct SeatWord {
+    bytes: [u8; 16],
+    len: u8,
+}
+
+impl Model for SeatWord {
+    ghost use Rattle.std.specs.Prelude.{ℕ, ◌-◌, ◌++◌, List, length, replicate, take};
+    ghost use Rattle.game_text.specs.SeatWords.{IsPadded};
+    ghost use Rattle.game_text.specs.Padding.{padded_again};
+
+    ghost Value = { List ℕ };
+
+    ghost view = { λ w. take w.len w.bytes };
+
+    ghost invariant = { λ w. IsPadded w.bytes w.len };
+
+    ghost inverse = { λ word. record { bytes = word ++ replicate (16 - length word) 0; len = length word } };
+
+    ghost inverse_ok = { λ w h. padded_again (λ bytes len. record { bytes = bytes; len = len }) w.bytes w.len h };
+}
+
+fn is_seat_byte(byte: u8) -> bool
+    ensures { result ≡ seats.is_seat_byte byte }
+{
+    byte.is_ascii_lowercase() || byte.is_ascii_digit()
+}
+
+fn all_seat_bytes(text: &[u8]) -> bool
+    ensures { result ≡ list_all seats.is_seat_byte text.now }
+{
+    text.iter().all(|b| is_seat_byte(*b))
+}
+
+fn is_seat_word(text: &[u8]) -> bool
+    ensures { result ≡ seats.is_seat_word text.now }
+{
+    0 < text.len() && text.len() <= 16 && all_seat_bytes(text)
+}
+
+/// The bytes of a short text, and zeros after them.
+fn padded(text: &[u8]) -> [u8; 16]
+    requires { length text.now ≤ 16 }
+    ensures { result ≡ text.now ++ replicate (16 - length text.now) 0 }
+{
+    let mut bytes = [0; 16];
+    bytes[..text.len()].copy_from_slice(text);
+    bytes
+}
+
+impl SeatWord {
+    /// Refused exactly where the text is no seat word.
+    pub fn new(text: &[u8]) -> Result<Self, OutOfRange>
+        ensures form { IsOk result ↔ IsTrue (seats.is_seat_word text.now) }
+        ensures value { IfOk result (λ word. word ≡ text.now) }
+    {
+        if is_seat_word(text) {
+            Ok(SeatWord {
+                bytes: padded(text),
+                len: text.len() as u8,
+            })
+        } else {
+            Err(OutOfRange)
+        }
+    }
+
+    /// The bytes of the word.
+    pub fn as_slice(&self) -> &[u8]
+        ensures value { result.now ≡ self.now }
+        ensures form { IsTrue (seats.is_seat_word self.now) }
+    {
+        &self.bytes[..self.len as usize]
+    }
+}
+
+/// Takes the next word, where it is a seat word.
+fn next_seat(words: &mut Words<'_>) -> Option<SeatWord>
+    requires { 0 < length words.old }
+    ensures found { IfSome result (λ seat. (words.old ≡ seat ∷ words.new) × IsTrue (seats.is_seat_word seat)) }
+    ensures none { IfNone result (list_all seats.is_seat_word words.old ≡ false) }
+{
+    match words.next() {
+        None => None,
+        Some(word) => SeatWord::new(word).ok(),
+    }
+}
+
+/// The eight words that are left, where each is a seat word.
+fn all_seats(mut words: Words<'_>) -> Option<[SeatWord; 8]>
+    requires { length words ≡ 8 }
+    ensures { result ≡ (if list_all seats.is_seat_word words.entry then Some words.entry else None) }
+{
+    let Some(first) = next_seat(&mut words) else {
+        return None;
+    };
+    let mut seats = [first; 8];
+    for i in 1..8usize {
+        let Some(seat) = next_seat(&mut words) else {
+            return None;
+        };
+        seats[i] = seat;
+    }
+    Some(seats)
+}
+
+/// Whether the word is among the words.
+fn contains(words: &[SeatWord], word: &[u8]) -> bool
+    ensures { result ≡ list_any (λ other. bytes_eq other word.now) words.now }
+{
+    words.iter().any(|other| other.as_slice() == word)
+}
+
+/// Whether no word comes twice.
+fn are_distinct(words: &[SeatWord]) -> bool
+    ensures { result ≡ seats.are_distinct words.now }
+{
+    for (i, word) in words.iter().enumerate() {
+        if contains(&words[i + 1..], word.as_slice()) {
+            return false;
+        }
+    }
+    true
+}
+
+/// The seat words of a line, or the first reason that applies.
+#[tactic(auto, unfolding(crate::specs::SeatWords::seats_of))]
+pub(crate) fn seats_of(line: &[u8]) -> Result<[SeatWord; 8], Reason>
+    ensures { result ≡ seats.seats_of line.now }
+{
+    let mut words = Words::new(line);
+    let Some(first) = words.next() else {
+        return Err(Reason::Keyword);
+    };
+    if first != b"words".as_slice() {
+        return Err(Reason::Keyword);
+    }
+    if words.count() != 8 {
+        return Err(Reason::WordCount);
+    }
+    let Some(seats) = all_seats(words) else {
+        return Err(Reason::Spelling);
+    };
+    if are_distinct(&seats) {
+        Ok(seats)
+    } else {
+        Err(Reason::Repeated)
+    }
+}
