@@ -30,7 +30,7 @@ pub use mem_files::{MemFile, MemFiles};
 pub use mem_link::MemLink;
 pub use mem_links::MemLinks;
 pub use mem_sink::MemSink;
-pub use mem_ticker::{MemDue, MemTicker};
+pub use mem_ticker::{MemDue, MemLapse, MemTicker};
 pub use reading::{FileFault, read_file};
 pub use sink::Sink;
 pub use ticker::Ticker;

@@ -3,7 +3,6 @@ ghost use Rattle.std.specs.Prelude.{◌≡◌, ◌≤◌, [], None, IfOk, vec_ca
 
 use crate::Ticker;
 use std::alloc::{AllocError, Global};
-use std::convert::Infallible;
 use std::marker::Model;
 use std::rt::Clock;
 use std::sync::Wait;
@@ -21,6 +20,20 @@ impl Model for MemDue {
     ghost Value = { ℕ };
 
     ghost view = { λ due. due.tick };
+}
+
+/// A tick whose wait lapsed. This ticker makes none.
+#[derive(Drop)]
+pub struct MemLapse {
+    tick: Tick,
+}
+
+impl Model for MemLapse {
+    ghost use Rattle.std.specs.Prelude.{ℕ};
+
+    ghost Value = { ℕ };
+
+    ghost view = { λ lapse. lapse.tick };
 }
 
 /// How many ticks can be waited for.
@@ -56,11 +69,11 @@ impl Ticker for MemTicker {
 
     type Due = MemDue;
 
-    type Lapse = Infallible;
+    type Lapse = MemLapse;
 
     ghost due_tick = { λ due. due };
 
-    ghost lapse_tick = { λ _. 0 };
+    ghost lapse_tick = { λ lapse. lapse };
 
     ghost paced = { λ s. Some (ticker_pace s) };
 
@@ -72,7 +85,7 @@ impl Ticker for MemTicker {
         self.pace = Some(milliseconds);
     }
 
-    fn wait<R: Wait + Clock>(&mut self, _rt: &R, tick: Tick) -> Result<MemDue, Infallible>
+    fn wait<R: Wait + Clock>(&mut self, _rt: &R, tick: Tick) -> Result<MemDue, MemLapse>
         requires { length (ticker_waited self.old) < 54 }
         ensures due { IsOkAnd result (λ due. due ≡ tick) }
         ensures waited { ticker_waited self.new ≡ ticker_waited self.old ++ (tick, false) ∷ [] }
@@ -84,8 +97,9 @@ impl Ticker for MemTicker {
         Ok(MemDue { tick })
     }
 
-    fn late(&mut self, lapse: Infallible) -> MemDue {
-        match lapse {}
+    fn late(&mut self, lapse: MemLapse) -> MemDue {
+        let MemLapse { tick } = lapse;
+        MemDue { tick }
     }
 
     fn faults(&self) -> u64 {

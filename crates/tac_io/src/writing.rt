@@ -5,8 +5,9 @@ ghost use Rattle.tac_io.specs.Told.{TakesSome, and_then_told};
 
 use crate::{Failed, Sink};
 
-/// Writes all bytes, in as many writes as the sink asks for. After a fault the first of them were
-/// written, but not all. No bytes are written by no call.
+/// Writes all bytes, in as many writes as the sink asks for, and in none where there are no bytes.
+/// `Failed` comes exactly where the sink counted a fault in this call. Then some of the first
+/// bytes were written, or none, but not all.
 pub fn write_all<K: Sink>(sink: &mut K, bytes: &[u8]) -> Result<(), Failed>
     ensures whole { OnOk result (K.taken sink.new ≡ and_then_told (K.taken sink.old) bytes.now) }
     ensures failed { OnErr result (TakesSome (K.taken sink.old) (K.taken sink.new) bytes.now) }
