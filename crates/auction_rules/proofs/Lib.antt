@@ -2,3 +2,4 @@ pub mod Rows
 pub mod Blocks
 pub mod Steps
 pub mod Histories
+pub mod Standing

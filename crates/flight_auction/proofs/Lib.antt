@@ -1,0 +1,10 @@
+pub mod Drifts
+pub mod Points
+pub mod Lists
+pub mod Sold
+pub mod Order
+pub mod Changes
+pub mod Owning
+pub mod Keeping
+pub mod Limits
+pub mod Paying

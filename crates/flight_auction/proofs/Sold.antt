@@ -1,0 +1,147 @@
+-- What a sale leaves of a bid's points, and its trades.
+use Rattle.std.proofs.Common.{◌≡◌, ℕ, zero, suc, ◌+◌, Bool, true, false, cond, List, [], ◌∷◌, map, refl, sym, ap, ◌∙◌, arith}
+use Rattle.std.specs.Prelude.{not, ◌&&◌, ◌==◌, nat_le, nat_lt, filter, if◌then◌else◌, ℤ, pos, negsuc, unsigned_abs}
+use Rattle.std.specs.List.{flat_map}
+use Rattle.std.proofs.lemmas.Bool.Decides.{nat_tests}
+use Rattle.std.proofs.lemmas.List.Sums.{sum_by-cons}
+use Rattle.tac_base.specs.declared.bids.Point.{Point}
+use Rattle.tac_base.specs.Bids.{size_of, buys_of}
+use Rattle.auction_rules.specs.declared.units.Placed.{Placed}
+use Rattle.auction_rules.specs.declared.units.BidUnit.{BidUnit}
+use Rattle.auction_rules.specs.Goods.{house}
+use Rattle.auction_rules.specs.Units.{point_units, units_from, units_of, among, common_units}
+use Rattle.auction_rules.specs.FlightRule.{point_trades, flight_trades, positions_below}
+use Rattle.auction_rules.specs.Standing.{signed_as, left_points}
+use Rattle.auction_rules.proofs.Standing.{Each, each-front, each-back, each-block, each-both}
+use Rattle.flight_auction.specs.declared.sales.StandingPoint.{StandingPoint}
+use Rattle.flight_auction.specs.Book.{owned_by, reaches, sale, sales, unsold, by_position, standing_of}
+use Rattle.flight_auction.proofs.Lists.{filter-map, filter-flat_map, map-flat_map, flat_map-flat_map, flat_map_alike}
+
+-- ---- points by their units
+
+-- units that are among the others alike are counted alike
+count_same : (xs ys us : List BidUnit) → Each (λ (u : BidUnit). among u ys ≡ among u xs) us → common_units us ys ≡ common_units us xs
+count_same xs ys [] h = refl
+count_same xs ys (u ∷ us) h =
+    sum_by-cons (λ (v : BidUnit). cond (among v ys) 1 0) u us ∙ rw (h.0, count_same xs ys us h.1) (sym (sum_by-cons (λ (v : BidUnit). cond (among v xs) 1 0) u us))
+
+count_cut : (keeps : Bool) (xs ys us : List BidUnit) → Each (λ (u : BidUnit). among u ys ≡ (among u xs && keeps)) us → common_units us ys ≡ (if keeps then common_units us xs else 0)
+count_cut true xs ys us h = count_same xs ys us (each-both _ _ (λ (u : BidUnit). among u ys ≡ among u xs) us (λ u k _. k ∙ and_true (among u xs)) h h)
+  where
+    and_true : (b : Bool) → (b && true) ≡ b
+    and_true true = refl
+    and_true false = refl
+count_cut false xs ys [] h = refl
+count_cut false xs ys (u ∷ us) h =
+    sum_by-cons (λ (v : BidUnit). cond (among v ys) 1 0) u us ∙ rw (h.0, count_cut false xs ys us h.1) (none (among u xs))
+  where
+    none : (b : Bool) → cond (b && false) 1 0 + 0 ≡ 0
+    none true = refl
+    none false = refl
+
+-- the units of a point have its price
+each_priced : (agent position from : ℕ) (point : Point) → Each (λ (u : BidUnit). u.price ≡ point.price) (point_units agent position from point)
+each_priced agent position from point =
+    each-block (λ (u : BidUnit). u.price ≡ point.price) (record { agent = agent; buys = buys_of point.units; price = point.price; position = position; index = from }) (size_of point) (λ i. refl)
+
+-- whether a point stays unsold at a price
+abbrev pub stays : ℕ → Point → Bool
+stays current point = not (nat_le current point.price)
+
+pub suc_not_zero : (n : ℕ) → (suc n == 0) ≡ false
+suc_not_zero n = grind (arith, nat_tests)
+
+zero_below : (n : ℕ) → nat_lt 0 (suc n) ≡ true
+zero_below n = grind (arith, nat_tests)
+
+-- the points of which each unit stands that stood before
+pub left_same : (xs ys : List BidUnit) (agent position from : ℕ) (points : List Point) → Each (λ (u : BidUnit). among u ys ≡ among u xs) (units_from agent position from points) →
+    left_points ys agent position from points ≡ left_points xs agent position from points
+left_same xs ys agent position from [] h = refl
+left_same xs ys agent position from (point ∷ points) h =
+    let P : BidUnit → Type 0 = λ u. among u ys ≡ among u xs in
+    let here = count_same xs ys (point_units agent position from point) (each-front P (point_units agent position from point) (units_from agent position (from + size_of point) points) h) in
+    let more = left_same xs ys agent position (from + size_of point) points (each-back P (point_units agent position from point) (units_from agent position (from + size_of point) points) h) in
+    rw (here, more) refl
+
+-- where just those units stay that are cheaper than the price, so do the points
+left_cut : (current : ℕ) (xs ys : List BidUnit) (agent position from : ℕ) (points : List Point) →
+    Each (λ (u : BidUnit). among u ys ≡ (among u xs && not (nat_le current u.price))) (units_from agent position from points) →
+    left_points ys agent position from points ≡ filter (stays current) (left_points xs agent position from points)
+left_cut current xs ys agent position from [] h = refl
+left_cut current xs ys agent position from (point ∷ points) h =
+    let P : BidUnit → Type 0 = λ u. among u ys ≡ (among u xs && not (nat_le current u.price)) in
+    let front = each-front P (point_units agent position from point) (units_from agent position (from + size_of point) points) h in
+    let one = each-both P (λ (u : BidUnit). u.price ≡ point.price) (λ (u : BidUnit). among u ys ≡ (among u xs && stays current point)) (point_units agent position from point)
+    (λ u cut priced. cut ∙ rw priced refl) front (each_priced agent position from point) in
+    let count = count_cut (stays current point) xs ys (point_units agent position from point) one in
+    let more = left_cut current xs ys agent position (from + size_of point) points (each-back P (point_units agent position from point) (units_from agent position (from + size_of point) points) h) in
+    rw (count, more) (by_test (stays current point) refl (common_units (point_units agent position from point) xs))
+  where
+    rest : List Point
+    rest = left_points xs agent position (from + size_of point) points
+
+    by_count : (n : ℕ) (b : Bool) → stays current point ≡ b → cond b (record { units = signed_as point.units n; price = point.price } ∷ filter (stays current) rest) (filter (stays current) rest)
+        ≡ filter (stays current) (record { units = signed_as point.units n; price = point.price } ∷ rest)
+    by_count n b k = rw k refl
+
+    by_test : (b : Bool) → stays current point ≡ b → (n : ℕ) →
+        cond (cond b n 0 == 0) (filter (stays current) rest) (record { units = signed_as point.units (cond b n 0); price = point.price } ∷ filter (stays current) rest)
+        ≡ filter (stays current) (cond (n == 0) rest (record { units = signed_as point.units n; price = point.price } ∷ rest))
+    by_test true k zero = refl
+    by_test true k (suc n) = rw (suc_not_zero n) (by_count (suc n) true k)
+    by_test false k zero = refl
+    by_test false k (suc n) = rw (suc_not_zero n) (by_count (suc n) false k)
+
+-- ---- trades by the points that stand
+
+signed_size : (z : ℤ) (n : ℕ) → unsigned_abs (signed_as z n) ≡ n
+signed_size (pos m) n = refl
+signed_size (negsuc m) zero = refl
+signed_size (negsuc m) (suc n) = refl
+
+-- the trades of a bid are the sales of its points that stand
+point_trades_are : (good current : ℕ) (units : List BidUnit) (bid : Placed) (from : ℕ) (points : List Point) →
+    point_trades good current units bid from points ≡ sales good current (owned_by bid.agent (left_points units bid.agent bid.position from points))
+point_trades_are good current units bid from [] = refl
+point_trades_are good current units bid from (point ∷ points) =
+    by_tests (nat_le current point.price) refl (common_units (point_units bid.agent bid.position from point) units) (point_trades_are good current units bid (from + size_of point) points)
+  where
+    rest : List Point
+    rest = left_points units bid.agent bid.position (from + size_of point) points
+
+    by_tests : (b : Bool) → nat_le current point.price ≡ b → (n : ℕ) → point_trades good current units bid (from + size_of point) points ≡ sales good current (owned_by bid.agent rest) →
+        cond (b && nat_lt 0 n) (record { buyer = bid.agent; seller = house; good = good; units = n; price = current } ∷ point_trades good current units bid (from + size_of point) points)
+        (point_trades good current units bid (from + size_of point) points)
+        ≡ sales good current (owned_by bid.agent (cond (n == 0) rest (record { units = signed_as point.units n; price = point.price } ∷ rest)))
+    by_tests true k zero ih = ih
+    by_tests true k (suc n) ih = rw (suc_not_zero n, zero_below n, k, signed_size point.units (suc n), ih) refl
+    by_tests false k zero ih = ih
+    by_tests false k (suc n) ih = rw (suc_not_zero n, k, ih) refl
+
+-- ---- all bids
+
+unsold_owned : (current agent : ℕ) (points : List Point) → unsold current (owned_by agent points) ≡ owned_by agent (filter (stays current) points)
+unsold_owned current agent points = filter-map (λ (s : StandingPoint). not (reaches current s)) (λ (p : Point). record { agent = agent; point = p }) points
+
+-- where just those units stay that are cheaper than the price, the unsold points stand
+pub standing_cut : (current : ℕ) (xs ys : List BidUnit) (bid : Placed) → Each (λ (u : BidUnit). among u ys ≡ (among u xs && not (nat_le current u.price))) (units_of bid) →
+    standing_of ys bid ≡ unsold current (standing_of xs bid)
+standing_cut current xs ys bid h =
+    ap (owned_by bid.agent) (left_cut current xs ys bid.agent bid.position 0 bid.points h) ∙ sym (unsold_owned current bid.agent (left_points xs bid.agent bid.position 0 bid.points))
+
+pub standing_same : (xs ys : List BidUnit) (bid : Placed) → Each (λ (u : BidUnit). among u ys ≡ among u xs) (units_of bid) → standing_of ys bid ≡ standing_of xs bid
+standing_same xs ys bid h = ap (owned_by bid.agent) (left_same xs ys bid.agent bid.position 0 bid.points h)
+
+-- the unsold points of all bids
+pub unsold_all : (current : ℕ) (units : List BidUnit) (bids : List Placed) → unsold current (flat_map (standing_of units) bids) ≡ flat_map (λ bid. unsold current (standing_of units bid)) bids
+unsold_all current units bids = filter-flat_map (λ (s : StandingPoint). not (reaches current s)) (standing_of units) bids
+
+-- the trades of the rules are the sales of the points, bid by bid
+pub trades_are : (good current : ℕ) (units : List BidUnit) (bids : List Placed) (end : ℕ) →
+    flight_trades good current units bids end ≡ sales good current (flat_map (standing_of units) (by_position bids end))
+trades_are good current units bids end =
+    sym (flat_map-flat_map (λ (bid : Placed). point_trades good current units bid 0 bid.points) (λ (position : ℕ). filter (λ (bid : Placed). bid.position == position) bids) (positions_below end))
+    ∙ flat_map_alike _ (λ (bid : Placed). sales good current (standing_of units bid)) (by_position bids end) (λ bid. point_trades_are good current units bid 0 bid.points)
+    ∙ sym (map-flat_map (sale good current) (λ (bid : Placed). filter (reaches current) (standing_of units bid)) (by_position bids end))
+    ∙ sym (ap (map (sale good current)) (filter-flat_map (reaches current) (standing_of units) (by_position bids end)))

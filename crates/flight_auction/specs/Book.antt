@@ -1,0 +1,101 @@
+-- What a contract sees of a flight auction, and the pasts that it stands for.
+use Rattle.std.specs.Prelude.{◌≡◌, ℕ, ◌==◌, Bool, not, nat_le, ◌≤◌, List, All, Any, ℤ, pos, negsuc, ◌≤ℤ◌, None, map, filter, length}
+use Rattle.std.specs.List.{filter_map, flat_map}
+use Rattle.tac_base.specs.declared.bids.Point.{Point}
+use Rattle.tac_base.specs.declared.calls.Trade.{Trade}
+use Rattle.auction_rules.specs.declared.units.Placed.{Placed}
+use Rattle.auction_rules.specs.declared.units.BidUnit.{BidUnit}
+use Rattle.auction_rules.specs.Goods.{agents, house}
+use Rattle.auction_rules.specs.Setup.{Setup, Rules, FlightRules}
+use Rattle.auction_rules.specs.History.{Entry, is_closed, last_bid}
+use Rattle.auction_rules.specs.FlightRule.{price, positions_below}
+use Rattle.auction_rules.specs.Standing.{stand, left_points}
+use Rattle.tac_base.specs.Bids.{size_of, left_fault}
+use Rattle.flight_auction.specs.declared.sales.StandingPoint.{StandingPoint}
+
+-- ---- points that stand
+
+-- the points of an agent, each with the agent
+abbrev pub owned_by : ℕ → List Point → List StandingPoint
+owned_by agent points = map (λ point. record { agent = agent; point = point }) points
+
+abbrev pub is_of : ℕ → StandingPoint → Bool
+is_of agent standing = standing.agent == agent
+
+-- the agent's points among all, and those of the others
+abbrev pub points_of : ℕ → List StandingPoint → List Point
+points_of agent standing = map (λ s. s.point) (filter (is_of agent) standing)
+
+abbrev pub others_than : ℕ → List StandingPoint → List StandingPoint
+others_than agent standing = filter (λ s. not (is_of agent s)) standing
+
+-- whether the house sells a point at a price
+abbrev pub reaches : ℕ → StandingPoint → Bool
+reaches price standing = nat_le price standing.point.price
+
+-- the sale of a whole point
+abbrev pub sale : ℕ → ℕ → StandingPoint → Trade
+sale good price standing = record { buyer = standing.agent; seller = house; good = good; units = size_of standing.point; price = price }
+
+-- what is sold of the standing points at a price, one trade for each point, and what is left of them
+abbrev pub sales : ℕ → ℕ → List StandingPoint → List Trade
+sales good price standing = map (sale good price) (filter (reaches price) standing)
+
+abbrev pub unsold : ℕ → List StandingPoint → List StandingPoint
+unsold price standing = filter (λ s. not (reaches price s)) standing
+
+-- the trade is the sale of one of the points, whole and for no more than the point's price
+abbrev pub IsPaid : List StandingPoint → Trade → Type 0
+IsPaid standing trade = Any (λ s. (s.agent ≡ trade.buyer) × (size_of s.point ≡ trade.units) × (trade.price ≤ s.point.price)) standing
+
+-- ---- the book
+
+-- a flight's good, bound and price, the points that stand, and whether it is closed
+pub record FlightBook : Type 0 where
+  pub good : ℕ
+  pub bound : ℤ
+  pub price : ℕ
+  pub standing : List StandingPoint
+  pub closed : Bool
+
+-- what is so of the fields of every flight: its price and its bound are in range, and what each agent has standing is within
+-- the limits of a bid
+pub record IsSound (bound : ℤ) (price : ℕ) (standing : List StandingPoint) : Type 0 where
+  pub bound_from : negsuc 9 ≤ℤ bound
+  pub bound_to : bound ≤ℤ pos 30
+  pub price_from : 150 ≤ price
+  pub price_to : price ≤ 800
+  pub owned : All (λ s. s.agent ≤ 7) standing
+  pub limited : (agent : ℕ) → left_fault (points_of agent standing) ≡ None
+
+-- the bids that were made below a position, by their position
+abbrev pub by_position : List Placed → ℕ → List Placed
+by_position bids end = flat_map (λ position. filter (λ bid. bid.position == position) bids) (positions_below end)
+
+-- the last bids of those agents that have one
+abbrev pub placed_bids : List Entry → List Placed
+placed_bids past = filter_map (λ agent. last_bid agent past) agents
+
+-- the points of a bid that stand, where these units stand
+abbrev pub standing_of : List BidUnit → Placed → List StandingPoint
+standing_of units bid = owned_by bid.agent (left_points units bid.agent bid.position 0 bid.points)
+
+-- the points that stand after a past, by the position of their bid and then in the order of the bid
+abbrev pub standing_points : Rules → List Entry → List StandingPoint
+standing_points rules past = flat_map (standing_of (stand rules past)) (by_position (placed_bids past) (length past))
+
+-- what a flight keeps of a past
+abbrev pub flight_book : ℕ → ℕ → ℤ → List Entry → FlightBook
+flight_book good first bound past = record {
+  good = good;
+  bound = bound;
+  price = price first bound past;
+  standing = standing_points (FlightRules first bound) past;
+  closed = is_closed past;
+}
+
+-- the book stands for this past of an auction with this setup
+pub record StandsFor (book : FlightBook) (setup : Setup) (past : List Entry) : Type 0 where
+  pub first : ℕ
+  pub rules : setup.rules ≡ FlightRules first book.bound
+  pub kept : book ≡ flight_book setup.good first book.bound past

@@ -1,0 +1,123 @@
+ghost use Rattle.std.specs.Prelude.{◌≡◌, ◌+◌, ◌*◌, ◌<◌, ◌≤◌, ◌++◌, [], ◌∷◌, length, map};
+ghost use Rattle.std.specs.List.{list_any};
+ghost use Rattle.auction_rules.specs.Effects as effects;
+ghost use Rattle.flight_auction.specs.Book as spec;
+
+use arrayvec::ArrayVec;
+use tac_base::{Agent, Fills, Good, Party, Point, Trade};
+
+/// A point of an agent's bid that stands.
+#[derive(Clone, Copy, Debug, Default, PartialEq, Eq)]
+pub struct StandingPoint {
+    pub agent: Agent,
+    pub point: Point,
+}
+
+/// Whether the point is the agent's that has the number.
+fn is_of(standing: &StandingPoint, number: u8) -> bool
+    ensures { result ≡ spec.is_of number standing.now }
+{
+    standing.agent.get() == number
+}
+
+/// Whether the house sells the point at the price.
+fn reaches(standing: &StandingPoint, price: u16) -> bool
+    ensures { result ≡ spec.reaches price standing.now }
+{
+    price <= standing.point.price
+}
+
+/// The sale of the whole point by the house at the price.
+fn sale(good: Good, price: u16, standing: &StandingPoint) -> Trade
+    ensures { result ≡ spec.sale good price standing.now }
+{
+    Trade {
+        buyer: standing.agent.party(),
+        seller: Party::house(),
+        good,
+        units: standing.point.size(),
+        price,
+    }
+}
+
+/// Whether some of the points is the agent's that has the number.
+pub(crate) fn has_points(standing: &[StandingPoint], number: u8) -> bool
+    ensures { result ≡ list_any (spec.is_of number) standing.now }
+{
+    standing.iter().any(|one| is_of(one, number))
+}
+
+/// Takes the points of the agent away that has the number.
+pub(crate) fn forget(standing: &mut ArrayVec<StandingPoint, 128>, number: u8)
+    ensures { standing.new.items ≡ spec.others_than number standing.old.items }
+{
+    standing.retain(|one| !is_of(one, number));
+}
+
+/// Appends the points of an agent.
+pub(crate) fn place(standing: &mut ArrayVec<StandingPoint, 128>, agent: Agent, points: &[Point])
+    requires { length standing.old.items + length points.now ≤ 128 }
+    ensures { standing.new.items ≡ standing.old.items ++ spec.owned_by agent points.now }
+{
+    for point in points {
+        standing.push(StandingPoint {
+            agent,
+            point: *point,
+        });
+    }
+}
+
+/// The points of the agent that has the number, at most 16.
+pub(crate) fn points_of(standing: &[StandingPoint], number: u8) -> ArrayVec<Point, 16>
+    requires { length (spec.points_of number standing.now) ≤ 16 }
+    ensures { result.items ≡ spec.points_of number standing.now }
+{
+    let mut points = ArrayVec::new();
+    for one in standing {
+        if is_of(one, number) {
+            points.push(one.point);
+        }
+    }
+    points
+}
+
+/// Appends the sale of the point, if the price reaches it.
+fn push_sale(fills: &mut Fills, good: Good, price: u16, standing: &StandingPoint)
+    requires { length fills.old < 128 }
+    ensures trades { fills.new ≡ fills.old ++ spec.sales good price (standing.now ∷ []) }
+    ensures few { length fills.new ≤ length fills.old + 1 }
+{
+    if reaches(standing, price) {
+        fills.push(sale(good, price, standing));
+    }
+}
+
+/// Sells each point that the price reaches: the trades, in the order of the points, stand in place
+/// of those that stood in `fills`, and the points are taken away.
+pub(crate) fn sell(
+    standing: &mut ArrayVec<StandingPoint, 128>,
+    good: Good,
+    price: u16,
+    fills: &mut Fills,
+)
+    ensures trades { fills.new ≡ spec.sales good price standing.old.items }
+    ensures left { standing.new.items ≡ spec.unsold price standing.old.items }
+{
+    fills.clear();
+    for one in standing.iter() {
+        push_sale(fills, good, price, one);
+    }
+    standing.retain(|one| !reaches(one, price));
+}
+
+/// How many units the agent that has the number buys in the trades.
+pub(crate) fn bought(trades: &[Trade], number: u8) -> u32
+    requires { length trades.now ≤ 128 }
+    ensures { result ≡ effects.bought trades.now number }
+{
+    trades
+        .iter()
+        .filter(|trade| trade.buyer.get() == number)
+        .map(|trade| u32::from(trade.units))
+        .sum()
+}
