@@ -6,7 +6,6 @@ use Rattle.tac_base.specs.declared.bids.Point.{Point}
 use Rattle.tac_base.specs.declared.bids.BidFault.{BidFault}
 use Rattle.tac_base.specs.declared.calls.Call.{Call}
 use Rattle.tac_base.specs.declared.calls.Call.TheVariants as calls
-use Rattle.tac_base.specs.Bids.{buys_of}
 use Rattle.text_forms.specs.Words.{words_of}
 use Rattle.bid_strings.specs.BidForm.{points_of, judged}
 use Rattle.auction_rules.specs.Goods.{clock}
@@ -26,21 +25,15 @@ agent_of [] = None
 agent_of (digit ∷ []) = if nat_le 48 digit && nat_le digit 55 then Some (digit - 48) else None
 agent_of (digit ∷ other ∷ more) = None
 
--- whether there is one point, and it buys
-abbrev pub is_one_buy : List Point → Bool
-is_one_buy [] = false
-is_one_buy (point ∷ []) = buys_of point.units
-is_one_buy (point ∷ other ∷ more) = false
-
--- a bid of one point that buys; other bids cannot be run yet
-abbrev pub one_point : ℕ → Result (List Point) BidFault → Result HotelLine ℕ
-one_point agent (Err fault) = Err 9
-one_point agent (Ok points) = if is_one_buy points then Ok (Bid agent points) else Err 9
+-- a bid of points that were read, or not
+abbrev pub bid_of : ℕ → Result (List Point) BidFault → Result HotelLine ℕ
+bid_of agent (Err fault) = Err 2
+bid_of agent (Ok points) = Ok (Bid agent points)
 
 -- a line of an agent, a word and points
 abbrev pub bid_line : Option ℕ → List ℕ → List ℕ → Result HotelLine ℕ
 bid_line None keyword points = Err 1
-bid_line (Some agent) keyword points = if bytes_eq keyword (codes "bid") then one_point agent (judged (points_of points)) else Err 1
+bid_line (Some agent) keyword points = if bytes_eq keyword (codes "bid") then bid_of agent (judged (points_of points)) else Err 1
 
 -- a line of an agent and a word; `own` cannot be answered yet
 abbrev pub own_line : Option ℕ → List ℕ → Result HotelLine ℕ
@@ -53,7 +46,8 @@ line_of_words (word ∷ []) = clock_line word
 line_of_words (agent ∷ keyword ∷ []) = own_line (agent_of agent) keyword
 line_of_words (agent ∷ keyword ∷ word ∷ words) = bid_line (agent_of agent) keyword (join_with_byte 32 (word ∷ words))
 
--- what a line asks, or the reason why it is bad in itself: 1 where it has no form, 9 where it cannot be run yet
+-- what a line asks, or the reason why it is bad in itself: 1 where it has no form, 2 where its points are refused, 9 where it
+-- cannot be answered yet
 unfoldable pub line_of : List ℕ → Result HotelLine ℕ
 line_of line = line_of_words (words_of line)
 

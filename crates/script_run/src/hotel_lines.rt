@@ -60,27 +60,13 @@ fn agent_of_digit(digit: u8) -> Option<Agent>
     }
 }
 
-// Whether there is one point, and it buys.
-fn is_one_buy(points: &Points) -> bool
-    ensures { result ≡ lines.is_one_buy points.now }
-{
-    match points.as_slice() {
-        [point] => point.buys(),
-        _ => false,
-    }
-}
-
 // The bid of a text of points.
-fn one_point(agent: Agent, text: &[u8]) -> Result<HotelLine, u8>
-    ensures { result ≡ lines.one_point agent (judged (points_of text.now)) }
+fn bid_of(agent: Agent, text: &[u8]) -> Result<HotelLine, u8>
+    ensures { result ≡ lines.bid_of agent (judged (points_of text.now)) }
 {
-    let Ok(points) = read_points(text) else {
-        return Err(9);
-    };
-    if is_one_buy(&points) {
-        Ok(HotelLine::Bid { agent, points })
-    } else {
-        Err(9)
+    match read_points(text) {
+        Ok(points) => Ok(HotelLine::Bid { agent, points }),
+        Err(_) => Err(2),
     }
 }
 
@@ -103,13 +89,13 @@ fn bid_line(agent: Option<Agent>, keyword: &[u8], points: &[u8]) -> Result<Hotel
         return Err(1);
     };
     if keyword == b"bid".as_slice() {
-        one_point(agent, points)
+        bid_of(agent, points)
     } else {
         Err(1)
     }
 }
 
-/// What a line asks, or the reason why it is bad in itself: 1 or 9.
+/// What a line asks, or the reason why it is bad in itself: 1, 2 or 9.
 #[tactic(auto, unfolding(crate::specs::HotelLines::line_of))]
 pub(crate) fn line_of(line: &[u8]) -> Result<HotelLine, u8>
     ensures { result ≡ lines.line_of line.now }
