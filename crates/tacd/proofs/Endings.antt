@@ -4,7 +4,7 @@ use Rattle.tac_io.specs.Counts.{Rose}
 use Rattle.script_run.specs.HotelOuts.{IsUntouched}
 use Rattle.tacd.specs.declared.ends.End.{End}
 use Rattle.tacd.specs.declared.ends.End.TheVariants as ends
-use Rattle.tacd.specs.Outcomes.{Outcome, Done, Usage, ReadFault, Memory, Refused, TooLong}
+use Rattle.tacd.specs.Outcomes.{Outcome, Done, Refused}
 use Rattle.tacd.specs.Ends.{Ends, Finishes, Tells}
 
 -- telling an outcome on a sink that a command left as it was
@@ -26,13 +26,5 @@ tells allows taken taken' taken'' a b c ends.WriteFault code ended finished = (
     subst (λ (n : ℕ). Rose a n) (sym finished.1.faults_same) ended.3,
   ),
 )
-tells allows taken taken' taken'' a b c ends.Usage code ended finished =
-    (Usage, ended.0, after_untouched Usage taken taken' taken'' a b c code ended.1 finished)
-tells allows taken taken' taken'' a b c ends.ReadFault code ended finished =
-    (ReadFault, ended.0, after_untouched ReadFault taken taken' taken'' a b c code ended.1 finished)
-tells allows taken taken' taken'' a b c ends.Memory code ended finished =
-    (Memory, ended.0, after_untouched Memory taken taken' taken'' a b c code ended.1 finished)
-tells allows taken taken' taken'' a b c (ends.Refused line reason) code ended finished =
-    (Refused line reason, ended.0, after_untouched (Refused line reason) taken taken' taken'' a b c code ended.1 finished)
-tells allows taken taken' taken'' a b c ends.TooLong code ended finished =
-    (TooLong, ended.0, after_untouched TooLong taken taken' taken'' a b c code ended.1 finished)
+tells allows taken taken' taken'' a b c (ends.Refused refusal) code ended finished =
+    (Refused refusal, ended.0, after_untouched (Refused refusal) taken taken' taken'' a b c code ended.1 finished)

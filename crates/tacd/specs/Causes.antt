@@ -1,10 +1,17 @@
 -- When each code comes. A write that failed goes before every other cause, so code 4 may stand in the place of each other code;
 -- where memory is refused the code is 7.
-use Rattle.std.specs.Prelude.{◌≡◌, ℕ, ◌-◌, ◌^◌, ◌<◌, ◌⊎◌, List, length, Option, Some, None, IfSome}
+use Rattle.std.specs.Prelude.{◌≡◌, ℕ, ◌-◌, ◌^◌, ◌<◌, ◌⊎◌, List, length, Option, Some, None, Ok, Err, IfSome}
 use Rattle.tac_io.specs.Counts.{Rose}
+use Rattle.game_text.specs.declared.fault.GameFault.{GameFault}
+use Rattle.game_text.specs.Games.{GameFile, game_of}
 use Rattle.script_run.specs.HotelOuts.{IsBad, IsOut, longest_script}
-use Rattle.tacd.specs.Commands.{Command, Hotel}
-use Rattle.tacd.specs.Ends.{Content}
+use Rattle.tacd.specs.Commands.{Command, Hotel, Show}
+use Rattle.tacd.specs.Allowed.{Content}
+
+-- no call failed: the count is as before, and below its last value
+pub record IsQuiet (before now : ℕ) : Type 0 where
+  pub same : now ≡ before
+  pub below : before < 2 ^ 64 - 1
 
 -- 1 comes exactly where the words are no command of the list
 pub record UsageExactly (command : Option Command) (code : ℕ) : Type 0 where
@@ -22,36 +29,50 @@ pub record WriteFaultExactly (before now code : ℕ) : Type 0 where
   pub always : before < now → code ≡ 4
 
 -- a script that is not run: it is too long, or has a bad line
-abbrev pub IsRefused : List ℕ → Type 0
-IsRefused script = (longest_script < length script) ⊎ ((line : ℕ) × (reason : ℕ) × IsBad script line reason)
+abbrev pub IsRefusedScript : List ℕ → Type 0
+IsRefusedScript script = (longest_script < length script) ⊎ ((line : ℕ) × (reason : ℕ) × IsBad script line reason)
 
--- the file of the command is refused, where files are told
-abbrev pub HasRefusedFile : Content → Option Command → Type 0
-HasRefusedFile content None = ⊥
-HasRefusedFile content (Some (Hotel name)) = IfSome content (λ files. (script : List ℕ) × (files name ≡ Some script) × IsRefused script)
+-- the file of the command is a script that is refused
+abbrev pub IsRefusedText : Option Command → List ℕ → Type 0
+IsRefusedText (Some (Hotel name)) file = IsRefusedScript file
+IsRefusedText command file = ⊥
 
--- the file of the command is told and good
-abbrev pub HasGoodFile : Content → Option Command → Type 0
-HasGoodFile content None = ⊥
-HasGoodFile None (Some command) = ⊥
-HasGoodFile (Some files) (Some (Hotel name)) = (script : List ℕ) × (text : List ℕ) × (files name ≡ Some script) × IsOut script text
+-- the file of the command is a game file that is refused
+abbrev pub IsRefusedGame : Option Command → List ℕ → Type 0
+IsRefusedGame (Some (Show name)) file = (fault : GameFault) × (game_of file ≡ Err fault)
+IsRefusedGame command file = ⊥
 
--- the file of the command is told and refused
-abbrev pub HasToldRefusedFile : Content → Option Command → Type 0
-HasToldRefusedFile content None = ⊥
-HasToldRefusedFile None (Some command) = ⊥
-HasToldRefusedFile (Some files) (Some (Hotel name)) = (script : List ℕ) × (files name ≡ Some script) × IsRefused script
+-- the file of the command is what the command wants
+abbrev pub IsGood : Option Command → List ℕ → Type 0
+IsGood None file = ⊥
+IsGood (Some (Hotel name)) file = (text : List ℕ) × IsOut file text
+IsGood (Some (Show name)) file = (game : GameFile) × (game_of file ≡ Ok game)
 
--- no call failed: the count is as before, and below its last value
-pub record IsQuiet (before now : ℕ) : Type 0 where
-  pub same : now ≡ before
-  pub below : before < 2 ^ 64 - 1
+-- the bytes of the file of that name, where files are told
+abbrev pub told_file : Content → List ℕ → Option (List ℕ)
+told_file None name = None
+told_file (Some files) name = files name
 
--- 8 comes exactly where the script is read and refused
-pub record RefusedExactly (content : Content) (command : Option Command) (before now code : ℕ) : Type 0 where
-  pub only : code ≡ 8 → HasRefusedFile content command
-  pub always : HasToldRefusedFile content command → IsQuiet before now → (code ≡ 8) ⊎ (code ≡ 4) ⊎ (code ≡ 7)
+-- the bytes of the file that the command names, where it names one and files are told
+abbrev pub file_of : Content → Option Command → Option (List ℕ)
+file_of content None = None
+file_of content (Some (Hotel name)) = told_file content name
+file_of content (Some (Show name)) = told_file content name
+
+-- some file of the command is as P says, where files are told
+abbrev pub HasFile : Content → Option Command → (List ℕ → Type 0) → Type 0
+HasFile content command P = IfSome content (λ _. (file : List ℕ) × (file_of content command ≡ Some file) × P file)
+
+-- 8 comes exactly where a script is read and refused
+pub record TextRefusedExactly (content : Content) (command : Option Command) (before now code : ℕ) : Type 0 where
+  pub only : code ≡ 8 → HasFile content command (IsRefusedText command)
+  pub always : (file : List ℕ) → file_of content command ≡ Some file → IsRefusedText command file → IsQuiet before now → (code ≡ 8) ⊎ (code ≡ 4) ⊎ (code ≡ 7)
+
+-- 2 comes exactly where a game file is read and refused
+pub record GameRefusedExactly (content : Content) (command : Option Command) (before now code : ℕ) : Type 0 where
+  pub only : code ≡ 2 → HasFile content command (IsRefusedGame command)
+  pub always : (file : List ℕ) → file_of content command ≡ Some file → IsRefusedGame command file → IsQuiet before now → (code ≡ 2) ⊎ (code ≡ 4) ⊎ (code ≡ 7)
 
 -- where the words are a command, its file is good and no count rose, the code is 0, or 7
 pub record IsComplete (content : Content) (command : Option Command) (before now out_before out_now code : ℕ) : Type 0 where
-  pub good : HasGoodFile content command → IsQuiet before now → IsQuiet out_before out_now → (code ≡ 0) ⊎ (code ≡ 7)
+  pub good : (file : List ℕ) → file_of content command ≡ Some file → IsGood command file → IsQuiet before now → IsQuiet out_before out_now → (code ≡ 0) ⊎ (code ≡ 7)

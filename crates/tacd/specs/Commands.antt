@@ -1,16 +1,32 @@
 -- What the words of a command line ask for.
 use Rattle.std.specs.Prelude.{ℕ, List, [], ◌∷◌, Option, Some, None, if◌then◌else◌, codes}
 use Rattle.std.specs.Str.{bytes_eq}
+use Rattle.tacd.specs.declared.words.Asked.{Asked}
+use Rattle.tacd.specs.declared.words.Asked.TheVariants as asked
 
 -- a command of the list, with its words
 pub data Command : Type 0 where
   Hotel : (script : List ℕ) → Command
+  Show : (game : List ℕ) → Command
+
+-- a command of one word after its own
+abbrev pub command_with : List ℕ → List ℕ → Option Command
+command_with word argument =
+    if bytes_eq word (codes "hotel") then Some (Hotel argument)
+    else if bytes_eq word (codes "show") then Some (Show argument)
+    else None
 
 abbrev pub command_of : List (List ℕ) → Option Command
-command_of (word ∷ script ∷ []) = if bytes_eq word (codes "hotel") then Some (Hotel script) else None
+command_of (word ∷ argument ∷ []) = command_with word argument
 command_of words = None
 
 -- the words of a command that name its files, in order
 abbrev pub files_of : Option Command → List (List ℕ)
 files_of None = []
 files_of (Some (Hotel script)) = script ∷ []
+files_of (Some (Show game)) = game ∷ []
+
+-- the command as the code has it, with its words as they stand in memory
+abbrev pub seen : Asked → Command
+seen (asked.Hotel script) = Hotel script.now
+seen (asked.Show game) = Show game.now

@@ -1,4 +1,6 @@
 pub mod Commands
+pub mod Words
 pub mod Outcomes
+pub mod Allowed
 pub mod Ends
 pub mod Causes

@@ -1,31 +1,25 @@
 // The commands.
-ghost use Rattle.std.specs.Prelude.{◌≡◌, ◌<◌, ◌≤◌, [], ◌∷◌, length, map, string_bytes, MatchOption, Some, None, IfSome, All, string_len};
+ghost use Rattle.std.specs.Prelude.{◌≡◌, ◌<◌, ◌≤◌, [], ◌∷◌, length, map, string_bytes, IfSome, All, string_len};
 ghost use Rattle.tac_io.specs.Told.{and_then_told};
-ghost use Rattle.tacd.specs.Commands.{command_of, files_of, Hotel};
-ghost use Rattle.tacd.specs.Ends.{Allows, Ends, HotelAllows, Tells};
+ghost use Rattle.tacd.specs.Allowed.{Allows, HotelAllows, ShowAllows};
+ghost use Rattle.tacd.specs.Commands.{command_of, files_of, seen, Hotel, Show};
+ghost use Rattle.tacd.specs.Ends.{Ends, Tells};
 ghost use Rattle.tacd.specs.Outcomes.{Outcome};
+ghost use Rattle.tacd.specs.Words.{HasShortNames};
 
-use crate::ends::End;
-use crate::telling::finish;
+use crate::ends::{End, finish};
+use crate::refusals::Refusal;
+use crate::words::{Asked, command_asked};
+use game_text::{GameFault, print_game, read_game};
 use script_run::{ScriptFault, run_hotel_script};
 use std::alloc::Global;
-use tac_io::{FileFault, Files, Sink, read_file};
+use tac_io::{FileFault, Files, Sink, read_file, write_all};
 
 /// The most bytes of a script.
 const LONGEST_SCRIPT: usize = 67_108_864;
 
-/// The name of the script, where the words ask for a hotel.
-fn hotel_script(words: &[String]) -> Option<&str>
-    requires { All (λ word. string_len word ≤ 1024) words.now }
-    ensures short { IfSome result (λ name. length name.now ≤ 1024) }
-    ensures command { MatchOption result (command_of (map (λ word. string_bytes word) words.now) ≡ None)
-        (λ name. command_of (map (λ word. string_bytes word) words.now) ≡ Some (Hotel name.now)) }
-{
-    match words {
-        [word, name] if word.as_str() == "hotel" => Some(name.as_str()),
-        _ => None,
-    }
-}
+/// The most bytes of a game file.
+const LONGEST_GAME: usize = 1_048_576;
 
 /// Runs one hotel by the script of that name.
 fn hotel<F: Files, K: Sink>(alloc: Global, name: &str, files: &mut F, out: &mut K) -> End
@@ -36,21 +30,71 @@ fn hotel<F: Files, K: Sink>(alloc: Global, name: &str, files: &mut F, out: &mut 
 {
     let script = match read_file(alloc, files, name, LONGEST_SCRIPT) {
         Ok(script) => script,
-        Err(FileFault::Failed) => return End::ReadFault,
-        Err(FileFault::TooLong) => return End::TooLong,
-        Err(FileFault::Memory) => return End::Memory,
+        Err(FileFault::Failed) => return End::Refused(Refusal::ReadFault),
+        Err(FileFault::TooLong) => return End::Refused(Refusal::TextTooLong),
+        Err(FileFault::Memory) => return End::Refused(Refusal::Memory),
     };
     match run_hotel_script(alloc, script.as_slice(), out) {
         Ok(()) => End::Done,
-        Err(ScriptFault::Line { line, reason }) => End::Refused { line, reason },
-        Err(ScriptFault::TooLong) => End::TooLong,
+        Err(ScriptFault::Line { line, reason }) => End::Refused(Refusal::TextLine { line, reason }),
+        Err(ScriptFault::TooLong) => End::Refused(Refusal::TextTooLong),
         Err(ScriptFault::Failed) => End::WriteFault,
-        Err(ScriptFault::Memory) => End::Memory,
+        Err(ScriptFault::Memory) => End::Refused(Refusal::Memory),
+    }
+}
+
+/// Shows the game of the file of that name in its canonical text.
+fn show<F: Files, K: Sink>(alloc: Global, name: &str, files: &mut F, out: &mut K) -> End
+    requires { IfSome (F.names files.old) (λ names. (length names < 128) × (length name.now ≤ 1024)) }
+    ensures ends { Ends (ShowAllows (F.content files.old) name.now (F.faults files.old) (F.faults files.new))
+        (K.taken out.old) (K.taken out.new) (K.faults out.old) (K.faults out.new) result }
+    ensures names { F.names files.new ≡ and_then_told (F.names files.old) (name.now ∷ []) }
+{
+    let file = match read_file(alloc, files, name, LONGEST_GAME) {
+        Ok(file) => file,
+        Err(FileFault::Failed) => return End::Refused(Refusal::ReadFault),
+        Err(FileFault::TooLong) => return End::Refused(Refusal::GameTooLong),
+        Err(FileFault::Memory) => return End::Refused(Refusal::Memory),
+    };
+    let game = match read_game(file.as_slice()) {
+        Ok(game) => game,
+        Err(GameFault::Line { line, reason }) => {
+            return End::Refused(Refusal::GameLine { line, reason });
+        }
+        Err(GameFault::TooLong) => return End::Refused(Refusal::GameTooLong),
+    };
+    let Ok(text) = print_game(alloc, &game) else {
+        return End::Refused(Refusal::Memory);
+    };
+    match write_all(out, text.as_slice()) {
+        Ok(()) => End::Done,
+        Err(_) => End::WriteFault,
+    }
+}
+
+/// Runs a command, and gives its code.
+#[tactic(auto, using(crate::proofs::Endings::tells))]
+fn run_asked<F: Files, K: Sink>(alloc: Global, asked: Asked<'_>, files: &mut F, out: &mut K) -> u8
+    requires names { IfSome (F.names files.old) (λ names. names ≡ []) }
+    requires short { HasShortNames asked }
+    ensures outcome { (outcome : Outcome)
+        × Allows (F.content files.old) (Some (seen asked.entry)) (F.faults files.old) (F.faults files.new) outcome
+        × Tells outcome (K.taken out.old) (K.taken out.new) (K.faults out.old) (K.faults out.new) result }
+    ensures names { F.names files.new ≡ and_then_told (F.names files.old) (files_of (Some (seen asked.entry))) }
+{
+    match asked {
+        Asked::Hotel { script } => {
+            let end = hotel(alloc, script, files, out);
+            finish(out, end)
+        }
+        Asked::Show { game } => {
+            let end = show(alloc, game, files, out);
+            finish(out, end)
+        }
     }
 }
 
 /// Runs the command of the words, and gives its code.
-#[tactic(auto, using(crate::proofs::Endings::tells))]
 pub(crate) fn run<F: Files, K: Sink>(
     alloc: Global,
     words: &[String],
@@ -64,11 +108,8 @@ pub(crate) fn run<F: Files, K: Sink>(
         × Tells outcome (K.taken out.old) (K.taken out.new) (K.faults out.old) (K.faults out.new) result }
     ensures names { F.names files.new ≡ and_then_told (F.names files.old) (files_of (command_of (map (λ word. string_bytes word) words.now))) }
 {
-    match hotel_script(words) {
-        Some(name) => {
-            let end = hotel(alloc, name, files, out);
-            finish(out, end)
-        }
-        None => finish(out, End::Usage),
+    match command_asked(words) {
+        Some(asked) => run_asked(alloc, asked, files, out),
+        None => finish(out, End::Refused(Refusal::Usage)),
     }
 }

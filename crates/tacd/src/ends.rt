@@ -1,13 +1,28 @@
-// How a command ended.
+// How a command ended, and how it is finished.
+ghost use Rattle.std.specs.Prelude.{◌≡◌};
+ghost use Rattle.tacd.specs.Ends.{Finishes};
 
-/// How a command ended: its text was written, or not all of it, or its outcome is still to be told.
+use crate::refusals::Refusal;
+use tac_io::{Sink, write_all};
+
+/// How a command ended: its text was written, or not all of it, or something is to be told in its place.
 #[derive(Clone, Copy, Debug, PartialEq, Eq)]
 pub(crate) enum End {
     Done,
     WriteFault,
-    Usage,
-    ReadFault,
-    Memory,
-    Refused { line: u32, reason: u8 },
-    TooLong,
+    Refused(Refusal),
+}
+
+/// Tells what is to be told of a command's end, and gives its code.
+pub(crate) fn finish<K: Sink>(out: &mut K, end: End) -> u8
+    ensures { Finishes end (K.taken out.old) (K.taken out.new) (K.faults out.old) (K.faults out.new) result }
+{
+    match end {
+        End::Done => 0,
+        End::WriteFault => 4,
+        End::Refused(refusal) => match write_all(out, refusal.text().as_slice()) {
+            Ok(()) => refusal.code(),
+            Err(_) => 4,
+        },
+    }
 }

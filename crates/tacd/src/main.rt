@@ -4,35 +4,36 @@
 mod commands;
 mod ends;
 mod host_files;
+mod refusals;
 mod std_sink;
-mod telling;
 #[cfg(test)]
 mod tests;
 mod top;
+mod words;
 
 ghost use Rattle.std.specs.Prelude.{◌≡◌, ◌≤◌, All, IfOk, string_len, true};
 
-use ends::End;
+use ends::{End, finish};
 use host_files::HostFiles;
+use refusals::Refusal;
 use std::env::Env;
 use std::io::ErrorKind;
 use std::process::ExitCode;
 use std::{env, io};
 use std_sink::StdSink;
 use tac_io::{MemLink, MemLinks, MemTicker};
-use telling::finish;
 use top::tac;
 
 /// The words of the command line after the program's name. One that is no UTF-8, or longer than
 /// the name of a file may be, is in no command of the list.
-fn words<R: Env + AllocGlobal>(rt: &R) -> Result<Vec<String>, End>
+fn command_line<R: Env + AllocGlobal>(rt: &R) -> Result<Vec<String>, End>
     ensures { IfOk result (λ words. All (λ word. string_len word ≤ 1024) words.items) }
 {
     match collected(rt) {
         Ok(words) if are_short(&words) => Ok(words),
-        Ok(_) => Err(End::Usage),
-        Err(error) if error.kind() == ErrorKind::OutOfMemory => Err(End::Memory),
-        Err(_) => Err(End::Usage),
+        Ok(_) => Err(End::Refused(Refusal::Usage)),
+        Err(error) if error.kind() == ErrorKind::OutOfMemory => Err(End::Refused(Refusal::Memory)),
+        Err(_) => Err(End::Refused(Refusal::Usage)),
     }
 }
 
@@ -53,12 +54,12 @@ fn are_short(words: &[String]) -> bool
 
 fn main(rt: HostRuntime) -> ExitCode {
     let mut out = StdSink::new(io::writer(&rt));
-    let words = match words(&rt) {
+    let words = match command_line(&rt) {
         Ok(words) => words,
         Err(end) => return ExitCode::from(finish(&mut out, end)),
     };
     let Ok(mut ticker) = MemTicker::new(rt.alloc()) else {
-        return ExitCode::from(finish(&mut out, End::Memory));
+        return ExitCode::from(finish(&mut out, End::Refused(Refusal::Memory)));
     };
     let mut files = HostFiles::new(&rt);
     let mut links = MemLinks::<MemLink>::new(rt.alloc());

@@ -114,7 +114,19 @@ fn scripts_give_their_texts(rt: HostRuntime) -> Result<(), Fail> {
             "@0 taken 0 0\n@1 done\n@2 no belowquote 15 1 1\n",
         ),
         ("8 bid ((1 5))\n", 8, "text 1 1\n"),
+        (
+            "0 bid ((1 100) (1 101) (1 102) (1 103) (1 104) (1 105) (1 106) (1 107) (1 108) (1 109) (1 110) (1 111) (1 112) (1 113) (1 114) (1 115))\nclose\n",
+            0,
+            "@0 taken 0 0\n@1 sold 16 100\ntrade 0 8 16 100\n",
+        ),
+        (
+            "0 bid ((13 100))\n1 bid ((3 120))\npublish\n1 bid ((2 150) (1 100))\n",
+            0,
+            "@0 taken 0 0\n@1 taken 0 0\n@2 done\n@3 no belowquote 3 101 2\n",
+        ),
+        ("0 bid ((-1 5))\n", 0, "@0 no sell\n"),
         ("0 own\n", 8, "text 1 9\n"),
+        ("close\n0 bid ((01 5))\n", 8, "text 2 2\n"),
         ("close\n0 bid\n", 8, "text 2 1\n"),
         ("close\nclose", 8, "text 2 3\n"),
     ] {

@@ -1,9 +1,10 @@
 // The top call.
 ghost use Rattle.std.specs.Prelude.{◌≡◌, ◌≤◌, [], map, string_bytes, string_len, All, IfSome};
 ghost use Rattle.tac_io.specs.Told.{and_then_told};
-ghost use Rattle.tacd.specs.Causes.{IsComplete, ReadFaultExactly, RefusedExactly, UsageExactly, WriteFaultExactly};
+ghost use Rattle.tacd.specs.Causes.{GameRefusedExactly, IsComplete, ReadFaultExactly, TextRefusedExactly, UsageExactly, WriteFaultExactly};
 ghost use Rattle.tacd.specs.Commands.{command_of, files_of};
-ghost use Rattle.tacd.specs.Ends.{Allows, Tells};
+ghost use Rattle.tacd.specs.Allowed.{Allows};
+ghost use Rattle.tacd.specs.Ends.{Tells};
 ghost use Rattle.tacd.specs.Outcomes.{Outcome};
 
 use crate::commands::run;
@@ -23,6 +24,7 @@ pub struct Answer<L> {
 
 /// Runs the command of the words of a command line after the program's name, over the files, the
 /// sink, the links and the ticker of the outside.
+#[tactic(auto, using(crate::proofs::LongGames::long_game))]
 pub fn tac<R: Threads + Sync + Wait + Clock, F: Files, K: Sink, N: Links, T: Ticker + Send>(
     _rt: &R,
     alloc: Global,
@@ -42,7 +44,8 @@ pub fn tac<R: Threads + Sync + Wait + Clock, F: Files, K: Sink, N: Links, T: Tic
     ensures usage { UsageExactly (command_of (map (λ word. string_bytes word) words.now)) result.code }
     ensures read_fault { ReadFaultExactly (F.faults files.old) (F.faults files.new) result.code }
     ensures write_fault { WriteFaultExactly (K.faults out.old) (K.faults out.new) result.code }
-    ensures refused { RefusedExactly (F.content files.old) (command_of (map (λ word. string_bytes word) words.now)) (F.faults files.old) (F.faults files.new) result.code }
+    ensures game_refused { GameRefusedExactly (F.content files.old) (command_of (map (λ word. string_bytes word) words.now)) (F.faults files.old) (F.faults files.new) result.code }
+    ensures text_refused { TextRefusedExactly (F.content files.old) (command_of (map (λ word. string_bytes word) words.now)) (F.faults files.old) (F.faults files.new) result.code }
     ensures complete { IsComplete (F.content files.old) (command_of (map (λ word. string_bytes word) words.now)) (F.faults files.old) (F.faults files.new) (K.faults out.old) (K.faults out.new) result.code }
     ensures names { F.names files.new ≡ and_then_told (F.names files.old) (files_of (command_of (map (λ word. string_bytes word) words.now))) }
     ensures links { links.new ≡ links.old }

@@ -1,0 +1,10 @@
+-- A game file that is too long is refused.
+use Rattle.std.proofs.Common.{◌≡◌, ℕ, ◌<◌, List, length, true, arith}
+use Rattle.std.specs.Prelude.{nat_lt, Err}
+use Rattle.std.proofs.lemmas.Bool.Decides.{nat_tests}
+use Rattle.game_text.specs.declared.fault.GameFault.TheVariants.{TooLong}
+use Rattle.game_text.specs.Games.{game_of}
+
+pub long_game : (file : List ℕ) → 1048576 < length file → game_of file ≡ Err TooLong
+unfolding game_of
+long_game file long = let test : nat_lt 1048576 (length file) ≡ true = grind (arith, nat_tests) in rw test

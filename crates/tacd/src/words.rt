@@ -1,0 +1,29 @@
+// The words of a command line.
+ghost use Rattle.std.specs.Prelude.{◌≡◌, ◌≤◌, length, map, string_bytes, string_len, MatchOption, Some, None, All, IfSome};
+ghost use Rattle.tacd.specs.Commands.{command_of, seen};
+ghost use Rattle.tacd.specs.Words.{HasShortNames};
+
+/// A command of the list, with its words.
+#[derive(Clone, Copy)]
+pub(crate) enum Asked<'a> {
+    Hotel { script: &'a str },
+    Show { game: &'a str },
+}
+
+/// The command of the words, if they are one of the list.
+pub(crate) fn command_asked(words: &[String]) -> Option<Asked<'_>>
+    requires { All (λ word. string_len word ≤ 1024) words.now }
+    ensures command { MatchOption result (command_of (map (λ word. string_bytes word) words.now) ≡ None)
+        (λ asked. command_of (map (λ word. string_bytes word) words.now) ≡ Some (seen asked)) }
+    ensures short { IfSome result HasShortNames }
+{
+    match words {
+        [word, script] if word.as_str() == "hotel" => Some(Asked::Hotel {
+            script: script.as_str(),
+        }),
+        [word, game] if word.as_str() == "show" => Some(Asked::Show {
+            game: game.as_str(),
+        }),
+        _ => None,
+    }
+}
