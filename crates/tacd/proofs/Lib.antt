@@ -1,3 +1,5 @@
 pub mod Endings
 pub mod LongGames
+pub mod CodedOutcomes
 pub mod RefusedGames
+pub mod Completeness

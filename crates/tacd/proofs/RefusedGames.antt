@@ -9,17 +9,13 @@ use Rattle.game_text.specs.declared.fault.GameFault.TheVariants.{Line, TooLong}
 use Rattle.game_text.specs.Games.{GameFile, game_of}
 use Rattle.tacd.specs.declared.refusals.Refusal.{Refusal}
 use Rattle.tacd.specs.declared.refusals.Refusal.TheVariants.{Usage, GameLine, GameTooLong, ReadFault, Memory, TextLine, TextTooLong}
-use Rattle.tacd.specs.Commands.{Command, Hotel, Show}
+use Rattle.tacd.specs.Commands.{Command, Hotel, Show, Make}
 use Rattle.tacd.specs.Outcomes.{Outcome, Done, Refused, code_of, refusal_code}
 use Rattle.tacd.specs.Allowed.{Content, Allows, longest_game}
 use Rattle.tacd.specs.Ends.{Tells}
 use Rattle.tacd.specs.Causes.{IsQuiet, IsRefusedGame, HasFile, file_of, GameRefusedExactly}
 use Rattle.tacd.proofs.LongGames.{long_game}
-
--- the code is 4, or it is the outcome's
-coded : (b : Bool) (code due : ℕ) (P Q R : Type 0) → (code == 4) ≡ b → MatchBool b P ((code ≡ due) × Q × R) → (code ≡ 4) ⊎ (code ≡ due)
-coded true code due P Q R e told = inl (eqb-true code 4 e)
-coded false code due P Q R e told = inr told.0
+use Rattle.tacd.proofs.CodedOutcomes.{coded}
 
 -- a game file that was refused, where files are told or not
 bad_game : (content : Content) (name file : List ℕ) (fault : GameFault) → IsFile content name file → game_of file ≡ Err fault → HasFile content (Some (Show name)) (IsRefusedGame (Some (Show name)))
@@ -55,6 +51,14 @@ only content (Some (Show name)) before now (Refused ReadFault) allowed e = absur
 only content (Some (Show name)) before now (Refused Memory) allowed e = absurd (omega arith)
 only content (Some (Show name)) before now (Refused (TextLine line reason)) allowed e = absurd allowed
 only content (Some (Show name)) before now (Refused TextTooLong) allowed e = absurd allowed
+only content (Some (Make seed)) before now (Done text) allowed e = absurd (omega arith)
+only content (Some (Make seed)) before now (Refused Usage) allowed e = absurd allowed
+only content (Some (Make seed)) before now (Refused (GameLine line reason)) allowed e = absurd allowed
+only content (Some (Make seed)) before now (Refused GameTooLong) allowed e = absurd allowed
+only content (Some (Make seed)) before now (Refused ReadFault) allowed e = absurd allowed
+only content (Some (Make seed)) before now (Refused Memory) allowed e = absurd (omega arith)
+only content (Some (Make seed)) before now (Refused (TextLine line reason)) allowed e = absurd allowed
+only content (Some (Make seed)) before now (Refused TextTooLong) allowed e = absurd allowed
 
 same_game : (read : Result GameFile GameFault) (game : GameFile) (fault : GameFault) → read ≡ Ok game → read ≡ Err fault → ⊥
 same_game read game fault e f = absurd (cc)
@@ -78,22 +82,23 @@ due files name before now (Refused TextTooLong) file fault allowed is bad quiet 
 pub game_refused : (content : Content) (command : Option Command) (before now out_before out_now code : ℕ) (taken taken' : Option (List ℕ)) (outcome : Outcome) →
     Allows content command before now outcome → Tells outcome taken taken' out_before out_now code → GameRefusedExactly content command before now code
 game_refused content command before now out_before out_now code taken taken' outcome allowed told = record {
-  only = λ two. only_if two (coded (code == 4) code (code_of outcome) _ _ _ refl told);
-  always = λ file is bad quiet. always content command file allowed is bad quiet (coded (code == 4) code (code_of outcome) _ _ _ refl told);
+  only = λ two. only_if two (coded outcome taken taken' out_before out_now code told);
+  always = λ file is bad quiet. always content command file allowed is bad quiet (coded outcome taken taken' out_before out_now code told);
 }
   where
-    only_if : code ≡ 2 → (code ≡ 4) ⊎ (code ≡ code_of outcome) → HasFile content command (IsRefusedGame command)
-    only_if two (inl four) = absurd (let e : 4 ≡ 2 = sym four ∙ two in omega (arith, e))
+    only_if : code ≡ 2 → ((code ≡ 4) × Rose out_before out_now) ⊎ (code ≡ code_of outcome) → HasFile content command (IsRefusedGame command)
+    only_if two (inl four) = absurd (let e : 4 ≡ 2 = sym four.0 ∙ two in omega (arith, e))
     only_if two (inr is) = only content command before now outcome allowed (sym is ∙ two)
 
-    by_outcome : (code_of outcome ≡ 2) ⊎ (code_of outcome ≡ 7) → (code ≡ 4) ⊎ (code ≡ code_of outcome) → (code ≡ 2) ⊎ (code ≡ 4) ⊎ (code ≡ 7)
-    by_outcome either (inl four) = inr (inl four)
+    by_outcome : (code_of outcome ≡ 2) ⊎ (code_of outcome ≡ 7) → ((code ≡ 4) × Rose out_before out_now) ⊎ (code ≡ code_of outcome) → (code ≡ 2) ⊎ (code ≡ 4) ⊎ (code ≡ 7)
+    by_outcome either (inl four) = inr (inl four.0)
     by_outcome (inl two) (inr is) = inl (is ∙ two)
     by_outcome (inr seven) (inr is) = inr (inr (is ∙ seven))
 
     always : (content : Content) (command : Option Command) (file : List ℕ) → Allows content command before now outcome → file_of content command ≡ Some file → IsRefusedGame command file →
-        IsQuiet before now → (code ≡ 4) ⊎ (code ≡ code_of outcome) → (code ≡ 2) ⊎ (code ≡ 4) ⊎ (code ≡ 7)
+        IsQuiet before now → ((code ≡ 4) × Rose out_before out_now) ⊎ (code ≡ code_of outcome) → (code ≡ 2) ⊎ (code ≡ 4) ⊎ (code ≡ 7)
     always content None file allowed is bad quiet told = absurd bad
     always content (Some (Hotel name)) file allowed is bad quiet told = absurd bad
+    always content (Some (Make seed)) file allowed is bad quiet told = absurd bad
     always None (Some (Show name)) file allowed is bad quiet told = absurd (cc)
     always (Some files) (Some (Show name)) file allowed is bad quiet told = by_outcome (due files name before now outcome file bad.0 allowed is bad.1 quiet) told

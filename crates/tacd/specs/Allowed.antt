@@ -7,7 +7,8 @@ use Rattle.game_text.specs.declared.fault.GameFault.TheVariants.{Line}
 use Rattle.game_text.specs.Games.{GameFile, game_of, spelling}
 use Rattle.script_run.specs.HotelOuts.{IsOut, IsBad, longest_script}
 use Rattle.tacd.specs.declared.refusals.Refusal.TheVariants.{Usage, GameLine, GameTooLong, ReadFault, Memory, TextLine, TextTooLong}
-use Rattle.tacd.specs.Commands.{Command, Hotel, Show}
+use Rattle.draw_maker.specs.Games.{made_game}
+use Rattle.tacd.specs.Commands.{Command, Hotel, Show, Make}
 use Rattle.tacd.specs.Outcomes.{Outcome, Done, Refused}
 
 -- the bytes of each name, where they are told
@@ -39,6 +40,12 @@ ShowAllows content name before now (Refused ReadFault) = Rose before now
 ShowAllows content name before now (Refused Memory) = now ≡ before
 ShowAllows content name before now (Refused refusal) = ⊥
 
+-- the game that is made of the seed is shown
+abbrev pub MakeAllows : ℕ → ℕ → ℕ → Outcome → Type 0
+MakeAllows seed before now (Done text) = (text ≡ spelling (made_game seed)) × (now ≡ before)
+MakeAllows seed before now (Refused Memory) = now ≡ before
+MakeAllows seed before now (Refused refusal) = ⊥
+
 -- without a command the usage is told
 abbrev pub UsageAllows : ℕ → ℕ → Outcome → Type 0
 UsageAllows before now (Refused Usage) = now ≡ before
@@ -49,3 +56,4 @@ abbrev pub Allows : Content → Option Command → ℕ → ℕ → Outcome → T
 Allows content None before now outcome = UsageAllows before now outcome
 Allows content (Some (Hotel script)) before now outcome = HotelAllows content script before now outcome
 Allows content (Some (Show game)) before now outcome = ShowAllows content game before now outcome
+Allows content (Some (Make seed)) before now outcome = MakeAllows seed before now outcome

@@ -1,11 +1,11 @@
 -- When each code comes. A write that failed goes before every other cause, so code 4 may stand in the place of each other code;
 -- where memory is refused the code is 7.
-use Rattle.std.specs.Prelude.{◌≡◌, ℕ, ◌-◌, ◌^◌, ◌<◌, ◌⊎◌, List, length, Option, Some, None, Ok, Err, IfSome}
+use Rattle.std.specs.Prelude.{◌≡◌, ℕ, ◌-◌, ◌^◌, ◌<◌, ◌⊎◌, ⊤, List, length, Option, Some, None, Ok, Err, IfSome}
 use Rattle.tac_io.specs.Counts.{Rose}
 use Rattle.game_text.specs.declared.fault.GameFault.{GameFault}
 use Rattle.game_text.specs.Games.{GameFile, game_of}
 use Rattle.script_run.specs.HotelOuts.{IsBad, IsOut, longest_script}
-use Rattle.tacd.specs.Commands.{Command, Hotel, Show}
+use Rattle.tacd.specs.Commands.{Command, Hotel, Show, Make}
 use Rattle.tacd.specs.Allowed.{Content}
 
 -- no call failed: the count is as before, and below its last value
@@ -42,12 +42,6 @@ abbrev pub IsRefusedGame : Option Command → List ℕ → Type 0
 IsRefusedGame (Some (Show name)) file = (fault : GameFault) × (game_of file ≡ Err fault)
 IsRefusedGame command file = ⊥
 
--- the file of the command is what the command wants
-abbrev pub IsGood : Option Command → List ℕ → Type 0
-IsGood None file = ⊥
-IsGood (Some (Hotel name)) file = (text : List ℕ) × IsOut file text
-IsGood (Some (Show name)) file = (game : GameFile) × (game_of file ≡ Ok game)
-
 -- the bytes of the file of that name, where files are told
 abbrev pub told_file : Content → List ℕ → Option (List ℕ)
 told_file None name = None
@@ -58,6 +52,7 @@ abbrev pub file_of : Content → Option Command → Option (List ℕ)
 file_of content None = None
 file_of content (Some (Hotel name)) = told_file content name
 file_of content (Some (Show name)) = told_file content name
+file_of content (Some (Make seed)) = None
 
 -- some file of the command is as P says, where files are told
 abbrev pub HasFile : Content → Option Command → (List ℕ → Type 0) → Type 0
@@ -73,6 +68,13 @@ pub record GameRefusedExactly (content : Content) (command : Option Command) (be
   pub only : code ≡ 2 → HasFile content command (IsRefusedGame command)
   pub always : (file : List ℕ) → file_of content command ≡ Some file → IsRefusedGame command file → IsQuiet before now → (code ≡ 2) ⊎ (code ≡ 4) ⊎ (code ≡ 7)
 
+-- the words are a command, and its file, if it names one, is told and has the form that is due
+abbrev pub IsReady : Content → Option Command → Type 0
+IsReady content None = ⊥
+IsReady content (Some (Hotel name)) = (file : List ℕ) × (text : List ℕ) × (told_file content name ≡ Some file) × IsOut file text
+IsReady content (Some (Show name)) = (file : List ℕ) × (game : GameFile) × (told_file content name ≡ Some file) × (game_of file ≡ Ok game)
+IsReady content (Some (Make seed)) = ⊤
+
 -- where the words are a command, its file is good and no count rose, the code is 0, or 7
 pub record IsComplete (content : Content) (command : Option Command) (before now out_before out_now code : ℕ) : Type 0 where
-  pub good : (file : List ℕ) → file_of content command ≡ Some file → IsGood command file → IsQuiet before now → IsQuiet out_before out_now → (code ≡ 0) ⊎ (code ≡ 7)
+  pub good : IsReady content command → IsQuiet before now → IsQuiet out_before out_now → (code ≡ 0) ⊎ (code ≡ 7)

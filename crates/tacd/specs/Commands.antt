@@ -1,6 +1,7 @@
 -- What the words of a command line ask for.
-use Rattle.std.specs.Prelude.{ℕ, List, [], ◌∷◌, Option, Some, None, if◌then◌else◌, codes}
+use Rattle.std.specs.Prelude.{ℕ, ◌^◌, List, [], ◌∷◌, Option, Some, None, if◌then◌else◌, codes, option_map}
 use Rattle.std.specs.Str.{bytes_eq}
+use Rattle.tac_base.specs.Numerals.{below, numeral}
 use Rattle.tacd.specs.declared.words.Asked.{Asked}
 use Rattle.tacd.specs.declared.words.Asked.TheVariants as asked
 
@@ -8,12 +9,14 @@ use Rattle.tacd.specs.declared.words.Asked.TheVariants as asked
 pub data Command : Type 0 where
   Hotel : (script : List ℕ) → Command
   Show : (game : List ℕ) → Command
+  Make : (seed : ℕ) → Command
 
--- a command of one word after its own
+-- a command of one word after its own; a seed is a numeral of at most 20 digits that has 64 bits
 abbrev pub command_with : List ℕ → List ℕ → Option Command
 command_with word argument =
     if bytes_eq word (codes "hotel") then Some (Hotel argument)
     else if bytes_eq word (codes "show") then Some (Show argument)
+    else if bytes_eq word (codes "make") then option_map Make (below (2 ^ 64) (numeral 20 argument))
     else None
 
 abbrev pub command_of : List (List ℕ) → Option Command
@@ -25,8 +28,10 @@ abbrev pub files_of : Option Command → List (List ℕ)
 files_of None = []
 files_of (Some (Hotel script)) = script ∷ []
 files_of (Some (Show game)) = game ∷ []
+files_of (Some (Make seed)) = []
 
 -- the command as the code has it, with its words as they stand in memory
 abbrev pub seen : Asked → Command
 seen (asked.Hotel script) = Hotel script.now
 seen (asked.Show game) = Show game.now
+seen (asked.Make seed) = Make seed

@@ -3,6 +3,7 @@ use Rattle.std.specs.Prelude.{◌≡◌, ℕ, ◌==◌, List, Option, MatchBool}
 use Rattle.tac_io.specs.Counts.{Rose}
 use Rattle.tac_io.specs.Told.{and_then_told, TakesSome}
 use Rattle.script_run.specs.HotelOuts.{IsUntouched}
+use Rattle.tacd.specs.declared.refusals.Refusal.TheVariants.{Memory}
 use Rattle.tacd.specs.declared.ends.End.{End}
 use Rattle.tacd.specs.declared.ends.End.TheVariants as ends
 use Rattle.tacd.specs.Outcomes.{Outcome, Done, Refused, code_of, text_of}
@@ -19,6 +20,13 @@ abbrev pub Ends : (Outcome → Type 0) → Option (List ℕ) → Option (List �
 Ends allows taken taken' before now ends.Done = (text : List ℕ) × allows (Done text) × (taken' ≡ and_then_told taken text) × (now ≡ before)
 Ends allows taken taken' before now ends.WriteFault = (text : List ℕ) × allows (Done text) × TakesSome taken taken' text × Rose before now
 Ends allows taken taken' before now (ends.Refused refusal) = allows (Refused refusal) × IsUntouched taken taken' before now
+
+-- what writing a whole text as a command's did
+abbrev pub WritesWhole : List ℕ → Option (List ℕ) → Option (List ℕ) → ℕ → ℕ → End → Type 0
+WritesWhole text taken taken' before now ends.Done = (taken' ≡ and_then_told taken text) × (now ≡ before)
+WritesWhole text taken taken' before now ends.WriteFault = TakesSome taken taken' text × Rose before now
+WritesWhole text taken taken' before now (ends.Refused Memory) = IsUntouched taken taken' before now
+WritesWhole text taken taken' before now (ends.Refused refusal) = ⊥
 
 -- what is left to do for a command that ended so: a refusal is told, and else nothing is
 abbrev pub Finishes : End → Option (List ℕ) → Option (List ℕ) → ℕ → ℕ → ℕ → Type 0

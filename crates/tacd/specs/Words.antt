@@ -1,5 +1,5 @@
 -- The names among the words of a command.
-use Rattle.std.specs.Prelude.{◌≤◌, length}
+use Rattle.std.specs.Prelude.{◌≤◌, ⊤, length}
 use Rattle.tacd.specs.declared.words.Asked.{Asked}
 use Rattle.tacd.specs.declared.words.Asked.TheVariants as asked
 
@@ -7,3 +7,4 @@ use Rattle.tacd.specs.declared.words.Asked.TheVariants as asked
 abbrev pub HasShortNames : Asked → Type 0
 HasShortNames (asked.Hotel script) = length script.now ≤ 1024
 HasShortNames (asked.Show game) = length game.now ≤ 1024
+HasShortNames (asked.Make seed) = ⊤

@@ -1,16 +1,18 @@
 // The commands.
-ghost use Rattle.std.specs.Prelude.{◌≡◌, ◌<◌, ◌≤◌, [], ◌∷◌, length, map, string_bytes, IfSome, All, string_len};
+ghost use Rattle.std.specs.Prelude.{◌≡◌, ℕ, Some, ◌<◌, ◌≤◌, [], ◌∷◌, length, map, string_bytes, IfSome, All, string_len};
+ghost use Rattle.game_text.specs.Games.{spelling};
 ghost use Rattle.tac_io.specs.Told.{and_then_told};
-ghost use Rattle.tacd.specs.Allowed.{Allows, HotelAllows, ShowAllows};
-ghost use Rattle.tacd.specs.Commands.{command_of, files_of, seen, Hotel, Show};
-ghost use Rattle.tacd.specs.Ends.{Ends, Tells};
+ghost use Rattle.tacd.specs.Allowed.{Allows, HotelAllows, MakeAllows, ShowAllows};
+ghost use Rattle.tacd.specs.Commands.{command_of, files_of, seen};
+ghost use Rattle.tacd.specs.Ends.{Ends, Tells, WritesWhole};
 ghost use Rattle.tacd.specs.Outcomes.{Outcome};
 ghost use Rattle.tacd.specs.Words.{HasShortNames};
 
 use crate::ends::{End, finish};
 use crate::refusals::Refusal;
 use crate::words::{Asked, command_asked};
-use game_text::{GameFault, print_game, read_game};
+use draw_maker::make_game;
+use game_text::{Game, GameFault, print_game, read_game};
 use script_run::{ScriptFault, run_hotel_script};
 use std::alloc::Global;
 use tac_io::{FileFault, Files, Sink, read_file, write_all};
@@ -63,7 +65,21 @@ fn show<F: Files, K: Sink>(alloc: Global, name: &str, files: &mut F, out: &mut K
         }
         Err(GameFault::TooLong) => return End::Refused(Refusal::GameTooLong),
     };
-    let Ok(text) = print_game(alloc, &game) else {
+    write_game(alloc, &game, out)
+}
+
+/// Shows the game that is made of a seed, in its canonical text.
+fn make<K: Sink>(alloc: Global, seed: u64, out: &mut K) -> End
+    ensures { (faults : ℕ) → Ends (MakeAllows seed faults faults) (K.taken out.old) (K.taken out.new) (K.faults out.old) (K.faults out.new) result }
+{
+    write_game(alloc, &make_game(seed), out)
+}
+
+/// Writes the canonical text of a game.
+fn write_game<K: Sink>(alloc: Global, game: &Game, out: &mut K) -> End
+    ensures { WritesWhole (spelling game.now) (K.taken out.old) (K.taken out.new) (K.faults out.old) (K.faults out.new) result }
+{
+    let Ok(text) = print_game(alloc, game) else {
         return End::Refused(Refusal::Memory);
     };
     match write_all(out, text.as_slice()) {
@@ -89,6 +105,10 @@ fn run_asked<F: Files, K: Sink>(alloc: Global, asked: Asked<'_>, files: &mut F, 
         }
         Asked::Show { game } => {
             let end = show(alloc, game, files, out);
+            finish(out, end)
+        }
+        Asked::Make { seed } => {
+            let end = make(alloc, seed, out);
             finish(out, end)
         }
     }

@@ -11,7 +11,7 @@ mod tests;
 mod top;
 mod words;
 
-ghost use Rattle.std.specs.Prelude.{◌≡◌, ◌≤◌, All, IfOk, string_len, true};
+ghost use Rattle.std.specs.Prelude.{◌≤◌, ◌↔◌, All, IfOk, IsTrue, string_len};
 
 use ends::{End, finish};
 use host_files::HostFiles;
@@ -47,7 +47,7 @@ fn collected<R: Env + AllocGlobal>(rt: &R) -> io::Result<Vec<String>> {
 
 /// Whether each word is short enough for the name of a file.
 fn are_short(words: &[String]) -> bool
-    ensures { result ≡ true → All (λ word. string_len word ≤ 1024) words.now }
+    ensures { IsTrue result ↔ All (λ word. string_len word ≤ 1024) words.now }
 {
     words.iter().all(|word| word.len() <= 1024)
 }

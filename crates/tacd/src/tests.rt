@@ -6,6 +6,8 @@ use crate::host_files::HostFiles;
 use crate::std_sink::StdSink;
 use crate::top::tac;
 use std::alloc::Global;
+use std::fmt::Write;
+use std::fs;
 use std::fs::File;
 use std::rt::Clock;
 use std::sync::Wait;
@@ -163,7 +165,7 @@ fn other_words_are_no_command(rt: HostRuntime) -> Result<(), Fail> {
         "hotel",
         "Hotel script",
         "hotel script script",
-        "show script",
+        "play script script",
     ] {
         let ran = run(&rt, alloc, line, b"", NO_FAULT)?;
         assert_eq!(rt; ran.text.as_slice(), b"usage\n".as_slice(), "{line}");
@@ -212,8 +214,83 @@ fn each_fault_has_its_code(rt: HostRuntime) -> Result<(), Fail> {
     Ok(())
 }
 
+// The game in which all flights stay at 300, nobody has a ticket, and all clients are alike; line
+// 20 is the given one.
+fn plain_game(alloc: Global, line_20: &str) -> Result<String, Fail> {
+    let mut text = String::from_str(
+        alloc,
+        "tac 1\nwords seat0 seat1 seat2 seat3 seat4 seat5 seat6 seat7\n",
+    )?;
+    for good in 0..8 {
+        write!(text, "flight {good} 300 10")?;
+        for _ in 0..53 {
+            text.push_str(" 10")?;
+        }
+        text.push_str("\n")?;
+    }
+    text.push_str("close 8 9 10 11 12 13 14 15\n")?;
+    for agent in 0..8 {
+        write!(text, "endow {agent} 0 0 0 0 0 0 0 0 0 0 0 0\n")?;
+    }
+    for agent in 0..8 {
+        for client in 0..8 {
+            if agent == 0 && client == 0 {
+                text.push_str(line_20)?;
+            } else {
+                write!(text, "client {agent} {client} 1 2 100 0 0 100\n")?;
+            }
+        }
+    }
+    text.push_str("end\n")?;
+    Ok(text)
+}
+
+// Whether the file is shown so, with this code.
+fn is_shown_as<R: Threads + Sync + Wait + Clock>(
+    rt: &R,
+    alloc: Global,
+    file: &str,
+    code: u8,
+    text: &str,
+) -> Result<bool, Fail> {
+    let ran = run(rt, alloc, "show script", file.as_bytes(), NO_FAULT)?;
+    Ok(ran.code == code && ran.text.as_slice() == text.as_bytes())
+}
+
 #[test]
-fn a_file_of_the_system_is_read_as_it_was_written(rt: HostRuntime) -> Result<(), Fail> {
+fn games_are_shown_in_their_canonical_text(rt: HostRuntime) -> Result<(), Fail> {
+    let alloc = rt.alloc();
+    let game = plain_game(alloc, "client 0 0 1 2 100 0 0 100\n")?;
+    assert!(rt; is_shown_as(&rt, alloc, &game, 0, &game)?);
+    let commented = format!(in alloc; "# game\n{game}")?;
+    assert!(rt; is_shown_as(&rt, alloc, &commented, 0, &game)?);
+    let bad = plain_game(alloc, "client 0 0 2 2 100 0 0 100\n")?;
+    assert!(rt; is_shown_as(&rt, alloc, &bad, 2, "game 20 4\n")?);
+    assert!(rt; is_shown_as(&rt, alloc, "", 2, "game 1 7\n")?);
+    Ok(())
+}
+
+#[test]
+fn a_made_game_is_shown_as_it_was_made(rt: HostRuntime) -> Result<(), Fail> {
+    let alloc = rt.alloc();
+    let made = run(&rt, alloc, "make 42", b"", NO_FAULT)?;
+    assert_eq!(rt; made.code, 0);
+    assert!(rt;
+        made.text
+            .as_slice()
+            .starts_with(b"tac 1\nwords seat0 seat1 ")
+    );
+    let shown = run(&rt, alloc, "show script", made.text.as_slice(), NO_FAULT)?;
+    assert_eq!(rt; shown.text.as_slice(), made.text.as_slice());
+    for line in ["make 18446744073709551616", "make 042", "make -1", "make"] {
+        let ran = run(&rt, alloc, line, b"", NO_FAULT)?;
+        assert_eq!(rt; ran.code, 1, "{line}");
+    }
+    Ok(())
+}
+
+#[test]
+fn the_ends_of_the_system_pass_bytes_on_and_count_faults(rt: HostRuntime) -> Result<(), Fail> {
     let name = "written-by-a-test";
     let mut sink = StdSink::new(File::create(&rt, name)?);
     assert_eq!(rt; sink.write(b"close\n").ok(), Some(6));
@@ -224,7 +301,14 @@ fn a_file_of_the_system_is_read_as_it_was_written(rt: HostRuntime) -> Result<(),
         .ok()
         .ok_or("read")?;
     assert_eq!(rt; bytes.as_slice(), b"close\n".as_slice());
+    fs::remove_file(&rt, name)?;
     assert!(rt; files.select("no-such-file-of-a-test").is_err());
     assert_eq!(rt; files.faults(), 1);
+    // A folder is opened, and cannot be read.
+    assert!(rt; read_file(rt.alloc(), &mut files, ".", 6).is_err());
+    assert_eq!(rt; files.faults(), 2);
+    let mut full = StdSink::new(File::create(&rt, "/dev/full")?);
+    assert!(rt; full.write(b"close\n").is_err());
+    assert_eq!(rt; full.faults(), 1);
     Ok(())
 }

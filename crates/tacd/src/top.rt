@@ -24,7 +24,6 @@ pub struct Answer<L> {
 
 /// Runs the command of the words of a command line after the program's name, over the files, the
 /// sink, the links and the ticker of the outside.
-#[tactic(auto, using(crate::proofs::LongGames::long_game))]
 pub fn tac<R: Threads + Sync + Wait + Clock, F: Files, K: Sink, N: Links, T: Ticker + Send>(
     _rt: &R,
     alloc: Global,

@@ -3,11 +3,14 @@ ghost use Rattle.std.specs.Prelude.{◌≡◌, ◌≤◌, length, map, string_by
 ghost use Rattle.tacd.specs.Commands.{command_of, seen};
 ghost use Rattle.tacd.specs.Words.{HasShortNames};
 
+use tac_base::read_numeral;
+
 /// A command of the list, with its words.
 #[derive(Clone, Copy)]
 pub(crate) enum Asked<'a> {
     Hotel { script: &'a str },
     Show { game: &'a str },
+    Make { seed: u64 },
 }
 
 /// The command of the words, if they are one of the list.
@@ -24,6 +27,9 @@ pub(crate) fn command_asked(words: &[String]) -> Option<Asked<'_>>
         [word, game] if word.as_str() == "show" => Some(Asked::Show {
             game: game.as_str(),
         }),
+        [word, seed] if word.as_str() == "make" => {
+            read_numeral(seed.as_bytes(), 20).map(|seed| Asked::Make { seed })
+        }
         _ => None,
     }
 }

@@ -1,0 +1,7 @@
+pub mod DrawnWords
+pub mod WordRanges
+pub mod Exchanges
+pub mod ClientRanges
+pub mod GameRanges
+pub mod DrawnGames
+pub mod Worked

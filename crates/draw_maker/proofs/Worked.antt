@@ -1,0 +1,17 @@
+-- Words and exchanges on worked rows.
+use Rattle.std.proofs.Common.{◌≡◌, [], ◌∷◌, refl}
+use Rattle.rand_core.specs.Steps.{first_words}
+use Rattle.draw_maker.specs.Words.{generator, next_words}
+use Rattle.draw_maker.specs.ClosingOrders.{made_order}
+
+first_words_of_42 : next_words 4 (generator 42 54) ≡ 2707161783 ∷ 2068313097 ∷ 3122475824 ∷ 2211639955 ∷ []
+unfolding first_words
+first_words_of_42 = refl
+
+-- each place changes its item with itself
+own_place_keeps_order : made_order (7 ∷ 6 ∷ 5 ∷ 4 ∷ 3 ∷ 2 ∷ 1 ∷ []) ≡ 8 ∷ 9 ∷ 10 ∷ 11 ∷ 12 ∷ 13 ∷ 14 ∷ 15 ∷ []
+own_place_keeps_order = refl
+
+-- each place changes its item with the first place, so that the first item ends at the last place
+first_place_turns_order : made_order (8 ∷ 7 ∷ 6 ∷ 5 ∷ 4 ∷ 3 ∷ 2 ∷ []) ≡ 9 ∷ 10 ∷ 11 ∷ 12 ∷ 13 ∷ 14 ∷ 15 ∷ 8 ∷ []
+first_place_turns_order = refl

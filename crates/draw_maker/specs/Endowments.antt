@@ -1,0 +1,6 @@
+-- The endowments of a made game.
+use Rattle.std.specs.Prelude.{ℕ, ◌%◌, List, map}
+
+-- 12 words: none, one or two of each ticket
+abbrev pub made_endowment : List ℕ → List ℕ
+made_endowment words = map (λ word. word % 3) words

@@ -1,0 +1,6 @@
+pub mod Words
+pub mod Flights
+pub mod ClosingOrders
+pub mod Endowments
+pub mod Clients
+pub mod Games

@@ -1,0 +1,60 @@
+ghost use Rattle.std.specs.Prelude.{◌≡◌, IsTrue};
+ghost use Rattle.game_text.specs.Games.{IsGame};
+ghost use Rattle.game_text.specs.SeatWords.{is_seat_word};
+ghost use Rattle.draw_maker.specs.Games.{made_seats, made_game};
+
+use crate::closing_orders::draw_order;
+use crate::drawing::draw_each;
+use game_text::{FlightLine, Game, SeatWord};
+use rand_pcg::Lcg64Xsh32;
+use tac_base::Client;
+
+/// The stream of the generator from which games are made.
+const GAME_STREAM: u64 = 54;
+
+/// The seat word of a text that is one.
+fn seat_word(text: &[u8]) -> SeatWord
+    requires { IsTrue (is_seat_word text.now) }
+    ensures { result ≡ text.now }
+{
+    SeatWord::new(text).unwrap()
+}
+
+/// The seat words of a made game.
+fn seat_words() -> [SeatWord; 8]
+    ensures { result ≡ made_seats }
+{
+    [
+        seat_word(b"seat0"),
+        seat_word(b"seat1"),
+        seat_word(b"seat2"),
+        seat_word(b"seat3"),
+        seat_word(b"seat4"),
+        seat_word(b"seat5"),
+        seat_word(b"seat6"),
+        seat_word(b"seat7"),
+    ]
+}
+
+/// Makes the game of a number: all but its seat words comes from the words of a PCG generator. The rule is this
+/// project's own. It takes no memory.
+pub fn make_game(seed: u64) -> Game
+    ensures exact { result ≡ made_game seed }
+    ensures range { IsGame result }
+{
+    let mut generator = Lcg64Xsh32::new(seed, GAME_STREAM);
+    let mut flights = [FlightLine::default(); 8];
+    draw_each(&mut flights, &mut generator);
+    let order = draw_order(&mut generator);
+    let mut endow = [[0; 12]; 8];
+    draw_each(&mut endow, &mut generator);
+    let mut clients = [[Client::default(); 8]; 8];
+    draw_each(&mut clients, &mut generator);
+    Game {
+        words: seat_words(),
+        flights,
+        order,
+        endow,
+        clients,
+    }
+}

@@ -1,0 +1,13 @@
+//! Games that are made from a number.
+#![tactic(auto)]
+
+mod clients;
+mod closing_orders;
+mod drawing;
+mod endowments;
+mod flights;
+mod games;
+#[cfg(test)]
+mod tests;
+
+pub use games::make_game;
