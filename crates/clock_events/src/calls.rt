@@ -1,0 +1,106 @@
+ghost use Rattle.std.specs.Prelude.{◌≡◌, ◌+◌, ◌≤◌, ◌<◌, ◌==◌, ◌∷◌, [], slice_get, length, map};
+ghost use Rattle.clock_events.specs.Schedule as spec;
+
+use arrayvec::ArrayVec;
+use game_text::Game;
+use tac_base::{Call, Good, Tick};
+
+/// The last tick, at which flights and tickets close.
+const LAST_TICK: u8 = 54;
+
+/// The good of a number.
+fn good(number: u8) -> Good
+    requires { number ≤ 27 }
+    ensures { result ≡ number }
+{
+    Good::new(number).unwrap()
+}
+
+/// The hotel nights in rising order.
+fn hotel_nights() -> [Good; 8]
+    ensures { result ≡ spec.hotel_nights }
+{
+    [
+        good(8),
+        good(9),
+        good(10),
+        good(11),
+        good(12),
+        good(13),
+        good(14),
+        good(15),
+    ]
+}
+
+/// Whether the good is among the goods.
+fn is_among(goods: &[Good], good: Good) -> bool
+    ensures { result ≡ spec.is_among goods.now good }
+{
+    goods.iter().any(|other| *other == good)
+}
+
+/// The hotel nights that are open after so many closings.
+#[tactic(auto, unfolding(crate::specs::Schedule::open_after))]
+fn open_after(order: &[Good], turn: usize) -> ArrayVec<Good, 8>
+    requires turn { turn ≤ 8 }
+    requires count { length order.now ≡ 8 }
+    ensures { result.items ≡ spec.open_after order.now turn }
+{
+    let closed = &order[..turn];
+    let mut open = ArrayVec::from(hotel_nights());
+    open.retain(|good| !is_among(closed, *good));
+    open
+}
+
+/// The n-th call of the hotels at their tick: a closing, and then the publications.
+#[tactic(auto, using(crate::proofs::CallLists::publication_at))]
+fn hotel_call(order: &[Good], turn: usize, n: usize) -> Option<(Good, Call)>
+    requires first { 1 ≤ turn }
+    requires last { turn ≤ 8 }
+    requires count { length order.now ≡ 8 }
+    ensures { result ≡ slice_get (spec.hotel_calls order.now turn) n }
+{
+    if n == 0 {
+        return Some((order[turn - 1], Call::Close));
+    }
+    let open = open_after(order, turn);
+    let good = open.as_slice().get(n - 1)?;
+    Some((*good, Call::Publish))
+}
+
+/// The n-th call of the last tick.
+fn last_call(n: usize) -> Option<(Good, Call)>
+    ensures { result ≡ slice_get (map spec.closing_of spec.closed_last) n }
+{
+    if n < 8 {
+        Some((good(n as u8), Call::Close))
+    } else if n < 20 {
+        Some((good(n as u8 + 8), Call::Close))
+    } else {
+        None
+    }
+}
+
+/// The n-th call of the clock at a tick, counted from 0, and the good of which it is asked; None exactly past the tick's last call.
+/// At the ticks 1..53 the flights are updated; at each sixth of them the next hotel closes and the open ones publish; at tick 54
+/// flights and tickets close. That a game has these ticks is our own rule.
+#[tactic(auto, using(crate::proofs::CallLists::last_calls, crate::proofs::CallLists::flight_call, crate::proofs::CallLists::hotel_call_at, crate::proofs::CallLists::no_call,))]
+pub fn schedule(game: &Game, tick: Tick, n: u8) -> Option<(Good, Call)>
+    ensures { result ≡ slice_get (spec.calls_at game.now tick) n }
+{
+    let n = usize::from(n);
+    let number = tick.get();
+    if number == LAST_TICK {
+        return last_call(n);
+    }
+    if n < 8 {
+        let flight = &game.flights[n];
+        let draw = flight.draws[usize::from(number) - 1];
+        return Some((good(n as u8), Call::Update { tick, draw }));
+    }
+    if number % 6 == 0 {
+        hotel_call(&game.order, usize::from(number / 6), n - 8)
+    } else {
+        None
+    }
+}
