@@ -1,4 +1,5 @@
 pub mod Drifts
+pub mod Floors
 pub mod Points
 pub mod Lists
 pub mod Sold
