@@ -16,22 +16,6 @@ fn good(number: u8) -> Good
     Good::new(number).unwrap()
 }
 
-/// The hotel nights in rising order.
-fn hotel_nights() -> [Good; 8]
-    ensures { result ≡ spec.hotel_nights }
-{
-    [
-        good(8),
-        good(9),
-        good(10),
-        good(11),
-        good(12),
-        good(13),
-        good(14),
-        good(15),
-    ]
-}
-
 /// Whether the good is among the goods.
 fn is_among(goods: &[Good], good: Good) -> bool
     ensures { result ≡ spec.is_among goods.now good }
@@ -47,7 +31,7 @@ fn open_after(order: &[Good], turn: usize) -> ArrayVec<Good, 8>
     ensures { result.items ≡ spec.open_after order.now turn }
 {
     let closed = &order[..turn];
-    let mut open = ArrayVec::from(hotel_nights());
+    let mut open = ArrayVec::from(Good::hotels());
     open.retain(|good| !is_among(closed, *good));
     open
 }

@@ -1,4 +1,4 @@
-ghost use Rattle.std.specs.Prelude.{◌≡◌, ◌≤◌, ◌∷◌, []};
+ghost use Rattle.std.specs.Prelude.{◌≡◌};
 ghost use Rattle.draw_maker.specs.ClosingOrders.{made_order};
 ghost use Rattle.draw_maker.specs.Words as words;
 
@@ -6,36 +6,12 @@ use crate::drawing::draw_words;
 use rand_pcg::Lcg64Xsh32;
 use tac_base::Good;
 
-/// The good of a number.
-fn good(number: u8) -> Good
-    requires { number ≤ 27 }
-    ensures { result ≡ number }
-{
-    Good::new(number).unwrap()
-}
-
-/// The hotel nights in rising order.
-fn hotel_nights() -> [Good; 8]
-    ensures { result ≡ 8 ∷ 9 ∷ 10 ∷ 11 ∷ 12 ∷ 13 ∷ 14 ∷ 15 ∷ [] }
-{
-    [
-        good(8),
-        good(9),
-        good(10),
-        good(11),
-        good(12),
-        good(13),
-        good(14),
-        good(15),
-    ]
-}
-
 /// The hotel nights, shuffled by the words: from the last place to the second, each place changes its good with a
 /// place up to it.
 fn order_of(drawn: &[u32; 7]) -> [Good; 8]
     ensures { result ≡ made_order drawn.now }
 {
-    let mut order = hotel_nights();
+    let mut order = Good::hotels();
     for (i, word) in drawn.iter().enumerate() {
         let place = 7 - i;
         order.swap(place, *word as usize % (place + 1));

@@ -1,15 +1,17 @@
 ghost use Rattle.std.specs.Prelude.{◌≡◌};
 ghost use Rattle.game_text.specs.Faults.{fault_of};
 
-use std::alloc::AllocError;
 use text_forms::BadLine;
+use thiserror::Error;
 
 /// Why a game file is refused.
-#[derive(Clone, Copy, Debug, PartialEq, Eq)]
+#[derive(Clone, Copy, Debug, PartialEq, Eq, Error)]
 pub enum GameFault {
     /// The first bad line, counted from 1, with the number of the first reason that applies to it, 1 to 7.
+    #[error("line {line} of the file is bad, reason {reason}")]
     Line { line: u32, reason: u8 },
     /// The text has more than 1,048,576 bytes.
+    #[error("the file is too long")]
     TooLong,
 }
 
@@ -21,15 +23,5 @@ impl From<BadLine> for GameFault {
             line: bad.line,
             reason: bad.reason.number(),
         }
-    }
-}
-
-/// There is no memory left. Nothing else is known of the call.
-#[derive(Clone, Copy, Debug, PartialEq, Eq)]
-pub struct Memory;
-
-impl From<AllocError> for Memory {
-    fn from(_: AllocError) -> Self {
-        Memory
     }
 }

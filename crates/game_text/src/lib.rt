@@ -15,7 +15,7 @@ mod seat_words;
 #[cfg(test)]
 mod tests;
 
-pub use fault::{GameFault, Memory};
+pub use fault::GameFault;
 pub use flights::FlightLine;
 pub use games::{Game, read_game};
 pub use printing::print_game;

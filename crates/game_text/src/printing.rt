@@ -8,9 +8,9 @@ ghost use Rattle.game_text.specs.Flights as flights;
 ghost use Rattle.game_text.specs.Games as games;
 ghost use Rattle.game_text.specs.SeatWords as seats;
 
-use crate::{FlightLine, Game, Memory, SeatWord};
+use crate::{FlightLine, Game, SeatWord};
 use std::alloc::{AllocError, Global};
-use tac_base::{Client, Good};
+use tac_base::{Client, Good, Memory};
 use text_forms::{PrintedPart, print_parts, print_row};
 
 /// Appends the line of the seat words. After an error the text may end within it.

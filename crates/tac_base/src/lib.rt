@@ -5,6 +5,7 @@
 mod bids;
 mod calls;
 mod clients;
+mod memory;
 mod numbers;
 mod numerals;
 #[cfg(test)]
@@ -14,6 +15,7 @@ mod text;
 pub use bids::{BidDraft, BidFault, Left, Point, Points};
 pub use calls::{Board, Call, Entry, Fills, Nets, Reply, Trade};
 pub use clients::Client;
+pub use memory::Memory;
 pub use numbers::{Agent, Caller, Good, Kind, OutOfRange, Party, Tick};
 pub use numerals::{one_numeral, print_numeral, print_signed, read_numeral, read_signed};
 pub use text::Text;

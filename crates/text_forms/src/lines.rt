@@ -4,23 +4,31 @@ ghost use Rattle.text_forms.specs.Words.{parts_of};
 
 use crate::cut;
 use std::marker::Model;
+use thiserror::Error;
 
 /// Why a line is bad. A refusal shows the variant's number.
-#[derive(Clone, Copy, Debug, PartialEq, Eq)]
+#[derive(Clone, Copy, Debug, PartialEq, Eq, Error)]
 pub enum Reason {
     /// The first word is not the one that is due.
+    #[error("the first word is not the one that is due")]
     Keyword = 1,
     /// There are too few or too many words; an empty word counts.
+    #[error("there are too few or too many words")]
     WordCount = 2,
     /// A later word has another spelling than its place asks for, as a numeral with a leading zero.
+    #[error("a word is spelled wrongly")]
     Spelling = 3,
     /// A number is outside the range of its place.
+    #[error("a number is outside its range")]
     OutOfRange = 4,
     /// The number that counts the lines of a kind is not the one that is due.
+    #[error("the number that counts the lines is not the one that is due")]
     NotDue = 5,
     /// Two words or numbers that have to differ are equal.
+    #[error("two words or numbers are equal")]
     Repeated = 6,
     /// The text ends before or within this line, or goes on after its last line.
+    #[error("the text ends too early or too late")]
     TextEnd = 7,
 }
 
@@ -34,7 +42,8 @@ impl Reason {
 }
 
 /// The first bad line of a text, with the first reason that applies to it.
-#[derive(Clone, Copy, Debug, PartialEq, Eq)]
+#[derive(Clone, Copy, Debug, PartialEq, Eq, Error)]
+#[error("line {line} is bad: {reason}")]
 pub struct BadLine {
     /// Counted from 1, comments and empty lines among them.
     pub line: u32,
@@ -73,6 +82,7 @@ impl<'a> NumberedLine<'a> {
         self.number
     }
 
+    /// The bytes of the line, without its line end.
     pub fn bytes(&self) -> &'a [u8]
         ensures { result.now ≡ self.now.bytes }
     {
