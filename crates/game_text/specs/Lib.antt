@@ -7,4 +7,5 @@ pub mod Endowments
 pub mod ClientLines
 pub mod Headers
 pub mod AgentLines
+pub mod Accounts
 pub mod Games

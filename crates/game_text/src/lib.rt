@@ -1,6 +1,7 @@
 //! Game files.
 #![tactic(auto)]
 
+mod accounts;
 mod agents;
 mod client_lines;
 mod closing_orders;
@@ -15,6 +16,7 @@ mod seat_words;
 #[cfg(test)]
 mod tests;
 
+pub use accounts::Account;
 pub use fault::GameFault;
 pub use flights::FlightLine;
 pub use games::{Game, read_game};
