@@ -58,22 +58,27 @@ client_parts agent client (a ∷ b ∷ c ∷ d ∷ e ∷ values) len r later due
       },
     )
 
-pub client_is : (agent client : ℕ) (line : List ℕ) (wants : Preferences) → client_of agent client line ≡ Ok wants → (line ≡ client_text agent client wants) × IsClient wants
-unfolding client_of wants_of
-client_is agent client line wants e =
-    let a = bind_ok (row (codes "client") client_columns line) (client_from agent client) wants e in
-    let numbers = a.0 in
-    let r = row_is (codes "client") client_columns line numbers a.1 in
-    let later = passed (ltb (natural_at numbers 2) (natural_at numbers 3)) OutOfRange _ wants a.2 in
+pub client_row : (agent client : ℕ) (numbers : List ℤ) (wants : Preferences) → length numbers ≡ 8 → all_in client_columns numbers ≡ true → client_from agent client numbers ≡ Ok wants → (numbers ≡ client_numbers agent client wants) × IsClient wants
+unfolding wants_of
+client_row agent client numbers wants count range e =
+    let later = passed (ltb (natural_at numbers 2) (natural_at numbers 3)) OutOfRange _ wants e in
     let due = passed (eqb (natural_at numbers 0) agent && eqb (natural_at numbers 1) client) NotDue _ wants later.1 in
     let both = both_true (eqb (natural_at numbers 0) agent) (eqb (natural_at numbers 1) client) due.0 in
-    let parts = client_parts agent client numbers r.count r.range (ltb-true _ _ later.0) (eqb-true _ _ both.0) (eqb-true _ _ both.1) in
-    subst (λ (f : Preferences). (line ≡ client_text agent client f) × IsClient f) (ok_is {E = Reason} (wants_of numbers) wants due.1) (r.text ∙ ap (row_text (codes "client")) parts.0, parts.1)
+    let parts = client_parts agent client numbers count range (ltb-true _ _ later.0) (eqb-true _ _ both.0) (eqb-true _ _ both.1) in
+    subst (λ (f : Preferences). (numbers ≡ client_numbers agent client f) × IsClient f) (ok_is {E = Reason} (wants_of numbers) wants due.1) parts
 
-client_count : (agent client : ℕ) (wants : Preferences) → IsClient wants → length (client_numbers agent client wants) ≡ 8
+pub client_is : (agent client : ℕ) (line : List ℕ) (wants : Preferences) → client_of agent client line ≡ Ok wants → (line ≡ client_text agent client wants) × IsClient wants
+unfolding client_of
+client_is agent client line wants e =
+    let a = bind_ok (row (codes "client") client_columns line) (client_from agent client) wants e in
+    let r = row_is (codes "client") client_columns line a.0 a.1 in
+    let parts = client_row agent client a.0 wants r.count r.range a.2 in
+    (r.text ∙ ap (row_text (codes "client")) parts.0, parts.1)
+
+pub client_count : (agent client : ℕ) (wants : Preferences) → IsClient wants → length (client_numbers agent client wants) ≡ 8
 client_count agent client wants is = omega (arith, length-map wants.values pos, is.three)
 
-client_range : (agent client : ℕ) (wants : Preferences) → agent ≤ 255 → client ≤ 255 → IsClient wants → all_in client_columns (client_numbers agent client wants) ≡ true
+pub client_range : (agent client : ℕ) (wants : Preferences) → agent ≤ 255 → client ≤ 255 → IsClient wants → all_in client_columns (client_numbers agent client wants) ≡ true
 client_range agent client wants small few is =
     let first = is.arrives_first in
     let last = is.arrives_last in

@@ -1,5 +1,5 @@
 -- The line of a flight is read in its ranges as it was printed, and printed as it was read.
-use Rattle.std.proofs.Common.{◌≡◌, ℕ, ◌≤◌, Bool, true, cond, ◌&&◌, eqb, List, [], ◌∷◌, Result, Ok, Err, length, map, drop, get_or, refl, sym, ap, ◌∙◌, subst, arith, ℤ, pos, negsuc, ◌≤ℤ◌, eq-eqb, to_z, of_z, w8, w32, Fits}
+use Rattle.std.proofs.Common.{◌≡◌, ℕ, ◌≤◌, true, ◌&&◌, eqb, List, [], ◌∷◌, Ok, length, map, drop, get_or, refl, sym, ap, ◌∙◌, subst, arith, ℤ, pos, negsuc, ◌≤ℤ◌, eq-eqb, to_z, of_z, w8, w32, Fits}
 use Rattle.std.specs.Prelude.{codes, unsigned_abs, replicate}
 use Rattle.std.specs.List.{list_all}
 use Rattle.std.proofs.lemmas.Int.{ints, to_z-of_z}
@@ -7,7 +7,6 @@ use Rattle.std.proofs.lemmas.Bool.{eqb-true}
 use Rattle.std.proofs.lemmas.List.{length-map, length-drop}
 use Rattle.std.proofs.lemmas.List.Elements.{All-from_get_or}
 use Rattle.tac_base.proofs.NumeralLaws.{both_true}
-use Rattle.text_forms.specs.declared.lines.Reason.{Reason}
 use Rattle.text_forms.specs.declared.lines.Reason.TheVariants.{NotDue}
 use Rattle.text_forms.specs.Rows.{within, is_in, all_in, row, row_text, IsBetween, AllBetween}
 use Rattle.text_forms.proofs.Columns.{IsIn, in_column, in_from, in_within, same_columns, abs_pos, IsWithin, is_within, AreWithin, columns_within, within_columns}

@@ -1,8 +1,8 @@
 -- A file that is read has the canonical lines, but for comments and empty lines, and a game that is printed is read again.
-use Rattle.std.proofs.Common.{◌≡◌, ℕ, ◌≤◌, ◌<◌, Bool, true, false, cond, ltb, List, [], ◌∷◌, ◌++◌, Result, Ok, Err, length, drop, refl, sym, ap, ◌∙◌, subst, arith}
+use Rattle.std.proofs.Common.{◌≡◌, ℕ, ◌≤◌, ◌<◌, true, false, ltb, List, [], ◌∷◌, ◌++◌, Result, Ok, Err, length, drop, refl, sym, ap, ◌∙◌, subst, arith}
 use Rattle.std.specs.Prelude.{codes, IfOk}
 use Rattle.std.specs.List.{All}
-use Rattle.std.proofs.lemmas.Bool.{le-ltb, ltb-true, ltb-false}
+use Rattle.std.proofs.lemmas.Bool.{le-ltb}
 use Rattle.text_forms.specs.declared.lines.BadLine.{BadLine}
 use Rattle.text_forms.specs.Words.{parts_of}
 use Rattle.text_forms.specs.Lines.{Remaining, lines_from, nothing_left, AreLeft}
@@ -18,7 +18,8 @@ use Rattle.game_text.specs.Flights.{FlightTerms, IsFlight, flight_of, flight_tex
 use Rattle.game_text.specs.ClosingOrders.{IsOrder, order_of, order_text}
 use Rattle.game_text.specs.AgentLines.{agents_in, agents_lines}
 use Rattle.game_text.specs.Headers.{header_of, end_of}
-use Rattle.game_text.specs.Games.{GameFile, agents_of, IsGame, game_lines, IsTextOf, flight_part, game_in, refused, game_of}
+use Rattle.game_text.specs.Games.{GameFile, agents_of, IsGame, game_lines, IsTextOf, flight_part, game_in, game_of}
+use Rattle.game_text.proofs.Limits.{within_limit, by_length}
 use Rattle.game_text.proofs.FlightLaws.{flight_is, flight_again}
 use Rattle.game_text.proofs.OrderLaws.{order_is, order_again}
 use Rattle.game_text.proofs.HeaderLaws.{header_is, header_again, end_is, end_again, seats_is, seats_again}
@@ -113,19 +114,11 @@ game_in_is left game e =
     subst (λ (x : GameFile). AreLeft (game_lines x) left × IsGame x) {x = g} (ok_is {E = BadLine} g game b7.2)
     (took_all left l6 (game_lines g) b7.0 c1 b7.1, record { words = s2.1; flight_count = p3.count_is; flights = p3.each; order = s4.1; agents = p5.1 })
 
-within_ok : (b : Bool) (r : Result GameFile GameFault) (game : GameFile) → cond b (Err TooLong) r ≡ Ok game → r ≡ Ok game
-within_ok true r game e = absurd cc
-within_ok false r game e = e
-
-refused_ok : (r : Result GameFile BadLine) (game : GameFile) → refused r ≡ Ok game → r ≡ Ok game
-refused_ok (Ok x) game e = cc
-refused_ok (Err bad) game e = absurd cc
-
 game_is : (text : List ℕ) (game : GameFile) → game_of text ≡ Ok game → IsTextOf game text × IsGame game
 unfolding game_of
 game_is text game e =
     let left = lines_from true 1 (parts_of 10 text) in
-    game_in_is left game (refused_ok (game_in left) game (within_ok (ltb 1048576 (length text)) (refused (game_in left)) game e))
+    game_in_is left game (within_limit (ltb 1048576 (length text)) (game_in left) game e)
 
 pub if_read : (text : List ℕ) (r : Result GameFile GameFault) → r ≡ game_of text → IfOk r (λ game. IsTextOf game text × IsGame game)
 if_read text (Ok game) e = game_is text game (sym e)
@@ -156,16 +149,8 @@ only_game text game size are is =
 
 -- ---- a text that is too long
 
-no_length : (r : Result GameFile BadLine) → refused r ≡ Err TooLong → ⊥
-no_length (Ok game) e = cc
-no_length (Err bad) e = cc
-
-by_length : (n : ℕ) (r : Result GameFile BadLine) (b : Bool) → ltb 1048576 n ≡ b → (cond b (Err TooLong) (refused r) ≡ Err TooLong → 1048576 < n) × (1048576 < n → cond b (Err TooLong) (refused r) ≡ Err TooLong)
-by_length n r true e = (λ h. ltb-true _ _ e, λ lt. refl)
-by_length n r false e = (λ h. absurd (no_length r h), λ lt. absurd (let le = ltb-false _ _ e in omega (arith, le, lt)))
-
 pub too_long : (text : List ℕ) (r : Result GameFile GameFault) → r ≡ game_of text → (r ≡ Err TooLong → 1048576 < length text) × (1048576 < length text → r ≡ Err TooLong)
 unfolding game_of
 too_long text r is =
-    let both = by_length (length text) (game_in (lines_from true 1 (parts_of 10 text))) (ltb 1048576 (length text)) refl in
+    let both = by_length 1048576 (length text) (game_in (lines_from true 1 (parts_of 10 text))) (ltb 1048576 (length text)) refl in
     (λ h. both.0 (sym is ∙ h), λ lt. is ∙ both.1 lt)

@@ -39,7 +39,7 @@ pub header_is : (line : List ℕ) (u : Unit {0}) → header_of line ≡ Ok u →
 unfolding header_of
 header_is line u e = sym (join_with_byte-slice_split 32 line) ∙ ap (join_with_byte 32) (header_words (words_of line) u e)
 
-nothing_more : (numbers : List ℤ) → length numbers ≡ 0 → numbers ≡ []
+pub nothing_more : (numbers : List ℤ) → length numbers ≡ 0 → numbers ≡ []
 nothing_more [] len = refl
 nothing_more (number ∷ numbers) len = absurd (omega (arith, len))
 

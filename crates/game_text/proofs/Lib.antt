@@ -5,6 +5,8 @@ pub mod OrderLaws
 pub mod ClientLaws
 pub mod HeaderLaws
 pub mod AgentLaws
+pub mod Limits
+pub mod AccountLaws
 pub mod GameLaws
 pub mod GameTexts
 pub mod PrintedGames

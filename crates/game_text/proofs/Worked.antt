@@ -1,10 +1,9 @@
 -- Refused lines and texts, one for each reason, evaluated by the definitions.
 use Rattle.std.proofs.Common.{◌≡◌, ◌∷◌, [], Ok, Err, refl}
 use Rattle.std.specs.Prelude.{codes}
-use Rattle.tac_base.specs.Numerals.{numeral, signed_numeral}
+use Rattle.tac_base.specs.Numerals.{numeral}
 use Rattle.text_forms.specs.declared.lines.Reason.TheVariants.{Keyword, WordCount, Spelling, OutOfRange, NotDue, Repeated}
 use Rattle.text_forms.specs.Rows.{row}
-use Rattle.text_forms.specs.Steps.{repeat}
 use Rattle.game_text.specs.declared.fault.GameFault.TheVariants.{Line}
 use Rattle.game_text.specs.SeatWords.{seats_of}
 use Rattle.game_text.specs.Flights.{flight_of}

@@ -1,8 +1,20 @@
--- What an account says: an agent's clients and its holdings of the 28 goods.
-use Rattle.std.specs.Prelude.{◌≡◌, ℕ, List, ℤ, pos, negsuc, ◌≤ℤ◌, length}
+-- The account file: an agent's clients and its holdings of the 28 goods.
+use Rattle.std.specs.Prelude.{◌≡◌, ℕ, nat_lt, if◌then◌else◌, List, [], ◌∷◌, ◌++◌, ℤ, pos, negsuc, ◌≤ℤ◌, true, Result, Ok, Err, length, codes, drop, replicate}
 use Rattle.std.specs.List.{All}
 use Rattle.tac_base.specs.Clients.{Preferences}
+use Rattle.text_forms.specs.declared.lines.BadLine.{BadLine}
+use Rattle.text_forms.specs.declared.lines.Reason.{Reason}
+use Rattle.text_forms.specs.declared.rows.Column.{Column}
+use Rattle.text_forms.specs.Words.{parts_of}
+use Rattle.text_forms.specs.Lines.{Remaining, lines_from, nothing_left, AreLeft}
+use Rattle.text_forms.specs.Rows.{row, row_text}
+use Rattle.text_forms.specs.Steps.{◌>>=◌, read_by, repeat, lines_of_parts, one_line}
+use Rattle.game_text.specs.declared.fault.GameFault.{GameFault}
+use Rattle.game_text.specs.declared.fault.GameFault.TheVariants.{TooLong}
+use Rattle.game_text.specs.ClientLines.{client_columns, client_from, client_numbers}
 use Rattle.game_text.specs.AgentLines.{AreClients}
+use Rattle.game_text.specs.Headers.{nothing_from, end_of}
+use Rattle.game_text.specs.Faults.{refused}
 
 pub record AccountFile : Type 0 where
   pub clients : List Preferences
@@ -17,3 +29,62 @@ pub record IsAccount (account : AccountFile) : Type 0 where
   pub clients : AreClients account.clients
   pub count : length account.holdings ≡ 28
   pub holdings : All IsHolding account.holdings
+
+-- ---- the lines of an account
+
+-- the first line
+unfoldable pub title_of : List ℕ → Result (Unit {0}) Reason
+title_of line = row (codes "account") [] line >>= nothing_from
+
+-- the line of the holdings
+abbrev pub hold_column : Column
+hold_column = record { signed = true; low = negsuc 199999; high = pos 200000 }
+
+unfoldable pub hold_of : List ℕ → Result (List ℤ) Reason
+hold_of line = row (codes "hold") (replicate 28 hold_column) line
+
+abbrev pub hold_text : List ℤ → List ℕ
+hold_text holdings = row_text (codes "hold") holdings
+
+-- the line of a client is that of a game file's agent 0 without the agent's number
+abbrev pub owned_columns : List Column
+owned_columns = drop 1 client_columns
+
+abbrev pub owned_from : ℕ → List ℤ → Result Preferences Reason
+owned_from client numbers = client_from 0 client (pos 0 ∷ numbers)
+
+unfoldable pub owned_of : ℕ → List ℕ → Result Preferences Reason
+owned_of client line = row (codes "client") owned_columns line >>= owned_from client
+
+abbrev pub owned_text : ℕ → Preferences → List ℕ
+owned_text client wants = row_text (codes "client") (drop 1 (client_numbers 0 client wants))
+
+-- the canonical lines
+abbrev pub account_lines : AccountFile → List (List ℕ)
+account_lines account =
+    codes "account" ∷ hold_text account.holdings ∷ []
+    ++ (lines_of_parts (one_line owned_text) 0 account.clients
+    ++ codes "end" ∷ [])
+
+-- a text of an account: the lines that are neither empty nor comments are the canonical ones, each with its line end
+abbrev pub IsAccountText : AccountFile → List ℕ → Type 0
+IsAccountText account text = AreLeft (account_lines account) (lines_from true 1 (parts_of 10 text))
+
+-- ---- the first bad line
+
+abbrev pub owned_part : ℕ → Remaining → Result (Preferences × Remaining) BadLine
+owned_part client left = read_by (owned_of client) left
+
+-- the account of the lines of a text, each read by its form in turn
+unfoldable pub account_in : Remaining → Result AccountFile BadLine
+account_in left = do
+  title ← read_by title_of left
+  holdings ← read_by hold_of title.1
+  clients ← repeat 8 0 owned_part holdings.1
+  end ← read_by end_of clients.1
+  done ← nothing_left end.1
+  Ok (record { clients = clients.0; holdings = holdings.0 })
+
+-- the account of a text, or why it is refused
+unfoldable pub account_of : List ℕ → Result AccountFile GameFault
+account_of text = if nat_lt 67108864 (length text) then Err TooLong else refused (account_in (lines_from true 1 (parts_of 10 text)))

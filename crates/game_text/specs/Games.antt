@@ -8,7 +8,7 @@ use Rattle.text_forms.specs.Lines.{Remaining, lines_from, nothing_left, text_of,
 use Rattle.text_forms.specs.Steps.{◌>>=◌, read_by, repeat, lines_of_parts, one_line}
 use Rattle.game_text.specs.declared.fault.GameFault.{GameFault}
 use Rattle.game_text.specs.declared.fault.GameFault.TheVariants.{TooLong}
-use Rattle.game_text.specs.Faults.{fault_of}
+use Rattle.game_text.specs.Faults.{refused}
 use Rattle.game_text.specs.SeatWords.{AreSeats, seats_of, seats_text}
 use Rattle.game_text.specs.Flights.{FlightTerms, IsFlight, flight_of, flight_text}
 use Rattle.game_text.specs.ClosingOrders.{IsOrder, order_of, order_text}
@@ -71,11 +71,6 @@ game_in left = do
   end ← read_by end_of agents.1
   done ← nothing_left end.1
   Ok (record { words = words.0; flights = flights.0; order = order.0; endow = agents.0.endow; clients = agents.0.clients })
-
--- a bad line as the refusal that it is
-abbrev pub refused : {A : Type 0} → Result A BadLine → Result A GameFault
-refused (Ok x) = Ok x
-refused (Err bad) = Err (fault_of bad)
 
 -- the game of a text, or why it is refused
 unfoldable pub game_of : List ℕ → Result GameFile GameFault

@@ -1,5 +1,18 @@
+ghost use Rattle.std.specs.Prelude.{◌≡◌, ◌≤◌, ◌<◌, ◌↔◌, length, IfOk, Ok, IsTrue, replicate};
+ghost use Rattle.std.specs.List.{list_all};
+ghost use Rattle.game_text.specs.Accounts as accounts;
+ghost use Rattle.text_forms.specs.Rows as rows;
+ghost use Rattle.text_forms.specs.Steps as steps;
+
+use crate::GameFault;
+use crate::client_lines::owned_of;
+use crate::headers::{end_at, title_of};
 use std::marker::Model;
 use tac_base::Client;
+use text_forms::{BadLine, Column, Lines, Part, Reason, at_line, read_row, repeat};
+
+/// An account file has at most so many bytes.
+const MOST_BYTES: usize = 67_108_864;
 
 /// An agent's clients and its holdings of the goods. The ranges are this project's own.
 #[derive(Clone, Copy, Debug, PartialEq, Eq)]
@@ -20,4 +33,107 @@ impl Model for Account {
     ghost invariant = { λ a. IsAccount (record { clients = a.clients; holdings = a.holdings }) };
 
     ghost inverse = { λ a. record { clients = a.clients; holdings = a.holdings } };
+}
+
+/// The numbers of the line of the holdings.
+fn hold_columns() -> [Column; 28]
+    ensures { result ≡ replicate 28 accounts.hold_column }
+{
+    [Column {
+        signed: true,
+        low: -200_000,
+        high: 200_000,
+    }; 28]
+}
+
+/// The holdings as numbers of 32 bits.
+fn holdings_of(numbers: &[i64; 28]) -> [i32; 28]
+    requires { IsTrue (list_all (λ n. rows.is_in accounts.hold_column n) numbers.now) }
+    ensures { result ≡ numbers.now }
+{
+    let mut holdings = [0; 28];
+    for (good, number) in numbers.iter().enumerate() {
+        holdings[good] = *number as i32;
+    }
+    holdings
+}
+
+/// The holdings of a line, or the first reason that applies.
+#[tactic(auto, unfolding(crate::specs::Accounts::hold_of))]
+fn hold_of(line: &[u8]) -> Result<[i32; 28], Reason>
+    ensures { result ≡ accounts.hold_of line.now }
+{
+    let numbers = read_row(line, b"hold", &hold_columns())?;
+    Ok(holdings_of(&numbers))
+}
+
+/// Reads the first line.
+fn title_at(lines: Lines<'_>) -> Result<((), Lines<'_>), BadLine>
+    ensures { result ≡ steps.read_by accounts.title_of lines.entry }
+{
+    let (line, left) = lines.due()?;
+    at_line(line.number(), title_of(line.bytes()))?;
+    Ok(((), left))
+}
+
+/// Reads the line of the holdings.
+fn holdings_at(lines: Lines<'_>) -> Result<([i32; 28], Lines<'_>), BadLine>
+    ensures { result ≡ steps.read_by accounts.hold_of lines.entry }
+{
+    let (line, left) = lines.due()?;
+    let holdings = at_line(line.number(), hold_of(line.bytes()))?;
+    Ok((holdings, left))
+}
+
+/// The clients, each in a line of its own.
+#[derive(Drop)]
+struct Owned;
+
+impl Part for Owned {
+    type Value = Client;
+
+    ghost gives = { λ _ client left. accounts.owned_part client left };
+
+    fn read<'a>(&self, client: u8, lines: Lines<'a>) -> Result<(Client, Lines<'a>), BadLine> {
+        let (line, left) = lines.due()?;
+        let client = at_line(line.number(), owned_of(client, line.bytes()))?;
+        Ok((client, left))
+    }
+}
+
+/// The account of the lines that are left.
+#[tactic(auto, unfolding(crate::specs::Accounts::account_in))]
+fn account_in(lines: Lines<'_>) -> Result<Account, BadLine>
+    ensures { result ≡ accounts.account_in lines.entry }
+{
+    let (_, left) = title_at(lines)?;
+    let (holdings, left) = holdings_at(left)?;
+    let mut clients = [Client::default(); 8];
+    let left = repeat(&Owned, &mut clients, left)?;
+    let (_, left) = end_at(left)?;
+    left.finish()?;
+    Ok(Account { clients, holdings })
+}
+
+#[tactic(auto, unfolding(crate::specs::Accounts::account_of))]
+fn account_of(text: &[u8]) -> Result<Account, GameFault>
+    ensures { result ≡ accounts.account_of text.now }
+{
+    if text.len() > MOST_BYTES {
+        return Err(GameFault::TooLong);
+    }
+    Ok(account_in(Lines::without_comments(text))?)
+}
+
+/// Reads an account file. It takes no memory.
+pub fn read_account(text: &[u8]) -> Result<Account, GameFault>
+    // Which account it is, or the first bad line with its first reason.
+    ensures exact { result ≡ accounts.account_of text.now }
+    ensures too_long { (result ≡ Err GameFault.TooLong) ↔ (67108864 < length text.now) }
+    // The lines that are neither empty nor comments are the account's own, and the account is in its ranges.
+    ensures found { IfOk result (λ account. accounts.IsAccountText account text.now × accounts.IsAccount account) }
+    // Each text of an account is read as that account.
+    ensures only { (account : accounts.AccountFile) → length text.now ≤ 67108864 → accounts.IsAccountText account text.now → accounts.IsAccount account → result ≡ Ok account }
+{
+    account_of(text)
 }

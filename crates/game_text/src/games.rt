@@ -8,7 +8,7 @@ ghost use Rattle.text_forms.specs.Steps as steps;
 use crate::agents::{Agents, agents_in};
 use crate::closing_orders::order_of;
 use crate::flights::flight_of;
-use crate::headers::{end_of, header_of};
+use crate::headers::{end_at, header_of};
 use crate::seat_words::seats_of;
 use crate::{FlightLine, GameFault, SeatWord};
 use std::marker::Model;
@@ -84,15 +84,6 @@ fn order_at(lines: Lines<'_>) -> Result<([Good; 8], Lines<'_>), BadLine>
     let (line, left) = lines.due()?;
     let order = at_line(line.number(), order_of(line.bytes()))?;
     Ok((order, left))
-}
-
-/// Reads the last line.
-fn end_at(lines: Lines<'_>) -> Result<((), Lines<'_>), BadLine>
-    ensures { result ≡ steps.read_by headers.end_of lines.entry }
-{
-    let (line, left) = lines.due()?;
-    at_line(line.number(), end_of(line.bytes()))?;
-    Ok(((), left))
 }
 
 /// The game of the lines that are left.

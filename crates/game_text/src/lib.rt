@@ -1,4 +1,4 @@
-//! Game files.
+//! Game files and account files.
 #![tactic(auto)]
 
 mod accounts;
@@ -16,7 +16,7 @@ mod seat_words;
 #[cfg(test)]
 mod tests;
 
-pub use accounts::Account;
+pub use accounts::{Account, read_account};
 pub use fault::GameFault;
 pub use flights::FlightLine;
 pub use games::{Game, read_game};

@@ -1,4 +1,4 @@
-use crate::{GameFault, SeatWord, print_game, read_game};
+use crate::{GameFault, SeatWord, print_game, read_account, read_game};
 use std::alloc::{AllocError, Global};
 use std::test::Fail;
 
@@ -128,5 +128,60 @@ fn seat_words_have_small_letters_and_digits(rt: HostRuntime) {
         b"a\n",
     ] {
         assert!(rt; SeatWord::new(word).is_err());
+    }
+}
+
+const ACCOUNT: &[u8] = b"account\n\
+    hold 1 0 0 0 2 0 0 0 2 0 0 0 0 0 0 0 1 0 0 0 0 0 0 0 0 0 -200000 200000\n\
+    client 0 1 2 50 100 0 0\nclient 1 1 2 50 150 0 0\nclient 2 1 2 50 0 0 0\nclient 3 1 2 50 0 0 0\n\
+    client 4 1 2 50 0 0 0\nclient 5 1 2 50 0 0 0\nclient 6 1 2 50 0 0 0\nclient 7 2 5 150 0 10 200\nend\n";
+
+#[test]
+fn account_has_its_clients_and_holdings(rt: HostRuntime) -> Result<(), Fail> {
+    let account = read_account(ACCOUNT)?;
+    assert_eq!(rt; account.clients[1].values, [150, 0, 0]);
+    let last = &account.clients[7];
+    assert_eq!(rt; (last.arrive, last.depart, last.premium), (2, 5, 150));
+    assert_eq!(rt; last.values, [0, 10, 200]);
+    let mut holdings = [0; 28];
+    for (good, held) in [
+        (0, 1),
+        (4, 2),
+        (8, 2),
+        (16, 1),
+        (26, -200_000),
+        (27, 200_000),
+    ] {
+        holdings[good] = held;
+    }
+    assert_eq!(rt; account.holdings, holdings);
+    Ok(())
+}
+
+#[test]
+fn first_bad_line_of_an_account_is_told(rt: HostRuntime) {
+    for (text, line, reason) in [
+        (b"".as_slice(), 1, 7),
+        (b"x y\n", 1, 1),
+        (b"account 1\n", 1, 2),
+        (b"account\nhold 1\n", 2, 2),
+        (
+            b"account\nhold 0 0 0 0 0 0 0 0 0 0 0 0 0 0 0 0 0 0 0 0 0 0 0 0 0 0 0 -0\n",
+            2,
+            3,
+        ),
+        (
+            b"account\nhold 0 0 0 0 0 0 0 0 0 0 0 0 0 0 0 0 0 0 0 0 0 0 0 0 0 0 0 -200001\n",
+            2,
+            4,
+        ),
+        (
+            b"#\naccount\nhold 0 0 0 0 0 0 0 0 0 0 0 0 0 0 0 0 0 0 0 0 0 0 0 0 0 0 0 0\nclient 1 1 2 50 0 0 0\n",
+            4,
+            5,
+        ),
+    ] {
+        let refused = read_account(text).err();
+        assert_eq!(rt; refused, Some(GameFault::Line { line, reason }));
     }
 }
