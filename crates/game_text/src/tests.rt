@@ -139,7 +139,8 @@ const ACCOUNT: &[u8] = b"account\n\
 #[test]
 fn account_has_its_clients_and_holdings(rt: HostRuntime) -> Result<(), Fail> {
     let account = read_account(ACCOUNT)?;
-    assert_eq!(rt; account.clients[1].values, [150, 0, 0]);
+    let second = &account.clients[1];
+    assert_eq!(rt; second.values, [150, 0, 0]);
     let last = &account.clients[7];
     assert_eq!(rt; (last.arrive, last.depart, last.premium), (2, 5, 150));
     assert_eq!(rt; last.values, [0, 10, 200]);
