@@ -7,6 +7,7 @@ use Rattle.tac_base.proofs.Faults.{good_point, both_none}
 use Rattle.std.specs.List.{flat_map, join_with_byte, All, AllByRecursion}
 use Rattle.std.proofs.lemmas.List.Elements.{All-from_recursion, recursion_from_All}
 use Rattle.std.proofs.lemmas.Bool.{eqb-true, leb-true, le-leb}
+use Rattle.std.proofs.lemmas.Bool.Decides.{nat_tests}
 use Rattle.std.proofs.lemmas.List.{length-append, take_at, take_more}
 use Rattle.std.proofs.Math.Seq.{take-length, get_or-append_seam}
 use Rattle.std.proofs.lemmas.Option.{same_Some}
@@ -162,20 +163,21 @@ lacks_append : (byte : ℕ) (xs ys : List ℕ) → Lacks byte xs → Lacks byte 
 lacks_append byte [] ys h k = k
 lacks_append byte (x ∷ xs) ys h k = (h.0, lacks_append byte xs ys h.1 k)
 
-left_lacks : (point : Point) → HasFiveDigits point → Lacks 32 (left_word point)
-left_lacks point digits = let small = digits.units in (refl, signed_lacks 32 point.units (lit< tt) (omega (arith, small)))
+-- a byte below `(` stands in no word of a point
+left_lacks : (byte : ℕ) → byte < 40 → (point : Point) → HasFiveDigits point → Lacks byte (left_word point)
+left_lacks byte lt point digits = let small = digits.units in (grind (arith, nat_tests, lt), signed_lacks byte point.units (omega (arith, lt)) (omega (arith, small)))
 
-right_lacks : (point : Point) → HasFiveDigits point → Lacks 32 (right_word point)
-right_lacks point digits = let small = digits.price in lacks_append 32 (decimal point.price) (41 ∷ []) (decimal_lacks 32 point.price (lit< tt) (omega (arith, small))) (refl, tt)
+right_lacks : (byte : ℕ) → byte < 40 → (point : Point) → HasFiveDigits point → Lacks byte (right_word point)
+right_lacks byte lt point digits = let small = digits.price in lacks_append byte (decimal point.price) (41 ∷ []) (decimal_lacks byte point.price (omega (arith, lt)) (omega (arith, small))) (grind (arith, nat_tests, lt), tt)
 
-all_lack : (points : List Point) → AllByRecursion HasFiveDigits points → AllByRecursion (Lacks 32) (flat_map point_words points)
-all_lack [] h = tt
-all_lack (point ∷ points) h = subst (λ (ws : List (List ℕ)). AllByRecursion (Lacks 32) ws) (sym (flat_map-cons point_words point points)) (left_lacks point h.0, (right_lacks point h.0, all_lack points h.1))
+pub points_lack : (byte : ℕ) → byte < 40 → (points : List Point) → AllByRecursion HasFiveDigits points → AllByRecursion (Lacks byte) (flat_map point_words points)
+points_lack byte lt [] h = tt
+points_lack byte lt (point ∷ points) h = subst (λ (ws : List (List ℕ)). AllByRecursion (Lacks byte) ws) (sym (flat_map-cons point_words point points)) (left_lacks byte lt point h.0, (right_lacks byte lt point h.0, points_lack byte lt points h.1))
 
 words_again : (point : Point) (points : List Point) → AllByRecursion HasFiveDigits (point ∷ points) → words_of (join_with_byte 32 (flat_map point_words (point ∷ points))) ≡ flat_map point_words (point ∷ points)
 words_again point points h =
     let made = flat_map-cons point_words point points in
-    ap (λ (ws : List (List ℕ)). words_of (join_with_byte 32 ws)) made ∙ joined_parts 32 (left_word point) (right_word point ∷ flat_map point_words points) (left_lacks point h.0) (right_lacks point h.0, all_lack points h.1) ∙ sym made
+    ap (λ (ws : List (List ℕ)). words_of (join_with_byte 32 ws)) made ∙ joined_parts 32 (left_word point) (right_word point ∷ flat_map point_words points) (left_lacks 32 (lit< tt) point h.0) (right_lacks 32 (lit< tt) point h.0, points_lack 32 (lit< tt) points h.1) ∙ sym made
 
 text_again : (point : Point) (points : List Point) → AllByRecursion HasFiveDigits (point ∷ points) → points_of (spelling (point ∷ points)) ≡ Some (point ∷ points)
 unfolding points_of
@@ -203,7 +205,7 @@ lawful_point count used point h =
     let good = good_point count used point h in
     record { units = omega (arith, good.small); price = omega (arith, good.cheap) }
 
-lawful_points : (count used : ℕ) (points : List Point) → first_fault count used points ≡ None → AllByRecursion HasFiveDigits points
+pub lawful_points : (count used : ℕ) (points : List Point) → first_fault count used points ≡ None → AllByRecursion HasFiveDigits points
 lawful_points count used [] h = tt
 lawful_points count used (point ∷ points) h =
     let parts = both_none (point_fault count used point) (first_fault (count + 1) (used + size_of point) points) h in

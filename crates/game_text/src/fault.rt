@@ -4,13 +4,13 @@ ghost use Rattle.game_text.specs.Faults.{fault_of};
 use text_forms::BadLine;
 use thiserror::Error;
 
-/// Why a game file is refused.
+/// Why a game file or an account file is refused.
 #[derive(Clone, Copy, Debug, PartialEq, Eq, Error)]
 pub enum GameFault {
     /// The first bad line, counted from 1, with the number of the first reason that applies to it, 1 to 7.
     #[error("line {line} of the file is bad, reason {reason}")]
     Line { line: u32, reason: u8 },
-    /// The text has more than 1,048,576 bytes.
+    /// The text has more bytes than its limit: 1,048,576 of a game file, 67,108,864 of an account file.
     #[error("the file is too long")]
     TooLong,
 }

@@ -63,10 +63,10 @@ fn push_trades(text: &mut Vec<u8>, trades: &[Trade]) -> Result<(), AllocError>
 fn push_entry(
     text: &mut Vec<u8>,
     position: u32,
-    reply: &Reply,
+    reply: Reply,
     trades: &[Trade],
 ) -> Result<(), AllocError>
-    ensures { OnOk result (text.new.items ≡ text.old.items ++ (replies.reply_line position reply.now ++ flat_map replies.trade_line trades.now)) }
+    ensures { OnOk result (text.new.items ≡ text.old.items ++ (replies.reply_line position reply ++ flat_map replies.trade_line trades.now)) }
 {
     text.extend_from_slice(reply_line(position, reply).as_slice())?;
     push_trades(text, trades)
@@ -117,7 +117,7 @@ impl HotelRun {
         };
         let mut fills = Fills::new();
         let reply = call(&mut self.hotel, position, &asked, &mut fills);
-        match push_entry(&mut self.text, position, &reply, fills.as_slice()) {
+        match push_entry(&mut self.text, position, reply, fills.as_slice()) {
             Ok(()) => Ok(()),
             Err(_) => Err(ScriptFault::Memory),
         }

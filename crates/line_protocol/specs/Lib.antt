@@ -1,0 +1,5 @@
+pub mod Requests
+pub mod RequestForms
+pub mod Replies
+pub mod Ranges
+pub mod ReplyForms

@@ -1,0 +1,31 @@
+use tac_base::Agent;
+
+/// What became of a link that asked for a seat. The answers and their order are our own.
+#[derive(Clone, Copy, Debug, PartialEq, Eq)]
+pub enum Verdict {
+    /// It plays as this agent.
+    Seated(Agent),
+    /// Its first line was no `hello` with a seat word.
+    Syntax,
+    /// No seat has its word.
+    WrongWord,
+    /// The seat of its word was taken before.
+    Taken,
+    /// Its first line had no end within the bytes that a link may give, or a read failed before.
+    Lost,
+}
+
+/// Why the session of a seated link ended.
+#[derive(Clone, Copy, Debug, PartialEq, Eq)]
+pub enum Cause {
+    /// The agent sent `quit` and was sent `bye`.
+    Quit,
+    /// The link had no more bytes.
+    End,
+    /// A read failed.
+    ReadFault,
+    /// A write failed.
+    WriteFault,
+    /// The session came to its last line or its last byte.
+    Budget,
+}

@@ -1,0 +1,34 @@
+use tac_base::{BidFault, Good, Points};
+use thiserror::Error;
+
+/// What an agent asks in a line.
+#[derive(Debug, Drop)]
+pub enum Request {
+    /// A bid in the auction of the good, in place of the whole earlier bid.
+    Bid { good: Good, points: Points },
+    /// The standing bid in the auction of the good is taken back.
+    Withdraw { good: Good },
+    /// The agent's holding of the good and its standing points.
+    Own { good: Good },
+    /// The board of the good's auction.
+    Quote { good: Good },
+    /// The agent's net cash.
+    Cash,
+    /// The session is to end.
+    Quit,
+}
+
+/// Why a line is no request. The faults are tried in the order in which they stand here, which is our own rule.
+/// Nothing is changed by such a line.
+#[derive(Clone, Copy, Debug, PartialEq, Eq, Error)]
+pub enum RequestFault {
+    /// The line has none of the forms of a request.
+    #[error("the line has none of the forms of a request")]
+    Syntax,
+    /// The number is no good, 0..27.
+    #[error("there is no such auction")]
+    NoSuchAuction,
+    /// The points are refused.
+    #[error("the points are refused: {0}")]
+    Bid(BidFault),
+}

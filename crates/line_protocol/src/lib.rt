@@ -1,0 +1,18 @@
+//! The lines that an agent and the server exchange: requests are read, replies are printed and read again.
+#![tactic(auto)]
+
+mod admission;
+mod asking;
+mod printing;
+mod reading;
+mod requests;
+mod saying;
+#[cfg(test)]
+mod tests;
+
+pub use admission::{Cause, Verdict};
+pub use asking::{Request, RequestFault};
+pub use printing::print_reply;
+pub use reading::read_reply;
+pub use requests::{one_request, read_request};
+pub use saying::Said;

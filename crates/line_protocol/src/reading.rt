@@ -1,0 +1,315 @@
+ghost use Rattle.std.specs.Prelude.{◌≡◌, ◌≤◌, Some, IfSome};
+ghost use Rattle.line_protocol.specs.declared.saying.Said.{Said};
+ghost use Rattle.line_protocol.specs.ReplyForms as forms;
+ghost use Rattle.line_protocol.specs.Ranges.{IsSaidText};
+
+use crate::{RequestFault, Said};
+use bid_strings::read_points;
+use tac_base::{BidFault, Board, Left, Reply, read_numeral, read_signed};
+use text_forms::Words;
+
+/// The highest position of an entry that is read, and the most entries of a quote.
+const LAST_POSITION: u64 = 16_777_215;
+/// The highest price that is read, in dollars: one above the highest price of a bid.
+const HIGHEST_PRICE: u64 = 10_001;
+/// The most units that are read.
+const MOST_UNITS: u64 = 255;
+
+/// The value, where no word is left.
+fn ended<T: Drop>(value: T, mut words: Words<'_>) -> Option<T>
+    ensures { result ≡ forms.ended value words.entry }
+{
+    match words.next() {
+        None => Some(value),
+        Some(_) => None,
+    }
+}
+
+/// The number of a numeral, where it is at most the limit.
+fn number_within(word: &[u8], limit: u64) -> Option<u64>
+    ensures value { result ≡ forms.within limit word.now }
+    ensures bound { IfSome result (λ n. n ≤ limit) }
+{
+    let number = read_numeral(word, 10)?;
+    if number <= limit { Some(number) } else { None }
+}
+
+/// The number of the next word, where it is at most the limit, and the words after it.
+fn next_within<'a>(mut words: Words<'a>, limit: u64) -> Option<(u64, Words<'a>)>
+    ensures value { result ≡ forms.next_within limit words.entry }
+    ensures bound { IfSome result (λ x. x.0 ≤ limit) }
+{
+    let word = words.next()?;
+    let number = number_within(word, limit)?;
+    Some((number, words))
+}
+
+/// A number of units, and the words after it.
+fn next_units<'a>(words: Words<'a>) -> Option<(u8, Words<'a>)>
+    ensures { result ≡ forms.next_within 255 words.entry }
+{
+    let (units, words) = next_within(words, MOST_UNITS)?;
+    Some((units as u8, words))
+}
+
+/// A price in dollars, and the words after it.
+fn next_price<'a>(words: Words<'a>) -> Option<(u16, Words<'a>)>
+    ensures { result ≡ forms.next_within 10001 words.entry }
+{
+    let (price, words) = next_within(words, HIGHEST_PRICE)?;
+    Some((price as u16, words))
+}
+
+/// The holding that a word tells.
+fn holding_of(word: &[u8]) -> Option<i32>
+    ensures { result ≡ forms.holding_of word.now }
+{
+    let holding = read_signed(word, 10)?;
+    if -1_000_000 <= holding && holding <= 1_000_000 {
+        Some(holding as i32)
+    } else {
+        None
+    }
+}
+
+/// The position of a word that begins with `@`.
+fn place_of(word: &[u8]) -> Option<u32>
+    ensures { result ≡ forms.place_of word.now }
+{
+    match word {
+        [] => None,
+        [first, number @ ..] => {
+            if *first != b'@' {
+                return None;
+            }
+            let position = number_within(number, LAST_POSITION)?;
+            Some(position as u32)
+        }
+    }
+}
+
+/// The standing points of a text.
+#[tactic(auto, using(crate::proofs::StandingPoints::standing))]
+fn left_of(text: &[u8]) -> Option<Left>
+    ensures { result ≡ forms.left_of text.now }
+{
+    if text == b"()".as_slice() {
+        return Some(Left::none());
+    }
+    match read_points(text) {
+        Ok(points) => Some(Left::new(points.as_slice())),
+        Err(_) => None,
+    }
+}
+
+/// The reply of the words after `taken`.
+fn taken_of(words: Words<'_>) -> Option<Reply>
+    ensures { result ≡ forms.taken_of words.entry }
+{
+    let (bought, words) = next_units(words)?;
+    let (sold, words) = next_units(words)?;
+    ended(Reply::Taken { bought, sold }, words)
+}
+
+/// The reply of the words after `sold`.
+fn sold_of(words: Words<'_>) -> Option<Reply>
+    ensures { result ≡ forms.sold_of words.entry }
+{
+    let (units, words) = next_units(words)?;
+    let (price, words) = next_price(words)?;
+    ended(Reply::Sold { units, price }, words)
+}
+
+/// The refusal of the words after `no belowquote`.
+fn below_of(words: Words<'_>) -> Option<Reply>
+    ensures { result ≡ forms.below_of words.entry }
+{
+    let (need, words) = next_units(words)?;
+    let (at, words) = next_price(words)?;
+    let (offered, words) = next_units(words)?;
+    ended(Reply::BelowQuote { need, at, offered }, words)
+}
+
+/// The reply of the words after `own`: a holding, and the rest of the line, which are standing points.
+fn own_of(mut words: Words<'_>) -> Option<Reply>
+    ensures { result ≡ forms.own_of words.entry }
+{
+    let word = words.next()?;
+    let text = words.rest()?;
+    let holding = holding_of(word)?;
+    let left = left_of(text)?;
+    Some(Reply::Own { holding, left })
+}
+
+/// The refusal after `no`.
+fn refusal_of(mut words: Words<'_>) -> Option<Reply>
+    ensures { result ≡ forms.refusal_of words.entry }
+{
+    let keyword = words.next()?;
+    if keyword == b"closed".as_slice() {
+        ended(Reply::Closed, words)
+    } else if keyword == b"wrongcall".as_slice() {
+        ended(Reply::WrongCall, words)
+    } else if keyword == b"nobid".as_slice() {
+        ended(Reply::NoBid, words)
+    } else if keyword == b"sell".as_slice() {
+        ended(Reply::Sell, words)
+    } else if keyword == b"selfcross".as_slice() {
+        ended(Reply::SelfCross, words)
+    } else if keyword == b"belowquote".as_slice() {
+        below_of(words)
+    } else {
+        None
+    }
+}
+
+/// The reply of a keyword and the words after it.
+fn reply_of(keyword: &[u8], words: Words<'_>) -> Option<Reply>
+    ensures { result ≡ forms.reply_of keyword.now words.entry }
+{
+    if keyword == b"taken".as_slice() {
+        taken_of(words)
+    } else if keyword == b"own".as_slice() {
+        own_of(words)
+    } else if keyword == b"sold".as_slice() {
+        sold_of(words)
+    } else if keyword == b"done".as_slice() {
+        ended(Reply::Done, words)
+    } else if keyword == b"no".as_slice() {
+        refusal_of(words)
+    } else {
+        None
+    }
+}
+
+/// The reply of the words after `cash`.
+fn cash_of(position: u32, mut words: Words<'_>) -> Option<Said>
+    ensures { result ≡ forms.cash_of position words.entry }
+{
+    let word = words.next()?;
+    let dollars = read_signed(word, 18)?;
+    ended(Said::Cash(position, dollars), words)
+}
+
+/// Whether a word tells that an auction is closed.
+fn state_of(word: &[u8]) -> Option<bool>
+    ensures { result ≡ forms.state_of word.now }
+{
+    if word == b"open".as_slice() {
+        Some(false)
+    } else if word == b"closed".as_slice() {
+        Some(true)
+    } else {
+        None
+    }
+}
+
+/// Whether the next word tells that an auction is closed, and the words after it.
+fn next_state<'a>(mut words: Words<'a>) -> Option<(bool, Words<'a>)>
+    ensures { result ≡ forms.next_state words.entry }
+{
+    let word = words.next()?;
+    let closed = state_of(word)?;
+    Some((closed, words))
+}
+
+/// The board of the words after `quote`.
+fn quote_of(count: u32, words: Words<'_>) -> Option<Said>
+    ensures { result ≡ forms.quote_of count words.entry }
+{
+    let (bid, words) = next_price(words)?;
+    let (ask, words) = next_price(words)?;
+    let (closed, words) = next_state(words)?;
+    let board = Board {
+        count,
+        bid,
+        ask,
+        closed,
+    };
+    ended(Said::Quote(board), words)
+}
+
+/// What the words after a position tell.
+fn placed_of(position: u32, mut words: Words<'_>) -> Option<Said>
+    ensures { result ≡ forms.placed_of position words.entry }
+{
+    let keyword = words.next()?;
+    if keyword == b"cash".as_slice() {
+        return cash_of(position, words);
+    }
+    if keyword == b"quote".as_slice() {
+        return quote_of(position, words);
+    }
+    let reply = reply_of(keyword, words)?;
+    Some(Said::At(position, reply))
+}
+
+/// The bid's fault of a number.
+fn fault_at(number: u64) -> Option<BidFault>
+    ensures { result ≡ forms.fault_at number }
+{
+    match number {
+        1 => Some(BidFault::Syntax),
+        2 => Some(BidFault::TooManyPoints),
+        3 => Some(BidFault::TooManyUnits),
+        4 => Some(BidFault::Price),
+        5 => Some(BidFault::ZeroUnits),
+        _ => None,
+    }
+}
+
+/// What the words after `no bid` tell.
+fn bid_fault_of(words: Words<'_>) -> Option<Said>
+    ensures { result ≡ forms.bid_fault_of words.entry }
+{
+    let (number, words) = next_within(words, 5)?;
+    let fault = fault_at(number)?;
+    ended(Said::Fault(RequestFault::Bid(fault)), words)
+}
+
+/// What the words after `no` tell, where no position stands before it.
+fn unplaced_of(mut words: Words<'_>) -> Option<Said>
+    ensures { result ≡ forms.unplaced_of words.entry }
+{
+    let keyword = words.next()?;
+    if keyword == b"spent".as_slice() {
+        ended(Said::Spent, words)
+    } else if keyword == b"syntax".as_slice() {
+        ended(Said::Fault(RequestFault::Syntax), words)
+    } else if keyword == b"auction".as_slice() {
+        ended(Said::Fault(RequestFault::NoSuchAuction), words)
+    } else if keyword == b"toolong".as_slice() {
+        ended(Said::TooLong, words)
+    } else if keyword == b"bid".as_slice() {
+        bid_fault_of(words)
+    } else {
+        None
+    }
+}
+
+/// What a line tells, over the definition of its form.
+#[tactic(auto, unfolding(crate::specs::ReplyForms::said_of))]
+fn said_of(line: &[u8]) -> Option<Said>
+    ensures { result ≡ forms.said_of line.now }
+{
+    let mut words = Words::new(line);
+    let first = words.next()?;
+    if first == b"bye".as_slice() {
+        return ended(Said::Bye, words);
+    }
+    if first == b"no".as_slice() {
+        return unplaced_of(words);
+    }
+    let position = place_of(first)?;
+    placed_of(position, words)
+}
+
+/// What a line without its line end tells. There is none exactly where the line is no text that `print_reply` appends
+/// of a value in these ranges: positions and counts 0..16777215, prices at most 10001 dollars, units at most 255,
+/// holdings -1000000..1000000, cash of at most 18 digits, and standing points within the limits of a bid.
+pub fn read_reply(line: &[u8]) -> Option<Said>
+    ensures found { IfSome result (λ said. IsSaidText line.now said) }
+    ensures only { (said : Said) → IsSaidText line.now said → result ≡ Some said }
+{
+    said_of(line)
+}

@@ -1,0 +1,124 @@
+ghost use Rattle.std.specs.Prelude.{◌≡◌, ◌∷◌, [], ◌⊎◌, ℕ, List, Some, Ok, Err, IfOk};
+ghost use Rattle.tac_base.specs.Numerals.{numeral};
+ghost use Rattle.bid_strings.specs.BidForm.{points_of, judged};
+ghost use Rattle.line_protocol.specs.declared.asking.Request.{Request};
+ghost use Rattle.line_protocol.specs.Requests as asked;
+ghost use Rattle.line_protocol.specs.RequestForms as forms;
+
+use crate::{Request, RequestFault};
+use bid_strings::read_points;
+use tac_base::{Good, read_numeral};
+use text_forms::Words;
+
+/// The good of a numeral.
+fn good_of(word: &[u8]) -> Result<Good, RequestFault>
+    ensures { result ≡ asked.good_of (numeral 5 word.now) }
+{
+    match read_numeral(word, 5) {
+        None => Err(RequestFault::Syntax),
+        Some(number) => good_at(number),
+    }
+}
+
+/// The good of a number.
+fn good_at(number: u64) -> Result<Good, RequestFault>
+    ensures { result ≡ asked.good_of (Some number) }
+{
+    if 27 < number {
+        return Err(RequestFault::NoSuchAuction);
+    }
+    match Good::new(number as u8) {
+        Ok(good) => Ok(good),
+        Err(_) => Err(RequestFault::NoSuchAuction),
+    }
+}
+
+/// The request of a line of one word.
+fn plain_of(keyword: &[u8]) -> Result<Request, RequestFault>
+    ensures { result ≡ asked.plain_of keyword.now }
+{
+    if keyword == b"cash".as_slice() {
+        Ok(Request::Cash)
+    } else if keyword == b"quit".as_slice() {
+        Ok(Request::Quit)
+    } else {
+        Err(RequestFault::Syntax)
+    }
+}
+
+/// The request of a line of a keyword and a number.
+fn about_of(keyword: &[u8], number: &[u8]) -> Result<Request, RequestFault>
+    ensures { result ≡ asked.about_of keyword.now (asked.good_of (numeral 5 number.now)) }
+{
+    if keyword == b"withdraw".as_slice() {
+        let good = good_of(number)?;
+        Ok(Request::Withdraw { good })
+    } else if keyword == b"own".as_slice() {
+        let good = good_of(number)?;
+        Ok(Request::Own { good })
+    } else if keyword == b"quote".as_slice() {
+        let good = good_of(number)?;
+        Ok(Request::Quote { good })
+    } else {
+        Err(RequestFault::Syntax)
+    }
+}
+
+/// The bid of a text of points in the auction of a good.
+fn with_points(good: Good, points: &[u8]) -> Result<Request, RequestFault>
+    ensures { result ≡ asked.with_points good (judged (points_of points.now)) }
+{
+    match read_points(points) {
+        Ok(points) => Ok(Request::Bid { good, points }),
+        Err(fault) => Err(RequestFault::Bid(fault)),
+    }
+}
+
+/// The request of a line of a keyword, a number and the rest of the line.
+fn bid_of(keyword: &[u8], number: &[u8], points: &[u8]) -> Result<Request, RequestFault>
+    ensures { result ≡ asked.bid_of keyword.now (asked.good_of (numeral 5 number.now)) points.now }
+{
+    if keyword == b"bid".as_slice() {
+        let good = good_of(number)?;
+        with_points(good, points)
+    } else {
+        Err(RequestFault::Syntax)
+    }
+}
+
+/// The request of a line without its line end, or the first fault: the form of the line, then the number of the
+/// auction, then the points. The requests and their forms are our own.
+pub fn read_request(line: &[u8]) -> Result<Request, RequestFault>
+    ensures exact { result ≡ asked.request_of line.now }
+    // What is read is the text of the request, in range.
+    ensures found { IfOk result (λ request. forms.IsRequestText line.now request) }
+{
+    request_of(line)
+}
+
+/// The request of a line, over the definition of its form.
+#[tactic(auto, unfolding(crate::specs::Requests::request_of))]
+fn request_of(line: &[u8]) -> Result<Request, RequestFault>
+    ensures { result ≡ asked.request_of line.now }
+{
+    let mut words = Words::new(line);
+    let Some(keyword) = words.next() else {
+        return Err(RequestFault::Syntax);
+    };
+    let Some(number) = words.next() else {
+        return plain_of(keyword);
+    };
+    match words.rest() {
+        None => about_of(keyword, number),
+        Some(points) => bid_of(keyword, number, points),
+    }
+}
+
+/// The law of requests, as this call's contract. A line of a form is answered by its number and its points, and a line
+/// of no form is `Syntax`. What is read is the text of the request, and each text of a request is read as it.
+pub fn one_request()
+    ensures formed { (form : forms.Form) → forms.IsForm form → asked.request_of (forms.form_text form) ≡ forms.answer_to form }
+    ensures syntax { (line : List ℕ) → (asked.request_of line ≡ Err asked.syntax) ⊎ forms.HasForm line }
+    ensures found { (line : List ℕ) (request : Request) → asked.request_of line ≡ Ok request → forms.IsRequestText line request }
+    ensures only { (line : List ℕ) (request : Request) → forms.IsRequestText line request → asked.request_of line ≡ Ok request }
+{}
