@@ -1,9 +1,7 @@
 -- What the entry of the rules has of its call, and what one more entry changes.
-use Rattle.std.proofs.Common.{◌≡◌, ℕ, zero, suc, ◌≤◌, List, [], ◌∷◌, length, refl, ap, arith, map, set, get_or, Option, Some, None}
-use Rattle.std.specs.Prelude.{if◌then◌else◌, ◌==◌}
+use Rattle.std.proofs.Common.{◌≡◌, ℕ, suc, List, [], ◌∷◌, length, refl, ap, Option, Some, None}
 use Rattle.tac_base.specs.declared.calls.Call.{Call}
 use Rattle.tac_base.specs.declared.calls.Reply.{Reply}
-use Rattle.auction_rules.specs.Goods.{agents}
 use Rattle.auction_rules.specs.Setup.{Setup}
 use Rattle.auction_rules.specs.History.{Entry}
 use Rattle.auction_rules.specs.Refusals.{refusal}
@@ -35,28 +33,3 @@ past_of_lawful setup ((caller, call) ∷ calls) = lawful_more setup (past_of set
 pub length-past_of : (setup : Setup) (calls : List (ℕ × Call)) → length (past_of setup calls) ≡ length calls
 length-past_of setup [] = refl
 length-past_of setup ((caller, call) ∷ calls) = ap suc (length-past_of setup calls)
-
--- what an agent has, in a list of what the agents have
-pub agents_get : {T : Type 0} (agent : ℕ) (of : ℕ → T) (d : T) → agent ≤ 7 → get_or (map of agents) agent d ≡ of agent
-agents_get zero of d le = refl
-agents_get (suc zero) of d le = refl
-agents_get (suc (suc zero)) of d le = refl
-agents_get (suc (suc (suc zero))) of d le = refl
-agents_get (suc (suc (suc (suc zero)))) of d le = refl
-agents_get (suc (suc (suc (suc (suc zero))))) of d le = refl
-agents_get (suc (suc (suc (suc (suc (suc zero)))))) of d le = refl
-agents_get (suc (suc (suc (suc (suc (suc (suc zero))))))) of d le = refl
-agents_get (suc (suc (suc (suc (suc (suc (suc (suc n)))))))) of d le = absurd (omega arith)
-
--- one agent has something new
-pub agents_set : {T : Type 0} (agent : ℕ) (new : T) (old : ℕ → T) → agent ≤ 7 →
-    map (λ a. if agent == a then new else old a) agents ≡ set (map old agents) agent new
-agents_set zero new old le = refl
-agents_set (suc zero) new old le = refl
-agents_set (suc (suc zero)) new old le = refl
-agents_set (suc (suc (suc zero))) new old le = refl
-agents_set (suc (suc (suc (suc zero)))) new old le = refl
-agents_set (suc (suc (suc (suc (suc zero))))) new old le = refl
-agents_set (suc (suc (suc (suc (suc (suc zero)))))) new old le = refl
-agents_set (suc (suc (suc (suc (suc (suc (suc zero))))))) new old le = refl
-agents_set (suc (suc (suc (suc (suc (suc (suc (suc n)))))))) new old le = absurd (omega arith)

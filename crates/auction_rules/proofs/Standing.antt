@@ -19,7 +19,7 @@ use Rattle.auction_rules.specs.FlightRule.{looked_at}
 use Rattle.auction_rules.specs.TicketMatch.{arriving, faces, best, if_crossing, partner, pair_with, not_taken, pairs, units_of_pairs, ticket_gone}
 use Rattle.auction_rules.specs.Standing.{gone_by, left_standing, gone, stand, signed_as, left_points}
 use Rattle.auction_rules.proofs.Blocks.{length-point_units}
-use Rattle.auction_rules.proofs.Histories.{agents_get}
+use Rattle.auction_rules.proofs.Agents.{agents_get}
 
 -- ---- units of which each has a property
 
@@ -202,7 +202,7 @@ all_among_self [] = tt
 all_among_self (u ∷ us) = (true_or (same_unit u u) (among u us) (same_self u), all_among_right us (u ∷ []) us (all_among_self us))
 
 -- the units of one bid are among those of all
-all_among_bids : (bids : List (Option Placed)) (i : ℕ) (d : Option Placed) → i < length bids → AllAmong (units_of_bids bids) (units_of_last (get_or bids i d))
+pub all_among_bids : (bids : List (Option Placed)) (i : ℕ) (d : Option Placed) → i < length bids → AllAmong (units_of_bids bids) (units_of_last (get_or bids i d))
 all_among_bids [] i d h = absurd (omega arith)
 all_among_bids (bid ∷ bids) zero d h = all_among_left (units_of_last bid) (units_of_last bid) (units_of_bids bids) (all_among_self (units_of_last bid))
 all_among_bids (bid ∷ bids) (suc i) d h = all_among_right (units_of_last (get_or bids i d)) (units_of_last bid) (units_of_bids bids) (all_among_bids bids i d (omega arith))

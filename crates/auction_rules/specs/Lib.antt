@@ -16,3 +16,4 @@ pub mod Legal
 pub mod Board
 pub mod Part
 pub mod Follows
+pub mod Traded

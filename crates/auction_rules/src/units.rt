@@ -49,7 +49,7 @@ fn push_block<const N: usize>(out: &mut ArrayVec<BidUnit, N>, first: &BidUnit, c
 }
 
 /// Appends the units of a point of a bid, numbered from `from`. Answers how many they are.
-fn push_point<const N: usize>(
+pub fn push_point<const N: usize>(
     out: &mut ArrayVec<BidUnit, N>,
     bid: &Placed,
     from: u8,

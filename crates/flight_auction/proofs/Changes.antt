@@ -14,15 +14,17 @@ use Rattle.auction_rules.specs.declared.units.BidUnit.{BidUnit}
 use Rattle.auction_rules.specs.Goods.{clock}
 use Rattle.auction_rules.specs.Units.{units_of, among}
 use Rattle.auction_rules.specs.Setup.{Rules, FlightRules}
-use Rattle.auction_rules.specs.History.{Entry, is_admission, is_closed, last_bid, units_of_last}
+use Rattle.auction_rules.specs.History.{Entry, is_closed, last_bid, units_of_last}
 use Rattle.auction_rules.specs.FlightRule.{price, next_price, looked_at, bids_looked_at, flight_gone, flight_trades}
 use Rattle.auction_rules.specs.Standing.{gone, stand, left_points}
+use Rattle.auction_rules.proofs.Idle.{IsIdle, idle_stand, idle_last}
 use Rattle.auction_rules.proofs.Standing.{last_units, Each, each-weaker, each-both, IsPlaced, each-placed, last_is, all_among_right, all_among_self, among-append, among-filter, not_among, new_not_gone, stands_unless_gone, left_whole, left_none}
 use Rattle.flight_auction.specs.declared.sales.StandingPoint.{StandingPoint}
 use Rattle.flight_auction.specs.Book.{owned_by, is_of, others_than, sales, unsold, by_position, placed_bids, standing_of, standing_points}
-use Rattle.flight_auction.proofs.Lists.{filter-flat_map, flat_map-filter, flat_map_same, flat_map_alike, all-weaker, all_passing}
+use Rattle.auction_rules.proofs.Lists.{filter-flat_map, flat_map-filter, flat_map_same, flat_map_alike, all-weaker, all_passing}
 use Rattle.flight_auction.proofs.Sold.{standing_cut, standing_same, unsold_all, trades_are}
-use Rattle.flight_auction.proofs.Order.{number_same, numbers_differ, another, made_at, of_others, replaced_order, looked_order, order_more, ordered_all}
+use Rattle.auction_rules.proofs.Agents.{number_same, numbers_differ, another}
+use Rattle.flight_auction.proofs.Order.{made_at, of_others, replaced_order, looked_order, order_more, ordered_all}
 
 -- ---- a sale
 
@@ -289,16 +291,13 @@ closed_left rules past closed = ap (λ (units : List BidUnit). flat_map (standin
     none [] = refl
     none (bid ∷ bids) = rw (left_none bid.agent bid.position 0 bid.points, none bids) refl
 
--- ---- a refused call
+-- ---- an entry that is refused or of `Own`
 
-pub refused_left : (rules : Rules) (past : List Entry) (e : Entry) → is_admission e.reply ≡ false → standing_points rules (e ∷ past) ≡ standing_points rules past
-refused_left rules past e refused =
-    ap (λ (units : List BidUnit). flat_map (standing_of units) (by_position (placed_bids (e ∷ past)) (suc (length past)))) stands
+pub idle_left : (rules : Rules) (past : List Entry) (e : Entry) → IsIdle e → standing_points rules (e ∷ past) ≡ standing_points rules past
+idle_left rules past e idle =
+    ap (λ (units : List BidUnit). flat_map (standing_of units) (by_position (placed_bids (e ∷ past)) (suc (length past)))) (idle_stand past e idle rules)
     ∙ ap (λ (bids : List Placed). flat_map (standing_of (stand rules past)) (by_position bids (suc (length past)))) placed
     ∙ ap (flat_map (standing_of (stand rules past))) (order_more past)
   where
-    stands : stand rules (e ∷ past) ≡ stand rules past
-    stands = rw refused refl
-
     placed : placed_bids (e ∷ past) ≡ placed_bids past
-    placed = rw refused refl
+    placed = rw (idle_last past e idle 0, idle_last past e idle 1, idle_last past e idle 2, idle_last past e idle 3, idle_last past e idle 4, idle_last past e idle 5, idle_last past e idle 6, idle_last past e idle 7) refl

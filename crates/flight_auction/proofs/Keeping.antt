@@ -1,6 +1,6 @@
 -- The calls of a flight follow the rules.
 use Rattle.std.proofs.Common.{◌≡◌, ℕ, ◌≤◌, Bool, true, false, List, [], ◌∷◌, ◌++◌, length, map, refl, sym, ap, ◌∙◌, subst, arith, Some, None, ℤ}
-use Rattle.std.specs.Prelude.{◌||◌, ◌==◌, ◌≢◌, filter, sum_by, if◌then◌else◌}
+use Rattle.std.specs.Prelude.{◌||◌, ◌==◌, ◌≢◌, filter, sum_by, if◌then◌else◌, not, ◌&&◌, pos}
 use Rattle.std.specs.List.{AllByRecursion, list_any}
 use Rattle.std.proofs.lemmas.Bool.Decides.{nat_tests}
 use Rattle.tac_base.specs.declared.bids.Point.{Point}
@@ -13,16 +13,18 @@ use Rattle.tac_base.specs.Bids.{size_of}
 use Rattle.auction_rules.specs.Goods.{clock, house}
 use Rattle.auction_rules.specs.Effects.{bought, sold, sales_by}
 use Rattle.auction_rules.specs.Setup.{Setup, Rules, FlightRules}
-use Rattle.auction_rules.specs.History.{Entry, is_admission, is_own, is_closed}
+use Rattle.auction_rules.specs.History.{Entry, is_own, is_closed}
 use Rattle.auction_rules.specs.FlightRule.{price, next_price}
 use Rattle.auction_rules.specs.Standing.{left}
-use Rattle.auction_rules.specs.Refusals.{refusal, sells, has_standing}
+use Rattle.auction_rules.specs.Refusals.{refusal, sells, has_standing, is_wrong_caller, is_wrong_place}
 use Rattle.auction_rules.specs.Legal.{entry_of, admitted_trades}
 use Rattle.auction_rules.specs.Follows.{Follows}
+use Rattle.auction_rules.proofs.Idle.{IsIdle, idle_refused, idle_price, idle_closed, wrong_follows}
+use Rattle.auction_rules.proofs.Agents.{not_clock}
 use Rattle.auction_rules.proofs.Steps.{refused_entry, entry_refused, entry_admitted, refusal_refuses, follows}
 use Rattle.flight_auction.specs.declared.sales.StandingPoint.{StandingPoint}
 use Rattle.flight_auction.specs.Book.{owned_by, is_of, points_of, others_than, reaches, sale, sales, unsold, FlightBook, standing_points, StandsFor}
-use Rattle.flight_auction.proofs.Changes.{update_entry, update_left, update_trades, bid_entry, bid_left, bid_trades, withdraw_entry, withdraw_left, closed_left, refused_left}
+use Rattle.flight_auction.proofs.Changes.{update_entry, update_left, update_trades, bid_entry, bid_left, bid_trades, withdraw_entry, withdraw_left, closed_left, idle_left}
 use Rattle.flight_auction.proofs.Owning.{own_points, has_standing_is}
 
 -- a book by its parts, and two that are one where their parts are
@@ -32,9 +34,6 @@ book_of good bound price standing closed = record { good = good; bound = bound; 
 same_books : (bound : ℤ) (good good' price price' : ℕ) (standing standing' : List StandingPoint) (closed closed' : Bool) →
     good ≡ good' → price ≡ price' → standing ≡ standing' → closed ≡ closed' → book_of good bound price standing closed ≡ book_of good' bound price' standing' closed'
 same_books bound good good' price price' standing standing' closed closed' g p s c = rw (g, p, s, c) refl
-
-not_clock : (agent : ℕ) → agent ≤ 7 → (agent == clock) ≡ false
-not_clock agent le = grind (arith, nat_tests)
 
 -- an agent sells nothing where the house sells all
 none_sold : (agent : ℕ) (trades : List Trade) → agent ≤ 7 → AllByRecursion (λ (t : Trade). t.seller ≡ house) trades → sold trades agent ≡ 0
@@ -69,30 +68,30 @@ module _ (setup : Setup) (past : List Entry) (book : FlightBook) (stood : Stands
   still_open : book.closed ≡ false → is_closed past ≡ false
   still_open h = sym closed_is ∙ h
 
-  -- a refused call changes nothing that a flight keeps
-  refused_keeps : (e : Entry) → is_admission e.reply ≡ false → StandsFor book setup (e ∷ past)
-  refused_keeps e h = record {
+  -- an idle entry changes nothing that a flight keeps
+  pub idle_keeps : (e : Entry) → IsIdle e → StandsFor book setup (e ∷ past)
+  idle_keeps e idle = record {
     first = stood.first;
     rules = stood.rules;
-    kept = same_books book.bound _ _ _ _ _ _ _ _ good_is (price_is ∙ sym price_kept) (standing_is ∙ sym (refused_left (FlightRules stood.first book.bound) past e h)) (closed_is ∙ sym closed_kept);
+    kept = same_books book.bound _ _ _ _ _ _ _ _ good_is (price_is ∙ sym (idle_price past e idle stood.first book.bound)) (standing_is ∙ sym (idle_left (FlightRules stood.first book.bound) past e idle)) (closed_is ∙ sym (idle_closed past e idle));
   }
-    where
-      price_kept : price stood.first book.bound (e ∷ past) ≡ price stood.first book.bound past
-      price_kept = rw h refl
-
-      closed_kept : is_closed (e ∷ past) ≡ is_closed past
-      closed_kept = rw h refl
 
   follows_refused : (caller : ℕ) (call : Call) (reply : Reply) (trades : List Trade) → refusal setup.rules past caller call ≡ Some reply → trades ≡ [] →
       Follows setup past caller call reply trades (StandsFor book setup)
   follows_refused caller call reply trades refused none =
       follows setup past caller call (refused_entry caller call reply) reply trades (StandsFor book setup) (entry_refused setup past caller call reply refused) refl none
-      (refused_keeps (refused_entry caller call reply) (refusal_refuses setup.rules past caller call reply refused))
+      (idle_keeps (refused_entry caller call reply) (idle_refused (refused_entry caller call reply) (refusal_refuses setup.rules past caller call reply refused)))
 
   -- a call on a closed flight
   pub follows_on_closed : (caller : ℕ) (call : Call) (trades : List Trade) → is_own call ≡ false → book.closed ≡ true → trades ≡ [] → Follows setup past caller call Closed trades (StandsFor book setup)
   follows_on_closed caller call trades not_own closed none =
       let h : is_closed past ≡ true = sym closed_is ∙ closed in follows_refused caller call Closed trades (rw (not_own, h) refl) none
+
+  -- a call that flights do not have, or that its caller may not make
+  pub follows_wrong : (caller : ℕ) (call : Call) (reply : Reply) → (is_wrong_caller caller call || is_wrong_place (FlightRules 300 (pos 0)) call) ≡ true →
+      reply ≡ (if not (is_own call) && book.closed then Closed else WrongCall) → Follows setup past caller call reply [] (StandsFor book setup)
+  follows_wrong caller call reply wrong replied =
+      wrong_follows setup past caller call (FlightRules 300 (pos 0)) book.closed reply (StandsFor book setup) (rw stood.rules tt) wrong closed_is replied idle_keeps
 
   -- ---- a bid
 

@@ -1,7 +1,6 @@
 pub mod Drifts
 pub mod Floors
 pub mod Points
-pub mod Lists
 pub mod Sold
 pub mod Order
 pub mod Changes
@@ -9,3 +8,4 @@ pub mod Owning
 pub mod Keeping
 pub mod Limits
 pub mod Paying
+pub mod Spending

@@ -1,35 +1,26 @@
 -- What each agent has standing stays within the limits of a bid, so that all of it has room.
-use Rattle.std.proofs.Common.{◌≡◌, ℕ, zero, suc, ◌+◌, ◌≤◌, Bool, true, false, cond, List, [], ◌∷◌, ◌++◌, length, map, refl, sym, ap, ◌∙◌, subst, arith, append-nil, Option, Some, None, length-append, ℤ}
+use Rattle.std.proofs.Common.{◌≡◌, ℕ, zero, suc, ◌+◌, ◌≤◌, Bool, true, false, cond, List, [], ◌∷◌, ◌++◌, length, map, refl, sym, ap, ◌∙◌, subst, arith, append-nil, None, length-append, ℤ}
 use Rattle.std.specs.Prelude.{not, ◌==◌, filter, sum_by, if◌then◌else◌}
 use Rattle.std.specs.List.{All, AllByRecursion}
-use Rattle.std.specs.Option.{option_or}
-use Rattle.std.proofs.lemmas.Bool.Decides.{nat_tests}
 use Rattle.std.proofs.lemmas.List.{length-map}
 use Rattle.std.proofs.lemmas.List.Elements.{filter-append, All-filter, All-append, All-from_recursion, recursion_from_All}
 use Rattle.std.proofs.lemmas.List.{map-append}
 use Rattle.std.proofs.lemmas.List.Sums.{sum_by-cons}
 use Rattle.tac_base.specs.declared.bids.Point.{Point}
-use Rattle.tac_base.specs.declared.bids.BidFault.{BidFault}
 use Rattle.tac_base.specs.declared.calls.Trade.{Trade}
 use Rattle.tac_base.specs.Bids.{size_of, total_size, point_fault, first_fault, fault_of, left_fault}
-use Rattle.tac_base.proofs.Faults.{IsGood, good_point, few_units, list_points}
+use Rattle.tac_base.proofs.Faults.{IsGood, good_point, both_none, few_units, list_points}
 use Rattle.auction_rules.specs.Effects.{bought}
+use Rattle.auction_rules.proofs.Agents.{another}
 use Rattle.auction_rules.proofs.Standing.{number_is}
 use Rattle.flight_auction.specs.declared.sales.StandingPoint.{StandingPoint}
 use Rattle.flight_auction.specs.Book.{owned_by, is_of, points_of, others_than, reaches, sale, sales, unsold, IsSound}
-use Rattle.flight_auction.proofs.Lists.{filter-map, filter-filter, filter_all, all_passing}
+use Rattle.auction_rules.proofs.LeftPoints.{no_fault}
+use Rattle.auction_rules.proofs.Lists.{filter-map, filter-filter, filter_all, all_passing}
 use Rattle.flight_auction.proofs.Sold.{stays}
-use Rattle.flight_auction.proofs.Order.{another}
 use Rattle.flight_auction.proofs.Owning.{owned_points}
 
 -- ---- fewer points
-
-both_none : (a b : Option BidFault) → option_or a b ≡ None → (a ≡ None) × (b ≡ None)
-both_none None b h = (refl, h)
-both_none (Some fault) b h = cc
-
-no_fault : (count used : ℕ) (point : Point) → IsGood count used point → point_fault count used point ≡ None
-no_fault count used point good = grind (arith, nat_tests, good.few, good.some, good.cheap, good.dear, good.small)
 
 -- some of the points of a list without a fault are one
 fewer_points : (test : Point → Bool) (count used count' used' : ℕ) (points : List Point) → count' ≤ count → used' ≤ used → count ≤ 16 → first_fault count used points ≡ None →

@@ -1,6 +1,6 @@
 -- The last bids in the order of their positions, and how one entry changes it.
 use Rattle.std.proofs.Common.{◌≡◌, ℕ, zero, suc, ◌<◌, ◌≤◌, Bool, true, false, cond, List, [], ◌∷◌, ◌++◌, length, refl, sym, ap, ◌∙◌, arith, append-nil, Option, Some, None}
-use Rattle.std.specs.Prelude.{not, ◌==◌, ◌≢◌, filter, if◌then◌else◌}
+use Rattle.std.specs.Prelude.{not, ◌==◌, filter, if◌then◌else◌}
 use Rattle.std.specs.List.{AllByRecursion, cons_option, filter_map, flat_map}
 use Rattle.std.specs.Option.{option_to_list}
 use Rattle.std.proofs.lemmas.Bool.Decides.{nat_tests}
@@ -12,18 +12,10 @@ use Rattle.auction_rules.specs.Goods.{agents}
 use Rattle.auction_rules.specs.Units.{units_of}
 use Rattle.auction_rules.specs.History.{Entry, last_bid, units_of_last}
 use Rattle.auction_rules.specs.FlightRule.{positions_below}
+use Rattle.auction_rules.proofs.Agents.{number_same, numbers_differ, another, agents_pick}
 use Rattle.auction_rules.proofs.Standing.{Each, IsBidOf, last_is, number_is}
 use Rattle.flight_auction.specs.Book.{by_position, placed_bids}
-use Rattle.flight_auction.proofs.Lists.{filter-filter, filter-flat_map, flat_map_alike, filter-filter_map, all-filter, all-append}
-
-pub number_same : (n : ℕ) → (n == n) ≡ true
-number_same n = grind (arith, nat_tests)
-
-pub numbers_differ : (m n : ℕ) → m ≢ n → (m == n) ≡ false
-numbers_differ m n h = grind (arith, nat_tests)
-
-pub another : (agent a b : ℕ) → b ≡ a → (agent == a) ≡ false → (b == agent) ≡ false
-another agent a b same differ = numbers_differ b agent (λ is. absurd (let t : (agent == a) ≡ true = rw (sym is ∙ same) (number_same a) in cc))
+use Rattle.auction_rules.proofs.Lists.{filter-filter, filter-flat_map, flat_map_alike, filter-filter_map, all-filter, all-append}
 
 abbrev pub made_at : ℕ → Placed → Bool
 made_at position bid = bid.position == position
@@ -52,19 +44,6 @@ by_position_filter test bids n =
     flat_map_alike (λ (position : ℕ). filter (made_at position) (filter test bids)) (λ (position : ℕ). filter test (filter (made_at position) bids)) (positions_below n)
     (λ position. filter-filter (made_at position) test bids)
     ∙ sym (filter-flat_map test (λ (position : ℕ). filter (made_at position) bids) (positions_below n))
-
--- ---- one agent of the eight
-
-pub agents_pick : {T : Type 0} (agent : ℕ) (xs : List T) → agent ≤ 7 → flat_map (λ a. if agent == a then xs else []) agents ≡ xs
-agents_pick zero xs le = append-nil xs
-agents_pick (suc zero) xs le = append-nil xs
-agents_pick (suc (suc zero)) xs le = append-nil xs
-agents_pick (suc (suc (suc zero))) xs le = append-nil xs
-agents_pick (suc (suc (suc (suc zero)))) xs le = append-nil xs
-agents_pick (suc (suc (suc (suc (suc zero))))) xs le = append-nil xs
-agents_pick (suc (suc (suc (suc (suc (suc zero)))))) xs le = append-nil xs
-agents_pick (suc (suc (suc (suc (suc (suc (suc zero))))))) xs le = append-nil xs
-agents_pick (suc (suc (suc (suc (suc (suc (suc (suc n)))))))) xs le = absurd (omega arith)
 
 -- ---- the bids that an agent's new one, or its withdrawal, leaves
 

@@ -1,27 +1,26 @@
 -- What an agent has standing in a flight.
-use Rattle.std.proofs.Common.{◌≡◌, ℕ, ◌+◌, ◌≤◌, Bool, true, false, cond, List, [], ◌∷◌, ◌++◌, length, map, refl, sym, ap, ◌∙◌, append-nil, Option, Some, None}
+use Rattle.std.proofs.Common.{◌≡◌, ℕ, ◌+◌, ◌≤◌, Bool, true, false, cond, List, [], ◌∷◌, length, map, refl, sym, ap, ◌∙◌, append-nil, Option, Some, None}
 use Rattle.std.specs.Prelude.{not, ◌||◌, ◌==◌, filter, if◌then◌else◌}
 use Rattle.std.specs.List.{flat_map, list_any}
 use Rattle.std.specs.Option.{option_to_list}
 use Rattle.std.proofs.lemmas.List.Elements.{filter-append}
 use Rattle.std.proofs.lemmas.List.Sums.{length-filter}
-use Rattle.std.proofs.lemmas.List.Folds.{flat_map-map}
 use Rattle.tac_base.specs.declared.bids.Point.{Point}
 use Rattle.tac_base.specs.Bids.{size_of}
 use Rattle.auction_rules.specs.declared.units.Placed.{Placed}
 use Rattle.auction_rules.specs.declared.units.BidUnit.{BidUnit}
-use Rattle.auction_rules.specs.Goods.{agents}
 use Rattle.auction_rules.specs.Units.{point_units, units_from, among, without, common_units}
 use Rattle.auction_rules.specs.Setup.{Rules}
-use Rattle.auction_rules.specs.History.{Entry, is_closed, last_bid, bid_units, units_of_last}
+use Rattle.auction_rules.specs.History.{Entry, is_closed, last_bid, units_of_last}
 use Rattle.auction_rules.specs.Standing.{gone, stand, signed_as, left_points, left_of, left}
 use Rattle.auction_rules.specs.Refusals.{has_standing}
-use Rattle.auction_rules.proofs.Standing.{Each, each-front, each-back, last_is, last_units, number_is, stands_unless_gone}
+use Rattle.auction_rules.proofs.Standing.{Each, each-front, each-back, stands_unless_gone}
 use Rattle.flight_auction.specs.declared.sales.StandingPoint.{StandingPoint}
 use Rattle.flight_auction.specs.Book.{owned_by, is_of, points_of, by_position, placed_bids, standing_of, standing_points}
-use Rattle.flight_auction.proofs.Lists.{filter-filter, filter_same, filter-flat_map, map-flat_map, flat_map-filter, flat_map_alike}
-use Rattle.flight_auction.proofs.Sold.{suc_not_zero}
-use Rattle.flight_auction.proofs.Order.{number_same, another, made_by, own_bid, agents_pick}
+use Rattle.auction_rules.proofs.LeftPoints.{suc_not_zero}
+use Rattle.auction_rules.proofs.Lists.{filter_same, filter-flat_map, map-flat_map, flat_map-filter, flat_map_alike, some_of, some-append, any_is_some}
+use Rattle.auction_rules.proofs.AgentUnits.{own_units}
+use Rattle.flight_auction.proofs.Order.{made_by, own_bid}
 
 -- the points of one bid are all its agent's
 pub owned_points : (agent owner : ℕ) (points : List Point) → points_of agent (owned_by owner points) ≡ (if owner == agent then points else [])
@@ -55,58 +54,9 @@ own_points rules past agent le =
 
 -- ---- whether something stands
 
-abbrev some_of : {X : Type 0} → List X → Bool
-some_of [] = false
-some_of (x ∷ xs) = true
-
-some-append : {X : Type 0} (xs ys : List X) → some_of (xs ++ ys) ≡ (some_of xs || some_of ys)
-some-append [] ys = refl
-some-append (x ∷ xs) ys = refl
-
-any_is_some : {X : Type 0} (test : X → Bool) (xs : List X) → list_any test xs ≡ some_of (filter test xs)
-any_is_some test [] = refl
-any_is_some test (x ∷ xs) = by_test (test x) (any_is_some test xs)
-  where
-    by_test : (b : Bool) → list_any test xs ≡ some_of (filter test xs) → (b || list_any test xs) ≡ some_of (cond b (x ∷ filter test xs) (filter test xs))
-    by_test true ih = refl
-    by_test false ih = ih
-
 some-map : {X Y : Type 0} (f : X → Y) (xs : List X) → some_of (map f xs) ≡ some_of xs
 some-map f [] = refl
 some-map f (x ∷ xs) = refl
-
--- units of one agent are all found or none is
-all_own : (agent a : ℕ) (units : List BidUnit) → (agent == a) ≡ true → Each (λ u. u.agent ≡ a) units → filter (λ u. u.agent == agent) units ≡ units
-all_own agent a [] same h = refl
-all_own agent a (u ∷ units) same h =
-    let is : (u.agent == agent) ≡ true = rw (h.0 ∙ sym (number_is agent a same)) (number_same agent) in rw (is, all_own agent a units same h.1) refl
-
-none_own : (agent a : ℕ) (units : List BidUnit) → (agent == a) ≡ false → Each (λ u. u.agent ≡ a) units → filter (λ u. u.agent == agent) units ≡ []
-none_own agent a [] differs h = refl
-none_own agent a (u ∷ units) differs h = let is : (u.agent == agent) ≡ false = another agent a u.agent h.0 differs in rw (is, none_own agent a units differs h.1) refl
-
--- an agent's standing units
-own_units : (rules : Rules) (past : List Entry) (agent : ℕ) → agent ≤ 7 → is_closed past ≡ false →
-    filter (λ u. u.agent == agent) (stand rules past) ≡ without (units_of_last (last_bid agent past)) (gone rules past)
-own_units rules past agent le still_open =
-    ap (λ (b : Bool). filter own (cond b [] (without (bid_units past) (gone rules past)))) still_open
-    ∙ filter-filter own (λ u. not (among u (gone rules past))) (bid_units past)
-    ∙ ap (λ (us : List BidUnit). without us (gone rules past))
-    (ap (filter own) (flat_map-map units_of_last (λ (a : ℕ). last_bid a past) agents)
-    ∙ filter-flat_map own (λ (a : ℕ). units_of_last (last_bid a past)) agents
-    ∙ flat_map_alike _ (λ (a : ℕ). if agent == a then units_of_last (last_bid agent past) else []) agents (λ a. one (agent == a) a refl)
-    ∙ agents_pick agent (units_of_last (last_bid agent past)) le)
-  where
-    own : BidUnit → Bool
-    own u = u.agent == agent
-
-    agents_own : (a : ℕ) → Each (λ u. u.agent ≡ a) (units_of_last (last_bid a past))
-    agents_own a = last_units (λ u. u.agent ≡ a) a (length past) (last_bid a past) (last_is a past) (λ u is lt. is)
-
-    one : (b : Bool) (a : ℕ) → (agent == a) ≡ b → filter (λ u. u.agent == agent) (units_of_last (last_bid a past)) ≡ cond b (units_of_last (last_bid agent past)) []
-    one true a same =
-        all_own agent a (units_of_last (last_bid a past)) same (agents_own a) ∙ ap (λ (x : ℕ). units_of_last (last_bid x past)) (sym (number_is agent a same))
-    one false a differs = none_own agent a (units_of_last (last_bid a past)) differs (agents_own a)
 
 -- points are left of a bid just where units of it are
 some_left : (standing gone : List BidUnit) (agent position from : ℕ) (points : List Point) → Each (λ u. among u standing ≡ not (among u gone)) (units_from agent position from points) →

@@ -8,7 +8,7 @@ use Rattle.tac_base.specs.declared.calls.Trade.{Trade}
 use Rattle.tac_base.specs.Bids.{size_of}
 use Rattle.flight_auction.specs.declared.sales.StandingPoint.{StandingPoint}
 use Rattle.flight_auction.specs.Book.{is_of, reaches, sale, sales, others_than, IsPaid}
-use Rattle.flight_auction.proofs.Lists.{all-weaker}
+use Rattle.auction_rules.proofs.Lists.{all-weaker}
 
 any_here : (P : StandingPoint → Type 0) (s : StandingPoint) (standing : List StandingPoint) → P s → Any P (s ∷ standing)
 any_here P s standing h = (0, s, omega arith, refl, h)

@@ -1,6 +1,6 @@
 -- What a sale leaves of a bid's points, and its trades.
 use Rattle.std.proofs.Common.{◌≡◌, ℕ, zero, suc, ◌+◌, Bool, true, false, cond, List, [], ◌∷◌, map, refl, sym, ap, ◌∙◌, arith}
-use Rattle.std.specs.Prelude.{not, ◌&&◌, ◌==◌, nat_le, nat_lt, filter, if◌then◌else◌, ℤ, pos, negsuc, unsigned_abs}
+use Rattle.std.specs.Prelude.{not, ◌&&◌, ◌==◌, nat_le, nat_lt, filter, if◌then◌else◌}
 use Rattle.std.specs.List.{flat_map}
 use Rattle.std.proofs.lemmas.Bool.Decides.{nat_tests}
 use Rattle.std.proofs.lemmas.List.Sums.{sum_by-cons}
@@ -15,7 +15,8 @@ use Rattle.auction_rules.specs.Standing.{signed_as, left_points}
 use Rattle.auction_rules.proofs.Standing.{Each, each-front, each-back, each-block, each-both}
 use Rattle.flight_auction.specs.declared.sales.StandingPoint.{StandingPoint}
 use Rattle.flight_auction.specs.Book.{owned_by, reaches, sale, sales, unsold, by_position, standing_of}
-use Rattle.flight_auction.proofs.Lists.{filter-map, filter-flat_map, map-flat_map, flat_map-flat_map, flat_map_alike}
+use Rattle.auction_rules.proofs.LeftPoints.{suc_not_zero, signed_size}
+use Rattle.auction_rules.proofs.Lists.{filter-map, filter-flat_map, map-flat_map, flat_map-flat_map, flat_map_alike}
 
 -- ---- points by their units
 
@@ -47,9 +48,6 @@ each_priced agent position from point =
 -- whether a point stays unsold at a price
 abbrev pub stays : ℕ → Point → Bool
 stays current point = not (nat_le current point.price)
-
-pub suc_not_zero : (n : ℕ) → (suc n == 0) ≡ false
-suc_not_zero n = grind (arith, nat_tests)
 
 zero_below : (n : ℕ) → nat_lt 0 (suc n) ≡ true
 zero_below n = grind (arith, nat_tests)
@@ -94,11 +92,6 @@ left_cut current xs ys agent position from (point ∷ points) h =
     by_test false k (suc n) = rw (suc_not_zero n) (by_count (suc n) false k)
 
 -- ---- trades by the points that stand
-
-signed_size : (z : ℤ) (n : ℕ) → unsigned_abs (signed_as z n) ≡ n
-signed_size (pos m) n = refl
-signed_size (negsuc m) zero = refl
-signed_size (negsuc m) (suc n) = refl
 
 -- the trades of a bid are the sales of its points that stand
 point_trades_are : (good current : ℕ) (units : List BidUnit) (bid : Placed) (from : ℕ) (points : List Point) →

@@ -1,5 +1,5 @@
 -- What a contract sees of a flight auction, and the pasts that it stands for.
-use Rattle.std.specs.Prelude.{◌≡◌, ℕ, ◌==◌, Bool, not, nat_le, ◌≤◌, List, All, Any, ℤ, pos, negsuc, ◌≤ℤ◌, None, map, filter, length}
+use Rattle.std.specs.Prelude.{◌≡◌, ℕ, ◌==◌, Bool, not, nat_le, ◌≤◌, List, All, Any, ℤ, pos, negsuc, ◌≤ℤ◌, None, map, filter, length, sum_by}
 use Rattle.std.specs.List.{filter_map, flat_map}
 use Rattle.tac_base.specs.declared.bids.Point.{Point}
 use Rattle.tac_base.specs.declared.calls.Trade.{Trade}
@@ -67,6 +67,14 @@ pub record IsSound (bound : ℤ) (price : ℕ) (standing : List StandingPoint) :
   pub price_to : price ≤ 800
   pub owned : All (λ s. s.agent ≤ 7) standing
   pub limited : (agent : ℕ) → left_fault (points_of agent standing) ≡ None
+
+-- the units of standing points
+abbrev pub units_standing : List StandingPoint → ℕ
+units_standing standing = sum_by (λ s. size_of s.point) standing
+
+-- how many units the house may still sell, where nobody bids anew
+abbrev pub units_left : FlightBook → ℕ
+units_left book = units_standing book.standing
 
 -- the bids that were made below a position, by their position
 abbrev pub by_position : List Placed → ℕ → List Placed

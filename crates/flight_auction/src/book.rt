@@ -1,18 +1,21 @@
-ghost use Rattle.std.specs.Prelude.{◌≡◌, ℕ, ◌≤◌, [], ◌++◌, length, List, All, pos, negsuc, ◌≤ℤ◌};
+ghost use Rattle.std.specs.Prelude.{◌≡◌, ℕ, ◌+◌, ◌≤◌, ◌||◌, [], ◌∷◌, ◌++◌, IsTrue, length, List, All, pos, negsuc, ◌≤ℤ◌};
 ghost use Rattle.tac_base.specs.Kinds.{kind_of};
 ghost use Rattle.auction_rules.specs.Setup.{Setup, FlightRules};
 ghost use Rattle.auction_rules.specs.History.{Entry};
 ghost use Rattle.auction_rules.specs.Standing.{left};
 ghost use Rattle.auction_rules.specs.Board.{board};
+ghost use Rattle.auction_rules.specs.Refusals.{is_wrong_caller, is_wrong_place};
+ghost use Rattle.auction_rules.specs.Legal.{entry_of};
 ghost use Rattle.auction_rules.specs.Follows.{Follows};
-ghost use Rattle.flight_auction.specs.Book.{StandsFor, IsPaid, owned_by};
+ghost use Rattle.auction_rules.specs.Traded.{Spends};
+ghost use Rattle.flight_auction.specs.Book.{StandsFor, IsPaid, owned_by, units_left};
 
 use crate::prices::next_price;
-use crate::sales::{StandingPoint, bought, forget, has_points, place, points_of, sell};
+use crate::sales::{StandingPoint, forget, has_points, place, points_of, sell};
 use arrayvec::ArrayVec;
-use auction_rules::sells;
+use auction_rules::{bought, sells, wrong_reply};
 use std::marker::Model;
-use tac_base::{Agent, Board, Call, Fills, Good, Kind, Left, Points, Reply, Tick};
+use tac_base::{Agent, Board, Call, Caller, Fills, Good, Kind, Left, Points, Reply, Tick};
 
 /// The auction of a flight. By the game description the house sells any number of seats at a price, in
 /// dollars, that starts at 250 to 400 and stays in 150 to 800.
@@ -64,6 +67,7 @@ impl Flight {
         ensures follows { (setup : Setup) (past : List Entry) → StandsFor self.old setup past → at ≡ length past →
             Follows setup past agent (Call.Bid points.now) result fills.new (StandsFor self.new setup) }
         ensures paid { All (IsPaid (self.old.standing ++ owned_by agent points.now)) fills.new }
+        ensures units { Spends (units_left self.old + 16) (units_left self.new) fills.new }
     {
         let number = agent.get();
         fills.clear();
@@ -86,8 +90,9 @@ impl Flight {
     /// An agent's withdrawal of what stands of its bid. It is refused where nothing stands and in a
     /// closed flight, and changes nothing there.
     pub fn withdraw(&mut self, at: u32, agent: Agent) -> Reply
-        ensures { (setup : Setup) (past : List Entry) → StandsFor self.old setup past → at ≡ length past →
+        ensures follows { (setup : Setup) (past : List Entry) → StandsFor self.old setup past → at ≡ length past →
             Follows setup past agent Call.Withdraw result [] (StandsFor self.new setup) }
+        ensures units { units_left self.new ≤ units_left self.old }
     {
         let number = agent.get();
         if self.closed {
@@ -101,10 +106,25 @@ impl Flight {
     }
 
     /// The standing points of an agent, in the order of its bid: none in a closed flight.
+    #[tactic(auto, using(crate::proofs::Keeping::idle_keeps, auction_rules::proofs::Idle::own_idle))]
     pub fn own(&self, agent: Agent) -> Left
-        ensures { (setup : Setup) (past : List Entry) → StandsFor self.now setup past → result ≡ left setup.rules past agent }
+        ensures left { (setup : Setup) (past : List Entry) → StandsFor self.now setup past → result ≡ left setup.rules past agent }
+        // To ask changes nothing.
+        ensures stands { (setup : Setup) (past : List Entry) → StandsFor self.now setup past →
+            StandsFor self.now setup (entry_of setup past agent Call.Own ∷ past) }
     {
         Left::new(&points_of(&self.standing, agent.get()))
+    }
+
+    /// The refusal of a call that flights do not have, or that the caller may not make: `Closed` in a closed
+    /// flight, but for `Own`, and else `WrongCall`. It changes nothing.
+    #[tactic(auto, using(crate::proofs::Keeping::follows_wrong))]
+    pub fn refuse(&self, caller: Caller, call: &Call) -> Reply
+        requires { IsTrue (is_wrong_caller caller call.now || is_wrong_place (FlightRules 300 (pos 0)) call.now) }
+        ensures { (setup : Setup) (past : List Entry) → StandsFor self.now setup past →
+            Follows setup past caller call.now result [] (StandsFor self.now setup) }
+    {
+        wrong_reply(self.closed, call)
     }
 
     /// The clock's update of the price at a tick, 1 to 53, by a draw. The points at the new price or
@@ -115,6 +135,7 @@ impl Flight {
         ensures follows { (setup : Setup) (past : List Entry) → StandsFor self.old setup past → at ≡ length past →
             Follows setup past 8 (Call.Update tick draw) result fills.new (StandsFor self.new setup) }
         ensures paid { All (IsPaid self.old.standing) fills.new }
+        ensures units { Spends (units_left self.old) (units_left self.new) fills.new }
     {
         if self.closed {
             fills.clear();
@@ -128,8 +149,9 @@ impl Flight {
     /// The clock's closing, after which nothing stands. `fills` is left empty. It is refused in a closed
     /// flight, and changes nothing there.
     pub fn close(&mut self, at: u32, fills: &mut Fills) -> Reply
-        ensures { (setup : Setup) (past : List Entry) → StandsFor self.old setup past → at ≡ length past →
+        ensures follows { (setup : Setup) (past : List Entry) → StandsFor self.old setup past → at ≡ length past →
             Follows setup past 8 Call.Close result fills.new (StandsFor self.new setup) }
+        ensures units { Spends (units_left self.old) (units_left self.new) fills.new }
     {
         fills.clear();
         if self.closed {
@@ -143,6 +165,7 @@ impl Flight {
     /// What is shown of the flight after `count` entries. Its bid is 0, and its ask the price.
     pub fn board(&self, count: u32) -> Board
         ensures board { (setup : Setup) (past : List Entry) → StandsFor self.now setup past → count ≡ length past → result ≡ board setup.rules past }
+        ensures no_bid { result.bid ≡ 0 }
         ensures ask_from { 150 ≤ result.ask }
         ensures ask_to { result.ask ≤ 800 }
     {

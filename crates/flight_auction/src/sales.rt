@@ -1,6 +1,5 @@
-ghost use Rattle.std.specs.Prelude.{◌≡◌, ◌+◌, ◌*◌, ◌<◌, ◌≤◌, ◌++◌, [], ◌∷◌, length, map};
+ghost use Rattle.std.specs.Prelude.{◌≡◌, ◌+◌, ◌<◌, ◌≤◌, ◌++◌, [], ◌∷◌, length, map};
 ghost use Rattle.std.specs.List.{list_any};
-ghost use Rattle.auction_rules.specs.Effects as effects;
 ghost use Rattle.flight_auction.specs.Book as spec;
 
 use arrayvec::ArrayVec;
@@ -108,16 +107,4 @@ pub(crate) fn sell(
         push_sale(fills, good, price, one);
     }
     standing.retain(|one| !reaches(one, price));
-}
-
-/// How many units the agent that has the number buys in the trades.
-pub(crate) fn bought(trades: &[Trade], number: u8) -> u32
-    requires { length trades.now ≤ 128 }
-    ensures { result ≡ effects.bought trades.now number }
-{
-    trades
-        .iter()
-        .filter(|trade| trade.buyer.get() == number)
-        .map(|trade| u32::from(trade.units))
-        .sum()
 }

@@ -1,51 +1,29 @@
 -- What one more entry changes of what a hotel keeps.
-use Rattle.std.proofs.Common.{◌≡◌, ℕ, ◌≤◌, Bool, true, false, cond, List, [], ◌∷◌, ◌++◌, length, refl, sym, ap, ◌∙◌, arith, set, Option, Some, None}
-use Rattle.std.specs.Prelude.{if◌then◌else◌, ◌==◌}
-use Rattle.std.proofs.lemmas.Bool.Decides.{nat_tests}
+use Rattle.std.proofs.Common.{◌≡◌, ℕ, ◌≤◌, Bool, true, false, List, [], ◌∷◌, length, min, refl, sym, ap, ◌∙◌, set, Option, Some, None}
+use Rattle.std.specs.Prelude.{if◌then◌else◌, not, ◌&&◌, ◌||◌}
 use Rattle.tac_base.specs.declared.bids.Point.{Point}
 use Rattle.tac_base.specs.declared.calls.Trade.{Trade}
 use Rattle.tac_base.specs.declared.calls.Call.{Call}
 use Rattle.tac_base.specs.declared.calls.Call.TheVariants.{Bid, Publish, Close}
 use Rattle.tac_base.specs.declared.calls.Reply.{Reply}
-use Rattle.tac_base.specs.declared.calls.Reply.TheVariants.{Taken, Sold, Done}
+use Rattle.tac_base.specs.declared.calls.Reply.TheVariants.{Taken, Sold, Done, Closed, WrongCall}
 use Rattle.auction_rules.specs.declared.units.Placed.{Placed}
 use Rattle.auction_rules.specs.declared.units.BidUnit.{BidUnit}
 use Rattle.auction_rules.specs.Goods.{clock}
-use Rattle.auction_rules.specs.Units.{without}
 use Rattle.auction_rules.specs.Setup.{Setup, Rules, HotelRules}
-use Rattle.auction_rules.specs.History.{Entry, is_admission, is_closed, last_bid, last_bids, bid_units, units_of_bids}
-use Rattle.auction_rules.specs.Standing.{gone, stand}
+use Rattle.auction_rules.specs.History.{Entry, is_closed, last_bid, last_bids, bid_units, units_of_bids, is_own}
+use Rattle.auction_rules.specs.Standing.{stand}
 use Rattle.auction_rules.specs.Ask.{ask, published}
 use Rattle.auction_rules.specs.HotelClosing.{sold_units, closing_trades}
-use Rattle.auction_rules.specs.Refusals.{refusal}
+use Rattle.auction_rules.specs.Refusals.{refusal, is_wrong_caller, is_wrong_place}
 use Rattle.auction_rules.specs.Follows.{Follows}
+use Rattle.auction_rules.proofs.HotelUnits.{open_stand, sells_what_stands}
 use Rattle.auction_rules.proofs.Steps.{refused_entry, entry_refused, entry_admitted, refusal_refuses, follows}
-use Rattle.auction_rules.proofs.Histories.{agents_set}
+use Rattle.auction_rules.proofs.Agents.{agents_set, not_clock}
+use Rattle.auction_rules.proofs.Idle.{IsIdle, idle_refused, idle_bids, idle_published, idle_closed, wrong_follows}
 use Rattle.hotel_book.specs.Book.{HotelBook, hotel_book, StandsFor, open_refusal, book_refusal}
 
--- ---- what stands in a hotel
-
-either_none : {A : Type 0} (b : Bool) (xs : List A) → cond b [] [] ++ xs ≡ xs
-either_none true xs = refl
-either_none false xs = refl
-
--- nothing is gone from a hotel
-nothing_gone : (rooms : ℕ) (live : Bool) (past : List Entry) → gone (HotelRules rooms live) past ≡ []
-nothing_gone rooms live [] = refl
-nothing_gone rooms live (e ∷ past) = either_none (is_admission e.reply) (gone (HotelRules rooms live) past) ∙ nothing_gone rooms live past
-
-keep_all : (units : List BidUnit) → without units [] ≡ units
-keep_all [] = refl
-keep_all (u ∷ units) = ap (λ (us : List BidUnit). u ∷ us) (keep_all units)
-
--- in an open hotel the units of the last bids stand
-pub open_stand : (rooms : ℕ) (live : Bool) (past : List Entry) → is_closed past ≡ false → stand (HotelRules rooms live) past ≡ bid_units past
-open_stand rooms live past h = rw (h, nothing_gone rooms live past) (keep_all (bid_units past))
-
 -- ---- the refusal of a bid
-
-not_clock : (agent : ℕ) → agent ≤ 7 → (agent == clock) ≡ false
-not_clock agent le = grind (arith, nat_tests)
 
 refusal_open : (rooms : ℕ) (live : Bool) (past : List Entry) (agent : ℕ) (points : List Point) → agent ≤ 7 → is_closed past ≡ false →
     refusal (HotelRules rooms live) past agent (Bid points) ≡ open_refusal rooms (bid_units past) (published rooms live past) agent points
@@ -72,18 +50,26 @@ is_open rooms units price false agent points h = refl
 
 -- ---- the calls
 
--- a refused call changes nothing that a hotel keeps
-refused_keeps : (book : HotelBook) (setup : Setup) (past : List Entry) (e : Entry) → is_admission e.reply ≡ false → StandsFor book setup past → StandsFor book setup (e ∷ past)
-refused_keeps book setup past e h stood = record { rules = stood.rules; kept = stood.kept ∙ sym same }
+-- an idle entry changes nothing that a hotel keeps
+pub idle_keeps : (book : HotelBook) (setup : Setup) (past : List Entry) (e : Entry) → IsIdle e → StandsFor book setup past → StandsFor book setup (e ∷ past)
+idle_keeps book setup past e idle stood = record { rules = stood.rules; kept = stood.kept ∙ sym same }
   where
     same : hotel_book setup.good book.rooms book.live (e ∷ past) ≡ hotel_book setup.good book.rooms book.live past
-    same = rw h
+    same = rw (idle_bids past e idle, idle_published past e idle book.rooms book.live, idle_closed past e idle) refl
 
 follows_refused : (setup : Setup) (past : List Entry) (caller : ℕ) (call : Call) (book : HotelBook) (reply : Reply) (trades : List Trade) →
     StandsFor book setup past → refusal setup.rules past caller call ≡ Some reply → trades ≡ [] → Follows setup past caller call reply trades (StandsFor book setup)
 follows_refused setup past caller call book reply trades stood refused none =
     follows setup past caller call (refused_entry caller call reply) reply trades (StandsFor book setup) (entry_refused setup past caller call reply refused) refl none
-    (refused_keeps book setup past (refused_entry caller call reply) (refusal_refuses setup.rules past caller call reply refused) stood)
+    (idle_keeps book setup past (refused_entry caller call reply) (idle_refused (refused_entry caller call reply) (refusal_refuses setup.rules past caller call reply refused)) stood)
+
+-- a call that hotels do not have, or that its caller may not make
+pub follows_wrong : (setup : Setup) (past : List Entry) (caller : ℕ) (call : Call) (book : HotelBook) (reply : Reply) → StandsFor book setup past →
+    (is_wrong_caller caller call || is_wrong_place (HotelRules 16 false) call) ≡ true → reply ≡ (if not (is_own call) && book.closed then Closed else WrongCall) →
+    Follows setup past caller call reply [] (StandsFor book setup)
+follows_wrong setup past caller call book reply stood wrong replied =
+    wrong_follows setup past caller call (HotelRules 16 false) book.closed reply (StandsFor book setup) (rw stood.rules tt) wrong (ap (λ (b : HotelBook). b.closed) stood.kept) replied
+    (λ e idle. idle_keeps book setup past e idle stood)
 
 -- a bid that the book refuses
 pub follows_refused_bid : (setup : Setup) (past : List Entry) (agent : ℕ) (points : List Point) (book : HotelBook) (reply : Reply) (trades : List Trade) → agent ≤ 7 →
@@ -186,3 +172,17 @@ follows_closed setup past book sold price trades stood not_closed counted priced
 
     asked : price ≡ ask book.rooms (stand (HotelRules book.rooms book.live) past)
     asked = priced ∙ ap (ask book.rooms) (sym units)
+
+-- a closing sells as many units as stand, up to the rooms, each at the ask
+pub closing_sells : (setup : Setup) (past : List Entry) (book : HotelBook) (sold price : ℕ) → StandsFor book setup past → book.closed ≡ false →
+    sold ≡ sold_units book.rooms (units_of_bids book.bids) → price ≡ ask book.rooms (units_of_bids book.bids) →
+    Sold sold price ≡ Sold (min book.rooms (length (stand setup.rules past))) (ask book.rooms (stand setup.rules past))
+closing_sells setup past book sold price stood not_closed counted priced =
+    rw (
+      counted ∙ ap (sold_units book.rooms) (sym units) ∙ sells_what_stands book.rooms book.live past,
+      priced ∙ ap (ask book.rooms) (sym units),
+      stood.rules,
+    ) refl
+  where
+    units : stand (HotelRules book.rooms book.live) past ≡ units_of_bids book.bids
+    units = open_stand book.rooms book.live past (sym (ap (λ (b : HotelBook). b.closed) stood.kept) ∙ not_closed) ∙ sym (ap units_of_bids (ap (λ (b : HotelBook). b.bids) stood.kept))

@@ -3,3 +3,4 @@ pub mod Prices
 pub mod Keeping
 pub mod Owning
 pub mod Runs
+pub mod Selling

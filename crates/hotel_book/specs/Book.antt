@@ -31,6 +31,10 @@ pub record StandsFor (book : HotelBook) (setup : Setup) (past : List Entry) : Ty
   pub rules : setup.rules ≡ HotelRules book.rooms book.live
   pub kept : book ≡ hotel_book setup.good book.rooms book.live past
 
+-- how many units may still be sold: 16 of each of the eight agents while the hotel is open
+abbrev pub units_left : HotelBook → ℕ
+units_left book = if book.closed then 0 else 128
+
 -- the refusal of an agent's bid where these units stand, if there is one
 abbrev pub open_refusal : ℕ → List BidUnit → ℕ → ℕ → List Point → Option Reply
 open_refusal rooms units price agent points =

@@ -1,19 +1,23 @@
-ghost use Rattle.std.specs.Prelude.{◌≡◌, ℕ, ◌≤◌, [], length, List, false};
+ghost use Rattle.std.specs.Prelude.{min, ◌≡◌, ℕ, ◌≤◌, ◌||◌, [], ◌∷◌, length, List, false, IsTrue};
 ghost use Rattle.tac_base.specs.Kinds.{kind_of};
 ghost use Rattle.auction_rules.specs.Goods.{clock};
 ghost use Rattle.auction_rules.specs.Setup.{Setup, HotelRules};
 ghost use Rattle.auction_rules.specs.History.{Entry};
-ghost use Rattle.auction_rules.specs.Standing.{left};
+ghost use Rattle.auction_rules.specs.Standing.{left, stand};
+ghost use Rattle.auction_rules.specs.Ask.{ask};
 ghost use Rattle.auction_rules.specs.Board.{board};
+ghost use Rattle.auction_rules.specs.Refusals.{is_wrong_caller, is_wrong_place};
+ghost use Rattle.auction_rules.specs.Legal.{entry_of};
 ghost use Rattle.auction_rules.specs.Follows.{Follows};
-ghost use Rattle.hotel_book.specs.Book.{StandsFor};
+ghost use Rattle.auction_rules.specs.Traded.{Spends};
+ghost use Rattle.hotel_book.specs.Book.{StandsFor, units_left};
 
 use crate::closing::fill;
 use crate::counting::{ask, sold_units, units_of};
 use crate::quotes::refusal;
-use auction_rules::Placed;
+use auction_rules::{Placed, wrong_reply};
 use std::marker::Model;
-use tac_base::{Agent, Board, Call, Fills, Good, Kind, Left, Points, Reply};
+use tac_base::{Agent, Board, Call, Caller, Fills, Good, Kind, Left, Points, Reply};
 
 /// The rooms of a hotel on a night.
 const ROOMS: usize = 16;
@@ -58,9 +62,10 @@ impl Hotel {
     /// A bid of an agent. It replaces the agent's earlier one, and where it is refused changes nothing.
     /// `fills` is left empty.
     pub fn bid(&mut self, at: u32, agent: Agent, points: &Points, fills: &mut Fills) -> Reply
-        ensures { (setup : Setup) (past : List Entry) →
+        ensures follows { (setup : Setup) (past : List Entry) →
             StandsFor self.old setup past → at ≡ length past →
             Follows setup past agent (Call.Bid points.now) result fills.new (StandsFor self.new setup) }
+        ensures units { Spends (units_left self.old) (units_left self.new) fills.new }
     {
         let number = agent.get() as usize;
         fills.clear();
@@ -87,9 +92,10 @@ impl Hotel {
     /// The clock's publication of the ask. It is refused in a closed hotel, and changes nothing there.
     #[tactic(auto, using(crate::proofs::Prices::ask_le))]
     pub fn publish(&mut self, at: u32) -> Reply
-        ensures { (setup : Setup) (past : List Entry) →
+        ensures follows { (setup : Setup) (past : List Entry) →
             StandsFor self.old setup past → at ≡ length past →
             Follows setup past clock Call.Publish result [] (StandsFor self.new setup) }
+        ensures units { units_left self.new ≤ units_left self.old }
     {
         if self.closed {
             return Reply::Closed;
@@ -102,9 +108,14 @@ impl Hotel {
     /// It is refused in a closed hotel, and changes nothing there.
     #[tactic(auto, using(crate::proofs::Prices::ask_le))]
     pub fn close(&mut self, at: u32, fills: &mut Fills) -> Reply
-        ensures { (setup : Setup) (past : List Entry) →
+        ensures follows { (setup : Setup) (past : List Entry) →
             StandsFor self.old setup past → at ≡ length past →
             Follows setup past clock Call.Close result fills.new (StandsFor self.new setup) }
+        // It sells as many units as stand, up to the rooms.
+        ensures sells { (setup : Setup) (past : List Entry) →
+            StandsFor self.old setup past → self.old.closed ≡ false →
+            result ≡ Reply.Sold (min 16 (length (stand setup.rules past))) (ask 16 (stand setup.rules past)) }
+        ensures units { Spends (units_left self.old) (units_left self.new) fills.new }
     {
         if self.closed {
             fills.clear();
@@ -122,9 +133,13 @@ impl Hotel {
     }
 
     /// The standing points of an agent, in the order of its bid: none in a closed hotel.
+    #[tactic(auto, using(crate::proofs::Keeping::idle_keeps, auction_rules::proofs::Idle::own_idle))]
     pub fn own(&self, agent: Agent) -> Left
-        ensures { (setup : Setup) (past : List Entry) → StandsFor self.now setup past →
+        ensures left { (setup : Setup) (past : List Entry) → StandsFor self.now setup past →
             result ≡ left setup.rules past agent }
+        // To ask changes nothing.
+        ensures stands { (setup : Setup) (past : List Entry) → StandsFor self.now setup past →
+            StandsFor self.now setup (entry_of setup past agent Call.Own ∷ past) }
     {
         match &self.bids[agent.get() as usize] {
             Some(bid) if !self.closed => Left::new(bid.points.as_slice()),
@@ -132,10 +147,22 @@ impl Hotel {
         }
     }
 
+    /// The refusal of a call that hotels do not have, or that the caller may not make: `Closed` in a closed
+    /// hotel, but for `Own`, and else `WrongCall`. It changes nothing.
+    #[tactic(auto, using(crate::proofs::Keeping::follows_wrong))]
+    pub fn refuse(&self, caller: Caller, call: &Call) -> Reply
+        requires { IsTrue (is_wrong_caller caller call.now || is_wrong_place (HotelRules 16 false) call.now) }
+        ensures { (setup : Setup) (past : List Entry) → StandsFor self.now setup past →
+            Follows setup past caller call.now result [] (StandsFor self.now setup) }
+    {
+        wrong_reply(self.closed, call)
+    }
+
     /// What is shown of the hotel after `count` entries. Its bid is 0, and its ask the published price.
     pub fn board(&self, count: u32) -> Board
         ensures board { (setup : Setup) (past : List Entry) →
             StandsFor self.now setup past → count ≡ length past → result ≡ board setup.rules past }
+        ensures no_bid { result.bid ≡ 0 }
         ensures ask_within { result.ask ≤ 10000 }
     {
         Board {

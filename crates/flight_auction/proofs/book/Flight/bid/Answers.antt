@@ -1,4 +1,4 @@
-use Rattle.std.proofs.Common.{◌≡◌, ◌≤◌, ◌≢◌, List, ◌++◌, refl, ap, sym, ◌∙◌, arith}
+use Rattle.std.proofs.Common.{◌≡◌, ◌+◌, ◌≤◌, ◌≢◌, List, ◌++◌, refl, ap, sym, ◌∙◌, arith}
 use Rattle.std.proofs.lemmas.List.Elements.{recursion_from_All}
 use Rattle.tac_base.specs.declared.bids.Point.{Point}
 use Rattle.tac_base.specs.declared.calls.Trade.{Trade}
@@ -10,6 +10,9 @@ use Rattle.flight_auction.specs.Book.{FlightBook, StandsFor, others_than, owned_
 use Rattle.flight_auction.proofs.Keeping.{book_of, follows_on_closed, follows_seller, follows_taken}
 use Rattle.flight_auction.proofs.Limits.{sound_placed, sound_unsold, few_of_all, few_bought, placed_is, length-placed}
 use Rattle.flight_auction.proofs.Paying.{bid_paid}
+use Rattle.flight_auction.specs.Book.{units_standing}
+use Rattle.auction_rules.proofs.Trading.{nothing_spent}
+use Rattle.flight_auction.proofs.Spending.{sales_spend, placed_units}
 use Rattle.flight_auction.proofs.book.Flight.bid.Goals as goal
 
 pub returns-then-self-clause-follows : goal.returns-then-self-clause-follows
@@ -89,3 +92,22 @@ returns-clause-paid c =
     c.get-number.ensures.value c.as_slice-points.ensures.value c.forget.ensures c.place.ensures in
     rw (← c.self.view_is)
     (bid_paid f.good f.price agent f.standing.items (owned_by agent c.args.points.now) c.sell.new.fills (c.sell.ensures.trades ∙ ap (sales f.good f.price) placed))
+
+pub returns-then-self-clause-units : goal.returns-then-self-clause-units
+returns-then-self-clause-units c = nothing_spent _ _ c.clear.new.self c.clear.ensures (omega arith)
+
+pub returns-then-sells-clause-units : goal.returns-then-sells-clause-units
+returns-then-sells-clause-units c = nothing_spent _ _ c.clear.new.self c.clear.ensures (omega arith)
+
+pub returns-clause-units : goal.returns-clause-units
+returns-clause-units c =
+    let f = c.self.inside in
+    let agent = c.args.agent in
+    let points = c.args.points.now in
+    let le : c.args.agent ≤ 7 = omega (arith, c.get-number.ensures.range, c.get-number.ensures.value) in
+    let placed = placed_is c.get-number.result agent f.standing.items c.forget.new.standing.items c.place.new.standing.items c.as_slice-points.result.now points
+    c.get-number.ensures.value c.as_slice-points.ensures.value c.forget.ensures c.place.ensures in
+    rw (← c.self.view_is)
+    (sales_spend f.good f.price f.price (units_standing f.standing.items + 16) f.bound (others_than agent f.standing.items ++ owned_by agent points) c.sell.new.standing.items c.sell.new.fills
+    (sound_placed f.bound f.price f.standing.items agent points le c.as_slice-points.ensures.bid c.self.invariant) (placed_units agent f.standing.items points c.as_slice-points.ensures.small)
+    (c.sell.ensures.trades ∙ ap (sales f.good f.price) placed) (c.sell.ensures.left ∙ ap (unsold f.price) placed))

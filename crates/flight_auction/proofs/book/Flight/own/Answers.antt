@@ -14,8 +14,8 @@ points_of-requires c =
 pub new-requires : goal.new-requires
 new-requires c = ap left_fault (c.deref-2.ensures.0 ∙ c.points_of.ensures ∙ ap (points_of c.get.result) c.deref.ensures.0) ∙ c.self.invariant.limited c.get.result
 
-pub returns : goal.returns
-returns c = λ setup past stood.
+pub returns-clause-left : goal.returns-clause-left
+returns-clause-left c = λ setup past stood.
     let f = c.self.inside in
     let book : FlightBook = book_of f.good f.bound f.price f.standing.items f.closed in
     let kept : StandsFor book setup past = rw c.self.view_is stood in

@@ -7,6 +7,9 @@ use Rattle.flight_auction.specs.Book.{FlightBook, StandsFor}
 use Rattle.flight_auction.proofs.Keeping.{book_of, follows_on_closed, follows_updated}
 use Rattle.flight_auction.proofs.Limits.{sound_priced, sound_unsold}
 use Rattle.flight_auction.proofs.Paying.{sales_paid}
+use Rattle.flight_auction.specs.Book.{units_standing}
+use Rattle.auction_rules.proofs.Trading.{nothing_spent}
+use Rattle.flight_auction.proofs.Spending.{sales_spend}
 use Rattle.flight_auction.proofs.book.Flight.update.Goals as goal
 
 pub returns-then-self-clause-follows : goal.returns-then-self-clause-follows
@@ -37,3 +40,13 @@ pub returns-clause-paid : goal.returns-clause-paid
 returns-clause-paid c =
     let f = c.self.inside in
     rw (← c.self.view_is) (sales_paid f.good c.next_price-self-inside.result f.standing.items c.sell.new.fills c.sell.ensures.trades)
+
+pub returns-then-self-clause-units : goal.returns-then-self-clause-units
+returns-then-self-clause-units c = nothing_spent _ _ c.clear.new.self c.clear.ensures (omega arith)
+
+pub returns-clause-units : goal.returns-clause-units
+returns-clause-units c =
+    let f = c.self.inside in
+    rw (← c.self.view_is)
+    (sales_spend f.good f.price c.next_price-self-inside.result (units_standing f.standing.items) f.bound f.standing.items c.sell.new.standing.items c.sell.new.fills c.self.invariant (omega arith)
+    c.sell.ensures.trades c.sell.ensures.left)

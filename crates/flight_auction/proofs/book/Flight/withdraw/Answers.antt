@@ -4,17 +4,18 @@ use Rattle.tac_base.specs.declared.calls.Call.TheVariants.{Withdraw}
 use Rattle.flight_auction.specs.Book.{FlightBook, StandsFor, is_of, others_than}
 use Rattle.flight_auction.proofs.Keeping.{book_of, follows_on_closed, follows_without_bid, follows_withdrawn}
 use Rattle.flight_auction.proofs.Limits.{sound_forgotten}
+use Rattle.flight_auction.proofs.Spending.{forgotten_units}
 use Rattle.flight_auction.proofs.book.Flight.withdraw.Goals as goal
 
-pub returns-then-self : goal.returns-then-self
-returns-then-self c = λ setup past stood here.
+pub returns-then-self-clause-follows : goal.returns-then-self-clause-follows
+returns-then-self-clause-follows c = λ setup past stood here.
     let f = c.self.inside in
     let book : FlightBook = book_of f.good f.bound f.price f.standing.items f.closed in
     let kept : StandsFor book setup past = rw c.self.view_is stood in
     rw (← c.self.view_is) (follows_on_closed setup past book kept c.args.agent Withdraw _ refl c.if-self.true refl)
 
-pub returns-then-not-has_points : goal.returns-then-not-has_points
-returns-then-not-has_points c = λ setup past stood here.
+pub returns-then-not-has_points-clause-follows : goal.returns-then-not-has_points-clause-follows
+returns-then-not-has_points-clause-follows c = λ setup past stood here.
     let f = c.self.inside in
     let book : FlightBook = book_of f.good f.bound f.price f.standing.items f.closed in
     let kept : StandsFor book setup past = rw c.self.view_is stood in
@@ -28,8 +29,8 @@ invariant_of-self c =
     let f = c.self.inside in
     rw c.forget.ensures (sound_forgotten f.bound f.price f.standing.items c.get-number.result c.self.invariant)
 
-pub returns : goal.returns
-returns c = λ setup past stood here.
+pub returns-clause-follows : goal.returns-clause-follows
+returns-clause-follows c = λ setup past stood here.
     let f = c.self.inside in
     let book : FlightBook = book_of f.good f.bound f.price f.standing.items f.closed in
     let kept : StandsFor book setup past = rw c.self.view_is stood in
@@ -37,3 +38,6 @@ returns c = λ setup past stood here.
     let something : list_any (is_of c.args.agent) f.standing.items ≡ true =
     ap (λ (n : ℕ). list_any (is_of n) f.standing.items) (sym c.get-number.ensures.value) ∙ ap (list_any (is_of c.get-number.result)) (sym c.deref.ensures.0) ∙ sym c.has_points.ensures ∙ c.if-not-has_points.false in
     follows_withdrawn setup past book kept c.args.agent c.forget.new.standing.items le c.if-self.false something (c.forget.ensures ∙ ap (λ (n : ℕ). others_than n f.standing.items) c.get-number.ensures.value)
+
+pub returns-clause-units : goal.returns-clause-units
+returns-clause-units c = rw (← c.self.view_is, c.forget.ensures) (forgotten_units c.get-number.result c.self.inside.standing.items)

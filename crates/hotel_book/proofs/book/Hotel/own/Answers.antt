@@ -5,8 +5,8 @@ use Rattle.hotel_book.proofs.Owning.{left_open, left_closed, left_without_bid}
 use Rattle.hotel_book.proofs.book.Hotel.own.Goals.{in_default-via-in-Some+else-not-self, in_default-via-in_default}
 use Rattle.hotel_book.proofs.book.Hotel.own.Goals as goal
 
-pub returns-in-Some : goal.returns-in-Some
-returns-in-Some c = λ setup past stood.
+pub returns-in-Some-clause-left : goal.returns-in-Some-clause-left
+returns-in-Some-clause-left c = λ setup past stood.
     let book : HotelBook = book_of 16 false c.self.inside.good c.self.inside.bids c.self.inside.published c.self.inside.closed in
     let kept : StandsFor book setup past = rw c.self.view_is stood in
     let le : c.args.agent ≤ 7 = omega (arith, c.get.ensures.range, c.get.ensures.value) in
@@ -15,8 +15,8 @@ returns-in-Some c = λ setup past stood.
     c.new.ensures ∙ c.as_slice.ensures.value
     ∙ sym (left_open setup past book c.args.agent c.index-self-get.result c.in-Some.bid kept c.if-not-self.true le at c.as_slice.ensures.no_empty)
 
-pub returns-in_default : goal.returns-in_default
-returns-in_default c = λ setup past stood.
+pub returns-in_default-clause-left : goal.returns-in_default-clause-left
+returns-in_default-clause-left c = λ setup past stood.
     let book : HotelBook = book_of 16 false c.self.inside.good c.self.inside.bids c.self.inside.published c.self.inside.closed in
     let kept : StandsFor book setup past = rw c.self.view_is stood in
     let le : c.args.agent ≤ 7 = omega (arith, c.get.ensures.range, c.get.ensures.value) in

@@ -4,8 +4,8 @@ use Rattle.hotel_book.specs.Book.{HotelBook, StandsFor}
 use Rattle.hotel_book.proofs.Keeping.{book_of, follows_published}
 use Rattle.hotel_book.proofs.book.Hotel.publish.Goals as goal
 
-pub returns : goal.returns
-returns c = λ setup past stood here.
+pub returns-clause-follows : goal.returns-clause-follows
+returns-clause-follows c = λ setup past stood here.
     let book : HotelBook = book_of 16 false c.self.inside.good c.self.inside.bids c.self.inside.published c.self.inside.closed in
     let kept : StandsFor book setup past = rw c.self.view_is stood in
     follows_published setup past book c.ask-self-inside.result kept c.if-self.false

@@ -1,7 +1,7 @@
 -- How filters, maps and flat maps pass through one another.
 use Rattle.std.proofs.Common.{◌≡◌, Bool, true, false, cond, List, [], ◌∷◌, ◌++◌, map, refl, ap, ◌∙◌, Option, Some, None}
-use Rattle.std.specs.Prelude.{if◌then◌else◌, filter}
-use Rattle.std.specs.List.{AllByRecursion, cons_option, filter_map, flat_map}
+use Rattle.std.specs.Prelude.{IfSome, if◌then◌else◌, ◌||◌, filter}
+use Rattle.std.specs.List.{AllByRecursion, cons_option, filter_map, flat_map, list_any}
 use Rattle.std.specs.Option.{option_to_list}
 use Rattle.std.proofs.lemmas.List.{map-append}
 use Rattle.std.proofs.lemmas.List.Elements.{filter-append}
@@ -85,6 +85,30 @@ pub all-append : {X : Type 0} (P : X → Type 0) (xs ys : List X) → AllByRecur
 all-append P [] ys h k = k
 all-append P (x ∷ xs) ys h k = (h.0, all-append P xs ys h.1 k)
 
+pub all-if : {X : Type 0} (P : X → Type 0) (b : Bool) (xs : List X) → AllByRecursion P xs → AllByRecursion P (if b then xs else [])
+all-if P true xs h = h
+all-if P false xs h = tt
+
+pub all-map : {X Y : Type 0} (P : Y → Type 0) (f : X → Y) (xs : List X) → AllByRecursion (λ x. P (f x)) xs → AllByRecursion P (map f xs)
+all-map P f [] h = tt
+all-map P f (x ∷ xs) h = (h.0, all-map P f xs h.1)
+
+pub all-flat_map : {X Y : Type 0} (P : Y → Type 0) (f : X → List Y) (xs : List X) → AllByRecursion (λ x. AllByRecursion P (f x)) xs → AllByRecursion P (flat_map f xs)
+all-flat_map P f [] h = tt
+all-flat_map P f (x ∷ xs) h = all-append P (f x) (flat_map f xs) h.0 (all-flat_map P f xs h.1)
+
+pub all-filter_map : {X Y : Type 0} (P : Y → Type 0) (f : X → Option Y) (xs : List X) → AllByRecursion (λ x. IfSome (f x) P) xs → AllByRecursion P (filter_map f xs)
+all-filter_map P f [] h = tt
+all-filter_map {Y = Y} P f (x ∷ xs) h = keep (f x) h.0 (all-filter_map P f xs h.1)
+  where
+    keep : (y : Option Y) → IfSome y P → AllByRecursion P (filter_map f xs) → AllByRecursion P (cons_option y (filter_map f xs))
+    keep None k rest = rest
+    keep (Some y) k rest = (k, rest)
+
+pub all_alike : {X : Type 0} (P : X → Type 0) (xs : List X) → ((x : X) → P x) → AllByRecursion P xs
+all_alike P [] f = tt
+all_alike P (x ∷ xs) f = (f x, all_alike P xs f)
+
 -- what passes a test has what the test shows
 pub all_passing : {X : Type 0} (P : X → Type 0) (test : X → Bool) (xs : List X) → ((x : X) → test x ≡ true → P x) → AllByRecursion P (filter test xs)
 all_passing P test [] f = tt
@@ -101,3 +125,34 @@ all-weaker P Q (x ∷ xs) f h = (f x h.0, all-weaker P Q xs f h.1)
 pub filter_all : {X : Type 0} (test : X → Bool) (xs : List X) → AllByRecursion (λ x. test x ≡ true) xs → filter test xs ≡ xs
 filter_all test [] h = refl
 filter_all test (x ∷ xs) h = rw (h.0, filter_all test xs h.1) refl
+
+-- ---- whether a list has something
+
+abbrev pub some_of : {X : Type 0} → List X → Bool
+some_of [] = false
+some_of (x ∷ xs) = true
+
+pub some-append : {X : Type 0} (xs ys : List X) → some_of (xs ++ ys) ≡ (some_of xs || some_of ys)
+some-append [] ys = refl
+some-append (x ∷ xs) ys = refl
+
+pub any_is_some : {X : Type 0} (test : X → Bool) (xs : List X) → list_any test xs ≡ some_of (filter test xs)
+any_is_some test [] = refl
+any_is_some test (x ∷ xs) = by_test (test x) (any_is_some test xs)
+  where
+    by_test : (b : Bool) → list_any test xs ≡ some_of (filter test xs) → (b || list_any test xs) ≡ some_of (cond b (x ∷ filter test xs) (filter test xs))
+    by_test true ih = refl
+    by_test false ih = ih
+
+-- where one test is passed another is
+pub any-weaker : {X : Type 0} (p q : X → Bool) (xs : List X) → ((x : X) → p x ≡ true → q x ≡ true) → list_any p xs ≡ true → list_any q xs ≡ true
+any-weaker p q [] f h = h
+any-weaker p q (x ∷ xs) f h = by_test (p x) refl h (λ later. any-weaker p q xs f later)
+  where
+    later_too : (a b : Bool) → b ≡ true → (a || b) ≡ true
+    later_too true b k = refl
+    later_too false b k = k
+
+    by_test : (b : Bool) → p x ≡ b → (b || list_any p xs) ≡ true → (list_any p xs ≡ true → list_any q xs ≡ true) → (q x || list_any q xs) ≡ true
+    by_test true is found more = rw (f x is) refl
+    by_test false is found more = later_too (q x) (list_any q xs) (more found)

@@ -1,0 +1,132 @@
+-- Nobody trades with itself.
+use Rattle.std.proofs.Common.{◌≡◌, ℕ, ◌≤◌, Bool, true, false, cond, List, [], ◌∷◌, length, ◌+◌, map, refl, arith, Option, Some, None}
+use Rattle.std.specs.Prelude.{IfSome, ◌≢◌, not, ◌&&◌, ◌||◌, ◌==◌, if◌then◌else◌, max, filter, fold}
+use Rattle.std.specs.List.{AllByRecursion, filter_map}
+use Rattle.std.proofs.lemmas.Bool.{or_parts}
+use Rattle.std.proofs.lemmas.Bool.Decides.{nat_tests}
+use Rattle.tac_base.specs.declared.bids.Point.{Point}
+use Rattle.tac_base.specs.declared.calls.Trade.{Trade}
+use Rattle.tac_base.specs.declared.calls.Call.{Call}
+use Rattle.tac_base.specs.declared.calls.Call.TheVariants.{Bid, Withdraw, Own as OwnCall, Update, Publish, Close}
+use Rattle.tac_base.specs.declared.calls.Reply.{Reply}
+use Rattle.tac_base.specs.declared.calls.Reply.TheVariants.{Closed, WrongCall}
+use Rattle.auction_rules.specs.declared.units.Placed.{Placed}
+use Rattle.auction_rules.specs.declared.units.BidUnit.{BidUnit}
+use Rattle.auction_rules.specs.Goods.{agents, clock, house}
+use Rattle.auction_rules.specs.Setup.{Setup, Rules, FlightRules, HotelRules, TicketRules}
+use Rattle.auction_rules.specs.History.{Entry, is_own, is_closed, last_bid}
+use Rattle.auction_rules.specs.FlightRule.{price, price_after, looked_at, bids_looked_at}
+use Rattle.auction_rules.specs.TicketMatch.{arriving, ticket_trades}
+use Rattle.auction_rules.specs.Standing.{stand}
+use Rattle.auction_rules.specs.Ask.{ask}
+use Rattle.auction_rules.specs.WinningNumber.{winning}
+use Rattle.auction_rules.specs.HotelClosing.{closing_trade, closing_trades}
+use Rattle.auction_rules.specs.Refusals.{is_wrong_caller, is_wrong_place, call_refusal, refusal}
+use Rattle.auction_rules.specs.Legal.{entry_by, trades_by, trades_of}
+use Rattle.auction_rules.proofs.Agents.{agents_within}
+use Rattle.auction_rules.proofs.Lists.{all-append, all-filter, all-filter_map, all-if, all-weaker}
+use Rattle.auction_rules.proofs.Standing.{Each, IsBidOf, last_is}
+use Rattle.auction_rules.proofs.Quotes.{max_reaches}
+use Rattle.auction_rules.proofs.Matching.{IsFair, trades_fair}
+use Rattle.auction_rules.proofs.FlightTrades.{each_point_trade, each_flight_trade}
+
+-- a trade has two parties
+abbrev pub HasTwoParties : Trade → Type 0
+HasTwoParties trade = trade.buyer ≢ trade.seller
+
+agent_not_house : (agent : ℕ) → agent ≤ 7 → agent ≢ house
+agent_not_house agent le same = absurd (omega arith)
+
+-- ---- whose a call is
+
+-- an admitted call is of a caller that may make it
+pub admitted_caller : (rules : Rules) (past : List Entry) (caller : ℕ) (call : Call) → refusal rules past caller call ≡ None → is_wrong_caller caller call ≡ false
+admitted_caller rules past caller call h =
+    (or_parts (is_wrong_caller caller call) (is_wrong_place rules call) (by_tests (not (is_own call) && is_closed past) (is_wrong_caller caller call || is_wrong_place rules call) h)).0
+  where
+    by_tests : (a b : Bool) → (if a then Some Closed else if b then Some WrongCall else call_refusal rules past caller call) ≡ None → b ≡ false
+    by_tests true b g = cc
+    by_tests false true g = cc
+    by_tests false false g = refl
+
+pub bidder_is_agent : (rules : Rules) (past : List Entry) (caller : ℕ) (points : List Point) → caller ≤ 8 → refusal rules past caller (Bid points) ≡ None → caller ≤ 7
+bidder_is_agent rules past caller points le h = below (admitted_caller rules past caller (Bid points) h)
+  where
+    below : (caller == clock) ≡ false → caller ≤ 7
+    below other = grind (arith, nat_tests)
+
+-- ---- flights
+
+-- each bid that a call looks at is an agent's
+abbrev IsOfAgent : Placed → Type 0
+IsOfAgent bid = bid.agent ≤ 7
+
+last_of_agents : (past : List Entry) → AllByRecursion IsOfAgent (filter_map (λ agent. last_bid agent past) agents)
+last_of_agents past = all-filter_map IsOfAgent (λ agent. last_bid agent past) agents (all-weaker (λ agent. agent ≤ 7) _ agents (λ agent le. one agent (last_bid agent past) le (last_is agent past)) agents_within)
+  where
+    one : (agent : ℕ) (bid : Option Placed) → agent ≤ 7 → IsBidOf agent (length past) bid → IfSome bid IsOfAgent
+    one agent None le is = tt
+    one agent (Some bid) le is = rw (is.0) le
+
+looked_of_agents : (rules : Rules) (past : List Entry) (bids : List Placed) (position caller : ℕ) (call : Call) → caller ≤ 8 → refusal rules past caller call ≡ None →
+    AllByRecursion IsOfAgent bids → AllByRecursion IsOfAgent (bids_looked_at bids position caller call)
+looked_of_agents rules past bids position caller (Bid points) le admitted of_agents =
+    all-append IsOfAgent (filter (λ bid. not (bid.agent == caller)) bids) _ (all-filter IsOfAgent (λ bid. not (bid.agent == caller)) bids of_agents)
+    (bidder_is_agent rules past caller points le admitted, tt)
+looked_of_agents rules past bids position caller Withdraw le admitted of_agents = of_agents
+looked_of_agents rules past bids position caller OwnCall le admitted of_agents = of_agents
+looked_of_agents rules past bids position caller (Update tick draw) le admitted of_agents = of_agents
+looked_of_agents rules past bids position caller Publish le admitted of_agents = of_agents
+looked_of_agents rules past bids position caller Close le admitted of_agents = of_agents
+
+-- ---- hotels
+
+closing_parties : (good rooms : ℕ) (units : List BidUnit) → AllByRecursion HasTwoParties (closing_trades good rooms units)
+closing_parties good rooms units =
+    all-filter_map HasTwoParties (closing_trade good rooms units) agents (all-weaker (λ agent. agent ≤ 7) _ agents (λ agent le. one agent (winning rooms units agent == 0) le) agents_within)
+  where
+    one : (agent : ℕ) (b : Bool) → agent ≤ 7 → IfSome (cond b None (Some (record { buyer = agent; seller = house; good = good; units = winning rooms units agent; price = ask rooms units }))) HasTwoParties
+    one agent true le = tt
+    one agent false le = agent_not_house agent le
+
+-- ---- tickets
+
+ticket_parties : (good : ℕ) (standing units : List BidUnit) → AllByRecursion HasTwoParties (ticket_trades good standing units)
+ticket_parties good standing units =
+    all-weaker (IsFair most) HasTwoParties (ticket_trades good standing units) (λ trade fair. fair.0) (trades_fair good most standing units (each standing (max_reaches 0 (map (λ u. u.price) standing)).1))
+  where
+    most : ℕ
+    most = fold max 0 (map (λ u. u.price) standing)
+
+    each : (us : List BidUnit) → AllByRecursion (λ n. n ≤ most) (map (λ u. u.price) us) → Each (λ u. u.price ≤ most) us
+    each [] h = tt
+    each (u ∷ us) h = (h.0, each us h.1)
+
+-- ---- all auctions
+
+admitted_parties : (rules : Rules) (good : ℕ) (past : List Entry) (caller : ℕ) (call : Call) → caller ≤ 8 → refusal rules past caller call ≡ None →
+    AllByRecursion HasTwoParties (trades_by rules good past caller call)
+admitted_parties (FlightRules first bound) good past caller call le admitted =
+    all-if HasTwoParties _ _
+    (each_flight_trade HasTwoParties good current units bids (length past + 1)
+    (all-weaker IsOfAgent _ bids (λ bid agent. each_point_trade HasTwoParties good current units bid (λ from point reached some. agent_not_house bid.agent agent) 0 bid.points)
+    (looked_of_agents (FlightRules first bound) past _ (length past) caller call le admitted (last_of_agents past))))
+  where
+    current : ℕ
+    current = price_after bound (price first bound past) call
+
+    units : List BidUnit
+    units = looked_at (stand (FlightRules first bound) past) (length past) caller call
+
+    bids : List Placed
+    bids = bids_looked_at (filter_map (λ agent. last_bid agent past) agents) (length past) caller call
+admitted_parties (HotelRules rooms live) good past caller call le admitted = all-if HasTwoParties _ _ (closing_parties good rooms (stand (HotelRules rooms live) past))
+admitted_parties TicketRules good past caller call le admitted = ticket_parties good (stand TicketRules past) (arriving (length past) caller call)
+
+-- in no trade of a call is the buyer the seller
+pub nobody_trades_with_itself : (setup : Setup) (past : List Entry) (caller : ℕ) (call : Call) → caller ≤ 8 → AllByRecursion HasTwoParties (trades_of setup past caller call)
+nobody_trades_with_itself setup past caller call le = by_refusal (refusal setup.rules past caller call) refl
+  where
+    by_refusal : (refused : Option Reply) → refusal setup.rules past caller call ≡ refused → AllByRecursion HasTwoParties (entry_by setup past caller call refused).trades
+    by_refusal (Some reply) h = tt
+    by_refusal None h = admitted_parties setup.rules setup.good past caller call le h

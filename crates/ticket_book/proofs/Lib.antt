@@ -1,0 +1,4 @@
+pub mod Rewrites
+pub mod Trades
+pub mod Keeping
+pub mod Priced

@@ -1,0 +1,14 @@
+//! The auction of a ticket: agents buy from and sell to each other, at the price of the unit that stood first.
+#![tactic(auto)]
+
+mod book;
+mod matching;
+mod quotes;
+mod refusals;
+mod remains;
+mod standing;
+
+pub use book::Tickets;
+
+#[cfg(test)]
+mod tests;

@@ -1,0 +1,22 @@
+ghost use Rattle.std.specs.Prelude.{◌≡◌};
+ghost use Rattle.auction_rules.specs.Refusals as refusals;
+
+use tac_base::Point;
+
+/// Whether the price is at least that of some selling point.
+fn meets_own(points: &[Point], price: u16) -> bool
+    ensures { result ≡ refusals.meets_own points.now price }
+{
+    points
+        .iter()
+        .any(|sell| !sell.buys() && sell.price <= price)
+}
+
+/// Whether some buying point has at least the price of a selling one.
+pub(crate) fn crosses_itself(points: &[Point]) -> bool
+    ensures { result ≡ refusals.crosses_itself points.now }
+{
+    points
+        .iter()
+        .any(|buy| buy.buys() && meets_own(points, buy.price))
+}

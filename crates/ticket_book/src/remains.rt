@@ -1,0 +1,59 @@
+ghost use Rattle.std.specs.Prelude.{◌≡◌, ℕ, ◌+◌, ◌<◌, ◌≤◌, ◌++◌, [], ◌∷◌, length, None, if◌then◌else◌, ◌==◌};
+ghost use Rattle.tac_base.specs.declared.bids.Point.{Point};
+ghost use Rattle.tac_base.specs.Bids.{size_of};
+ghost use Rattle.auction_rules.specs.Units as units;
+ghost use Rattle.auction_rules.specs.Standing as spec;
+ghost use Rattle.ticket_book.specs.Remains as remains;
+
+use crate::standing::contains;
+use arrayvec::ArrayVec;
+use auction_rules::{BidUnit, Placed, push_point};
+use tac_base::{Left, Point};
+
+/// How many units of a point of the bid stand, where the units of the bid before it are `from`.
+fn units_left(standing: &[BidUnit], bid: &Placed, from: u8, point: &Point) -> u8
+    requires { from + size_of point.now ≤ 16 }
+    ensures value { result ≡ units.common_units (units.point_units bid.now.agent bid.now.position from point.now) standing.now }
+    ensures few { result ≤ size_of point.now }
+{
+    let mut own: ArrayVec<BidUnit, 16> = ArrayVec::new();
+    push_point(&mut own, bid, from, point);
+    own.iter().filter(|unit| contains(standing, unit)).count() as u8
+}
+
+/// So many units at the point's price, bought or sold as the point does.
+fn with_units(point: &Point, count: u8) -> Point
+    requires { count ≤ 16 }
+    ensures { result ≡ remains.with_units point.now count }
+{
+    let units = count as i8;
+    Point {
+        units: if point.buys() { units } else { -units },
+        price: point.price,
+    }
+}
+
+/// Appends what is left of a point, if there is something.
+fn push_left(left: &mut ArrayVec<Point, 16>, point: &Point, count: u8)
+    requires room { length left.old.items < 16 }
+    requires few { count ≤ 16 }
+    ensures points { left.new.items ≡ left.old.items ++ remains.point_left point.now count }
+    ensures len { length left.new.items ≤ length left.old.items + 1 }
+{
+    if count > 0 {
+        left.push(with_units(point, count));
+    }
+}
+
+/// What is left of a bid where these units stand.
+pub(crate) fn left_of(bid: &Placed, standing: &[BidUnit]) -> Left
+    ensures { result ≡ spec.left_points standing.now bid.now.agent bid.now.position 0 bid.now.points }
+{
+    let mut left = ArrayVec::new();
+    let mut from = 0;
+    for point in bid.points.as_slice() {
+        push_left(&mut left, point, units_left(standing, bid, from, point));
+        from += point.size();
+    }
+    Left::new(&left)
+}
