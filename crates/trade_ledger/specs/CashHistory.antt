@@ -1,0 +1,56 @@
+-- Histories of the cash book, the oldest entry first.
+use Rattle.std.specs.Prelude.{◌≡◌, ℕ, ◌==◌, if◌then◌else◌, ⊤, false, List, ℤ, pos, ◌+ℤ◌, fold, map, take, length, slice_get, slice_index_or, Option, Some, None}
+use Rattle.std.specs.List.{filter_map}
+use Rattle.tac_base.specs.declared.calls.Nets.{Nets}
+use Rattle.tac_base.specs.declared.calls.Board.{Board}
+use Rattle.auction_rules.specs.Goods.{clock}
+use Rattle.trade_ledger.specs.declared.cash_calls.CashCall.{CashCall}
+use Rattle.trade_ledger.specs.declared.cash_calls.CashCall.TheVariants.{Post, Read}
+use Rattle.trade_ledger.specs.declared.cash_calls.CashReply.{CashReply}
+use Rattle.trade_ledger.specs.declared.cash_calls.CashReply.TheVariants.{Done, Cash}
+use Rattle.trade_ledger.specs.declared.cash_calls.CashEntry.{CashEntry}
+
+-- the nets of a post; a reading has none
+abbrev pub nets_of : CashCall → Option Nets
+nets_of (Post good position nets) = Some nets
+nets_of (Read agent) = None
+
+-- the nets of all posts of a history, in order
+abbrev pub posted_nets : List CashEntry → List Nets
+posted_nets history = filter_map (λ e. nets_of e.call) history
+
+-- the sum of a party's nets in the posts of a history, in dollars
+abbrev pub total_of : List CashEntry → ℕ → ℤ
+total_of history party = fold ◌+ℤ◌ (pos 0) (map (λ nets. slice_index_or nets.dollars party (pos 0)) (posted_nets history))
+
+-- what a call adds to a party's total
+abbrev pub gain_of : CashCall → ℕ → ℤ
+gain_of (Post good position nets) party = slice_index_or nets.dollars party (pos 0)
+gain_of (Read agent) party = pos 0
+
+-- which calls a caller may make: every post, and a reading of its own cash
+abbrev pub IsFit : ℕ → CashCall → Type 0
+IsFit caller (Post good position nets) = ⊤
+IsFit caller (Read agent) = agent ≡ caller
+
+-- the reply to a call where the parties have these totals
+abbrev pub reply_by : (ℕ → ℤ) → CashCall → CashReply
+reply_by totals (Post good position nets) = Done
+reply_by totals (Read agent) = Cash (totals agent)
+
+-- the reply that is due to a call after a history
+abbrev pub reply_of : List CashEntry → CashCall → CashReply
+reply_of before call = reply_by (total_of before) call
+
+-- each entry has a call that its caller may make, and the reply that is due after the entries before it
+abbrev pub IsLegalCash : List CashEntry → Type 0
+IsLegalCash history = (position : ℕ) (e : CashEntry) → slice_get history position ≡ Some e →
+    IsFit e.caller e.call × (e.reply ≡ reply_of (take position history) e.call)
+
+-- the most entries that a caller may have
+abbrev pub cash_cap : ℕ → ℕ
+cash_cap caller = if caller == clock then 480 else 29696
+
+-- what is shown of a history: its length alone
+abbrev pub cash_board : List CashEntry → Board
+cash_board history = record { count = length history; bid = 0; ask = 0; closed = false }

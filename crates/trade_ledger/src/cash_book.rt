@@ -1,0 +1,146 @@
+ghost use Rattle.std.specs.Prelude.{◌≡◌, ℕ, ◌<◌, ◌≤ℤ◌, ◌+ℤ◌, pos, slice_index_or};
+ghost use Rattle.trade_ledger.specs.CashHistory.{gain_of, reply_by};
+ghost use Rattle.trade_ledger.specs.CashKeeping.{IsWithin};
+
+use crate::cash_calls::{CashCall, CashEntry, CashReply};
+use std::alloc::Global;
+use std::marker::Model;
+use tac_base::{Board, Caller, Memory, Nets, Party};
+use turn_lock::Kept;
+
+/// The most entries of a cash history: 29,696 of each agent, and 480 of the clock.
+const ENTRIES: usize = 238_048;
+
+/// The cash history of a game, and what each party has gained in it.
+#[derive(Drop)]
+pub struct CashBook {
+    entries: Vec<CashEntry>,
+    /// The sum of each party's nets in all posts, in dollars.
+    totals: [i64; 9],
+}
+
+impl Model for CashBook {
+    ghost use Rattle.std.specs.Prelude.{List, vec_capacity};
+    ghost use Rattle.trade_ledger.specs.declared.cash_calls.CashEntry.{CashEntry};
+    ghost use Rattle.trade_ledger.specs.CashKeeping.{IsSound};
+
+    ghost Value = { List CashEntry };
+
+    ghost view = { λ b. b.entries.items };
+
+    ghost invariant = { λ b. IsSound b.entries.items b.totals (vec_capacity b.entries) };
+}
+
+/// Adds the nets of a post to the totals.
+fn add_nets(totals: &mut [i64; 9], nets: &Nets)
+    requires { (party : ℕ) → party < 9 → IsWithin 600000000000000 (slice_index_or totals.old party (pos 0)) }
+    ensures totals { (party : ℕ) → party < 9 →
+        slice_index_or totals.new party (pos 0) ≡ slice_index_or totals.old party (pos 0) +ℤ slice_index_or nets.now.dollars party (pos 0) }
+    ensures small { (party : ℕ) → party < 9 → IsWithin 2147483648 (slice_index_or nets.now.dollars party (pos 0)) }
+{
+    for (party, total) in totals.iter_mut().enumerate() {
+        *total += i64::from(nets.dollars[party]);
+    }
+}
+
+/// What is answered to a call, where these are the totals so far, and adds what the call gives.
+fn settle(totals: &mut [i64; 9], call: &CashCall) -> CashReply
+    requires { (party : ℕ) → party < 9 → IsWithin 600000000000000 (slice_index_or totals.old party (pos 0)) }
+    ensures reply { result ≡ reply_by (λ party. slice_index_or totals.old party (pos 0)) call.now }
+    ensures totals { (party : ℕ) → party < 9 →
+        slice_index_or totals.new party (pos 0) ≡ slice_index_or totals.old party (pos 0) +ℤ gain_of call.now party }
+    ensures small { (party : ℕ) → party < 9 → IsWithin 2147483648 (gain_of call.now party) }
+{
+    match call {
+        CashCall::Post { nets, .. } => {
+            add_nets(totals, nets);
+            CashReply::Done
+        }
+        CashCall::Read { agent } => CashReply::Cash(totals[usize::from(agent.get())]),
+    }
+}
+
+impl CashBook {
+    ghost use Rattle.std.specs.Prelude.{◌≡◌, ◌≤◌, [], IfOk, slice_get, length};
+    ghost use Rattle.std.specs.Option.{option_copied};
+    ghost use Rattle.trade_ledger.specs.CashHistory.{total_of};
+
+    /// The empty book, with room for all entries of a game.
+    pub fn begin(alloc: Global) -> Result<CashBook, Memory>
+        ensures { IfOk result (λ b. b ≡ []) }
+    {
+        let entries = Vec::with_capacity(alloc, ENTRIES)?;
+        Ok(CashBook {
+            entries,
+            totals: [0; 9],
+        })
+    }
+
+    /// The entry at a position, None exactly past the end.
+    #[tactic(auto, using(crate::proofs::CashSteps::few_entries))]
+    pub fn entry(&self, position: u32) -> Option<&CashEntry>
+        ensures value { option_copied result ≡ slice_get self.now position }
+        ensures few { length self.now ≤ 238048 }
+    {
+        self.entries.get(position as usize)
+    }
+
+    /// The sum of the party's nets in all posts, in dollars: at most 600,000,000,000,000, gained or lost.
+    #[tactic(auto, using(crate::proofs::CashSteps::few_entries, crate::proofs::CashSteps::within_all))]
+    pub fn total(&self, party: Party) -> i64
+        ensures value { result ≡ total_of self.now party }
+        ensures range { IsWithin 600000000000000 result }
+    {
+        self.totals[usize::from(party.get())]
+    }
+}
+
+impl Kept for CashBook {
+    ghost use Rattle.trade_ledger.specs.CashHistory.{IsLegalCash, IsFit, cash_cap, cash_board};
+
+    type Call = CashCall;
+
+    type Reply = CashReply;
+
+    type Setup = ();
+
+    type Entry = CashEntry;
+
+    ghost setup = { λ _. tt };
+
+    ghost history = { λ h. h };
+
+    ghost legal = { λ _ h. IsLegalCash h };
+
+    ghost board = { λ _ h. cash_board h };
+
+    ghost caller_of = { λ e. e.caller };
+
+    ghost call_of = { λ e. e.call };
+
+    ghost answer = { λ e. e.reply };
+
+    ghost fit = { IsFit };
+
+    ghost cap = { cash_cap };
+
+    fn act(&mut self, caller: Caller, call: &CashCall) -> CashReply {
+        let reply = settle(&mut self.totals, call);
+        let entry = CashEntry {
+            caller,
+            call: *call,
+            reply,
+        };
+        self.entries.push_reserved(entry);
+        reply
+    }
+
+    fn board(&self) -> Board {
+        Board {
+            count: self.entries.len() as u32,
+            bid: 0,
+            ask: 0,
+            closed: false,
+        }
+    }
+}

@@ -1,0 +1,66 @@
+ghost use Rattle.std.specs.Prelude.{◌≡◌, ◌∷◌, [], All, ◌≤◌, pos, ◌+ℤ◌, slice_index_or, slice_set, FitsSigned};
+ghost use Rattle.std.specs.Int.{w32};
+ghost use Rattle.trade_ledger.specs.Holdings.{held_after, sum_held, IsHolding};
+
+use std::marker::Model;
+use tac_base::{Party, Trade};
+
+/// How many units of one good each party holds: the agents 0..7, then the house. Who sells more than it holds has less than 0.
+#[derive(Clone, Debug, Drop)]
+pub struct GoodBook {
+    holdings: [i32; 9],
+}
+
+impl Model for GoodBook {
+    ghost use Rattle.std.specs.Prelude.{List, ℤ};
+
+    ghost Value = { List ℤ };
+
+    ghost view = { λ b. b.holdings };
+}
+
+/// Where a party's holding stands.
+fn place(party: Party) -> usize
+    ensures value { result ≡ party }
+    ensures range { result ≤ 8 }
+{
+    usize::from(party.get())
+}
+
+/// Adds units to one holding.
+fn add(holdings: &mut [i32; 9], place: usize, units: i32)
+    requires place { place ≤ 8 }
+    requires fits { FitsSigned w32 (slice_index_or holdings.old place (pos 0) +ℤ units) }
+    ensures { holdings.new ≡ slice_set holdings.old place (slice_index_or holdings.old place (pos 0) +ℤ units) }
+{
+    holdings[place] += units;
+}
+
+impl GoodBook {
+    /// The book at first: what each party is endowed with.
+    pub fn new(endow: [i32; 9]) -> GoodBook
+        ensures { result ≡ endow }
+    {
+        GoodBook { holdings: endow }
+    }
+
+    /// Moves the units of a trade from its seller to its buyer. No holding may leave -1,000,000..1,000,000 by it.
+    pub fn apply(&mut self, trade: &Trade)
+        requires { All IsHolding (held_after self.old (trade.now ∷ [])) }
+        ensures held { self.new ≡ held_after self.old (trade.now ∷ []) }
+        ensures sum { sum_held self.new ≡ sum_held self.old }
+    {
+        let units = i32::from(trade.units);
+        let buyer = place(trade.buyer);
+        let seller = place(trade.seller);
+        add(&mut self.holdings, buyer, units);
+        add(&mut self.holdings, seller, -units);
+    }
+
+    /// How many units the party holds.
+    pub fn holding(&self, party: Party) -> i32
+        ensures { result ≡ slice_index_or self.now party (pos 0) }
+    {
+        self.holdings[place(party)]
+    }
+}

@@ -1,0 +1,5 @@
+pub mod Places
+pub mod Parts
+pub mod Words
+pub mod TurnSteps
+pub mod PutAway

@@ -1,0 +1,26 @@
+use Rattle.std.proofs.Common.{◌≡◌, ◌+◌, length, ap, sym, ◌∙◌, arith, ◌∷◌, [], length-append}
+use Rattle.turn_lock.proofs.TurnSteps.{whole_turn}
+use Rattle.turn_lock.proofs.lock.TurnLock.call.Goals as goal
+
+pub invariant_of-pass : goal.invariant_of-pass
+invariant_of-pass g c =
+    let took = c.wait.ensures.took in let acted = c.act-answer.ensures.entry in let pass = c.args.pass.now in let kept = g.S.Kept in
+    let after = whole_turn kept.setup kept.history kept.legal kept.board kept.caller_of (kept.setup c.args.self.now.table.shared.key.value) pass.seat.me.0
+    c.draw-ticket.result c.draw-ticket.new.seat.me c.wait.new.seat.me c.act-answer.new.seat.me took.0 acted.0 acted.1 acted.2 c.act-answer.result.0
+    c.draw-ticket.ensures.view took.1 acted.3 acted.4 (acted.5 ∙ sym pass.live.1) took.3 acted.8 acted.9 in record {
+      live = (ap (λ m. m.0.live) after ∙ pass.live.0, ap (λ m. m.0.caller) after ∙ pass.live.1);
+      at_rest = (ap (λ m. m.0.waits) after, ap (λ m. m.0.held) after, ap (λ m. m.1) after);
+      capped =
+          let cap = pass.capped in let left = c.requires.left in
+          let longer : length c.act-answer.new.seat.me.0.mine ≡ length pass.seat.me.0.mine + 1 =
+          ap (λ m. length m.0.mine) after ∙ length-append pass.seat.me.0.mine ((c.act-answer.result.0, acted.2) ∷ []) in
+          omega arith;
+    }
+
+pub returns-clause-entry : goal.returns-clause-entry
+returns-clause-entry g c =
+    let took = c.wait.ensures.took in let acted = c.act-answer.ensures.entry in let pass = c.args.pass.now in let kept = g.S.Kept in
+    let after = whole_turn kept.setup kept.history kept.legal kept.board kept.caller_of (kept.setup c.args.self.now.table.shared.key.value) pass.seat.me.0
+    c.draw-ticket.result c.draw-ticket.new.seat.me c.wait.new.seat.me c.act-answer.new.seat.me took.0 acted.0 acted.1 acted.2 c.act-answer.result.0
+    c.draw-ticket.ensures.view took.1 acted.3 acted.4 (acted.5 ∙ sym pass.live.1) took.3 acted.8 acted.9 in
+    (acted.2, acted.5, acted.6, acted.7, ap (λ m. m.0.mine) after)

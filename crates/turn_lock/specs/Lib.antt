@@ -1,0 +1,5 @@
+pub mod Part
+pub mod BoardWord
+pub mod TurnRule
+pub mod Steps
+pub mod Passes

@@ -1,0 +1,12 @@
+-- A caller's part of a history.
+use Rattle.std.specs.Prelude.{ℕ, ◌==◌, List, filter}
+use Rattle.std.specs.List.{enumerate_from}
+
+module _ {E : Type 0} where
+  -- the entries of a caller from the position n on, each in a pair with its position
+  abbrev pub part_from : (E → ℕ) → ℕ → ℕ → List E → List (ℕ × E)
+  part_from caller_of caller n history = filter (λ p. caller_of p.1 == caller) (enumerate_from n history)
+
+  -- the entries of a caller in a history, the oldest first, each in a pair with its position
+  abbrev pub part : (E → ℕ) → List E → ℕ → List (ℕ × E)
+  part caller_of history caller = part_from caller_of caller 0 history

@@ -1,0 +1,54 @@
+-- What clauses say of a pass and of a lock.
+use Rattle.std.specs.Prelude.{ℕ, List}
+use Rattle.atomic_table.specs.Seated.{TableId}
+use Rattle.tac_base.specs.declared.calls.Board.{Board}
+use Rattle.turn_lock.specs.declared.kept.Kept.{Ghosts}
+use Rattle.turn_lock.specs.declared.view.Returned.{Returned}
+use Rattle.turn_lock.specs.TurnRule.{own_view}
+use Rattle.turn_lock.specs.declared.pass.Pass.{Pass}
+use Rattle.turn_lock.specs.declared.lock.TurnLock.{TurnLock}
+
+module _ {S C R G E : Type 0} {K : Ghosts S C R G E} where
+  -- which lock the pass is of
+  abbrev pub lock_of : Pass S C R G E K → TableId
+  lock_of p = p.seat.table_id
+
+  abbrev pub caller_of : Pass S C R G E K → ℕ
+  caller_of p = p.caller
+
+  -- how many turns it has left
+  abbrev pub left_of : Pass S C R G E K → ℕ
+  left_of p = p.left
+
+  -- the length of the history that it knows of
+  abbrev pub seen_by : Pass S C R G E K → ℕ
+  seen_by p = p.seat.me.0.seen
+
+  -- the entries of all its calls so far, with their positions
+  abbrev pub made_by : Pass S C R G E K → List (ℕ × E)
+  made_by p = p.seat.me.0.mine
+
+  -- the boards that it saw so far, each with its count
+  abbrev pub noted_by : Pass S C R G E K → List (ℕ × Board)
+  noted_by p = p.seat.me.0.notes
+
+  -- what it leaves when it is taken back: its caller, its calls and its boards
+  abbrev pub returned_by : Pass S C R G E K → Returned E
+  returned_by p = record { caller = caller_of p; mine = made_by p; notes = noted_by p }
+
+module _ {S C R G E : Type 0} where
+  -- which lock it is
+  abbrev pub lock_id : TurnLock S C R G E → TableId
+  lock_id l = l.table.shared.table_id
+
+  -- the state that the lock was made with
+  abbrev pub start_of : TurnLock S C R G E → S
+  start_of l = l.table.shared.key.value
+
+  -- how many passes were made
+  abbrev pub passes_of : TurnLock S C R G E → ℕ
+  passes_of l = (own_view l.own.badge.views).passes
+
+  -- what the passes left that were taken back
+  abbrev pub returned_to : TurnLock S C R G E → List (Returned E)
+  returned_to l = (own_view l.own.badge.views).returned

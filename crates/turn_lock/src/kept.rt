@@ -1,0 +1,61 @@
+ghost use Rattle.std.specs.Prelude.{◌≡◌, ℕ, ◌<◌, ◌≤◌, List, [], ◌∷◌, ◌++◌, length};
+ghost use Rattle.tac_base.specs.declared.calls.Board.{Board};
+ghost use Rattle.turn_lock.specs.Part.{part};
+
+use tac_base::{Board, Caller};
+
+/// A value that a turn lock keeps. It means a setup, which is fixed when the value is made, and a history, the oldest entry first.
+/// The history of every value is legal.
+pub trait Kept: Drop + Send {
+    /// What a caller asks.
+    type Call;
+
+    /// What is answered.
+    type Reply;
+
+    /// What is fixed when the value is made. Contracts alone see it.
+    type Setup;
+
+    /// What the history is a list of. Contracts alone see it.
+    type Entry;
+
+    ghost setup: { Self → Self.Setup };
+
+    ghost history: { Self → List Self.Entry };
+
+    // which histories are lawful for a setup
+    ghost legal: { Self.Setup → List Self.Entry → Type 0 };
+
+    // the board of a history
+    ghost board: { Self.Setup → List Self.Entry → Board };
+
+    // the caller and the call of an entry, and the reply that it shows
+    ghost caller_of: { Self.Entry → ℕ };
+
+    ghost call_of: { Self.Entry → Self.Call };
+
+    ghost answer: { Self.Entry → Self.Reply };
+
+    // which calls a caller may make
+    ghost fit: { ℕ → Self.Call → Type 0 };
+
+    // the most entries that a caller may have
+    ghost cap: { ℕ → ℕ };
+
+    /// Appends the one entry of the call, and answers what the entry shows. It takes no memory.
+    fn act(&mut self, caller: Caller, call: &Self::Call) -> Self::Reply
+        requires fit { fit caller call.now }
+        requires room { length (part caller_of (history self.old) caller) < cap caller }
+        ensures setup { setup self.new ≡ setup self.old }
+        ensures legal { legal (setup self.new) (history self.new) }
+        ensures entry { (e : Self.Entry) × (history self.new ≡ history self.old ++ e ∷ [])
+            × (caller_of e ≡ caller) × (call_of e ≡ call.now) × (answer e ≡ result) };
+
+    /// The board of the history, which has fewer than 16,777,216 entries. Its prices are at most 10,001 dollars.
+    fn board(&self) -> Board
+        ensures board { result ≡ board (setup self.now) (history self.now) }
+        ensures count { result.count ≡ length (history self.now) }
+        ensures small { (result.count < 16777216) × (result.bid ≤ 10001) × (result.ask ≤ 10001) }
+        ensures legal { legal (setup self.now) (history self.now) }
+        ensures capped { (caller : ℕ) → caller ≤ 8 → length (part caller_of (history self.now) caller) ≤ cap caller };
+}

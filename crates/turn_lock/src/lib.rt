@@ -1,0 +1,18 @@
+//! A lock whose callers take turns at one state, each turn one entry of the state's history. What it says of any schedule stands in the
+//! clauses of its calls: each caller learns its own part of the one history that the state has at the end. No clause says that a turn
+//! comes, or when.
+#![tactic(auto)]
+
+mod board_word;
+mod kept;
+mod lock;
+mod own_seat;
+mod pass;
+mod sharing;
+mod steps;
+mod view;
+
+pub use kept::Kept;
+pub use lock::TurnLock;
+pub use pass::Pass;
+pub use view::{Returned, View};

@@ -1,0 +1,231 @@
+ghost use Rattle.std.specs.Prelude.{◌≡◌, ℕ, ◌+◌, ◌<◌, ◌≤◌, List, [], ◌∷◌, ◌++◌, length, None, Some};
+ghost use Rattle.turn_lock.specs.Part.{part};
+ghost use Rattle.turn_lock.specs.TurnRule.{own_view};
+ghost use Rattle.turn_lock.specs.Steps.{ticketed, holding, turned, with_pass, next_pass};
+
+use crate::board_word::{pack, unpack};
+use crate::kept::Kept;
+use crate::own_seat::OwnSeat;
+use crate::pass::Pass;
+use crate::steps::{Draw, JoinPass, Look, Peek, Publish, SplitOff};
+use crate::view::{TurnRule, View};
+use atomic_table::{Refused, Seat, Table};
+use crossbeam_utils::Backoff;
+use std::alloc::Global;
+use std::snapshot::Snapshot;
+use std::sync::Wait;
+use std::thread;
+use std::time::{Clock, Duration};
+use tac_base::{Board, Caller, Memory};
+
+/// After so many looks at the board a caller that waits sleeps.
+const LOOKS: u32 = 64;
+
+/// A state at which callers take turns. Word 0 of its table gives tickets, word 1 is the board, and the one slot has the state.
+#[derive(Drop)]
+pub struct TurnLock<S: Kept> {
+    table: Table<S, View<S::Setup, S::Entry>, Snapshot<S>, TurnRule<S>, Global>,
+    own: OwnSeat<View<S::Setup, S::Entry>>,
+    ghost sizes: { (table.shared.table_id.words ≡ 2) × (table.shared.table_id.slots ≡ 1) },
+    ghost its_own: { (own.badge.table_id ≡ table.shared.table_id) × (own.badge.id ≡ 0) × (length own.badge.views ≡ 1) },
+}
+
+impl<S: Kept> TurnLock<S> {
+    /// Draws a ticket.
+    fn draw(&self, seat: &mut Seat<S, View<S::Setup, S::Entry>>) -> u64
+        requires own { seat.old.table_id ≡ self.now.table.shared.table_id }
+        requires rests { (seat.old.me.0.live ≡ 1) × (seat.old.me.0.waits ≡ 0) × (seat.old.me.1 ≡ []) }
+        ensures own { (seat.new.table_id ≡ seat.old.table_id) × (seat.new.id ≡ seat.old.id) }
+        ensures view { seat.new.me ≡ (ticketed seat.old.me.0 result, []) }
+    {
+        self.table.shared.fetch_add::<Draw>(seat, 0, 1)
+    }
+
+    /// Looks at the board until its count is the ticket, and takes the state with that look.
+    fn wait<R: Wait + Clock>(
+        &self,
+        rt: &R,
+        seat: &mut Seat<S, View<S::Setup, S::Entry>>,
+        ticket: u64,
+    )
+        requires own { seat.old.table_id ≡ self.now.table.shared.table_id }
+        requires waits { (seat.old.me.0.live ≡ 1) × (seat.old.me.0.waits ≡ 1) × (seat.old.me.0.ticket ≡ ticket)
+            × (seat.old.me.0.held ≡ None) × (seat.old.me.1 ≡ []) }
+        ensures own { (seat.new.table_id ≡ seat.old.table_id) × (seat.new.id ≡ seat.old.id) }
+        ensures took { (x : S) × (seat.new.me ≡ (holding seat.old.me.0 (S.setup x) (S.history x), (0, x) ∷ [])) × (length (S.history x) ≡ ticket)
+            × (part S.caller_of (S.history x) seat.old.me.0.caller ≡ seat.old.me.0.mine) × (seat.old.me.0.seen ≤ ticket) }
+    {
+        let backoff = Backoff::new();
+        let mut looks = 0;
+        for _ in rt.forever() {
+            let found = self.table.shared.load::<Look<S>>(seat, 1);
+            if found % (1 << 24) == ticket {
+                break;
+            }
+            backoff.spin();
+            looks += 1;
+            if looks == LOOKS {
+                looks = 0;
+                thread::sleep(rt, Duration::from_micros(1));
+            }
+        }
+    }
+
+    /// Acts on the state in hand, and gives it back with the swap that shows the new board.
+    fn act(
+        &self,
+        seat: &mut Seat<S, View<S::Setup, S::Entry>>,
+        caller: Caller,
+        call: &S::Call,
+    ) -> (u32, S::Reply)
+        requires own { seat.old.table_id ≡ self.now.table.shared.table_id }
+        requires live { (seat.old.me.0.live ≡ 1) × (seat.old.me.0.caller ≡ caller) }
+        requires held { (x : S) × (seat.old.me.1 ≡ (0, x) ∷ []) × (seat.old.me.0.held ≡ Some (S.setup x, S.history x))
+            × (part S.caller_of (S.history x) caller ≡ seat.old.me.0.mine) }
+        requires room { length seat.old.me.0.mine < S.cap caller }
+        requires fit { S.fit caller call.now }
+        ensures own { (seat.new.table_id ≡ seat.old.table_id) × (seat.new.id ≡ seat.old.id) }
+        ensures entry { (x : S) × (h : List S.Entry) × (e : S.Entry) × (seat.old.me.1 ≡ (0, x) ∷ []) × (h ≡ S.history x ++ e ∷ [])
+            × (S.caller_of e ≡ caller) × (S.call_of e ≡ call.now) × (S.answer e ≡ result.1) × (result.0 ≡ length (S.history x)) × (seat.new.me ≡ (turned S.caller_of seat.old.me.0 h, [])) }
+    {
+        let shared = &self.table.shared;
+        let state = seat.slot_mut(shared, 0);
+        let reply = state.act(caller, call);
+        let board = state.board();
+        shared.swap::<Publish<S>>(seat, 1, pack(&board));
+        (board.count - 1, reply)
+    }
+
+    /// Makes the pass of the next caller.
+    fn split_off(&mut self, caller: Caller, limit: u32) -> Pass<S>
+        requires next { (caller ≡ (own_view self.old.own.badge.views).passes) × (caller < 9) }
+        requires limit { limit ≤ S.cap caller }
+        ensures own { (self.new.table ≡ self.old.table) × (self.new.own.badge.views ≡ with_pass (own_view self.old.own.badge.views) ∷ []) }
+        ensures pass { (result.seat.table_id ≡ self.old.table.shared.table_id) × (result.caller ≡ caller) × (result.left ≡ limit)
+            × (result.seat.me.0 ≡ next_pass (own_view self.old.own.badge.views)) }
+    {
+        let TurnLock { table, own } = self;
+        let mut own_seat = own.take();
+        let seat = table.shared.split_seat::<SplitOff>(&mut own_seat);
+        *own = OwnSeat::put(own_seat);
+        Pass {
+            seat,
+            caller,
+            left: limit,
+        }
+    }
+}
+
+impl<S: Kept> TurnLock<S> {
+    ghost use Rattle.std.specs.Prelude.{◌≡◌, ℕ, ◌+◌, ◌<◌, ◌≤◌, [], ◌∷◌, ◌++◌, length, IfOk, slice_index, vec_len};
+    ghost use mathlib.Core.Option.{some};
+    ghost use lib.ListN.{get_elem?};
+    ghost use Rattle.turn_lock.specs.Part.{part};
+    ghost use Rattle.turn_lock.specs.TurnRule.{AreKnown};
+    ghost use Rattle.turn_lock.specs.Passes.{lock_of, caller_of, left_of, made_by, noted_by, seen_by, returned_by, lock_id, start_of, passes_of, returned_to};
+
+    /// A lock at a state with no history, and one pass for each of 1 to 9 limits: pass `i` is that of caller `i`, and may call as often
+    /// as limit `i` says. After `Memory` the state is dropped.
+    pub fn begin(
+        alloc: Global,
+        state: S,
+        limits: &[u32],
+    ) -> Result<(TurnLock<S>, Vec<Pass<S>>), Memory>
+        requires limits { (1 ≤ length limits.now) × (length limits.now ≤ 9) }
+        requires empty { S.history state ≡ [] }
+        requires caps { (i : ℕ) → i < length limits.now → slice_index limits.now i ≤ S.cap i }
+        ensures setup { IfOk result (λ r. start_of r.0 ≡ state) }
+        ensures lock { IfOk result (λ r. (passes_of r.0 ≡ length limits.now) × (returned_to r.0 ≡ [])) }
+        ensures passes { IfOk result (λ r. (vec_len r.1 ≡ length limits.now) × ((i : ℕ) (p : _) → get_elem? r.1.items i ≡ some p →
+            (lock_of p ≡ lock_id r.0) × (caller_of p ≡ i) × (left_of p ≡ slice_index limits.now i) × (made_by p ≡ []) × (noted_by p ≡ []) × (seen_by p ≡ 0))) }
+    {
+        let mut passes = Vec::with_capacity(alloc, limits.len())?;
+        let mut slots = Vec::with_capacity(alloc, 1)?;
+        let key = Snapshot::of(&state);
+        let word = pack(&state.board());
+        slots.push_reserved(state);
+        let made = match Table::new(alloc, &[0, word], slots, &key) {
+            Ok(made) => made,
+            Err(Refused { slots: _ }) => return Err(Memory),
+        };
+        let (table, own_seat) = made;
+        let mut lock = TurnLock {
+            table,
+            own: OwnSeat::put(own_seat),
+        };
+        for i in 0..limits.len() {
+            let caller = Caller::new(i as u8).unwrap();
+            let pass = lock.split_off(caller, limits[i]);
+            passes.push_reserved(pass);
+        }
+        Ok((lock, passes))
+    }
+
+    /// Takes a turn: it may wait for it, acts on the state by the call, and answers the position of its entry and the reply. The position
+    /// is not below what the pass had seen.
+    pub fn call<R: Wait + Clock>(
+        &self,
+        rt: &R,
+        pass: &mut Pass<S>,
+        call: &S::Call,
+    ) -> (u32, S::Reply)
+        requires own { lock_of pass.old ≡ lock_id self.now }
+        requires left { 1 ≤ left_of pass.old }
+        requires fit { S.fit (caller_of pass.old) call.now }
+        ensures own { (lock_of pass.new ≡ lock_of pass.old) × (caller_of pass.new ≡ caller_of pass.old)
+            × (left_of pass.new + 1 ≡ left_of pass.old) × (noted_by pass.new ≡ noted_by pass.old) }
+        ensures entry { (e : S.Entry) × (S.caller_of e ≡ caller_of pass.old) × (S.call_of e ≡ call.now) × (S.answer e ≡ result.1)
+            × (made_by pass.new ≡ made_by pass.old ++ (result.0, e) ∷ []) }
+        ensures seen { (seen_by pass.old ≤ result.0) × (seen_by pass.new ≡ result.0 + 1) }
+    {
+        let ticket = self.draw(&mut pass.seat);
+        self.wait(rt, &mut pass.seat, ticket);
+        let answer = self.act(&mut pass.seat, pass.caller, call);
+        pass.left -= 1;
+        answer
+    }
+
+    /// The board of the history so far, which is not shorter than what the pass had seen. It waits for nobody.
+    pub fn peek(&self, pass: &mut Pass<S>) -> Board
+        requires own { lock_of pass.old ≡ lock_id self.now }
+        ensures own { (lock_of pass.new ≡ lock_of pass.old) × (caller_of pass.new ≡ caller_of pass.old)
+            × (left_of pass.new ≡ left_of pass.old) × (made_by pass.new ≡ made_by pass.old) }
+        ensures note { noted_by pass.new ≡ noted_by pass.old ++ (result.count, result) ∷ [] }
+        ensures seen { (seen_by pass.old ≤ result.count) × (seen_by pass.new ≡ result.count) }
+    {
+        let word = self.table.shared.load::<Peek>(&mut pass.seat, 1);
+        unpack(word)
+    }
+
+    /// Takes back a pass.
+    pub fn take_back(&mut self, pass: Pass<S>)
+        requires own { lock_of pass ≡ lock_id self.old }
+        ensures same { (lock_id self.new ≡ lock_id self.old) × (start_of self.new ≡ start_of self.old) × (passes_of self.new ≡ passes_of self.old) }
+        ensures returned { returned_to self.new ≡ returned_to self.old ++ returned_by pass ∷ [] }
+    {
+        let Pass {
+            seat,
+            caller: _,
+            left: _,
+        } = pass;
+        let TurnLock { table, own } = self;
+        let mut keeper = own.take();
+        table.shared.join_seat::<JoinPass>(&mut keeper, seat);
+        *own = OwnSeat::put(keeper);
+    }
+
+    /// The state, once all passes are back. Its history is legal, and has the calls of the passes and no others.
+    pub fn close(self) -> S
+        requires all_back { length (returned_to self) ≡ passes_of self }
+        ensures setup { S.setup result ≡ S.setup (start_of self) }
+        ensures legal { S.legal (S.setup result) (S.history result) }
+        ensures known { AreKnown (S.board (S.setup result)) S.caller_of (S.history result) (returned_to self) }
+        ensures nobody_else { (c : ℕ) → passes_of self ≤ c → part S.caller_of (S.history result) c ≡ [] }
+    {
+        let TurnLock { table, own } = self;
+        let mut closed = table.close_with(own.into_seat());
+        let state = closed.take(0);
+        closed.free();
+        state
+    }
+}

@@ -1,0 +1,58 @@
+//! The steps on the table of a lock, and what each tells the seat that makes it.
+ghost use Rattle.turn_lock.specs.TurnRule.{spent};
+ghost use Rattle.turn_lock.specs.Steps.{drew, looked, published, peeked, with_pass, next_pass, with_returned};
+
+use crate::kept::Kept;
+use crate::view::View;
+use atomic_table::{Join, Play, Split};
+use std::marker::PhantomData;
+
+/// Draws a ticket from word 0.
+pub(crate) struct Draw;
+
+impl<S, G, E> Play<S, View<G, E>> for Draw {
+    ghost then = { drew };
+}
+
+/// Looks at the board for one's turn, and takes the state where it has come.
+pub(crate) struct Look<S> {
+    state: PhantomData<S>,
+}
+
+impl<S: Kept> Play<S, View<S::Setup, S::Entry>> for Look<S> {
+    ghost then = { looked S.setup S.history S.caller_of };
+}
+
+/// Shows the new board, and gives the state back.
+pub(crate) struct Publish<S> {
+    state: PhantomData<S>,
+}
+
+impl<S: Kept> Play<S, View<S::Setup, S::Entry>> for Publish<S> {
+    ghost then = { published S.history S.caller_of };
+}
+
+/// Looks at the board.
+pub(crate) struct Peek;
+
+impl<S, G, E> Play<S, View<G, E>> for Peek {
+    ghost then = { peeked };
+}
+
+/// Splits off the seat of the next pass.
+pub(crate) struct SplitOff;
+
+impl<G, E> Split<View<G, E>> for SplitOff {
+    ghost left = { with_pass };
+
+    ghost right = { next_pass };
+}
+
+/// Joins the seat of a pass.
+pub(crate) struct JoinPass;
+
+impl<G, E> Join<View<G, E>> for JoinPass {
+    ghost both = { with_returned };
+
+    ghost spent = { spent };
+}
