@@ -1,0 +1,94 @@
+-- Reading a node, case by case.
+use Rattle.std.proofs.Common.{◌≡◌, ℕ, zero, suc, ◌+◌, ◌-◌, ◌<◌, List, [], ◌∷◌, ◌++◌, Result, Ok, Err, refl, sym, ap, subst, arith}
+use Rattle.std.specs.Result.{IsErrAnd}
+use Rattle.text_forms.specs.Lines.{Remaining}
+use Rattle.text_forms.specs.Steps.{◌>>=◌}
+use Rattle.packages.specs.Features.{values_of}
+use Rattle.bound_cert.specs.declared.faults.CertFault.{CertFault}
+use Rattle.bound_cert.specs.declared.faults.CertFault.TheVariants as faults
+use Rattle.bound_cert.specs.declared.node_lines.NodeLine.TheVariants.{Leaf, Split}
+use Rattle.bound_cert.specs.declared.trees.CertNode.{CertNode}
+use Rattle.bound_cert.specs.Faults.{IsRefusal, IsReading}
+use Rattle.bound_cert.specs.Trees.{Tree, leaf, split, Trees, no_trees, more}
+use Rattle.bound_cert.specs.Views.{tree_of, forest_of}
+use Rattle.bound_cert.specs.Reading.{Step, forest_by, node_line_in, tree_in}
+
+-- the line of a node could not be read
+pub no_node : (level : ℕ) (left : Remaining) (fault : CertFault) → node_line_in left ≡ Err fault → tree_in level left ≡ Err fault
+unfolding tree_in
+no_node zero left fault h = rw h
+no_node (suc level) left fault h = rw h
+
+pub leaf_node : (level number : ℕ) (left after : Remaining) (prices : List ℕ) → node_line_in left ≡ Ok (number, Leaf prices, after) → tree_in level left ≡ Ok (leaf prices, after)
+unfolding tree_in
+leaf_node zero number left after prices h = rw h
+leaf_node (suc level) number left after prices h = rw h
+
+pub deep_node : (number client feature : ℕ) (left after : Remaining) → node_line_in left ≡ Ok (number, Split client feature, after) → tree_in 0 left ≡ Err (faults.Line number 8)
+unfolding tree_in
+deep_node number client feature left after h = rw h
+
+pub split_node : (level number client feature : ℕ) (left after : Remaining) (read : Result (Trees × Remaining) CertFault) → 0 < level → node_line_in left ≡ Ok (number, Split client feature, after)
+    → forest_by (tree_in (level - 1)) (values_of feature) after ≡ read → tree_in level left ≡ (read >>= λ trees. Ok (split client feature trees.0, trees.1))
+unfolding tree_in
+split_node zero number client feature left after read some h each = absurd (omega arith)
+split_node (suc level) number client feature left after read some h each =
+    let same : suc level - 1 ≡ level = omega arith in
+    let each' : forest_by (tree_in level) (values_of feature) after ≡ read = rw same at each in
+    rw (h, each')
+
+-- a refusal is one also where memory may be short
+pub refusal_is : {A : Type 0} (fault : CertFault) (read : Result A CertFault) → read ≡ Err fault → IsRefusal fault read
+refusal_is (faults.Line line reason) read h = h
+refusal_is faults.TooLong read h = h
+refusal_is faults.Memory read h = tt
+
+-- a refusal that is handed on
+pub handed_on : {A B : Type 0} (view : A → B) (given : Result A CertFault) (fault : CertFault) (read : Result B CertFault) → IsErrAnd given (λ f. f ≡ fault) → IsRefusal fault read → IsReading view given read
+handed_on view (Ok x) fault read h refusal = absurd h
+handed_on view (Err f) fault read h refusal = subst (λ (e : CertFault). IsRefusal e read) (sym h) refusal
+
+-- where the one reading is refused, so is the other
+pub refused_through : {X Y : Type 0} (fault : CertFault) (a : Result X CertFault) (b : Result Y CertFault) → ((e : CertFault) → a ≡ Err e → b ≡ Err e) → IsRefusal fault a → IsRefusal fault b
+refused_through (faults.Line line reason) a b h f = h (faults.Line line reason) f
+refused_through faults.TooLong a b h f = h faults.TooLong f
+refused_through faults.Memory a b h f = tt
+
+-- trees that were read before others
+abbrev pub onto : List CertNode → Trees → Trees
+onto [] trees = trees
+onto (node ∷ nodes) trees = more (tree_of node) (onto nodes trees)
+
+-- the nodes that were read, and those that follow
+abbrev pub join : List CertNode → Trees × Remaining → Result (Trees × Remaining) CertFault
+join nodes read = Ok (onto nodes read.0, read.1)
+
+onto-push : (nodes : List CertNode) (node : CertNode) (trees : Trees) → onto (nodes ++ node ∷ []) trees ≡ onto nodes (more (tree_of node) trees)
+onto-push [] node trees = refl
+onto-push (n ∷ ns) node trees = ap (more (tree_of n)) (onto-push ns node trees)
+
+onto-none : (nodes : List CertNode) → onto nodes no_trees ≡ forest_of nodes
+onto-none [] = refl
+onto-none (n ∷ ns) = ap (more (tree_of n)) (onto-none ns)
+
+join-push : (nodes : List CertNode) (node : CertNode) (read : Result (Trees × Remaining) CertFault) → ((read >>= (λ trees. Ok (more (tree_of node) trees.0, trees.1))) >>= join nodes) ≡ (read >>= join (nodes ++ node ∷ []))
+join-push nodes node (Err fault) = refl
+join-push nodes node (Ok trees) = ap (λ (ts : Trees). Ok (ts, trees.1)) (sym (onto-push nodes node trees.0))
+
+module _ (tree_at : Step Tree) where
+  -- one more node was read
+  pub forest_step : (n m : ℕ) (left after : Remaining) (nodes : List CertNode) (node : CertNode) → n ≡ m + 1 → tree_at left ≡ Ok (tree_of node, after)
+      → (forest_by tree_at m after >>= join (nodes ++ node ∷ [])) ≡ (forest_by tree_at n left >>= join nodes)
+  forest_step zero m left after nodes node is h = absurd (omega arith)
+  forest_step (suc n) m left after nodes node is h =
+      let same : m ≡ n = omega arith in
+      rw (h, same) (sym (join-push nodes node (forest_by tree_at n after)))
+
+  -- a node could not be read
+  pub forest_bad : (n : ℕ) (left : Remaining) (nodes : List CertNode) (fault : CertFault) → 0 < n → tree_at left ≡ Err fault → (forest_by tree_at n left >>= join nodes) ≡ Err fault
+  forest_bad zero left nodes fault some h = absurd (omega arith)
+  forest_bad (suc n) left nodes fault some h = rw h
+
+  pub forest_done : (n : ℕ) (left : Remaining) (nodes : List CertNode) → n ≡ 0 → (forest_by tree_at n left >>= join nodes) ≡ Ok (forest_of nodes, left)
+  forest_done zero left nodes is = ap (λ (trees : Trees). Ok (trees, left)) (onto-none nodes)
+  forest_done (suc n) left nodes is = absurd (omega arith)

@@ -1,0 +1,10 @@
+use Rattle.std.proofs.Common.{◌≡◌, drop}
+use Rattle.bound_cert.specs.Views.{forest_of}
+use Rattle.bound_cert.specs.Ways.{left_by}
+use Rattle.bound_cert.specs.Certificate.{all_hold}
+use Rattle.bound_cert.proofs.checking.+holding.Given as goal
+
+abbrev pub invariant-children_hold-loop-value : goal.invariant-children_hold-loop-value
+invariant-children_hold-loop-value l =
+    all_hold l.account l.claim (left_by l.way) l.client l.feature l.value (forest_of (drop l.value l.children.items))
+    ≡ all_hold l.account l.claim (left_by l.way) l.client l.feature 0 (forest_of l.children.items)

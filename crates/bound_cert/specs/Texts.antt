@@ -1,0 +1,19 @@
+-- The text of a certificate: a line for each node, the children of a split after it.
+use Rattle.std.specs.Prelude.{ℕ, List, [], ◌∷◌, ◌++◌}
+use Rattle.text_forms.specs.Lines.{text_of}
+use Rattle.bound_cert.specs.Trees.{Tree, leaf, split, Trees, no_trees, more}
+use Rattle.bound_cert.specs.NodeLines.{leaf_text, split_text}
+
+abbrev mutual
+  pub tree_lines : Tree → List (List ℕ)
+  tree_lines (leaf prices) = leaf_text prices ∷ []
+  tree_lines (split client feature children) = split_text client feature ∷ forest_lines children
+
+  -- the lines of trees, one after the other
+  pub forest_lines : Trees → List (List ℕ)
+  forest_lines no_trees = []
+  forest_lines (more tree trees) = tree_lines tree ++ forest_lines trees
+
+-- the one text
+abbrev pub spelling : Tree → List ℕ
+spelling tree = text_of (tree_lines tree)

@@ -1,0 +1,37 @@
+-- The tree of a certificate.
+use Rattle.std.specs.Prelude.{ℕ, zero, suc, ◌+◌, ◌==◌, ◌&&◌, nat_lt, nat_le, Bool, true, false, List, length, IsTrue}
+use Rattle.std.specs.List.{list_all}
+use Rattle.packages.specs.Features.{values_of}
+
+mutual
+  pub data Tree : Type 0 where
+    -- a price for each good
+    leaf : List ℕ → Tree
+    -- a client, a feature, and a child for each value
+    split : ℕ → ℕ → Trees → Tree
+
+  pub data Trees : Type 0 where
+    no_trees : Trees
+    more : Tree → Trees → Trees
+
+abbrev pub count_of : Trees → ℕ
+count_of no_trees = 0
+count_of (more tree trees) = count_of trees + 1
+
+-- a price for each good, none of which is above 14001
+abbrev pub are_prices : List ℕ → Bool
+are_prices prices = length prices == 28 && list_all (λ price. nat_le price 14001) prices
+
+-- a split names a client and a feature and has a child for each value of the feature, and at most so many splits stand above each leaf
+abbrev mutual
+  pub is_tree : ℕ → Tree → Bool
+  is_tree depth (leaf prices) = are_prices prices
+  is_tree zero (split client feature children) = false
+  is_tree (suc depth) (split client feature children) = nat_lt client 8 && nat_lt feature 4 && count_of children == values_of feature && are_trees depth children
+
+  pub are_trees : ℕ → Trees → Bool
+  are_trees depth no_trees = true
+  are_trees depth (more tree trees) = is_tree depth tree && are_trees depth trees
+
+abbrev pub IsCertificate : Tree → Type 0
+IsCertificate tree = IsTrue (is_tree 32 tree)

@@ -1,0 +1,10 @@
+-- What a way leaves.
+use Rattle.packages.specs.Bounds.{Narrowing}
+use Rattle.packages.specs.Features.{narrowed}
+use Rattle.bound_cert.specs.declared.ways.Way.{Way, Start, Turn'}
+use Rattle.bound_cert.specs.Certificate.{all_left}
+
+-- the packages left to each client at the end of a way
+abbrev pub left_by : Way → Narrowing
+left_by Start = all_left
+left_by (Turn' client feature value place before) = narrowed (left_by before) client feature value

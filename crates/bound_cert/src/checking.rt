@@ -1,0 +1,79 @@
+ghost use Rattle.std.specs.Prelude.{◌≡◌, ℕ, ◌≤◌, IsTrue, vec_len};
+ghost use Rattle.bound_cert.specs.Views.{tree_of, forest_of};
+ghost use Rattle.bound_cert.specs.Ways.{left_by};
+ghost use Rattle.bound_cert.specs.Certificate.{holds, all_hold, is_within, all_left, BoundsAll};
+ghost use Rattle.packages.specs.Bounds.{leaf_bound};
+
+use crate::trees::{Cert, CertNode};
+use crate::ways::Way;
+use game_text::Account;
+use packages::{Prices, leaf_bound, value_count};
+
+/// Whether the prices bound what is left at the end of the way by a claim in dollars. They do where some client has no
+/// package left there.
+pub fn leaf_holds(account: &Account, claim: u32, way: &Way<'_>, prices: &Prices) -> bool
+    ensures { result ≡ is_within (leaf_bound account.now (left_by way.now) prices.now) claim }
+{
+    match leaf_bound(account, way, prices) {
+        None => true,
+        Some(bound) => bound <= i64::from(claim),
+    }
+}
+
+/// Whether the part of a certificate at the end of the way holds.
+#[cycle(holding)]
+#[tactic(auto, using(crate::proofs::Views::views))]
+fn node_holds(account: &Account, claim: u32, way: &Way<'_>, node: &CertNode) -> bool
+    ensures { result ≡ holds account.now claim (left_by way.now) (tree_of node.now) }
+{
+    match node {
+        CertNode::Leaf(prices) => leaf_holds(account, claim, way, prices),
+        CertNode::Split {
+            client,
+            feature,
+            children,
+        } => {
+            children.len() == usize::from(value_count(*feature))
+                && children_hold(account, claim, way, *client, *feature, children)
+        }
+    }
+}
+
+/// Whether the children of a split hold, the first being for the value 0.
+#[cycle(holding)]
+#[tactic(auto, using(crate::proofs::Views::views))]
+fn children_hold(
+    account: &Account,
+    claim: u32,
+    way: &Way<'_>,
+    client: u8,
+    feature: u8,
+    children: &Vec<CertNode>,
+) -> bool
+    requires { vec_len children.now ≤ 21 }
+    ensures { result ≡ all_hold account.now claim (left_by way.now) client feature 0 (forest_of children.now.items) }
+{
+    for (value, child) in children.iter().enumerate() {
+        let turn = Way::Turn {
+            client,
+            feature,
+            value: value as u8,
+            before: &*way,
+        };
+        if !node_holds(account, claim, &turn, child) {
+            return false;
+        }
+    }
+    true
+}
+
+/// Whether the certificate holds for a claim in dollars: each leaf bounds what the splits on the way to it leave.
+pub fn check(account: &Account, claim: u32, cert: &Cert) -> bool
+    ensures value { result ≡ holds account.now claim all_left (tree_of cert.now.root) }
+    // Then no feasible allocation is worth more than the claim.
+    ensures bounds { IsTrue result → BoundsAll account.now claim }
+{
+    // The law rests on the account's ranges, which are known where it is read.
+    let _holdings = &account.holdings;
+    node_holds(account, claim, &Way::Start, &cert.root)
+}

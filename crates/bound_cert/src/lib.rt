@@ -1,0 +1,19 @@
+//! Certificates: trees of splits and prices, from which it follows that no feasible allocation is worth more than a claim.
+#![tactic(auto)]
+
+mod checking;
+mod faults;
+mod node_lines;
+mod printing;
+mod reading;
+#[cfg(test)]
+mod tests;
+mod trees;
+mod ways;
+
+pub use checking::{check, leaf_holds};
+pub use faults::CertFault;
+pub use printing::print_cert;
+pub use reading::read_cert;
+pub use trees::{Cert, CertNode};
+pub use ways::Way;

@@ -1,0 +1,116 @@
+ghost use Rattle.std.specs.Prelude.{◌≡◌, ◌≤◌, ◌<◌, ◌↔◌, length, IfOk, Ok, Err};
+ghost use Rattle.bound_cert.specs.Faults.{IsReading};
+ghost use Rattle.bound_cert.specs.Reading as reading;
+ghost use Rattle.bound_cert.specs.Texts.{spelling};
+ghost use Rattle.bound_cert.specs.Trees.{Tree, IsCertificate};
+ghost use Rattle.bound_cert.specs.Views.{tree_of, forest_of};
+
+use crate::faults::CertFault;
+use crate::node_lines::{NodeLine, node_line_of};
+use crate::trees::{Cert, CertNode};
+use packages::value_count;
+use std::alloc::Global;
+use text_forms::{Lines, at_line};
+
+/// A certificate's text has at most so many bytes.
+const MOST_BYTES: usize = 67_108_864;
+
+/// A certificate is at most so many splits deep.
+const MOST_SPLITS: u8 = 32;
+
+/// The number of the next line, what the line says, and the lines after it.
+fn node_line_in<'a>(lines: Lines<'a>) -> Result<(u32, NodeLine, Lines<'a>), CertFault>
+    ensures { result ≡ reading.node_line_in lines.entry }
+{
+    let (line, left) = lines.due()?;
+    let node = at_line(line.number(), node_line_of(line.bytes()))?;
+    Ok((line.number(), node, left))
+}
+
+/// Reads a node and all below it, with so many levels of splits at most, and gives the lines after them.
+#[cycle(reading)]
+fn read_node<'a>(
+    alloc: Global,
+    level: u8,
+    lines: Lines<'a>,
+) -> Result<(CertNode, Lines<'a>), CertFault>
+    ensures { IsReading (λ x. (tree_of x.0, x.1)) result (reading.tree_in level lines.entry) }
+{
+    let (number, node, left) = node_line_in(lines)?;
+    match node {
+        NodeLine::Leaf(prices) => Ok((CertNode::Leaf(prices), left)),
+        NodeLine::Split { client, feature } => {
+            if level == 0 {
+                return Err(CertFault::Line {
+                    line: number,
+                    reason: 8,
+                });
+            }
+            let (children, left) = read_children(alloc, level - 1, value_count(feature), left)?;
+            Ok((
+                CertNode::Split {
+                    client,
+                    feature,
+                    children,
+                },
+                left,
+            ))
+        }
+    }
+}
+
+/// Reads so many nodes, one after another, and gives the lines after them.
+#[cycle(reading)]
+fn read_children<'a>(
+    alloc: Global,
+    level: u8,
+    count: u8,
+    lines: Lines<'a>,
+) -> Result<(Vec<CertNode>, Lines<'a>), CertFault>
+    ensures { IsReading (λ x. (forest_of x.0.items, x.1)) result (reading.forest_by (reading.tree_in level) count lines.entry) }
+{
+    let mut children = Vec::new(alloc);
+    let mut left = lines;
+    for _i in 0..count {
+        let (child, after) = read_node(alloc, level, left)?;
+        if children.push(child).is_err() {
+            return Err(CertFault::Memory);
+        }
+        left = after;
+    }
+    Ok((children, left))
+}
+
+/// Reads a node and all below it, after which no line may be left.
+fn root_in(alloc: Global, lines: Lines<'_>) -> Result<CertNode, CertFault>
+    ensures { IsReading tree_of result (reading.root_in lines.entry) }
+{
+    let (root, left) = read_node(alloc, MOST_SPLITS, lines)?;
+    left.finish()?;
+    Ok(root)
+}
+
+/// The root of the certificate of a text.
+fn root_of(alloc: Global, text: &[u8]) -> Result<CertNode, CertFault>
+    ensures exact { IsReading tree_of result (reading.cert_of text.now) }
+    ensures too_long { (result ≡ Err CertFault.TooLong) ↔ (67108864 < length text.now) }
+{
+    if text.len() > MOST_BYTES {
+        return Err(CertFault::TooLong);
+    }
+    root_in(alloc, Lines::new(text))
+}
+
+/// Reads the text of a certificate. It goes no deeper than 32 splits, whatever the text is.
+pub fn read_cert(alloc: Global, text: &[u8]) -> Result<Cert, CertFault>
+    // Which certificate it is, or the first bad line with its first reason, unless memory is short.
+    ensures exact { IsReading (λ cert. tree_of cert.root) result (reading.cert_of text.now) }
+    ensures too_long { (result ≡ Err CertFault.TooLong) ↔ (67108864 < length text.now) }
+    // The text is the one of the certificate.
+    ensures same { IfOk result (λ cert. text.now ≡ spelling (tree_of cert.root)) }
+    // The text of each certificate is read as that certificate.
+    ensures only { (tree : Tree) → IsCertificate tree → length text.now ≤ 67108864 → text.now ≡ spelling tree → reading.cert_of text.now ≡ Ok tree }
+{
+    let root = root_of(alloc, text)?;
+    Ok(Cert { root })
+}

@@ -1,0 +1,24 @@
+ghost use Rattle.bound_cert.specs.Trees.{IsCertificate};
+ghost use Rattle.bound_cert.specs.Views.{tree_of};
+
+use packages::Prices;
+
+/// A part of a certificate. That it goes by prices and by splits is our own rule.
+#[derive(Debug, Drop)]
+pub enum CertNode {
+    /// Prices that bound what is left here.
+    Leaf(Prices),
+    /// A client, 0..7, a feature, 0..3, and a child for each value of the feature: 21 for the trip, 5 for a night.
+    Split {
+        client: u8,
+        feature: u8,
+        children: Vec<CertNode>,
+    },
+}
+
+/// A certificate, at most 32 splits deep.
+#[derive(Debug, Drop)]
+pub struct Cert {
+    pub root: CertNode,
+    ghost fits: { IsCertificate (tree_of root) },
+}

@@ -1,0 +1,10 @@
+pub mod Goods
+pub mod Packages
+pub mod Listing
+pub mod Decoding
+pub mod Prices
+pub mod Stocks
+pub mod BestTotal
+pub mod Bounds
+pub mod Features
+pub mod Costs

@@ -1,0 +1,40 @@
+-- All packages, each once.
+use Rattle.std.specs.Prelude.{ℕ, zero, suc, ◌+◌, ◌-◌, ◌==◌, ◌&&◌, List, [], ◌∷◌, ◌++◌, map, max, if◌then◌else◌}
+use Rattle.std.specs.List.{flat_map, filter, fold}
+use Rattle.packages.specs.declared.travel_packages.Package.{Package}
+use Rattle.packages.specs.declared.travel_packages.Package.TheVariants.{None, Trip}
+use Rattle.packages.specs.Packages.{are_apart}
+
+-- the days of arrival and departure, in the order of their ranks
+abbrev pub trips : List (ℕ × ℕ)
+trips = (1, 2) ∷ (1, 3) ∷ (1, 4) ∷ (1, 5) ∷ (2, 3) ∷ (2, 4) ∷ (2, 5) ∷ (3, 4) ∷ (3, 5) ∷ (4, 5) ∷ []
+
+-- three numbers of 0..4
+abbrev pub triples : List (List ℕ)
+triples =
+    let numbers : List ℕ = 0 ∷ 1 ∷ 2 ∷ 3 ∷ 4 ∷ [] in
+    flat_map (λ a. flat_map (λ b. map (λ c. a ∷ b ∷ c ∷ []) numbers) numbers) numbers
+
+-- the nights of a stay that the three tickets may have, the stay's first night being 1, where the latest is the given one
+abbrev pub nights_to : ℕ → List (List ℕ)
+nights_to latest = filter (λ nights. are_apart nights && fold max 0 nights == latest) triples
+
+-- the numbers from 0 to n
+abbrev pub numbers_to : ℕ → List ℕ
+numbers_to zero = 0 ∷ []
+numbers_to (suc n) = numbers_to n ++ suc n ∷ []
+
+-- the nights for the tickets in a stay of so many nights
+abbrev pub nights_within : ℕ → List (List ℕ)
+nights_within length = flat_map nights_to (numbers_to length)
+
+-- a night of a stay that begins on a day
+abbrev pub night_of : ℕ → ℕ → ℕ
+night_of arrive night = if night == 0 then 0 else arrive + night - 1
+
+abbrev pub packages_of : ℕ → ℕ × ℕ → List Package
+packages_of hotel trip = map (λ nights. Trip hotel trip.0 trip.1 (map (night_of trip.0) nights)) (nights_within (trip.1 - trip.0))
+
+-- every package once
+unfoldable pub packages : List Package
+packages = None ∷ flat_map (λ hotel. flat_map (packages_of hotel) trips) (0 ∷ 1 ∷ [])

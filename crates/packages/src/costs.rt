@@ -1,0 +1,71 @@
+ghost use Rattle.std.specs.Prelude.{◌≡◌, ℕ, ◌<◌, ◌≤◌, ◌*◌, ◌+◌, slice_index};
+ghost use Rattle.packages.specs.Bounds.{cost_of};
+ghost use Rattle.packages.specs.Costs.{rooms_price, ticket_price};
+ghost use Rattle.packages.specs.Packages.{IsPackage};
+
+use crate::prices::Prices;
+use crate::travel_packages::Package;
+
+/// The price of the good of a number.
+fn price_at(prices: &Prices, good: usize) -> u32
+    requires { good < 28 }
+    ensures value { result ≡ slice_index prices.now good }
+    ensures few { result ≤ 14001 }
+{
+    u32::from(prices.dollars[good])
+}
+
+/// What the rooms of a stay cost.
+#[tactic(auto, using(crate::proofs::Trips::rooms_none, crate::proofs::Trips::rooms_more))]
+fn rooms_cost(prices: &Prices, hotel: u8, arrive: u8, depart: u8) -> u32
+    requires hotel { hotel < 2 }
+    requires first { 1 ≤ arrive }
+    requires later { arrive < depart }
+    requires last { depart ≤ 5 }
+    ensures value { result ≡ rooms_price prices.now hotel arrive depart }
+    ensures few { result ≤ 4 * 14001 }
+{
+    let mut total = 0;
+    for night in arrive..depart {
+        total += price_at(prices, 7 + 4 * usize::from(hotel) + usize::from(night));
+    }
+    total
+}
+
+/// What the ticket of a type costs; no night costs nothing.
+fn ticket_cost(prices: &Prices, kind: usize, night: u8) -> u32
+    requires kind { kind < 3 }
+    requires night { night < 5 }
+    ensures value { result ≡ ticket_price prices.now kind night }
+    ensures few { result ≤ 14001 }
+{
+    if night == 0 {
+        0
+    } else {
+        price_at(prices, 15 + 4 * kind + usize::from(night))
+    }
+}
+
+/// What the goods that a package uses cost at the prices, in dollars. The package is one of the 393.
+pub fn cost(prices: &Prices, package: &Package) -> u32
+    requires { IsPackage «package».now }
+    ensures value { result ≡ cost_of prices.now «package».now }
+    ensures few { result ≤ 9 * 14001 }
+{
+    match package {
+        Package::None => 0,
+        Package::Trip {
+            hotel,
+            arrive,
+            depart,
+            nights,
+        } => {
+            price_at(prices, usize::from(*arrive) - 1)
+                + price_at(prices, usize::from(*depart) + 2)
+                + rooms_cost(prices, *hotel, *arrive, *depart)
+                + ticket_cost(prices, 0, nights[0])
+                + ticket_cost(prices, 1, nights[1])
+                + ticket_cost(prices, 2, nights[2])
+        }
+    }
+}

@@ -1,0 +1,22 @@
+//! What a client's trip uses and what it is worth, all such packages, and what prices say about every allocation of them.
+#![tactic(auto)]
+
+mod bounds;
+mod costs;
+mod features;
+mod goods_used;
+mod listing;
+mod prices;
+#[cfg(test)]
+mod tests;
+mod travel_packages;
+mod utilities;
+
+pub use bounds::{Narrowing, leaf_bound, margin, stock};
+pub use costs::cost;
+pub use features::{feature_value, value_count};
+pub use goods_used::uses;
+pub use listing::package;
+pub use prices::Prices;
+pub use travel_packages::Package;
+pub use utilities::utility;

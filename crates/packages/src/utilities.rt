@@ -1,0 +1,56 @@
+ghost use Rattle.std.specs.Prelude.{◌≡◌, ℕ, ◌<◌, ◌≤◌};
+ghost use Rattle.packages.specs.Packages.{IsPackage, distance, fun_of, utility_of};
+
+use crate::travel_packages::Package;
+use tac_base::Client;
+
+/// How many days lie between.
+fn days_between(a: u8, b: u8) -> u32
+    ensures { result ≡ distance a b }
+{
+    u32::from(a.abs_diff(b))
+}
+
+/// The value of a ticket type, where it has a night.
+fn fun(client: &Client, nights: &[u8; 3], kind: usize) -> u32
+    requires { kind < 3 }
+    ensures value { result ≡ fun_of client.now.values nights.now kind }
+    ensures few { result ≤ 200 }
+{
+    if nights[kind] == 0 {
+        0
+    } else {
+        u32::from(client.values[kind])
+    }
+}
+
+/// What the package is worth to the client, in dollars: 1000 for a trip, less 100 for each day by which arrival and
+/// departure miss its wishes, with its premium in Tampa Towers and its values of the ticket types used. The package is one
+/// of the 393. The numbers are the game description's.
+pub fn utility(client: &Client, package: &Package) -> u32
+    requires { IsPackage «package».now }
+    ensures value { result ≡ utility_of client.now «package».now }
+    ensures bound { result ≤ 1750 }
+{
+    match package {
+        Package::None => 0,
+        Package::Trip {
+            hotel,
+            arrive,
+            depart,
+            nights,
+        } => {
+            let days = days_between(*arrive, client.arrive) + days_between(*depart, client.depart);
+            let premium = if *hotel == 1 {
+                u32::from(client.premium)
+            } else {
+                0
+            };
+            1000 - 100 * days
+                + premium
+                + fun(client, nights, 0)
+                + fun(client, nights, 1)
+                + fun(client, nights, 2)
+        }
+    }
+}
