@@ -1,33 +1,24 @@
 -- Where nothing is wrong with the words, the file and the outside, the command's text is written, or memory was refused.
-use Rattle.std.proofs.Common.{◌≡◌, ℕ, ◌<◌, List, length, refl, sym, ◌∙◌, subst, inl, inr, arith, Option, Some, None}
-use Rattle.std.specs.Prelude.{◌⊎◌, Ok, Err, Result}
+use Rattle.std.proofs.Common.{◌≡◌, ℕ, ◌<◌, List, length, refl, ◌∙◌, subst, inl, inr, arith, Option, Some, None}
+use Rattle.std.specs.Prelude.{◌⊎◌, Ok, Err}
 use Rattle.tac_io.specs.Counts.{Rose}
-use Rattle.game_text.specs.declared.fault.GameFault.{GameFault}
 use Rattle.game_text.specs.declared.fault.GameFault.TheVariants.{Line, TooLong}
 use Rattle.game_text.specs.Games.{GameFile, game_of}
-use Rattle.script_run.specs.declared.hotel_lines.HotelLine.{HotelLine}
-use Rattle.script_run.specs.HotelScripts.{script_of, BadLine}
+use Rattle.game_text.specs.Accounts.{AccountFile, account_of}
+use Rattle.script_run.specs.HotelScripts.{script_of}
 use Rattle.script_run.specs.HotelOuts.{IsOut, IsBad, longest_script}
 use Rattle.tacd.specs.declared.refusals.Refusal.TheVariants.{Usage, GameLine, GameTooLong, ReadFault, Memory, TextLine, TextTooLong}
-use Rattle.tacd.specs.Commands.{Command, Hotel, Show, Make}
+use Rattle.tacd.specs.Commands.{Command, Hotel, Show, Make, Solve}
 use Rattle.tacd.specs.Outcomes.{Outcome, Done, Refused, code_of}
-use Rattle.tacd.specs.Allowed.{Content, Allows, HotelAllows, ShowAllows, longest_game}
+use Rattle.tacd.specs.Allowed.{Content, Allows, HotelAllows, ShowAllows, SolveAllows, longest_account, longest_game}
 use Rattle.tacd.specs.Ends.{Tells}
 use Rattle.tacd.specs.Causes.{IsQuiet, IsReady, IsComplete}
-use Rattle.tacd.proofs.LongGames.{long_game}
+use Rattle.tacd.proofs.LongFiles.{long_game, long_account}
 use Rattle.tacd.proofs.CodedOutcomes.{coded}
+use Rattle.tacd.proofs.Unambiguous.{not_both, same_file}
 
 pub quiet_did_not_rise : (before now : ℕ) → IsQuiet before now → Rose before now → ⊥
 quiet_did_not_rise before now quiet rose = absurd (omega (arith, quiet.same, quiet.below, rose.rises))
-
-same_file : (file : Option (List ℕ)) (a b : List ℕ) → file ≡ Some a → file ≡ Some b → a ≡ b
-same_file file a b e f = cc
-
-not_both_lines : (read : Result (List HotelLine) BadLine) (lines : List HotelLine) (bad : BadLine) → read ≡ Ok lines → read ≡ Err bad → ⊥
-not_both_lines read lines bad e f = absurd (cc)
-
-not_both_games : (read : Result GameFile GameFault) (game : GameFile) (fault : GameFault) → read ≡ Ok game → read ≡ Err fault → ⊥
-not_both_games read game fault e f = absurd (cc)
 
 hotel_code : (files : List ℕ → Option (List ℕ)) (name file text : List ℕ) (before now : ℕ) (outcome : Outcome) → HotelAllows (Some files) name before now outcome →
     files name ≡ Some file → IsOut file text → IsQuiet before now → (code_of outcome ≡ 0) ⊎ (code_of outcome ≡ 7)
@@ -39,7 +30,7 @@ hotel_code files name file text before now (Refused ReadFault) allowed is out qu
 hotel_code files name file text before now (Refused Memory) allowed is out quiet = inr refl
 hotel_code files name file text before now (Refused (TextLine line reason)) allowed is out quiet =
     let here = subst (λ (f : List ℕ). IsBad f line reason) (same_file (files name) allowed.0 file allowed.1 is) allowed.2 in
-    absurd (not_both_lines (script_of file) out.lines (line, reason) out.good here.bad)
+    absurd (not_both (script_of file) out.lines (line, reason) out.good here.bad)
 hotel_code files name file text before now (Refused TextTooLong) allowed is out quiet =
     let long = subst (λ (f : List ℕ). longest_script < length f) (same_file (files name) allowed.0.0 file allowed.0.1 is) allowed.0.2 in
     absurd (omega (arith, out.within, long))
@@ -50,10 +41,10 @@ show_code files name file game before now (Done other) allowed is good quiet = i
 show_code files name file game before now (Refused Usage) allowed is good quiet = absurd allowed
 show_code files name file game before now (Refused (GameLine line reason)) allowed is good quiet =
     let here = subst (λ (f : List ℕ). game_of f ≡ Err (Line line reason)) (same_file (files name) allowed.0 file allowed.1 is) allowed.2 in
-    absurd (not_both_games (game_of file) game (Line line reason) good here)
+    absurd (not_both (game_of file) game (Line line reason) good here)
 show_code files name file game before now (Refused GameTooLong) allowed is good quiet =
     let long = subst (λ (f : List ℕ). longest_game < length f) (same_file (files name) allowed.0.0 file allowed.0.1 is) allowed.0.2 in
-    absurd (not_both_games (game_of file) game TooLong good (long_game file long))
+    absurd (not_both (game_of file) game TooLong good (long_game file long))
 show_code files name file game before now (Refused ReadFault) allowed is good quiet = absurd (quiet_did_not_rise before now quiet allowed)
 show_code files name file game before now (Refused Memory) allowed is good quiet = inr refl
 show_code files name file game before now (Refused (TextLine line reason)) allowed is good quiet = absurd allowed
@@ -69,6 +60,21 @@ make_code content seed before now (Refused Memory) allowed = inr refl
 make_code content seed before now (Refused (TextLine line reason)) allowed = absurd allowed
 make_code content seed before now (Refused TextTooLong) allowed = absurd allowed
 
+solve_code : (files : List ℕ → Option (List ℕ)) (name file : List ℕ) (account : AccountFile) (before now : ℕ) (outcome : Outcome) → SolveAllows (Some files) name before now outcome →
+    files name ≡ Some file → account_of file ≡ Ok account → IsQuiet before now → (code_of outcome ≡ 0) ⊎ (code_of outcome ≡ 7)
+solve_code files name file account before now (Done other) allowed is good quiet = inl refl
+solve_code files name file account before now (Refused Usage) allowed is good quiet = absurd allowed
+solve_code files name file account before now (Refused (GameLine line reason)) allowed is good quiet = absurd allowed
+solve_code files name file account before now (Refused GameTooLong) allowed is good quiet = absurd allowed
+solve_code files name file account before now (Refused ReadFault) allowed is good quiet = absurd (quiet_did_not_rise before now quiet allowed)
+solve_code files name file account before now (Refused Memory) allowed is good quiet = inr refl
+solve_code files name file account before now (Refused (TextLine line reason)) allowed is good quiet =
+    let here = subst (λ (f : List ℕ). account_of f ≡ Err (Line line reason)) (same_file (files name) allowed.0 file allowed.1 is) allowed.2 in
+    absurd (not_both (account_of file) account (Line line reason) good here)
+solve_code files name file account before now (Refused TextTooLong) allowed is good quiet =
+    let long = subst (λ (f : List ℕ). longest_account < length f) (same_file (files name) allowed.0.0 file allowed.0.1 is) allowed.0.2 in
+    absurd (not_both (account_of file) account TooLong good (long_account file long))
+
 ready_code : (content : Content) (command : Option Command) (before now : ℕ) (outcome : Outcome) → Allows content command before now outcome → IsReady content command → IsQuiet before now → (code_of outcome ≡ 0) ⊎ (code_of outcome ≡ 7)
 ready_code content None before now outcome allowed ready quiet = absurd ready
 ready_code None (Some (Hotel name)) before now outcome allowed ready quiet = let told = ready.2 in absurd (cc)
@@ -76,6 +82,8 @@ ready_code (Some files) (Some (Hotel name)) before now outcome allowed ready qui
 ready_code None (Some (Show name)) before now outcome allowed ready quiet = let told = ready.2 in absurd (cc)
 ready_code (Some files) (Some (Show name)) before now outcome allowed ready quiet = show_code files name ready.0 ready.1 before now outcome allowed ready.2 ready.3 quiet
 ready_code content (Some (Make seed)) before now outcome allowed ready quiet = make_code content seed before now outcome allowed
+ready_code None (Some (Solve name)) before now outcome allowed ready quiet = let told = ready.2 in absurd (cc)
+ready_code (Some files) (Some (Solve name)) before now outcome allowed ready quiet = solve_code files name ready.0 ready.1 before now outcome allowed ready.2 ready.3 quiet
 
 pub is_complete : (content : Content) (command : Option Command) (before now out_before out_now code : ℕ) (taken taken' : Option (List ℕ)) (outcome : Outcome) →
     Allows content command before now outcome → Tells outcome taken taken' out_before out_now code → IsComplete content command before now out_before out_now code

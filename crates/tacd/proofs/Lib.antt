@@ -1,5 +1,7 @@
 pub mod Endings
-pub mod LongGames
+pub mod LongFiles
+pub mod Unambiguous
 pub mod CodedOutcomes
 pub mod RefusedGames
+pub mod RefusedTexts
 pub mod Completeness

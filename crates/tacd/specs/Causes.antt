@@ -4,8 +4,9 @@ use Rattle.std.specs.Prelude.{◌≡◌, ℕ, ◌-◌, ◌^◌, ◌<◌, ◌⊎�
 use Rattle.tac_io.specs.Counts.{Rose}
 use Rattle.game_text.specs.declared.fault.GameFault.{GameFault}
 use Rattle.game_text.specs.Games.{GameFile, game_of}
+use Rattle.game_text.specs.Accounts.{AccountFile, account_of}
 use Rattle.script_run.specs.HotelOuts.{IsBad, IsOut, longest_script}
-use Rattle.tacd.specs.Commands.{Command, Hotel, Show, Make}
+use Rattle.tacd.specs.Commands.{Command, Hotel, Show, Make, Solve}
 use Rattle.tacd.specs.Allowed.{Content}
 
 -- no call failed: the count is as before, and below its last value
@@ -32,9 +33,10 @@ pub record WriteFaultExactly (before now code : ℕ) : Type 0 where
 abbrev pub IsRefusedScript : List ℕ → Type 0
 IsRefusedScript script = (longest_script < length script) ⊎ ((line : ℕ) × (reason : ℕ) × IsBad script line reason)
 
--- the file of the command is a script that is refused
+-- the file of the command is a script or an account that is refused
 abbrev pub IsRefusedText : Option Command → List ℕ → Type 0
 IsRefusedText (Some (Hotel name)) file = IsRefusedScript file
+IsRefusedText (Some (Solve name)) file = (fault : GameFault) × (account_of file ≡ Err fault)
 IsRefusedText command file = ⊥
 
 -- the file of the command is a game file that is refused
@@ -53,12 +55,13 @@ file_of content None = None
 file_of content (Some (Hotel name)) = told_file content name
 file_of content (Some (Show name)) = told_file content name
 file_of content (Some (Make seed)) = None
+file_of content (Some (Solve name)) = told_file content name
 
 -- some file of the command is as P says, where files are told
 abbrev pub HasFile : Content → Option Command → (List ℕ → Type 0) → Type 0
 HasFile content command P = IfSome content (λ _. (file : List ℕ) × (file_of content command ≡ Some file) × P file)
 
--- 8 comes exactly where a script is read and refused
+-- 8 comes exactly where a script or an account is read and refused
 pub record TextRefusedExactly (content : Content) (command : Option Command) (before now code : ℕ) : Type 0 where
   pub only : code ≡ 8 → HasFile content command (IsRefusedText command)
   pub always : (file : List ℕ) → file_of content command ≡ Some file → IsRefusedText command file → IsQuiet before now → (code ≡ 8) ⊎ (code ≡ 4) ⊎ (code ≡ 7)
@@ -74,6 +77,7 @@ IsReady content None = ⊥
 IsReady content (Some (Hotel name)) = (file : List ℕ) × (text : List ℕ) × (told_file content name ≡ Some file) × IsOut file text
 IsReady content (Some (Show name)) = (file : List ℕ) × (game : GameFile) × (told_file content name ≡ Some file) × (game_of file ≡ Ok game)
 IsReady content (Some (Make seed)) = ⊤
+IsReady content (Some (Solve name)) = (file : List ℕ) × (account : AccountFile) × (told_file content name ≡ Some file) × (account_of file ≡ Ok account)
 
 -- where the words are a command, its file is good and no count rose, the code is 0, or 7
 pub record IsComplete (content : Content) (command : Option Command) (before now out_before out_now code : ℕ) : Type 0 where

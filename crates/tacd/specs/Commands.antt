@@ -10,12 +10,14 @@ pub data Command : Type 0 where
   Hotel : (script : List ℕ) → Command
   Show : (game : List ℕ) → Command
   Make : (seed : ℕ) → Command
+  Solve : (account : List ℕ) → Command
 
 -- a command of one word after its own; a seed is a numeral of at most 20 digits that has 64 bits
 abbrev pub command_with : List ℕ → List ℕ → Option Command
 command_with word argument =
     if bytes_eq word (codes "hotel") then Some (Hotel argument)
     else if bytes_eq word (codes "show") then Some (Show argument)
+    else if bytes_eq word (codes "solve") then Some (Solve argument)
     else if bytes_eq word (codes "make") then option_map Make (below (2 ^ 64) (numeral 20 argument))
     else None
 
@@ -29,9 +31,11 @@ files_of None = []
 files_of (Some (Hotel script)) = script ∷ []
 files_of (Some (Show game)) = game ∷ []
 files_of (Some (Make seed)) = []
+files_of (Some (Solve account)) = account ∷ []
 
 -- the command as the code has it, with its words as they stand in memory
 abbrev pub seen : Asked → Command
 seen (asked.Hotel script) = Hotel script.now
 seen (asked.Show game) = Show game.now
 seen (asked.Make seed) = Make seed
+seen (asked.Solve account) = Solve account.now

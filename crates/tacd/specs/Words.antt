@@ -8,3 +8,4 @@ abbrev pub HasShortNames : Asked → Type 0
 HasShortNames (asked.Hotel script) = length script.now ≤ 1024
 HasShortNames (asked.Show game) = length game.now ≤ 1024
 HasShortNames (asked.Make seed) = ⊤
+HasShortNames (asked.Solve account) = length account.now ≤ 1024

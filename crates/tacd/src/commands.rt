@@ -1,18 +1,21 @@
 // The commands.
-ghost use Rattle.std.specs.Prelude.{◌≡◌, ℕ, Some, ◌<◌, ◌≤◌, [], ◌∷◌, length, map, string_bytes, IfSome, All, string_len};
+ghost use Rattle.std.specs.Prelude.{◌≡◌, ℕ, Some, ◌<◌, ◌≤◌, [], ◌∷◌, length, map, string_bytes, IfOk, IfErr, IfSome, OnOk, All, string_len};
 ghost use Rattle.game_text.specs.Games.{spelling};
+ghost use Rattle.tac_io.specs.Reading.{IsFile};
 ghost use Rattle.tac_io.specs.Told.{and_then_told};
-ghost use Rattle.tacd.specs.Allowed.{Allows, HotelAllows, MakeAllows, ShowAllows};
+ghost use Rattle.tacd.specs.Allowed.{AccountAllows, Allows, HotelAllows, MakeAllows, ShowAllows, SolveAllows};
 ghost use Rattle.tacd.specs.Commands.{command_of, files_of, seen};
 ghost use Rattle.tacd.specs.Ends.{Ends, Tells, WritesWhole};
+ghost use Rattle.tacd.specs.Files.{IsUnread};
 ghost use Rattle.tacd.specs.Outcomes.{Outcome};
 ghost use Rattle.tacd.specs.Words.{HasShortNames};
 
 use crate::ends::{End, finish};
 use crate::refusals::Refusal;
 use crate::words::{Asked, command_asked};
+use allocator::{print_solved, solve};
 use draw_maker::make_game;
-use game_text::{Game, GameFault, print_game, read_game};
+use game_text::{Account, Game, GameFault, print_game, read_account, read_game};
 use script_run::{ScriptFault, run_hotel_script};
 use std::alloc::Global;
 use tac_io::{FileFault, Files, Sink, read_file, write_all};
@@ -23,6 +26,32 @@ const LONGEST_SCRIPT: usize = 67_108_864;
 /// The most bytes of a game file.
 const LONGEST_GAME: usize = 1_048_576;
 
+/// The most bytes of an account file.
+const LONGEST_ACCOUNT: usize = 67_108_864;
+
+/// Reads the file of that name, or says what is told in its place.
+fn whole_file<F: Files>(
+    alloc: Global,
+    files: &mut F,
+    name: &str,
+    limit: usize,
+    too_long: Refusal,
+) -> Result<Vec<u8>, Refusal>
+    requires { IfSome (F.names files.old) (λ names. (length names < 128) × (length name.now ≤ 1024)) }
+    ensures whole { IfOk result (λ bytes. IsFile (F.content files.old) name.now bytes.items) }
+    ensures within { IfOk result (λ bytes. length bytes.items ≤ limit) }
+    ensures quiet { OnOk result (F.faults files.new ≡ F.faults files.old) }
+    ensures unread { IfErr result (IsUnread (F.content files.old) name.now limit too_long (F.faults files.old) (F.faults files.new)) }
+    ensures names { F.names files.new ≡ and_then_told (F.names files.old) (name.now ∷ []) }
+{
+    match read_file(alloc, files, name, limit) {
+        Ok(bytes) => Ok(bytes),
+        Err(FileFault::Failed) => Err(Refusal::ReadFault),
+        Err(FileFault::TooLong) => Err(too_long),
+        Err(FileFault::Memory) => Err(Refusal::Memory),
+    }
+}
+
 /// Runs one hotel by the script of that name.
 fn hotel<F: Files, K: Sink>(alloc: Global, name: &str, files: &mut F, out: &mut K) -> End
     requires { IfSome (F.names files.old) (λ names. (length names < 128) × (length name.now ≤ 1024)) }
@@ -30,11 +59,9 @@ fn hotel<F: Files, K: Sink>(alloc: Global, name: &str, files: &mut F, out: &mut 
         (K.taken out.old) (K.taken out.new) (K.faults out.old) (K.faults out.new) result }
     ensures names { F.names files.new ≡ and_then_told (F.names files.old) (name.now ∷ []) }
 {
-    let script = match read_file(alloc, files, name, LONGEST_SCRIPT) {
+    let script = match whole_file(alloc, files, name, LONGEST_SCRIPT, Refusal::TextTooLong) {
         Ok(script) => script,
-        Err(FileFault::Failed) => return End::Refused(Refusal::ReadFault),
-        Err(FileFault::TooLong) => return End::Refused(Refusal::TextTooLong),
-        Err(FileFault::Memory) => return End::Refused(Refusal::Memory),
+        Err(refusal) => return End::Refused(refusal),
     };
     match run_hotel_script(alloc, script.as_slice(), out) {
         Ok(()) => End::Done,
@@ -52,11 +79,9 @@ fn show<F: Files, K: Sink>(alloc: Global, name: &str, files: &mut F, out: &mut K
         (K.taken out.old) (K.taken out.new) (K.faults out.old) (K.faults out.new) result }
     ensures names { F.names files.new ≡ and_then_told (F.names files.old) (name.now ∷ []) }
 {
-    let file = match read_file(alloc, files, name, LONGEST_GAME) {
+    let file = match whole_file(alloc, files, name, LONGEST_GAME, Refusal::GameTooLong) {
         Ok(file) => file,
-        Err(FileFault::Failed) => return End::Refused(Refusal::ReadFault),
-        Err(FileFault::TooLong) => return End::Refused(Refusal::GameTooLong),
-        Err(FileFault::Memory) => return End::Refused(Refusal::Memory),
+        Err(refusal) => return End::Refused(refusal),
     };
     let game = match read_game(file.as_slice()) {
         Ok(game) => game,
@@ -88,6 +113,43 @@ fn write_game<K: Sink>(alloc: Global, game: &Game, out: &mut K) -> End
     }
 }
 
+/// Tells a best allocation of the account of the file of that name, with its certificate.
+fn solve_file<F: Files, K: Sink>(alloc: Global, name: &str, files: &mut F, out: &mut K) -> End
+    requires { IfSome (F.names files.old) (λ names. (length names < 128) × (length name.now ≤ 1024)) }
+    ensures ends { Ends (SolveAllows (F.content files.old) name.now (F.faults files.old) (F.faults files.new))
+        (K.taken out.old) (K.taken out.new) (K.faults out.old) (K.faults out.new) result }
+    ensures names { F.names files.new ≡ and_then_told (F.names files.old) (name.now ∷ []) }
+{
+    let file = match whole_file(alloc, files, name, LONGEST_ACCOUNT, Refusal::TextTooLong) {
+        Ok(file) => file,
+        Err(refusal) => return End::Refused(refusal),
+    };
+    let account = match read_account(file.as_slice()) {
+        Ok(account) => account,
+        Err(GameFault::Line { line, reason }) => {
+            return End::Refused(Refusal::TextLine { line, reason });
+        }
+        Err(GameFault::TooLong) => return End::Refused(Refusal::TextTooLong),
+    };
+    write_solved(alloc, &account, out)
+}
+
+/// Writes a best allocation of an account, with its certificate.
+fn write_solved<K: Sink>(alloc: Global, account: &Account, out: &mut K) -> End
+    ensures { Ends (AccountAllows account.now) (K.taken out.old) (K.taken out.new) (K.faults out.old) (K.faults out.new) result }
+{
+    let Ok(solved) = solve(alloc, account) else {
+        return End::Refused(Refusal::Memory);
+    };
+    let Ok(text) = print_solved(alloc, &solved) else {
+        return End::Refused(Refusal::Memory);
+    };
+    match write_all(out, text.as_slice()) {
+        Ok(()) => End::Done,
+        Err(_) => End::WriteFault,
+    }
+}
+
 /// Runs a command, and gives its code.
 #[tactic(auto, using(crate::proofs::Endings::tells))]
 fn run_asked<F: Files, K: Sink>(alloc: Global, asked: Asked<'_>, files: &mut F, out: &mut K) -> u8
@@ -109,6 +171,10 @@ fn run_asked<F: Files, K: Sink>(alloc: Global, asked: Asked<'_>, files: &mut F, 
         }
         Asked::Make { seed } => {
             let end = make(alloc, seed, out);
+            finish(out, end)
+        }
+        Asked::Solve { account } => {
+            let end = solve_file(alloc, account, files, out);
             finish(out, end)
         }
     }

@@ -1,4 +1,6 @@
 // The files of the system.
+ghost use Rattle.std.specs.Prelude.{◌≡◌, None};
+
 use std::fs::File;
 use std::io::Read;
 use std::rt;
@@ -14,7 +16,10 @@ pub(crate) struct HostFiles<'a, R> {
 
 impl<'a, R: rt::Files<File = File>> HostFiles<'a, R> {
     /// No file is selected yet.
-    pub(crate) fn new(rt: &'a R) -> HostFiles<'a, R> {
+    pub(crate) fn new(rt: &'a R) -> HostFiles<'a, R>
+        ensures selected { result.file ≡ None }
+        ensures faults { result.faults ≡ 0 }
+    {
         HostFiles {
             rt,
             file: None,

@@ -26,14 +26,14 @@ use top::tac;
 
 /// The words of the command line after the program's name. One that is no UTF-8, or longer than
 /// the name of a file may be, is in no command of the list.
-fn command_line<R: Env + AllocGlobal>(rt: &R) -> Result<Vec<String>, End>
+fn command_line<R: Env + AllocGlobal>(rt: &R) -> Result<Vec<String>, Refusal>
     ensures { IfOk result (λ words. All (λ word. string_len word ≤ 1024) words.items) }
 {
     match collected(rt) {
         Ok(words) if are_short(&words) => Ok(words),
-        Ok(_) => Err(End::Refused(Refusal::Usage)),
-        Err(error) if error.kind() == ErrorKind::OutOfMemory => Err(End::Refused(Refusal::Memory)),
-        Err(_) => Err(End::Refused(Refusal::Usage)),
+        Ok(_) => Err(Refusal::Usage),
+        Err(error) if error.kind() == ErrorKind::OutOfMemory => Err(Refusal::Memory),
+        Err(_) => Err(Refusal::Usage),
     }
 }
 
@@ -56,7 +56,7 @@ fn main(rt: HostRuntime) -> ExitCode {
     let mut out = StdSink::new(io::writer(&rt));
     let words = match command_line(&rt) {
         Ok(words) => words,
-        Err(end) => return ExitCode::from(finish(&mut out, end)),
+        Err(refusal) => return ExitCode::from(finish(&mut out, End::Refused(refusal))),
     };
     let Ok(mut ticker) = MemTicker::new(rt.alloc()) else {
         return ExitCode::from(finish(&mut out, End::Refused(Refusal::Memory)));

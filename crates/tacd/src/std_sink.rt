@@ -1,4 +1,6 @@
 // The standard output of the system.
+ghost use Rattle.std.specs.Prelude.{◌≡◌};
+
 use std::io::Write;
 use tac_io::{Failed, Sink};
 
@@ -11,7 +13,9 @@ pub(crate) struct StdSink<W> {
 
 impl<W: Write> StdSink<W> {
     /// Nothing was written yet.
-    pub(crate) fn new(writer: W) -> StdSink<W> {
+    pub(crate) fn new(writer: W) -> StdSink<W>
+        ensures { result.faults ≡ 0 }
+    {
         StdSink { writer, faults: 0 }
     }
 }

@@ -166,6 +166,7 @@ fn other_words_are_no_command(rt: HostRuntime) -> Result<(), Fail> {
         "Hotel script",
         "hotel script script",
         "play script script",
+        "solve",
     ] {
         let ran = run(&rt, alloc, line, b"", NO_FAULT)?;
         assert_eq!(rt; ran.text.as_slice(), b"usage\n".as_slice(), "{line}");
@@ -285,6 +286,32 @@ fn a_made_game_is_shown_as_it_was_made(rt: HostRuntime) -> Result<(), Fail> {
     for line in ["make 18446744073709551616", "make 042", "make -1", "make"] {
         let ran = run(&rt, alloc, line, b"", NO_FAULT)?;
         assert_eq!(rt; ran.code, 1, "{line}");
+    }
+    Ok(())
+}
+
+#[test]
+fn accounts_are_solved_or_refused(rt: HostRuntime) -> Result<(), Fail> {
+    let alloc = rt.alloc();
+    let one_seat =
+        b"account\nhold 1 0 0 0 2 0 0 0 2 0 0 0 0 0 0 0 1 0 0 0 0 0 0 0 0 0 0 0\nclient 0 1 2 50 100 0 0\nclient 1 1 2 50 150 0 0\nclient 2 1 2 50 0 0 0\nclient 3 1 2 50 0 0 0\nclient 4 1 2 50 0 0 0\nclient 5 1 2 50 0 0 0\nclient 6 1 2 50 0 0 0\nclient 7 1 2 50 0 0 0\nend\n";
+    let solved = run(&rt, alloc, "solve script", one_seat, NO_FAULT)?;
+    assert_eq!(rt; solved.code, 0);
+    assert!(rt;
+        solved.text.as_slice().starts_with(
+            b"total 1150\npackage 0 none\npackage 1 0 1 2 1 0 0\npackage 2 none\npackage 3 none\npackage 4 none\npackage 5 none\npackage 6 none\npackage 7 none\ncert "
+        )
+    );
+    assert!(rt; solved.text.as_slice().ends_with(b"\nend\n"));
+    for (file, text) in [
+        ("", "text 1 7\n"),
+        ("accounts\n", "text 1 1\n"),
+        ("# two words\naccount 1\n", "text 2 2\n"),
+        ("account\nhold 1\n", "text 2 2\n"),
+    ] {
+        let ran = run(&rt, alloc, "solve script", file.as_bytes(), NO_FAULT)?;
+        assert_eq!(rt; ran.text.as_slice(), text.as_bytes(), "of {file}");
+        assert_eq!(rt; ran.code, 8, "of {file}");
     }
     Ok(())
 }

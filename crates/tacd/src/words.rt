@@ -11,6 +11,7 @@ pub(crate) enum Asked<'a> {
     Hotel { script: &'a str },
     Show { game: &'a str },
     Make { seed: u64 },
+    Solve { account: &'a str },
 }
 
 /// The command of the words, if they are one of the list.
@@ -26,6 +27,9 @@ pub(crate) fn command_asked(words: &[String]) -> Option<Asked<'_>>
         }),
         [word, game] if word.as_str() == "show" => Some(Asked::Show {
             game: game.as_str(),
+        }),
+        [word, account] if word.as_str() == "solve" => Some(Asked::Solve {
+            account: account.as_str(),
         }),
         [word, seed] if word.as_str() == "make" => {
             read_numeral(seed.as_bytes(), 20).map(|seed| Asked::Make { seed })

@@ -1,0 +1,4 @@
+pub mod FullLeaves
+pub mod Claims
+pub mod Splits
+pub mod AtHome

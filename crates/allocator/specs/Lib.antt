@@ -1,0 +1,4 @@
+pub mod Scarcity
+pub mod Searching
+pub mod SolvedTexts
+pub mod Solutions

@@ -1,0 +1,29 @@
+-- What the search keeps; for private clauses.
+use Rattle.std.specs.Prelude.{◌≡◌, ℕ, ◌+◌, ◌*◌, ◌<◌, true, false, List, Some, slice_get, slice_index_or}
+use Rattle.game_text.specs.Accounts.{AccountFile}
+use Rattle.packages.specs.declared.travel_packages.Package.{Package}
+use Rattle.packages.specs.declared.travel_packages.Package.TheVariants as kinds
+use Rattle.packages.specs.Packages.{is_package}
+use Rattle.packages.specs.Listing.{packages}
+use Rattle.packages.specs.Bounds.{Narrowing}
+use Rattle.packages.specs.Features.{feature_of}
+use Rattle.packages.specs.BestTotal.{IsFeasible, total_of}
+
+-- a feasible allocation and what it is worth
+pub record IsReached (account : AccountFile) (allocation : List Package) (total : ℕ) : Type 0 where
+  pub feasible : IsFeasible account allocation
+  pub worth : total_of account.clients allocation ≡ total
+
+-- the first so many features, client by client, have one value each among the packages left
+abbrev pub IsFixed : ℕ → Narrowing → Type 0
+IsFixed level left =
+    (client feature : ℕ) → feature < 4 → 4 * client + feature < level → (p q : Package) → left client p ≡ true → left client q ≡ true → feature_of feature p ≡ feature_of feature q
+
+-- no package is left to the client
+abbrev pub IsOut : Narrowing → ℕ → Type 0
+IsOut left client = (n : ℕ) (p : Package) → slice_get packages n ≡ Some p → left client p ≡ false
+
+-- packages that are left to the eight clients
+pub record AreLeft (left : Narrowing) (allocation : List Package) : Type 0 where
+  pub lawful : (k : ℕ) → is_package (slice_index_or allocation k kinds.None) ≡ true
+  pub kept : (k : ℕ) → k < 8 → left k (slice_index_or allocation k kinds.None) ≡ true

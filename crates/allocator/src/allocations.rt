@@ -1,0 +1,68 @@
+// What eight packages use and are worth together.
+ghost use Rattle.std.specs.Prelude.{◌≡◌, ℕ, ◌<◌, ◌≤◌, false, nat_le, length, IsTrue};
+ghost use Rattle.std.specs.List.{All};
+ghost use Rattle.packages.specs.BestTotal.{total_of, used_by};
+ghost use Rattle.packages.specs.Packages.{IsPackage};
+ghost use Rattle.packages.specs.Stocks.{stock_of};
+
+use game_text::Account;
+use packages::{Package, stock, uses, utility};
+use tac_base::Good;
+
+/// The good of a number, 0..27.
+fn good(number: u8) -> Good
+    requires { number ≤ 27 }
+    ensures { result ≡ number }
+{
+    Good::new(number).unwrap()
+}
+
+/// How many of a good the packages use together.
+fn used(allocation: &[Package; 8], good: Good) -> u32
+    requires { All IsPackage allocation.now }
+    ensures value { result ≡ used_by allocation.now good }
+    ensures few { result ≤ length allocation.now }
+{
+    let mut total = 0;
+    for package in allocation.iter() {
+        total += u32::from(uses(package, good));
+    }
+    total
+}
+
+/// Whether the packages use up the good of a number, 0..27: nothing of it is left, or more is used than there is.
+pub(crate) fn is_used_up(account: &Account, allocation: &[Package; 8], number: u8) -> bool
+    requires lawful { All IsPackage allocation.now }
+    requires good { number < 28 }
+    ensures { result ≡ nat_le (stock_of account.now.holdings number) (used_by allocation.now number) }
+{
+    stock(account, usize::from(number)) <= used(allocation, good(number))
+}
+
+/// Whether the packages use no more of any good than there is.
+pub(crate) fn is_enough(account: &Account, allocation: &[Package; 8]) -> bool
+    requires { All IsPackage allocation.now }
+    ensures enough { IsTrue result → (good : ℕ) → good < 28 → used_by allocation.now good ≤ stock_of account.now.holdings good }
+    ensures short { result ≡ false → (good : ℕ) × (good < 28) × (stock_of account.now.holdings good < used_by allocation.now good) }
+{
+    for number in 0..28 {
+        if used(allocation, good(number)) > stock(account, usize::from(number)) {
+            return false;
+        }
+    }
+    true
+}
+
+/// What the packages are worth to the clients together, in dollars.
+pub(crate) fn worth(account: &Account, allocation: &[Package; 8]) -> u32
+    requires lawful { All IsPackage allocation.now }
+    requires eight { length allocation.now ≡ 8 }
+    ensures value { result ≡ total_of account.now.clients allocation.now }
+    ensures few { result ≤ 14000 }
+{
+    let mut total = 0;
+    for number in 0..8 {
+        total += utility(&account.clients[number], &allocation[number]);
+    }
+    total
+}

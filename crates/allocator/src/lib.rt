@@ -1,0 +1,14 @@
+//! The best allocation of an account, by branch and bound, with a certificate that none is worth more.
+#![tactic(auto)]
+
+mod allocations;
+mod candidates;
+mod printing;
+mod scarcity;
+mod searching;
+mod solving;
+#[cfg(test)]
+mod tests;
+
+pub use printing::print_solved;
+pub use solving::{Solved, solve};

@@ -1,0 +1,102 @@
+// The text of a best allocation with its certificate.
+ghost use Rattle.std.specs.Prelude.{◌≡◌, ◌++◌, ◌∷◌, [], OnOk, IfOk, decimal};
+ghost use Rattle.text_forms.specs.Lines.{text_of};
+ghost use Rattle.packages.specs.declared.travel_packages.Package.TheVariants as Package;
+ghost use Rattle.bound_cert.specs.Texts.{tree_lines};
+ghost use Rattle.bound_cert.specs.Views.{tree_of};
+ghost use Rattle.allocator.specs.SolvedTexts as texts;
+
+use crate::solving::Solved;
+use bound_cert::{Cert, print_cert};
+use packages::Package;
+use std::alloc::{AllocError, Global};
+use tac_base::{Memory, Text, print_numeral};
+use text_forms::{PrintedPart, count_parts, print_parts, print_row};
+
+/// The packages of the clients, each in a line of its own.
+#[derive(Drop)]
+struct ClientPackages;
+
+impl PrintedPart for ClientPackages {
+    type Value = Package;
+
+    ghost lines = { λ _ client p. texts.package_text client p ∷ [] };
+
+    fn print(&self, client: u8, package: &Package, out: &mut Vec<u8>) -> Result<(), AllocError> {
+        match package {
+            Package::None => print_none(client, out),
+            Package::Trip {
+                hotel,
+                arrive,
+                depart,
+                nights,
+            } => {
+                let numbers = [
+                    i64::from(client),
+                    i64::from(*hotel),
+                    i64::from(*arrive),
+                    i64::from(*depart),
+                    i64::from(nights[0]),
+                    i64::from(nights[1]),
+                    i64::from(nights[2]),
+                ];
+                print_row(out, b"package", &numbers)
+            }
+        }
+    }
+}
+
+/// Appends a number between two pieces of text. After an error the text may end within them.
+fn print_between(
+    before: &[u8],
+    number: u64,
+    after: &[u8],
+    out: &mut Vec<u8>,
+) -> Result<(), AllocError>
+    ensures { OnOk result (out.new.items ≡ out.old.items ++ (before.now ++ (decimal number ++ after.now))) }
+{
+    let mut digits = Text::new();
+    print_numeral(number, &mut digits);
+    out.extend_from_slice(before)?;
+    out.extend_from_slice(digits.as_slice())?;
+    out.extend_from_slice(after)?;
+    Ok(())
+}
+
+/// Appends the line of a client that stays at home. After an error the text may end within it.
+fn print_none(client: u8, out: &mut Vec<u8>) -> Result<(), AllocError>
+    ensures { OnOk result (out.new.items ≡ out.old.items ++ (texts.package_text client Package.None ++ 10 ∷ [])) }
+{
+    print_between(b"package ", u64::from(client), b" none\n", out)
+}
+
+/// Appends the total. After an error the text may end within its line.
+fn print_total(total: u32, out: &mut Vec<u8>) -> Result<(), AllocError>
+    ensures { OnOk result (out.new.items ≡ out.old.items ++ (texts.total_text total ++ 10 ∷ [])) }
+{
+    print_between(b"total ", u64::from(total), b"\n", out)
+}
+
+/// Appends the certificate after the number of its lines. After an error the text may end within them.
+fn print_counted(alloc: Global, cert: &Cert, out: &mut Vec<u8>) -> Result<(), Memory>
+    ensures { OnOk result (out.new.items ≡ out.old.items ++ ((texts.count_text (tree_of cert.now.root) ++ 10 ∷ []) ++ text_of (tree_lines (tree_of cert.now.root)))) }
+{
+    let text = print_cert(alloc, cert)?;
+    let lines = count_parts(text.as_slice(), b'\n') - 1;
+    print_between(b"cert ", lines as u64, b"\n", out)?;
+    out.extend_from_slice(text.as_slice())?;
+    Ok(())
+}
+
+/// The text of a best allocation: the total, a line for each client's package, and the certificate after the number of its
+/// lines. That these make the text, and in this form, is our own.
+pub fn print_solved(alloc: Global, solved: &Solved) -> Result<Vec<u8>, Memory>
+    ensures { IfOk result (λ text. text.items ≡ texts.spelling solved.now.total solved.now.allocation (tree_of solved.now.cert.root)) }
+{
+    let mut out = Vec::new(alloc);
+    print_total(solved.total, &mut out)?;
+    print_parts(&ClientPackages, &solved.allocation, &mut out)?;
+    print_counted(alloc, &solved.cert, &mut out)?;
+    out.extend_from_slice(b"end\n")?;
+    Ok(out)
+}

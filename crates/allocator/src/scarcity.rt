@@ -1,0 +1,38 @@
+// Prices that keep clients from what is used up.
+ghost use Rattle.std.specs.Prelude.{◌≡◌, ℕ, ◌<◌, ◌≤◌, slice_index};
+ghost use Rattle.std.specs.List.{All};
+ghost use Rattle.packages.specs.Packages.{IsPackage};
+ghost use Rattle.packages.specs.Prices.{ArePrices};
+ghost use Rattle.packages.specs.Stocks.{stock_of};
+ghost use Rattle.allocator.specs.Scarcity.{scarcity_price};
+
+use crate::allocations::is_used_up;
+use game_text::Account;
+use packages::{Package, Prices};
+
+/// The price of the good of a number, 0..27, in dollars: the greatest where the packages use it up, and none otherwise.
+fn scarcity_price(account: &Account, allocation: &[Package; 8], number: u8) -> u16
+    requires lawful { All IsPackage allocation.now }
+    requires good { number < 28 }
+    ensures value { result ≡ scarcity_price (stock_of account.now.holdings) allocation.now number }
+    ensures few { result ≤ 14001 }
+{
+    if is_used_up(account, allocation, number) {
+        14001
+    } else {
+        0
+    }
+}
+
+/// The greatest price for each good that the packages use up, and none for the others.
+pub(crate) fn scarcity_prices(account: &Account, allocation: &[Package; 8]) -> Prices
+    requires { All IsPackage allocation.now }
+    ensures range { ArePrices result }
+    ensures each { (good : ℕ) → good < 28 → slice_index result good ≡ scarcity_price (stock_of account.now.holdings) allocation.now good }
+{
+    let mut dollars = [0; 28];
+    for good in 0..28 {
+        dollars[good] = scarcity_price(account, allocation, good as u8);
+    }
+    Prices { dollars }
+}
