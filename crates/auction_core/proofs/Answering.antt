@@ -1,0 +1,27 @@
+-- What an agent is told of its own state.
+use Rattle.std.proofs.Common.{◌≡◌, ℕ, ◌≤◌, List, [], ◌∷◌, ap, ◌∙◌, arith, ℤ, pos, get_or}
+use Rattle.tac_base.specs.declared.bids.Point.{Point}
+use Rattle.tac_base.specs.declared.calls.Reply.{Reply}
+use Rattle.tac_base.specs.declared.calls.Trade.{Trade}
+use Rattle.tac_base.specs.declared.calls.Reply.TheVariants.{Own}
+use Rattle.tac_base.specs.declared.calls.Call.TheVariants.{Own as OwnCall}
+use Rattle.auction_rules.specs.Setup.{Setup}
+use Rattle.auction_rules.specs.History.{Entry}
+use Rattle.auction_rules.specs.Effects.{holding}
+use Rattle.auction_rules.specs.Standing.{left}
+use Rattle.auction_rules.specs.Legal.{entry_of}
+use Rattle.auction_rules.specs.Follows.{Follows}
+use Rattle.auction_rules.proofs.Idle.{own_follows}
+use Rattle.trade_ledger.proofs.Trading.{get_or-nine}
+use Rattle.auction_core.specs.Books.{held_by}
+
+-- what a book of holdings tells of an agent is the agent's holding
+pub held_is : (setup : Setup) (past : List Entry) (held : List ℤ) (party : ℕ) → party ≤ 8 → held ≡ held_by setup past → get_or held party (pos 0) ≡ holding setup past party
+held_is setup past held party le holds = ap (λ (h : List ℤ). get_or h party (pos 0)) holds ∙ get_or-nine (holding setup past) party le
+
+-- an answer of what an agent owns
+pub owned_follows : (setup : Setup) (past : List Entry) (agent : ℕ) (held : List ℤ) (points : List Point) (reply : Reply) (trades : List Trade) (Stands : List Entry → Type 0) → agent ≤ 7 →
+    held ≡ held_by setup past → points ≡ left setup.rules past agent → reply ≡ Own (get_or held agent (pos 0)) points → trades ≡ [] →
+    Stands (entry_of setup past agent OwnCall ∷ past) → Follows setup past agent OwnCall reply trades Stands
+owned_follows setup past agent held points reply trades Stands le holds leaves told none stands =
+    rw (told, none) (own_follows setup past agent (get_or held agent (pos 0)) points Stands le (held_is setup past held agent (omega arith) holds) leaves stands)

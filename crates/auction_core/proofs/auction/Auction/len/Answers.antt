@@ -1,0 +1,13 @@
+use Rattle.std.proofs.Common.{arith}
+use Rattle.auction_core.proofs.Keeping.{few_stored}
+use Rattle.auction_core.proofs.auction.Auction.len.Goals as goal
+
+pub overflow_cast-result : goal.overflow_cast-result
+overflow_cast-result c =
+    let a = c.self.inside in
+    record { fits = omega (arith, c.len.ensures, a.entries.ok.0, few_stored a.terms a.book a.held a.entries.items a.trades.items c.self.invariant.kept) }
+
+pub returns-clause-few : goal.returns-clause-few
+returns-clause-few c =
+    let a = c.self.inside in
+    omega (arith, c.len.ensures, a.entries.ok.0, few_stored a.terms a.book a.held a.entries.items a.trades.items c.self.invariant.kept)

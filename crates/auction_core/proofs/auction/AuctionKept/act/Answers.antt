@@ -1,0 +1,121 @@
+use Rattle.std.proofs.Common.{rules, ◌≡◌, ℕ, ◌+◌, ◌<◌, ◌≤◌, List, [], ◌∷◌, ◌++◌, ℤ, length, reverse, refl, sym, ap, ◌∙◌, subst, arith, vec_len, vec_capacity}
+use Rattle.tac_base.specs.declared.calls.Call.{Call}
+use Rattle.tac_base.specs.declared.calls.Entry.{Entry as StoredEntry}
+use Rattle.tac_base.specs.declared.calls.Trade.{Trade}
+use Rattle.auction_rules.specs.Effects.{nets}
+use Rattle.auction_rules.specs.Follows.{Follows}
+use Rattle.auction_rules.specs.History.{Entry}
+use Rattle.auction_rules.specs.Legal.{cap, entry_of}
+use Rattle.auction_rules.specs.Traded.{traded, Spends}
+use Rattle.auction_rules.proofs.Histories.{entry_caller, entry_call}
+use Rattle.turn_lock.specs.Part.{part}
+use Rattle.trade_ledger.specs.Holdings.{held_after}
+use Rattle.auction_core.specs.Auctions.{AuctionHistory, IsSound}
+use Rattle.auction_core.specs.Books.{Stands, units_left}
+use Rattle.auction_core.specs.Stored.{stored, entry_behind}
+use Rattle.auction_core.specs.Struck.{struck_of}
+use Rattle.auction_core.proofs.Counting.{by}
+use Rattle.auction_core.proofs.Keeping.{few_stored, position_is, entries_fit, trades_fit, sound_more, history_more, few_by_call, small_holdings, struck_is}
+use Rattle.auction_core.proofs.auction.AuctionKept.act.Goals as goal
+
+pub overflow_cast-at : goal.overflow_cast-at
+overflow_cast-at c =
+    let a = c.self.inside in
+    record { fits = omega (arith, c.len-at.ensures, a.entries.ok.0, few_stored a.terms a.book a.held a.entries.items a.trades.items c.self.invariant.kept) }
+
+pub apply_all-requires-clause-small : goal.apply_all-requires-clause-small
+apply_all-requires-clause-small c =
+    let a = c.self.inside in small_holdings a.terms a.book a.held (stored a.entries.items a.trades.items) c.self.invariant.kept
+
+pub apply_all-requires-clause-few : goal.apply_all-requires-clause-few
+apply_all-requires-clause-few c =
+    let a = c.self.inside in
+    subst (λ (ts : List Trade). traded ts ≤ 400000) (sym c.as_slice-trades.ensures.value)
+    (few_by_call a.terms a.book c.act-reply.new.self a.held (stored a.entries.items a.trades.items) c.act-reply.new.fills c.self.invariant.kept c.act-reply.ensures.units)
+
+pub store-requires-clause-entry_room : goal.store-requires-clause-entry_room
+store-requires-clause-entry_room c =
+    let a = c.self.inside in
+    let is : c.args.caller ≤ 8 = search rules in
+    let room : length (part by (stored a.entries.items a.trades.items) c.args.caller) < cap c.args.caller =
+    subst (λ (h : AuctionHistory). length (part by h.history c.args.caller) < cap c.args.caller) (sym c.self.view_is) c.requires.room in
+    omega (
+      arith,
+      entries_fit a.terms a.book c.act-reply.new.self a.held a.entries.items a.trades.items _ _ c.args.caller c.args.call.now c.act-reply.result c.act-reply.new.fills c.self.invariant is room,
+      a.entries.ok.0,
+      c.self.invariant.entry_room,
+    )
+
+pub store-requires-clause-trade_room : goal.store-requires-clause-trade_room
+store-requires-clause-trade_room c =
+    let a = c.self.inside in
+    let is : c.args.caller ≤ 8 = search rules in
+    let room : length (part by (stored a.entries.items a.trades.items) c.args.caller) < cap c.args.caller =
+    subst (λ (h : AuctionHistory). length (part by h.history c.args.caller) < cap c.args.caller) (sym c.self.view_is) c.requires.room in
+    let fit = trades_fit a.terms a.book c.act-reply.new.self a.held a.entries.items a.trades.items _ _ c.args.caller c.args.call.now c.act-reply.result c.act-reply.new.fills c.self.invariant is room c.act-reply.ensures.units in
+    omega (arith, fit, a.trades.ok.0, c.self.invariant.trade_room, ap (λ (ts : List Trade). length ts) c.as_slice-trades.ensures.value)
+
+pub store-requires-clause-numbered : goal.store-requires-clause-numbered
+store-requires-clause-numbered c =
+    let a = c.self.inside in
+    let is : c.args.caller ≤ 8 = search rules in
+    let room : length (part by (stored a.entries.items a.trades.items) c.args.caller) < cap c.args.caller =
+    subst (λ (h : AuctionHistory). length (part by h.history c.args.caller) < cap c.args.caller) (sym c.self.view_is) c.requires.room in
+    let fit = trades_fit a.terms a.book c.act-reply.new.self a.held a.entries.items a.trades.items _ _ c.args.caller c.args.call.now c.act-reply.result c.act-reply.new.fills c.self.invariant is room c.act-reply.ensures.units in
+    omega (arith, fit, a.trades.ok.0)
+
+-- what the call left, and what was stored of it
+follows : (c : goal.After-store) →
+    Follows c.self.inside.terms (reverse (stored c.self.inside.entries.items c.self.inside.trades.items)) c.args.caller c.args.call.now c.act-reply.result c.act-reply.new.fills
+    (Stands c.act-reply.new.self c.self.inside.terms)
+follows c =
+    let a = c.self.inside in
+    let here : c.len-at.result ≡ length a.entries.items = omega (arith, c.len-at.ensures, a.entries.ok.0) in
+    c.act-reply.ensures.follows a.terms (reverse (stored a.entries.items a.trades.items)) c.self.invariant.kept.stands c.self.invariant.kept.held (position_is a.entries.items a.trades.items c.len-at.result here)
+
+entries_are : (c : goal.After-store) →
+    c.store.new.entries.items ≡ c.self.inside.entries.items ++ entry_behind c.self.inside.trades.items c.args.caller c.args.call.now c.act-reply.result c.act-reply.new.fills ∷ []
+entries_are c =
+    c.store.ensures.entries
+    ∙ (λ i. c.self.inside.entries.items ++ entry_behind c.self.inside.trades.items c.args.caller (c.same_call-call.ensures i) c.act-reply.result (c.as_slice-trades.ensures.value i) ∷ [])
+
+trades_are : (c : goal.After-store) → c.store.new.trades.items ≡ c.self.inside.trades.items ++ c.act-reply.new.fills
+trades_are c = c.store.ensures.trades ∙ ap (λ (ts : List Trade). c.self.inside.trades.items ++ ts) c.as_slice-trades.ensures.value
+
+pub invariant_of-self : goal.invariant_of-self
+invariant_of-self c =
+    let a = c.self.inside in
+    let is : c.args.caller ≤ 8 = search rules in
+    let room : length (part by (stored a.entries.items a.trades.items) c.args.caller) < cap c.args.caller =
+    subst (λ (h : AuctionHistory). length (part by h.history c.args.caller) < cap c.args.caller) (sym c.self.view_is) c.requires.room in
+    let held_is : c.apply_all.new.held ≡ held_after a.held c.act-reply.new.fills = c.apply_all.ensures ∙ ap (held_after a.held) c.as_slice-trades.ensures.value in
+    subst (λ (kept : List ℤ × List StoredEntry × List Trade × ℕ × ℕ). IsSound a.terms c.act-reply.new.self kept.0 kept.1 kept.2 kept.3 kept.4)
+    (sym (λ i. (held_is i, entries_are c i, trades_are c i, c.store.ensures.entry_capacity i, c.store.ensures.trade_capacity i)))
+    (sound_more a.terms a.book c.act-reply.new.self a.held a.entries.items a.trades.items (vec_capacity a.entries) (vec_capacity a.trades) c.args.caller c.args.call.now c.act-reply.result c.act-reply.new.fills c.self.invariant is room
+    (follows c) c.act-reply.ensures.units)
+
+pub returns-clause-legal : goal.returns-clause-legal
+returns-clause-legal c = (invariant_of-self c).kept.legal
+
+pub returns-clause-appended : goal.returns-clause-appended
+returns-clause-appended c =
+    let a = c.self.inside in
+    let is : c.args.caller ≤ 8 = search rules in
+    let room : length (part by (stored a.entries.items a.trades.items) c.args.caller) < cap c.args.caller =
+    subst (λ (h : AuctionHistory). length (part by h.history c.args.caller) < cap c.args.caller) (sym c.self.view_is) c.requires.room in
+    (λ i. stored (entries_are c i) (trades_are c i))
+    ∙ (history_more a.terms a.book c.act-reply.new.self a.held a.entries.items a.trades.items (vec_capacity a.entries) (vec_capacity a.trades) c.args.caller c.args.call.now c.act-reply.result c.act-reply.new.fills c.self.invariant is room (follows c)
+    ∙ ap (λ (h : AuctionHistory). h.history ++ entry_of h.setup (reverse h.history) c.args.caller c.args.call.now ∷ []) c.self.view_is)
+
+pub returns-clause-struck : goal.returns-clause-struck
+returns-clause-struck c =
+    let a = c.self.inside in
+    sym (struck_is a.terms (reverse (stored a.entries.items a.trades.items)) c.args.caller c.args.call.now c.act-reply.result c.same_reply.result c.act-reply.new.fills c.nets.result.dollars (length c.as_slice-trades.result.now)
+    (Stands c.act-reply.new.self a.terms) (follows c) c.same_reply.ensures (c.nets.ensures ∙ ap nets c.as_slice-trades.ensures.value) (ap (λ (ts : List Trade). length ts) c.as_slice-trades.ensures.value))
+    ∙ ap (λ (h : AuctionHistory). struck_of (entry_of h.setup (reverse h.history) c.args.caller c.args.call.now)) c.self.view_is
+
+pub returns-clause-entry : goal.returns-clause-entry
+returns-clause-entry c =
+    let now = c.args.self.now in
+    let past : List Entry = reverse now.history in
+    (entry_of now.setup past c.args.caller c.args.call.now, returns-clause-appended c, entry_caller now.setup past c.args.caller c.args.call.now, entry_call now.setup past c.args.caller c.args.call.now, sym (returns-clause-struck c))

@@ -1,0 +1,34 @@
+-- What a contract sees of an auction, and what is so of every auction.
+use Rattle.std.specs.Prelude.{◌≡◌, ℕ, ◌+◌, ◌*◌, ◌≤◌, List, ℤ, length, reverse}
+use Rattle.tac_base.specs.declared.calls.Entry.{Entry as StoredEntry}
+use Rattle.tac_base.specs.declared.calls.Trade.{Trade}
+use Rattle.auction_rules.specs.Setup.{Setup}
+use Rattle.auction_rules.specs.History.{Entry}
+use Rattle.auction_rules.specs.Effects.{all_trades}
+use Rattle.auction_rules.specs.Legal.{Legal}
+use Rattle.auction_rules.specs.Traded.{traded}
+use Rattle.auction_core.specs.declared.book.Book.{Book}
+use Rattle.auction_core.specs.Books.{Stands, units_left, held_by}
+use Rattle.auction_core.specs.Setups.{AreEndowed}
+use Rattle.auction_core.specs.Stored.{stored, IsStored}
+
+-- an auction: what is fixed of it, and what happened, the oldest entry first
+pub record AuctionHistory : Type 0 where
+  pub setup : Setup
+  pub history : List Entry
+
+-- Each agent has 0..16 units at first. The history is legal, and book and holdings stand for it. Each entry gives 16 units to trade at
+-- most, beside 128 that a hotel may sell at its closing.
+pub record IsKept (setup : Setup) (book : Book) (holdings : List ℤ) (history : List Entry) : Type 0 where
+  pub endowed : AreEndowed setup.endow
+  pub legal : Legal setup history
+  pub stands : Stands book setup (reverse history)
+  pub held : holdings ≡ held_by setup (reverse history)
+  pub few : traded (all_trades (reverse history)) + units_left book ≤ 16 * length history + 128
+
+-- the same of a history that is stored, with room for all entries that the caps allow, and for all their trades
+pub record IsSound (setup : Setup) (book : Book) (holdings : List ℤ) (entries : List StoredEntry) (trades : List Trade) (entry_capacity trade_capacity : ℕ) : Type 0 where
+  pub kept : IsKept setup book holdings (stored entries trades)
+  pub stored : IsStored entries trades
+  pub entry_room : 8256 ≤ entry_capacity
+  pub trade_room : 132224 ≤ trade_capacity

@@ -1,0 +1,27 @@
+-- What the book of an auction means, whatever the kind of its good.
+use Rattle.std.specs.Prelude.{◌≡◌, ℕ, List, ℤ, map}
+use Rattle.auction_rules.specs.Goods.{parties}
+use Rattle.auction_rules.specs.Setup.{Setup}
+use Rattle.auction_rules.specs.History.{Entry}
+use Rattle.auction_rules.specs.Effects.{holding}
+use Rattle.flight_auction.specs.Book as flights
+use Rattle.hotel_book.specs.Book as hotels
+use Rattle.ticket_book.specs.Book as tickets
+use Rattle.auction_core.specs.declared.book.Book.{Book}
+use Rattle.auction_core.specs.declared.book.Book.TheVariants.{Flight, Hotel, Tickets}
+
+-- the book stands for this past of an auction with this setup
+abbrev pub Stands : Book → Setup → List Entry → Type 0
+Stands (Flight book) setup past = flights.StandsFor book setup past
+Stands (Hotel book) setup past = hotels.StandsFor book setup past
+Stands (Tickets book) setup past = tickets.StandsFor book setup past
+
+-- how many units may still be traded by the calls of the clock alone
+abbrev pub units_left : Book → ℕ
+units_left (Flight book) = flights.units_left book
+units_left (Hotel book) = hotels.units_left book
+units_left (Tickets book) = 0
+
+-- the holdings of all parties after a past
+abbrev pub held_by : Setup → List Entry → List ℤ
+held_by setup past = map (holding setup past) parties

@@ -1,0 +1,13 @@
+-- Which calls may be made of an auction.
+use Rattle.std.specs.Prelude.{⊤, ◌≤◌}
+use Rattle.tac_base.specs.declared.calls.Call.{Call}
+use Rattle.tac_base.specs.declared.calls.Call.TheVariants.{Bid, Withdraw, Own, Update, Publish, Close}
+
+-- an update is one of the ticks 1..53, and every other call may be made by any caller
+abbrev pub IsFit : Call → Type 0
+IsFit (Bid points) = ⊤
+IsFit Withdraw = ⊤
+IsFit Own = ⊤
+IsFit (Update tick draw) = tick ≤ 53
+IsFit Publish = ⊤
+IsFit Close = ⊤

@@ -1,0 +1,8 @@
+pub mod Calls
+pub mod Books
+pub mod Setups
+pub mod Terms
+pub mod Stored
+pub mod Struck
+pub mod Auctions
+pub mod ClosedGame

@@ -1,0 +1,33 @@
+-- What a game says of an auction.
+use Rattle.std.specs.Prelude.{ℕ, ◌-◌, false, List, ℤ, pos, ◌≤ℤ◌, map, replicate, slice_index_or}
+use Rattle.tac_base.specs.declared.numbers.Kind.{Kind}
+use Rattle.tac_base.specs.declared.numbers.Kind.TheVariants.{Flight, Hotel, Ticket}
+use Rattle.tac_base.specs.Kinds.{kind_of}
+use Rattle.game_text.specs.Games.{GameFile}
+use Rattle.auction_rules.specs.Setup.{Setup, Rules, FlightRules, HotelRules, TicketRules}
+
+-- the first price and the bound of a flight
+abbrev pub first_price : GameFile → ℕ → ℕ
+first_price game good = slice_index_or (map (λ flight. flight.first) game.flights) good 0
+
+abbrev pub price_bound : GameFile → ℕ → ℤ
+price_bound game good = slice_index_or (map (λ flight. flight.bound) game.flights) good (pos 0)
+
+-- the rules of a good, by its kind; a hotel night has 16 rooms, and its quotes are not live
+abbrev pub rules_by : GameFile → ℕ → Kind → Rules
+rules_by game good Flight = FlightRules (first_price game good) (price_bound game good)
+rules_by game good Hotel = HotelRules 16 false
+rules_by game good Ticket = TicketRules
+
+-- what the agents have of a good at first, by its kind: some tickets, and else nothing
+abbrev pub endow_by : GameFile → ℕ → Kind → List ℤ
+endow_by game good Ticket = map (λ tickets. pos (slice_index_or tickets (good - 16) 0)) game.endow
+endow_by game good kind = replicate 8 (pos 0)
+
+-- the setup of the auction of a good
+abbrev pub setup_of : ℕ → GameFile → Setup
+setup_of good game = record { good = good; rules = rules_by game good (kind_of good); endow = endow_by game good (kind_of good) }
+
+-- no agent has more than 16 units at first
+abbrev pub AreEndowed : List ℤ → Type 0
+AreEndowed endow = (agent : ℕ) → (pos 0 ≤ℤ slice_index_or endow agent (pos 0)) × (slice_index_or endow agent (pos 0) ≤ℤ pos 16)

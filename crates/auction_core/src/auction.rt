@@ -1,0 +1,183 @@
+ghost use Rattle.std.specs.Prelude.{◌≡◌, ℕ, ◌+◌, ◌*◌, ◌<◌, ◌≤◌, ◌++◌, [], ◌∷◌, Some, List, length, map, reverse, slice_get, IfOk};
+ghost use Rattle.std.specs.Option.{option_copied};
+ghost use Rattle.game_text.specs.Accounts.{IsHolding};
+ghost use Rattle.auction_rules.specs.Effects as effects;
+ghost use Rattle.auction_rules.specs.Legal.{Legal, entry_of};
+ghost use Rattle.auction_core.specs.Setups.{setup_of};
+ghost use Rattle.auction_core.specs.Stored.{IsShown};
+ghost use Rattle.auction_core.specs.Struck.{struck_of};
+
+use crate::book::Book;
+use crate::copies::{same_call, same_reply};
+use crate::effects::{apply_all, nets};
+use crate::entries::{Happened, Struck};
+use crate::storing::{entry_at, part_of, store};
+use crate::terms::Terms;
+use game_text::Game;
+use std::alloc::Global;
+use std::marker::Model;
+use tac_base::{Board, Call, Caller, Entry, Fills, Good, Memory, Party, Trade};
+use trade_ledger::GoodBook;
+use turn_lock::Kept;
+
+/// The most entries of a history: 1,024 of each agent, and 64 of the clock.
+const ENTRIES: usize = 8_256;
+
+/// The most trades of a history: 16 for each entry, and those of a hotel's closing.
+const TRADES: usize = 132_224;
+
+/// The auction of one good with its whole history, and what each party holds of the good. Contracts see it as its setup and its history,
+/// the oldest entry first. All its memory is taken when it is made.
+#[derive(Debug, Drop)]
+pub struct Auction {
+    terms: Terms,
+    book: Book,
+    held: GoodBook,
+    entries: Vec<Entry>,
+    trades: Vec<Trade>,
+}
+
+impl Model for Auction {
+    ghost use Rattle.std.specs.Prelude.{vec_capacity};
+    ghost use Rattle.auction_core.specs.Auctions.{AuctionHistory, IsSound};
+    ghost use Rattle.auction_core.specs.Stored.{stored};
+
+    ghost Value = { AuctionHistory };
+
+    ghost view = { λ a. record { setup = a.terms; history = stored a.entries.items a.trades.items } };
+
+    ghost invariant = { λ a. IsSound a.terms a.book a.held a.entries.items a.trades.items (vec_capacity a.entries) (vec_capacity a.trades) };
+}
+
+impl Auction {
+    /// The auction of a good in a game, in which nobody has called.
+    pub fn begin(alloc: Global, good: Good, game: &Game) -> Result<Auction, Memory>
+        ensures setup { IfOk result (λ auction. auction.setup ≡ setup_of good game.now) }
+        ensures history { IfOk result (λ auction. auction.history ≡ []) }
+    {
+        let entries = Vec::with_capacity(alloc, ENTRIES)?;
+        let trades = Vec::with_capacity(alloc, TRADES)?;
+        let terms = Terms::new(good, game);
+        let held = GoodBook::new(terms.holdings());
+        Ok(Auction {
+            terms,
+            book: Book::new(good, game),
+            held,
+            entries,
+            trades,
+        })
+    }
+
+    /// The auction's good.
+    pub fn good(&self) -> Good
+        ensures { result ≡ self.now.setup.good }
+    {
+        self.terms.good
+    }
+
+    /// How many entries the history has, at most 8,256. It is legal.
+    pub fn len(&self) -> u32
+        ensures value { result ≡ length self.now.history }
+        ensures few { result ≤ 8256 }
+        ensures legal { Legal self.now.setup self.now.history }
+    {
+        self.entries.len() as u32
+    }
+
+    /// The entry at a position, None exactly past the end.
+    pub fn entry(&self, position: u32) -> Option<&Entry>
+        ensures { IsShown self.now.history position (option_copied result) }
+    {
+        entry_at(&self.entries, position)
+    }
+
+    /// The trades of the entry at a position, which is there.
+    pub fn trades_of(&self, position: u32) -> &[Trade]
+        requires { position < length self.now.history }
+        ensures { slice_get (map (λ e. e.trades) self.now.history) position ≡ Some result.now }
+    {
+        let entry = &self.entries[position as usize];
+        part_of(
+            &self.trades,
+            entry.first_trade as usize,
+            usize::from(entry.trades),
+        )
+    }
+
+    /// How many units of the good the party holds, what it had at first included. Who sells more than it has holds less than 0.
+    pub fn holding(&self, party: Party) -> i32
+        ensures value { result ≡ effects.holding self.now.setup (reverse self.now.history) party }
+        ensures range { IsHolding result }
+    {
+        self.held.holding(party)
+    }
+}
+
+impl Kept for Auction {
+    ghost use Rattle.auction_rules.specs.Board as boards;
+    ghost use Rattle.auction_rules.specs.Legal as rules;
+    ghost use Rattle.auction_core.specs.Calls.{IsFit};
+    ghost use Rattle.turn_lock.specs.Part.{part};
+
+    type Call = Call;
+
+    type Reply = Struck;
+
+    type Setup = Terms;
+
+    type Entry = Happened;
+
+    ghost setup = { λ a. a.setup };
+
+    ghost history = { λ a. a.history };
+
+    ghost legal = { Legal };
+
+    ghost board = { λ setup history. boards.board setup.rules (reverse history) };
+
+    ghost caller_of = { λ e. e.caller };
+
+    ghost call_of = { λ e. e.call };
+
+    ghost answer = { struck_of };
+
+    ghost fit = { λ _ call. IsFit call };
+
+    ghost cap = { rules.cap };
+
+    /// Appends the entry that the rules give to the call, and answers what it shows.
+    fn act(&mut self, caller: Caller, call: &Call) -> Struck
+        requires fit { IsFit call.now }
+        requires room { length (part (λ e. e.caller) self.old.history caller) < rules.cap caller }
+        ensures setup { self.new.setup ≡ self.old.setup }
+        ensures legal { Legal self.new.setup self.new.history }
+        ensures entry { (e : Happened) × (self.new.history ≡ self.old.history ++ e ∷ []) × (e.caller ≡ caller) × (e.call ≡ call.now) × (struck_of e ≡ result) }
+        ensures appended { self.new.history ≡ self.old.history ++ entry_of self.old.setup (reverse self.old.history) caller call.now ∷ [] }
+        ensures struck { result ≡ struck_of (entry_of self.old.setup (reverse self.old.history) caller call.now) }
+    {
+        let at = self.entries.len() as u32;
+        let mut fills = Fills::new();
+        let reply = self.book.act(&self.held, at, caller, call, &mut fills);
+        let trades = fills.as_slice();
+        apply_all(&mut self.held, trades);
+        let struck = Struck {
+            reply: same_reply(&reply),
+            nets: nets(trades),
+            trades: trades.len() as u8,
+        };
+        let call = same_call(call);
+        store(
+            &mut self.entries,
+            &mut self.trades,
+            caller,
+            call,
+            reply,
+            trades,
+        );
+        struck
+    }
+
+    fn board(&self) -> Board {
+        self.book.board(self.entries.len() as u32)
+    }
+}

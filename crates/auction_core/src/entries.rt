@@ -1,0 +1,30 @@
+use std::marker::Model;
+use tac_base::{Call, Caller, Fills, Nets, Reply};
+
+/// What a caller is told of its entry.
+#[derive(Debug, Drop)]
+pub struct Struck {
+    /// The answer to its call.
+    pub reply: Reply,
+    /// What the entry's trades gave each party.
+    pub nets: Nets,
+    /// How many trades the entry has, at most 128.
+    pub trades: u8,
+}
+
+/// An entry of a history with its trades, as contracts see it.
+#[derive(Debug, Drop)]
+pub struct Happened {
+    caller: Caller,
+    call: Call,
+    reply: Reply,
+    trades: Fills,
+}
+
+impl Model for Happened {
+    ghost use Rattle.auction_rules.specs.History.{Entry};
+
+    ghost Value = { Entry };
+
+    ghost view = { λ h. record { caller = h.caller; call = h.call; reply = h.reply; trades = h.trades } };
+}

@@ -1,0 +1,22 @@
+//! One auction: the book of its good, and the history of its calls. An auction is a state that a turn lock keeps.
+#![tactic(auto)]
+
+mod auction;
+mod book;
+mod closed;
+mod copies;
+mod effects;
+mod entries;
+mod flight_calls;
+mod hotel_calls;
+mod storing;
+mod terms;
+mod ticket_calls;
+
+pub use auction::Auction;
+pub use closed::Closed;
+pub use entries::{Happened, Struck};
+pub use terms::Terms;
+
+#[cfg(test)]
+mod tests;

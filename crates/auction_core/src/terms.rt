@@ -1,0 +1,102 @@
+ghost use Rattle.std.specs.Prelude.{◌≡◌, ◌≤◌, ◌<◌, ◌-◌, [], pos, map, replicate, slice_index_or};
+ghost use Rattle.tac_base.specs.Kinds.{kind_of};
+ghost use Rattle.auction_core.specs.Setups.{setup_of, rules_by, endow_by, AreEndowed};
+ghost use Rattle.auction_core.specs.Terms as terms;
+ghost use Rattle.auction_core.specs.Books.{held_by};
+
+use game_text::Game;
+use std::marker::Model;
+use tac_base::{Good, Kind};
+
+/// The rules of an auction: a flight's first price in dollars, 250 to 400, and its bound, -10 to 30; or those of the other kinds, which
+/// no game changes.
+#[derive(Clone, Copy, Debug)]
+pub(crate) enum KeptRules {
+    Flight { first: u16, bound: i8 },
+    Hotel,
+    Tickets,
+}
+
+/// What is fixed of an auction before its first call: its good, and what the game says of that good. Contracts see it as the setup of
+/// the rules.
+#[derive(Debug, Drop)]
+pub struct Terms {
+    pub(crate) good: Good,
+    rules: KeptRules,
+    /// How many units each agent has at first.
+    endow: [i32; 8],
+}
+
+impl Model for Terms {
+    ghost use Rattle.auction_rules.specs.Setup.{Setup};
+    ghost use Rattle.auction_core.specs.Terms.{rules_of};
+
+    ghost Value = { Setup };
+
+    ghost view = { λ t. record { good = t.good; rules = rules_of t.rules; endow = t.endow } };
+}
+
+/// The rules of a good.
+fn rules_of(good: Good, game: &Game) -> KeptRules
+    ensures { terms.rules_of result ≡ rules_by game.now good (kind_of good) }
+{
+    match good.kind() {
+        Kind::Flight => {
+            let flight = &game.flights[usize::from(good.get())];
+            KeptRules::Flight {
+                first: flight.first,
+                bound: flight.bound,
+            }
+        }
+        Kind::Hotel => KeptRules::Hotel,
+        Kind::Ticket => KeptRules::Tickets,
+    }
+}
+
+/// How many of a ticket each agent has at first.
+fn ticket_endowments(good: Good, game: &Game) -> [i32; 8]
+    requires { kind_of good ≡ Kind.Ticket }
+    ensures value { result ≡ map (λ tickets. pos (slice_index_or tickets (good - 16) 0)) game.now.endow }
+    ensures few { AreEndowed result }
+{
+    let place = usize::from(good.get() - 16);
+    let mut held = [0; 8];
+    for (agent, tickets) in game.endow.iter().enumerate() {
+        held[agent] = i32::from(tickets[place]);
+    }
+    held
+}
+
+/// How many units of a good each agent has at first.
+fn endowments(good: Good, game: &Game) -> [i32; 8]
+    ensures value { result ≡ endow_by game.now good (kind_of good) }
+    ensures few { AreEndowed result }
+{
+    match good.kind() {
+        Kind::Ticket => ticket_endowments(good, game),
+        _ => [0; 8],
+    }
+}
+
+impl Terms {
+    /// What a game says of a good.
+    pub(crate) fn new(good: Good, game: &Game) -> Terms
+        ensures value { result ≡ setup_of good game.now }
+        ensures few { AreEndowed result.endow }
+    {
+        Terms {
+            good,
+            rules: rules_of(good, game),
+            endow: endowments(good, game),
+        }
+    }
+
+    /// What the parties have at first: the agents, and then the house, which has nothing.
+    pub(crate) fn holdings(&self) -> [i32; 9]
+        ensures { result ≡ held_by self.now [] }
+    {
+        let mut held = [0; 9];
+        held[..8].copy_from_slice(&self.endow);
+        held
+    }
+}
