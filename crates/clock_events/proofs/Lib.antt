@@ -1,2 +1,4 @@
 pub mod CallLists
+pub mod GoodCounts
+pub mod ScheduleLaws
 pub mod Worked

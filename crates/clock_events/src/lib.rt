@@ -2,7 +2,9 @@
 #![tactic(auto)]
 
 mod calls;
+mod laws;
 #[cfg(test)]
 mod tests;
 
 pub use calls::schedule;
+pub use laws::schedule_law;

@@ -1,0 +1,19 @@
+ghost use Rattle.std.specs.Prelude.{◌≡◌, ◌≤◌, ℕ, length};
+ghost use Rattle.std.specs.List.{All};
+ghost use Rattle.clock_events.specs.Schedule as spec;
+ghost use Rattle.clock_events.specs.Laws as laws;
+
+use game_text::Game;
+
+/// The laws of the schedule of a game, as this call's contract. At each tick, 1 to 54, the clock has at most 20 calls, at
+/// most one of them of each good, and each is one that the good's kind of auction has. A whole game has 480 of them, of
+/// which at most 54 are of one good.
+pub fn schedule_law(game: &Game)
+    ensures once { (tick good : ℕ) → 1 ≤ tick → tick ≤ 54 → laws.calls_of game.now tick good ≤ 1 }
+    ensures fit { (tick : ℕ) → 1 ≤ tick → tick ≤ 54 → All (laws.IsDue tick) (spec.calls_at game.now tick) }
+    ensures few { (tick : ℕ) → 1 ≤ tick → tick ≤ 54 → length (spec.calls_at game.now tick) ≤ 20 }
+    ensures whole { length (spec.schedule game.now) ≡ 480 }
+    ensures most { (good : ℕ) → length (spec.clock_calls game.now good) ≤ 54 }
+{
+    let _order = &game.order;
+}
