@@ -1,6 +1,5 @@
 -- What an auction keeps of its history, with one entry more.
-use Rattle.std.proofs.Common.{Bool, true, false, cond, ◌==◌, ◌≡◌, ℕ, suc, ◌+◌, ◌*◌, ◌<◌, ◌≤◌, List, [], ◌∷◌, ◌++◌, length, map, reverse, get_or, sum_by, refl, sym, ap, ◌∙◌, subst, arith, length-append, Option, Some, None, ℤ, pos, ◌+ℤ◌, ◌≤ℤ◌}
-use Rattle.std.specs.List.{All, AllByRecursion}
+use Rattle.std.proofs.Common.{Bool, true, false, cond, ◌==◌, ◌≡◌, ℕ, ◌+◌, ◌<◌, ◌≤◌, List, [], ◌∷◌, ◌++◌, length, reverse, get_or, refl, sym, ap, ◌∙◌, subst, arith, length-append, Option, Some, None, ℤ, pos, ◌+ℤ◌, ◌≤ℤ◌}
 use Rattle.std.proofs.lemmas.Int.{ints}
 use Rattle.std.proofs.lemmas.List.{reverse-append, length-map, length-reverse}
 use Rattle.std.proofs.lemmas.List.Sums.{sum_by-append}
@@ -8,28 +7,27 @@ use Rattle.tac_base.specs.declared.calls.Call.{Call}
 use Rattle.tac_base.specs.declared.calls.Reply.{Reply}
 use Rattle.tac_base.specs.declared.calls.Entry.{Entry as StoredEntry}
 use Rattle.tac_base.specs.declared.calls.Trade.{Trade}
-use Rattle.auction_rules.specs.Goods.{clock, parties}
+use Rattle.auction_rules.specs.Goods.{clock}
 use Rattle.auction_rules.specs.Setup.{Setup}
 use Rattle.auction_rules.specs.History.{Entry}
 use Rattle.auction_rules.specs.Effects.{nets, net_units, all_trades, endowment, holding}
 use Rattle.auction_rules.specs.Refusals.{refusal}
-use Rattle.auction_rules.specs.Legal.{entry_by, entry_of, reply_of, trades_of, entries_of, cap, Legal}
+use Rattle.auction_rules.specs.Legal.{entry_by, entry_of, reply_of, trades_of, entries_of, cap}
 use Rattle.auction_rules.specs.Follows.{Follows}
 use Rattle.auction_rules.specs.Traded.{traded, Spends}
 use Rattle.auction_rules.proofs.Trading.{length_le}
 use Rattle.turn_lock.specs.Part.{part}
-use Rattle.auction_rules.proofs.Histories.{entry_caller, lawful_more}
 use Rattle.trade_ledger.specs.CashKeeping.{IsWithin}
 use Rattle.trade_ledger.specs.Holdings.{held_after}
 use Rattle.trade_ledger.proofs.Trading.{get_or-nine, nine_numbers}
 use Rattle.auction_core.specs.declared.book.Book.{Book}
 use Rattle.auction_core.specs.Books.{Stands, units_left, held_by}
-use Rattle.auction_core.specs.Stored.{entry_with, stored, IsStored, entry_behind}
+use Rattle.auction_core.specs.Stored.{entry_with, stored, entry_behind}
 use Rattle.auction_core.specs.Struck.{struck_of}
 use Rattle.auction_core.proofs.Answering.{held_is}
 use Rattle.game_text.specs.Accounts.{IsHolding}
 use Rattle.auction_core.specs.Auctions.{IsKept, IsSound}
-use Rattle.auction_core.proofs.Counting.{by, AreCapped, length-part, called_snoc, capped_snoc, few_entries, room_for}
+use Rattle.auction_core.proofs.Counting.{by, length-part, called_snoc, capped_snoc, few_entries, room_for}
 use Rattle.auction_core.proofs.Holding.{net_units-append, net_units_within}
 use Rattle.auction_core.proofs.Chains.{stored_more, stores_more}
 
@@ -44,7 +42,7 @@ pub entry_is : (setup : Setup) (past : List Entry) (caller : ℕ) (call : Call) 
 entry_is setup past caller call = entry_by_is setup past caller call (refusal setup.rules past caller call)
 
 -- the holdings after an entry
-held_next : (setup : Setup) (past : List Entry) (e : Entry) → held_after (held_by setup past) e.trades ≡ held_by setup (e ∷ past)
+pub held_next : (setup : Setup) (past : List Entry) (e : Entry) → held_after (held_by setup past) e.trades ≡ held_by setup (e ∷ past)
 held_next setup past e =
     nine_numbers (holding setup (e ∷ past)) (held_after (held_by setup past) e.trades) refl
     (λ party lt. get_or-nine (λ k. get_or (held_by setup past) k (pos 0) +ℤ net_units e.trades k) party (omega arith)
@@ -62,6 +60,7 @@ pub kept_more : (setup : Setup) (book book' : Book) (held : List ℤ) (history :
 kept_more setup book book' held history e call keeps is room rule stands spends =
     let past : reverse (history ++ e ∷ []) ≡ e ∷ reverse history = reverse-append history (e ∷ []) in
     record {
+      ranged = keeps.ranged;
       endowed = keeps.endowed;
       legal = record {
         lawful = rw past (rule, keeps.legal.lawful);

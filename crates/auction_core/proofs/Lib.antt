@@ -4,3 +4,10 @@ pub mod Starting
 pub mod Chains
 pub mod Counting
 pub mod Keeping
+pub mod Bought
+pub mod Buying
+pub mod FlightPays
+pub mod HotelPays
+pub mod TicketPays
+pub mod Paying
+pub mod LawsHold

@@ -1,5 +1,5 @@
 -- What the parties hold before any call.
-use Rattle.std.proofs.Common.{◌≡◌, ℕ, zero, suc, ◌+◌, ◌*◌, ◌<◌, ◌≤◌, List, [], ◌∷◌, ◌++◌, length, map, reverse, get_or, refl, sym, ap, subst, arith, Bool, true, false, ℤ, pos, ◌+ℤ◌, ◌≤ℤ◌}
+use Rattle.std.proofs.Common.{◌≡◌, ℕ, zero, suc, ◌<◌, ◌≤◌, List, [], ◌∷◌, ◌++◌, length, map, get_or, refl, sym, ap, subst, arith, Bool, true, false, ℤ, pos, ◌+ℤ◌, ◌≤ℤ◌}
 use Rattle.std.specs.Prelude.{replicate, nat_lt}
 use Rattle.std.proofs.lemmas.Bool.Decides.{nat_tests}
 use Rattle.std.specs.List.{All, AllByRecursion}
@@ -11,16 +11,14 @@ use Rattle.tac_base.specs.declared.calls.Trade.{Trade}
 use Rattle.game_text.specs.Endowments.{IsEndowment}
 use Rattle.auction_rules.specs.Setup.{Setup, Rules}
 use Rattle.auction_rules.specs.Effects.{all_trades}
-use Rattle.auction_rules.specs.Legal.{cap}
 use Rattle.auction_rules.specs.Traded.{traded}
 use Rattle.flight_auction.specs.Book as flights
 use Rattle.hotel_book.specs.Book as hotels
 use Rattle.auction_core.specs.declared.book.Book.{Book}
 use Rattle.auction_core.specs.declared.book.Book.TheVariants.{Flight, Hotel, Tickets}
 use Rattle.auction_core.specs.Books.{Stands, units_left, held_by}
-use Rattle.auction_core.specs.Setups.{AreEndowed}
-use Rattle.auction_core.specs.Auctions.{IsKept, IsSound}
-use Rattle.auction_core.specs.Stored.{stored, IsStored}
+use Rattle.auction_core.specs.Setups.{AreInRange, AreEndowed}
+use Rattle.auction_core.specs.Auctions.{IsSound}
 
 same : (z : ℤ) → z ≡ z +ℤ pos 0
 same z = omega (arith, ints)
@@ -82,13 +80,14 @@ first_units (Flight book) setup stands = let none : flights.units_left book ≡ 
 first_units (Hotel book) setup stands = let all : hotels.units_left book ≡ 128 = ap hotels.units_left stands.kept in omega (arith, all)
 first_units (Tickets book) setup stands = omega arith
 
-pub sound_at_first : (setup : Setup) (book : Book) (held : List ℤ) (entries : List StoredEntry) (trades : List Trade) (entry_room trade_room : ℕ) → AreEndowed setup.endow → Stands book setup [] →
+pub sound_at_first : (setup : Setup) (book : Book) (held : List ℤ) (entries : List StoredEntry) (trades : List Trade) (entry_room trade_room : ℕ) → AreInRange setup.rules → AreEndowed setup.endow → Stands book setup [] →
     held ≡ held_by setup [] → entries ≡ [] → trades ≡ [] → 8256 ≤ entry_room → 132224 ≤ trade_room → IsSound setup book held entries trades entry_room trade_room
-sound_at_first setup book held entries trades entry_room trade_room endowed stands holds no_entries no_trades enough plenty =
+sound_at_first setup book held entries trades entry_room trade_room ranged endowed stands holds no_entries no_trades enough plenty =
     subst (λ (es : List StoredEntry). IsSound setup book held es trades entry_room trade_room) (sym no_entries)
     (subst (λ (ts : List Trade). IsSound setup book held [] ts entry_room trade_room) (sym no_trades)
     (record {
       kept = record {
+        ranged = ranged;
         endowed = endowed;
         legal = record { lawful = tt; called = tt; capped = λ caller le. omega arith };
         stands = stands;

@@ -9,7 +9,7 @@ use Rattle.auction_rules.specs.Legal.{Legal}
 use Rattle.auction_rules.specs.Traded.{traded}
 use Rattle.auction_core.specs.declared.book.Book.{Book}
 use Rattle.auction_core.specs.Books.{Stands, units_left, held_by}
-use Rattle.auction_core.specs.Setups.{AreEndowed}
+use Rattle.auction_core.specs.Setups.{AreInRange, AreEndowed}
 use Rattle.auction_core.specs.Stored.{stored, IsStored}
 
 -- an auction: what is fixed of it, and what happened, the oldest entry first
@@ -17,9 +17,10 @@ pub record AuctionHistory : Type 0 where
   pub setup : Setup
   pub history : List Entry
 
--- Each agent has 0..16 units at first. The history is legal, and book and holdings stand for it. Each entry gives 16 units to trade at
+-- The rules are those that a game may have, and each agent has 0..16 units at first. The history is legal, and book and holdings stand for it. Each entry gives 16 units to trade at
 -- most, beside 128 that a hotel may sell at its closing.
 pub record IsKept (setup : Setup) (book : Book) (holdings : List ℤ) (history : List Entry) : Type 0 where
+  pub ranged : AreInRange setup.rules
   pub endowed : AreEndowed setup.endow
   pub legal : Legal setup history
   pub stands : Stands book setup (reverse history)

@@ -6,3 +6,4 @@ pub mod Stored
 pub mod Struck
 pub mod Auctions
 pub mod ClosedGame
+pub mod Laws

@@ -1,5 +1,5 @@
 -- What a game says of an auction.
-use Rattle.std.specs.Prelude.{ℕ, ◌-◌, false, List, ℤ, pos, ◌≤ℤ◌, map, replicate, slice_index_or}
+use Rattle.std.specs.Prelude.{ℕ, ◌-◌, ◌≤◌, ⊤, false, List, ℤ, pos, ◌≤ℤ◌, map, replicate, slice_index_or}
 use Rattle.tac_base.specs.declared.numbers.Kind.{Kind}
 use Rattle.tac_base.specs.declared.numbers.Kind.TheVariants.{Flight, Hotel, Ticket}
 use Rattle.tac_base.specs.Kinds.{kind_of}
@@ -27,6 +27,12 @@ endow_by game good kind = replicate 8 (pos 0)
 -- the setup of the auction of a good
 abbrev pub setup_of : ℕ → GameFile → Setup
 setup_of good game = record { good = good; rules = rules_by game good (kind_of good); endow = endow_by game good (kind_of good) }
+
+-- rules that a game may have: a flight begins at 250..400, and a hotel has a room
+abbrev pub AreInRange : Rules → Type 0
+AreInRange (FlightRules first bound) = (250 ≤ first) × (first ≤ 400)
+AreInRange (HotelRules rooms live) = 1 ≤ rooms
+AreInRange TicketRules = ⊤
 
 -- no agent has more than 16 units at first
 abbrev pub AreEndowed : List ℤ → Type 0

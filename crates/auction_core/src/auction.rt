@@ -50,7 +50,7 @@ impl Model for Auction {
 }
 
 impl Auction {
-    /// The auction of a good in a game, in which nobody has called.
+    /// The auction of a good in a game, in which nobody has called. After `Memory` nothing was made.
     pub fn begin(alloc: Global, good: Good, game: &Game) -> Result<Auction, Memory>
         ensures setup { IfOk result (λ auction. auction.setup ≡ setup_of good game.now) }
         ensures history { IfOk result (λ auction. auction.history ≡ []) }
@@ -117,6 +117,7 @@ impl Kept for Auction {
     ghost use Rattle.auction_rules.specs.Board as boards;
     ghost use Rattle.auction_rules.specs.Legal as rules;
     ghost use Rattle.auction_core.specs.Calls.{IsFit};
+    ghost use Rattle.auction_core.specs.Laws as laws;
     ghost use Rattle.turn_lock.specs.Part.{part};
 
     type Call = Call;
@@ -154,6 +155,15 @@ impl Kept for Auction {
         ensures entry { (e : Happened) × (self.new.history ≡ self.old.history ++ e ∷ []) × (e.caller ≡ caller) × (e.call ≡ call.now) × (struck_of e ≡ result) }
         ensures appended { self.new.history ≡ self.old.history ++ entry_of self.old.setup (reverse self.old.history) caller call.now ∷ [] }
         ensures struck { result ≡ struck_of (entry_of self.old.setup (reverse self.old.history) caller call.now) }
+        // The laws of the auctions.
+        ensures quote { laws.KeepsQuote self.old self.new }
+        ensures closed { laws.TradesWhileOpen self.old self.new }
+        ensures sells { laws.SellsRooms self.old self.new }
+        ensures sum { laws.KeepsSum self.old self.new }
+        ensures parties { laws.HasNoSelfTrade self.new }
+        ensures price { laws.KeepsPrice self.new }
+        ensures paid { laws.NobodyOverpays self.new }
+        ensures uncrossed { laws.IsUncrossed self.new }
     {
         let at = self.entries.len() as u32;
         let mut fills = Fills::new();

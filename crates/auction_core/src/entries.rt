@@ -6,7 +6,7 @@ use tac_base::{Call, Caller, Fills, Nets, Reply};
 pub struct Struck {
     /// The answer to its call.
     pub reply: Reply,
-    /// What the entry's trades gave each party.
+    /// What the entry's trades gave each party, in dollars.
     pub nets: Nets,
     /// How many trades the entry has, at most 128.
     pub trades: u8,

@@ -1,6 +1,6 @@
 ghost use Rattle.std.specs.Prelude.{◌≡◌, ◌≤◌, ◌<◌, ◌-◌, [], pos, map, replicate, slice_index_or};
 ghost use Rattle.tac_base.specs.Kinds.{kind_of};
-ghost use Rattle.auction_core.specs.Setups.{setup_of, rules_by, endow_by, AreEndowed};
+ghost use Rattle.auction_core.specs.Setups.{setup_of, rules_by, endow_by, AreInRange, AreEndowed};
 ghost use Rattle.auction_core.specs.Terms as terms;
 ghost use Rattle.auction_core.specs.Books.{held_by};
 
@@ -38,7 +38,8 @@ impl Model for Terms {
 
 /// The rules of a good.
 fn rules_of(good: Good, game: &Game) -> KeptRules
-    ensures { terms.rules_of result ≡ rules_by game.now good (kind_of good) }
+    ensures value { terms.rules_of result ≡ rules_by game.now good (kind_of good) }
+    ensures range { AreInRange (terms.rules_of result) }
 {
     match good.kind() {
         Kind::Flight => {
@@ -82,6 +83,7 @@ impl Terms {
     /// What a game says of a good.
     pub(crate) fn new(good: Good, game: &Game) -> Terms
         ensures value { result ≡ setup_of good game.now }
+        ensures range { AreInRange result.rules }
         ensures few { AreEndowed result.endow }
     {
         Terms {

@@ -1,7 +1,7 @@
 -- The standing units of one agent, and what one more entry changes of them.
-use Rattle.std.proofs.Common.{◌≡◌, ℕ, ◌≤◌, Bool, true, false, cond, List, [], ◌∷◌, ◌++◌, length, refl, sym, ap, ◌∙◌, Option, Some}
+use Rattle.std.proofs.Common.{◌≡◌, ℕ, ◌≤◌, Bool, true, false, cond, List, [], ◌∷◌, ◌++◌, length, map, refl, sym, ap, ◌∙◌, Option, Some}
 use Rattle.std.specs.Prelude.{not, ◌&&◌, ◌||◌, ◌==◌, filter, if◌then◌else◌}
-use Rattle.std.specs.List.{flat_map}
+use Rattle.std.specs.List.{AllByRecursion, flat_map}
 use Rattle.std.proofs.lemmas.List.Folds.{flat_map-map}
 use Rattle.tac_base.specs.declared.bids.Point.{Point}
 use Rattle.tac_base.specs.declared.calls.Call.TheVariants.{Bid}
@@ -12,9 +12,27 @@ use Rattle.auction_rules.specs.Units.{units_of, among, without}
 use Rattle.auction_rules.specs.Setup.{Rules}
 use Rattle.auction_rules.specs.History.{Entry, is_admission, is_closed, last_bid, bid_units, units_of_last}
 use Rattle.auction_rules.specs.Standing.{gone_by, gone, stand}
-use Rattle.auction_rules.proofs.Agents.{number_same, another, agents_pick, agents_joined}
+use Rattle.auction_rules.proofs.Agents.{number_same, another, agents_within, agents_pick, agents_joined}
 use Rattle.auction_rules.proofs.Lists.{filter-filter, filter-flat_map, flat_map_alike, filter_all}
-use Rattle.auction_rules.proofs.Standing.{Each, each-weaker, last_is, last_units, number_is, among-append, new_not_gone}
+use Rattle.auction_rules.proofs.Standing.{Each, each-append, each-filter, each-weaker, last_is, last_units, number_is, among-append, new_not_gone}
+
+-- ---- whose a standing unit is
+
+bids_owned : (past : List Entry) (who : List ℕ) → AllByRecursion (λ a. a ≤ 7) who → Each (λ u. u.agent ≤ 7) (flat_map units_of_last (map (λ a. last_bid a past) who))
+bids_owned past [] h = tt
+bids_owned past (a ∷ who) h =
+    each-append (λ (u : BidUnit). u.agent ≤ 7) (units_of_last (last_bid a past)) (flat_map units_of_last (map (λ (b : ℕ). last_bid b past) who))
+    (last_units (λ (u : BidUnit). u.agent ≤ 7) a (length past) (last_bid a past) (last_is a past) (λ u own lt. rw own h.0)) (bids_owned past who h.1)
+
+-- each standing unit is an agent's
+pub stand_owned : (rules : Rules) (past : List Entry) → Each (λ u. u.agent ≤ 7) (stand rules past)
+stand_owned rules past = by_test (is_closed past)
+  where
+    by_test : (b : Bool) → Each (λ (x : BidUnit). x.agent ≤ 7) (cond b [] (without (bid_units past) (gone rules past)))
+    by_test true = tt
+    by_test false = each-filter (λ (x : BidUnit). x.agent ≤ 7) (λ (x : BidUnit). not (among x (gone rules past))) (bid_units past) (bids_owned past agents agents_within)
+
+-- ---- one agent's units
 
 -- units of one agent are all found or none is
 all_own : (agent a : ℕ) (units : List BidUnit) → (agent == a) ≡ true → Each (λ u. u.agent ≡ a) units → filter (λ u. u.agent == agent) units ≡ units

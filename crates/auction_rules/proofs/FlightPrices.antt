@@ -1,13 +1,10 @@
 -- A flight's price stays in 150..800.
-use Rattle.std.proofs.Common.{ℕ, ◌≤◌, Bool, true, false, cond, List, [], ◌∷◌, arith, ℤ, pos, negsuc}
+use Rattle.std.proofs.Common.{ℕ, Bool, true, false, cond, List, [], ◌∷◌, arith, ℤ, pos, negsuc}
 use Rattle.tac_base.specs.declared.calls.Call.{Call}
 use Rattle.tac_base.specs.declared.calls.Call.TheVariants.{Bid, Withdraw, Own as OwnCall, Update, Publish, Close}
 use Rattle.auction_rules.specs.History.{Entry, is_admission}
 use Rattle.auction_rules.specs.FlightRule.{clamped, price_after, price}
-
--- a price of flights
-abbrev pub IsFlightPrice : ℕ → Type 0
-IsFlightPrice dollars = (150 ≤ dollars) × (dollars ≤ 800)
+use Rattle.auction_rules.specs.Laws.{IsFlightPrice}
 
 clamped_within : (sum : ℤ) → IsFlightPrice (clamped sum)
 clamped_within (pos n) = (omega arith, omega arith)

@@ -248,22 +248,23 @@ each_pair P Q R makes standing (u ∷ us) h k = by_partner (partner standing u) 
         let found = partner_is standing u w is in
         (makes u w k.0 (each_among P w standing h found.0) found.1 found.2, more (not_taken (Some w) standing) (each-filter P (λ x. not (same_unit x w)) standing h))
 
+-- units that face each other are of two agents
+pub faces_differ : (u w : BidUnit) → faces u w ≡ true → u.agent ≢ w.agent
+faces_differ u w facing same = by_test (u.agent == w.agent) (ap (λ (n : ℕ). n == w.agent) same ∙ number_same w.agent) facing
+  where
+    by_test : (t : Bool) → t ≡ true → (not t && not (same_side u.buys w.buys)) ≡ true → ⊥
+    by_test true is g = absurd cc
+    by_test false is g = absurd cc
+
 -- nobody trades with itself, and no price is above those of the standing units
 abbrev pub IsFair : ℕ → Trade → Type 0
 IsFair most trade = (trade.buyer ≢ trade.seller) × (trade.price ≤ most)
 
 pub trades_fair : (good most : ℕ) (standing arriving : List BidUnit) → Each (λ u. u.price ≤ most) standing → AllByRecursion (IsFair most) (ticket_trades good standing arriving)
-trades_fair good most standing arriving h = each (pairs standing arriving) (each_pair (λ u. u.price ≤ most) (λ u. ⊤) Between (λ u w _ le facing crossing. (differ u w facing, le)) standing arriving h (all_alike (λ u. ⊤) arriving (λ u. tt)))
+trades_fair good most standing arriving h = each (pairs standing arriving) (each_pair (λ u. u.price ≤ most) (λ u. ⊤) Between (λ u w _ le facing crossing. (faces_differ u w facing, le)) standing arriving h (all_alike (λ u. ⊤) arriving (λ u. tt)))
   where
     Between : BidUnit × BidUnit → Type 0
     Between pair = (pair.0.agent ≢ pair.1.agent) × (pair.1.price ≤ most)
-
-    differ : (u w : BidUnit) → faces u w ≡ true → u.agent ≢ w.agent
-    differ u w facing same = by_test (u.agent == w.agent) (ap (λ (n : ℕ). n == w.agent) same ∙ number_same w.agent) facing
-      where
-        by_test : (t : Bool) → t ≡ true → (not t && not (same_side u.buys w.buys)) ≡ true → ⊥
-        by_test true is g = absurd cc
-        by_test false is g = absurd cc
 
     each : (matched : List (BidUnit × BidUnit)) → AllByRecursion Between matched → AllByRecursion (IsFair most) (trades_of_pairs good matched)
     each [] k = tt

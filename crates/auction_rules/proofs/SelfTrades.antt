@@ -1,6 +1,6 @@
--- Nobody trades with itself.
-use Rattle.std.proofs.Common.{◌≡◌, ℕ, ◌≤◌, Bool, true, false, cond, List, [], ◌∷◌, length, ◌+◌, map, refl, arith, Option, Some, None}
-use Rattle.std.specs.Prelude.{IfSome, ◌≢◌, not, ◌&&◌, ◌||◌, ◌==◌, if◌then◌else◌, max, filter, fold}
+-- Nobody trades with itself, and each trade is between two of the nine parties.
+use Rattle.std.proofs.Common.{◌≡◌, ℕ, ◌≤◌, Bool, true, false, cond, List, length, ◌+◌, refl, sym, arith, Option, Some, None}
+use Rattle.std.specs.Prelude.{IfSome, ◌≢◌, not, ◌&&◌, ◌||◌, ◌==◌, if◌then◌else◌, filter}
 use Rattle.std.specs.List.{AllByRecursion, filter_map}
 use Rattle.std.proofs.lemmas.Bool.{or_parts}
 use Rattle.std.proofs.lemmas.Bool.Decides.{nat_tests}
@@ -16,26 +16,28 @@ use Rattle.auction_rules.specs.Goods.{agents, clock, house}
 use Rattle.auction_rules.specs.Setup.{Setup, Rules, FlightRules, HotelRules, TicketRules}
 use Rattle.auction_rules.specs.History.{Entry, is_own, is_closed, last_bid}
 use Rattle.auction_rules.specs.FlightRule.{price, price_after, looked_at, bids_looked_at}
-use Rattle.auction_rules.specs.TicketMatch.{arriving, ticket_trades}
+use Rattle.auction_rules.specs.TicketMatch.{arriving, faces, crosses, pairs, pair_trade, ticket_trades}
 use Rattle.auction_rules.specs.Standing.{stand}
 use Rattle.auction_rules.specs.Ask.{ask}
 use Rattle.auction_rules.specs.WinningNumber.{winning}
 use Rattle.auction_rules.specs.HotelClosing.{closing_trade, closing_trades}
 use Rattle.auction_rules.specs.Refusals.{is_wrong_caller, is_wrong_place, call_refusal, refusal}
+use Rattle.auction_rules.specs.Laws.{HasTwoParties}
 use Rattle.auction_rules.specs.Legal.{entry_by, trades_by, trades_of}
+use Rattle.auction_rules.specs.Units.{units_of}
 use Rattle.auction_rules.proofs.Agents.{agents_within}
-use Rattle.auction_rules.proofs.Lists.{all-append, all-filter, all-filter_map, all-if, all-weaker}
-use Rattle.auction_rules.proofs.Standing.{Each, IsBidOf, last_is}
-use Rattle.auction_rules.proofs.Quotes.{max_reaches}
-use Rattle.auction_rules.proofs.Matching.{IsFair, trades_fair}
+use Rattle.auction_rules.proofs.AgentUnits.{stand_owned}
+use Rattle.auction_rules.proofs.Lists.{all-append, all-filter, all-filter_map, all-if, all-map, all-weaker}
+use Rattle.auction_rules.proofs.Standing.{Each, each-weaker, IsPlaced, each-placed, IsBidOf, last_is}
+use Rattle.auction_rules.proofs.Matching.{each_pair, faces_differ}
 use Rattle.auction_rules.proofs.FlightTrades.{each_point_trade, each_flight_trade}
 
--- a trade has two parties
-abbrev pub HasTwoParties : Trade → Type 0
-HasTwoParties trade = trade.buyer ≢ trade.seller
+-- a trade is between two of the nine parties
+abbrev IsBetween : Trade → Type 0
+IsBetween trade = HasTwoParties trade × (trade.buyer ≤ house) × (trade.seller ≤ house)
 
-agent_not_house : (agent : ℕ) → agent ≤ 7 → agent ≢ house
-agent_not_house agent le same = absurd (omega arith)
+from_house : (agent : ℕ) → agent ≤ 7 → (agent ≢ house) × (agent ≤ house) × (house ≤ house)
+from_house agent le = (λ same. absurd (omega (arith, le, same)), omega (arith, le), omega arith)
 
 -- ---- whose a call is
 
@@ -81,35 +83,50 @@ looked_of_agents rules past bids position caller Close le admitted of_agents = o
 
 -- ---- hotels
 
-closing_parties : (good rooms : ℕ) (units : List BidUnit) → AllByRecursion HasTwoParties (closing_trades good rooms units)
+closing_parties : (good rooms : ℕ) (units : List BidUnit) → AllByRecursion IsBetween (closing_trades good rooms units)
 closing_parties good rooms units =
-    all-filter_map HasTwoParties (closing_trade good rooms units) agents (all-weaker (λ agent. agent ≤ 7) _ agents (λ agent le. one agent (winning rooms units agent == 0) le) agents_within)
+    all-filter_map IsBetween (closing_trade good rooms units) agents (all-weaker (λ agent. agent ≤ 7) _ agents (λ agent le. one agent (winning rooms units agent == 0) le) agents_within)
   where
-    one : (agent : ℕ) (b : Bool) → agent ≤ 7 → IfSome (cond b None (Some (record { buyer = agent; seller = house; good = good; units = winning rooms units agent; price = ask rooms units }))) HasTwoParties
+    one : (agent : ℕ) (b : Bool) → agent ≤ 7 → IfSome (cond b None (Some (record { buyer = agent; seller = house; good = good; units = winning rooms units agent; price = ask rooms units }))) IsBetween
     one agent true le = tt
-    one agent false le = agent_not_house agent le
+    one agent false le = from_house agent le
 
 -- ---- tickets
 
-ticket_parties : (good : ℕ) (standing units : List BidUnit) → AllByRecursion HasTwoParties (ticket_trades good standing units)
-ticket_parties good standing units =
-    all-weaker (IsFair most) HasTwoParties (ticket_trades good standing units) (λ trade fair. fair.0) (trades_fair good most standing units (each standing (max_reaches 0 (map (λ u. u.price) standing)).1))
+ticket_parties : (good : ℕ) (standing units : List BidUnit) → Each (λ u. u.agent ≤ 7) standing → Each (λ u. u.agent ≤ 7) units → AllByRecursion IsBetween (ticket_trades good standing units)
+ticket_parties good standing units of_agents new =
+    all-map IsBetween (pair_trade good) (pairs standing units)
+    (each_pair (λ u. u.agent ≤ 7) (λ u. u.agent ≤ 7) (λ pair. IsBetween (pair_trade good pair)) between standing units of_agents new)
   where
-    most : ℕ
-    most = fold max 0 (map (λ u. u.price) standing)
+    between : (u w : BidUnit) → u.agent ≤ 7 → w.agent ≤ 7 → faces u w ≡ true → crosses u w ≡ true → IsBetween (pair_trade good (u, w))
+    between u w le le' facing crossing = by_side u.buys
+      where
+        by_side : (b : Bool) →
+            IsBetween
+            (cond {A = Trade} b (record { buyer = u.agent; seller = w.agent; good = good; units = 1; price = w.price })
+            (record { buyer = w.agent; seller = u.agent; good = good; units = 1; price = w.price }))
+        by_side true = (faces_differ u w facing, omega (arith, le), omega (arith, le'))
+        by_side false = (λ same. faces_differ u w facing (sym same), omega (arith, le'), omega (arith, le))
 
-    each : (us : List BidUnit) → AllByRecursion (λ n. n ≤ most) (map (λ u. u.price) us) → Each (λ u. u.price ≤ most) us
-    each [] h = tt
-    each (u ∷ us) h = (h.0, each us h.1)
+-- the units that arrive with an admitted call are an agent's
+arriving_owned : (rules : Rules) (past : List Entry) (position caller : ℕ) (call : Call) → caller ≤ 8 → refusal rules past caller call ≡ None → Each (λ u. u.agent ≤ 7) (arriving position caller call)
+arriving_owned rules past position caller (Bid points) le admitted =
+    let agent = bidder_is_agent rules past caller points le admitted in
+    each-weaker (IsPlaced caller position) (λ u. u.agent ≤ 7) (units_of (record { agent = caller; position = position; points = points })) (λ u own. rw (own.0) agent) (each-placed caller position 0 points)
+arriving_owned rules past position caller Withdraw le admitted = tt
+arriving_owned rules past position caller OwnCall le admitted = tt
+arriving_owned rules past position caller (Update tick draw) le admitted = tt
+arriving_owned rules past position caller Publish le admitted = tt
+arriving_owned rules past position caller Close le admitted = tt
 
 -- ---- all auctions
 
 admitted_parties : (rules : Rules) (good : ℕ) (past : List Entry) (caller : ℕ) (call : Call) → caller ≤ 8 → refusal rules past caller call ≡ None →
-    AllByRecursion HasTwoParties (trades_by rules good past caller call)
+    AllByRecursion IsBetween (trades_by rules good past caller call)
 admitted_parties (FlightRules first bound) good past caller call le admitted =
-    all-if HasTwoParties _ _
-    (each_flight_trade HasTwoParties good current units bids (length past + 1)
-    (all-weaker IsOfAgent _ bids (λ bid agent. each_point_trade HasTwoParties good current units bid (λ from point reached some. agent_not_house bid.agent agent) 0 bid.points)
+    all-if IsBetween _ _
+    (each_flight_trade IsBetween good current units bids (length past + 1)
+    (all-weaker IsOfAgent _ bids (λ bid agent. each_point_trade IsBetween good current units bid (λ from point reached some. from_house bid.agent agent) 0 bid.points)
     (looked_of_agents (FlightRules first bound) past _ (length past) caller call le admitted (last_of_agents past))))
   where
     current : ℕ
@@ -120,13 +137,22 @@ admitted_parties (FlightRules first bound) good past caller call le admitted =
 
     bids : List Placed
     bids = bids_looked_at (filter_map (λ agent. last_bid agent past) agents) (length past) caller call
-admitted_parties (HotelRules rooms live) good past caller call le admitted = all-if HasTwoParties _ _ (closing_parties good rooms (stand (HotelRules rooms live) past))
-admitted_parties TicketRules good past caller call le admitted = ticket_parties good (stand TicketRules past) (arriving (length past) caller call)
+admitted_parties (HotelRules rooms live) good past caller call le admitted = all-if IsBetween _ _ (closing_parties good rooms (stand (HotelRules rooms live) past))
+admitted_parties TicketRules good past caller call le admitted =
+    ticket_parties good (stand TicketRules past) (arriving (length past) caller call) (stand_owned TicketRules past) (arriving_owned TicketRules past (length past) caller call le admitted)
+
+-- each trade of a call is between two of the nine parties
+between_parties : (setup : Setup) (past : List Entry) (caller : ℕ) (call : Call) → caller ≤ 8 → AllByRecursion IsBetween (trades_of setup past caller call)
+between_parties setup past caller call le = by_refusal (refusal setup.rules past caller call) refl
+  where
+    by_refusal : (refused : Option Reply) → refusal setup.rules past caller call ≡ refused → AllByRecursion IsBetween (entry_by setup past caller call refused).trades
+    by_refusal (Some reply) h = tt
+    by_refusal None h = admitted_parties setup.rules setup.good past caller call le h
 
 -- in no trade of a call is the buyer the seller
 pub nobody_trades_with_itself : (setup : Setup) (past : List Entry) (caller : ℕ) (call : Call) → caller ≤ 8 → AllByRecursion HasTwoParties (trades_of setup past caller call)
-nobody_trades_with_itself setup past caller call le = by_refusal (refusal setup.rules past caller call) refl
-  where
-    by_refusal : (refused : Option Reply) → refusal setup.rules past caller call ≡ refused → AllByRecursion HasTwoParties (entry_by setup past caller call refused).trades
-    by_refusal (Some reply) h = tt
-    by_refusal None h = admitted_parties setup.rules setup.good past caller call le h
+nobody_trades_with_itself setup past caller call le = all-weaker IsBetween HasTwoParties (trades_of setup past caller call) (λ trade between. between.0) (between_parties setup past caller call le)
+
+-- each party of a trade is one of the nine
+pub parties_within : (setup : Setup) (past : List Entry) (caller : ℕ) (call : Call) → caller ≤ 8 → AllByRecursion (λ t. (t.buyer ≤ house) × (t.seller ≤ house)) (trades_of setup past caller call)
+parties_within setup past caller call le = all-weaker IsBetween (λ t. (t.buyer ≤ house) × (t.seller ≤ house)) (trades_of setup past caller call) (λ trade between. (between.1, between.2)) (between_parties setup past caller call le)

@@ -1,7 +1,7 @@
 -- After a lawful past no board of a ticket auction is crossed: each unit that buys has a lower price than each that sells.
-use Rattle.std.proofs.Common.{◌≡◌, ℕ, ◌+◌, ◌<◌, ◌≤◌, Bool, true, false, cond, List, [], ◌∷◌, length, map, refl, sym, ap, ◌∙◌, subst, arith, Option, Some, None}
+use Rattle.std.proofs.Common.{◌≡◌, ℕ, ◌+◌, ◌<◌, ◌≤◌, Bool, true, false, List, [], ◌∷◌, length, map, refl, sym, ap, ◌∙◌, subst, arith, Option, Some, None}
 use Rattle.std.specs.Prelude.{not, ◌&&◌, ◌||◌, ◌==◌, nat_le, max, filter, if◌then◌else◌}
-use Rattle.std.specs.List.{AllByRecursion, flat_map, list_any}
+use Rattle.std.specs.List.{list_any}
 use Rattle.std.proofs.lemmas.Bool.{false≢true, and_parts, or_parts, or_right, not-true}
 use Rattle.std.proofs.lemmas.Bool.Decides.{nat_tests}
 use Rattle.tac_base.specs.declared.bids.Point.{Point}
@@ -12,10 +12,9 @@ use Rattle.tac_base.specs.declared.calls.Reply.{Reply}
 use Rattle.tac_base.specs.declared.calls.Reply.TheVariants.{Closed, WrongCall, SelfCross}
 use Rattle.auction_rules.specs.declared.units.BidUnit.{BidUnit}
 use Rattle.auction_rules.specs.declared.units.Placed.{Placed}
-use Rattle.auction_rules.specs.Goods.{agents}
 use Rattle.auction_rules.specs.Units.{point_units, units_from, units_of, same_side, among, without}
 use Rattle.auction_rules.specs.Setup.{Setup, Rules, TicketRules}
-use Rattle.auction_rules.specs.History.{Entry, is_admission, is_bid, is_close, is_closed, last_bid, bid_units, units_of_last}
+use Rattle.auction_rules.specs.History.{Entry, is_admission, is_bid, is_close, is_closed, last_bid, units_of_last}
 use Rattle.auction_rules.specs.TicketMatch.{faces, crosses, ticket_gone}
 use Rattle.auction_rules.specs.Standing.{gone, stand}
 use Rattle.auction_rules.specs.Refusals.{is_wrong_caller, is_wrong_place, meets_own, crosses_itself, refusal}
@@ -24,9 +23,9 @@ use Rattle.auction_rules.specs.Board.{highest_buy, lowest_sell, shown_bid, shown
 use Rattle.auction_rules.proofs.Lists.{any-weaker}
 use Rattle.auction_rules.proofs.Quotes.{fold_keeps, max_keeps, lowest_keeps, prices_of}
 use Rattle.auction_rules.proofs.Steps.{entry_refused, refusal_refuses}
-use Rattle.auction_rules.proofs.Standing.{Each, each-append, each-filter, each-block, each-weaker, IsPlaced, each-placed, last_is, last_units, number_is, among-filter, all_among_self}
-use Rattle.auction_rules.proofs.Agents.{number_same, agents_within}
-use Rattle.auction_rules.proofs.AgentUnits.{own_units, gone_now, own_by_other, own_by_bid}
+use Rattle.auction_rules.proofs.Standing.{Each, each-append, each-block, each-weaker, IsPlaced, each-placed, number_is, among-filter, all_among_self}
+use Rattle.auction_rules.proofs.Agents.{number_same}
+use Rattle.auction_rules.proofs.AgentUnits.{stand_owned, own_units, gone_now, own_by_other, own_by_bid}
 use Rattle.auction_rules.proofs.Matching.{each_among, unmatched}
 
 -- each of the units that buys has a lower price than each that sells
@@ -87,19 +86,9 @@ one_bid_apart bid apart u v among_u among_v buys sells = by_test (nat_le v.price
 
 -- ---- whose a standing unit is, and where it comes from
 
-bids_owned : (past : List Entry) (who : List ℕ) → AllByRecursion (λ a. a ≤ 7) who → Each (λ u. u.agent ≤ 7) (flat_map units_of_last (map (λ a. last_bid a past) who))
-bids_owned past [] h = tt
-bids_owned past (a ∷ who) h =
-    each-append (λ (u : BidUnit). u.agent ≤ 7) (units_of_last (last_bid a past)) (flat_map units_of_last (map (λ (b : ℕ). last_bid b past) who))
-    (last_units (λ (u : BidUnit). u.agent ≤ 7) a (length past) (last_bid a past) (last_is a past) (λ u own lt. rw own h.0)) (bids_owned past who h.1)
-
 -- each standing unit is an agent's
 owner_within : (rules : Rules) (past : List Entry) (u : BidUnit) → among u (stand rules past) ≡ true → u.agent ≤ 7
-owner_within rules past u is = each_among (λ (x : BidUnit). x.agent ≤ 7) u (stand rules past) (by_test (is_closed past)) is
-  where
-    by_test : (b : Bool) → Each (λ (x : BidUnit). x.agent ≤ 7) (cond b [] (without (bid_units past) (gone rules past)))
-    by_test true = tt
-    by_test false = each-filter (λ (x : BidUnit). x.agent ≤ 7) (λ (x : BidUnit). not (among x (gone rules past))) (bid_units past) (bids_owned past agents agents_within)
+owner_within rules past u is = each_among (λ (x : BidUnit). x.agent ≤ 7) u (stand rules past) (stand_owned rules past) is
 
 -- a standing unit among those of its owner
 among_own : (units : List BidUnit) (u : BidUnit) (agent : ℕ) → among u units ≡ true → (u.agent == agent) ≡ true → among u (filter (λ x. x.agent == agent) units) ≡ true

@@ -17,3 +17,4 @@ pub mod Board
 pub mod Part
 pub mod Follows
 pub mod Traded
+pub mod Laws

@@ -1,19 +1,20 @@
-use Rattle.std.proofs.Common.{rules, ◌≡◌, ℕ, ◌+◌, ◌<◌, ◌≤◌, List, [], ◌∷◌, ◌++◌, ℤ, length, reverse, refl, sym, ap, ◌∙◌, subst, arith, vec_len, vec_capacity}
-use Rattle.tac_base.specs.declared.calls.Call.{Call}
+use Rattle.std.proofs.Common.{rules, ◌≡◌, ℕ, ◌<◌, ◌≤◌, List, [], ◌∷◌, ◌++◌, ℤ, length, reverse, sym, ap, ◌∙◌, subst, arith, vec_capacity}
 use Rattle.tac_base.specs.declared.calls.Entry.{Entry as StoredEntry}
 use Rattle.tac_base.specs.declared.calls.Trade.{Trade}
 use Rattle.auction_rules.specs.Effects.{nets}
 use Rattle.auction_rules.specs.Follows.{Follows}
 use Rattle.auction_rules.specs.History.{Entry}
-use Rattle.auction_rules.specs.Legal.{cap, entry_of}
-use Rattle.auction_rules.specs.Traded.{traded, Spends}
+use Rattle.auction_rules.specs.Legal.{cap, IsLawful, entry_of}
+use Rattle.auction_rules.specs.Traded.{traded}
 use Rattle.auction_rules.proofs.Histories.{entry_caller, entry_call}
 use Rattle.turn_lock.specs.Part.{part}
 use Rattle.trade_ledger.specs.Holdings.{held_after}
 use Rattle.auction_core.specs.Auctions.{AuctionHistory, IsSound}
-use Rattle.auction_core.specs.Books.{Stands, units_left}
+use Rattle.auction_core.specs.Books.{Stands}
 use Rattle.auction_core.specs.Stored.{stored, entry_behind}
 use Rattle.auction_core.specs.Struck.{struck_of}
+use Rattle.auction_core.specs.Setups.{AreInRange}
+use Rattle.auction_core.proofs.LawsHold.{Laws, laws_hold}
 use Rattle.auction_core.proofs.Counting.{by}
 use Rattle.auction_core.proofs.Keeping.{few_stored, position_is, entries_fit, trades_fit, sound_more, history_more, few_by_call, small_holdings, struck_is}
 use Rattle.auction_core.proofs.auction.AuctionKept.act.Goals as goal
@@ -119,3 +120,36 @@ returns-clause-entry c =
     let now = c.args.self.now in
     let past : List Entry = reverse now.history in
     (entry_of now.setup past c.args.caller c.args.call.now, returns-clause-appended c, entry_caller now.setup past c.args.caller c.args.call.now, entry_call now.setup past c.args.caller c.args.call.now, sym (returns-clause-struck c))
+
+-- the laws of the auctions
+the_laws : (c : goal.After-store) → Laws c.args.self.now (record { setup = c.self.inside.terms; history = stored c.store.new.entries.items c.store.new.trades.items })
+the_laws c =
+    let le : c.args.caller ≤ 8 = search rules in
+    laws_hold c.args.self.now (record { setup = c.self.inside.terms; history = stored c.store.new.entries.items c.store.new.trades.items }) c.args.caller c.args.call.now
+    (subst (λ (h : AuctionHistory). AreInRange h.setup.rules) c.self.view_is c.self.invariant.kept.ranged)
+    (subst (λ (h : AuctionHistory). IsLawful h.setup (reverse h.history)) c.self.view_is c.self.invariant.kept.legal.lawful)
+    le (ap (λ (h : AuctionHistory). h.setup) c.self.view_is) (returns-clause-appended c)
+
+pub returns-clause-quote : goal.returns-clause-quote
+returns-clause-quote c = (the_laws c).quote
+
+pub returns-clause-closed : goal.returns-clause-closed
+returns-clause-closed c = (the_laws c).closed
+
+pub returns-clause-sells : goal.returns-clause-sells
+returns-clause-sells c = (the_laws c).sells
+
+pub returns-clause-sum : goal.returns-clause-sum
+returns-clause-sum c = (the_laws c).sum
+
+pub returns-clause-parties : goal.returns-clause-parties
+returns-clause-parties c = (the_laws c).parties
+
+pub returns-clause-price : goal.returns-clause-price
+returns-clause-price c = (the_laws c).price
+
+pub returns-clause-paid : goal.returns-clause-paid
+returns-clause-paid c = (the_laws c).paid
+
+pub returns-clause-uncrossed : goal.returns-clause-uncrossed
+returns-clause-uncrossed c = (the_laws c).uncrossed

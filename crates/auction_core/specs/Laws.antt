@@ -1,0 +1,87 @@
+-- The laws of the auctions: what every call keeps, whoever makes it. Each speaks of an auction before the call and after it.
+use Rattle.std.specs.Prelude.{◌≡◌, ℕ, ◌≤◌, ◌<◌, ◌==◌, min, ⊤, true, false, ◌&&◌, nat_le, List, [], ◌∷◌, All, length, reverse, filter, sum_by, count_by}
+use Rattle.tac_base.specs.declared.calls.Trade.{Trade}
+use Rattle.auction_rules.specs.declared.units.BidUnit.{BidUnit}
+use Rattle.auction_rules.specs.Setup.{Rules, FlightRules, HotelRules, TicketRules}
+use Rattle.auction_rules.specs.History.{Entry, is_closed}
+use Rattle.auction_rules.specs.FlightRule.{price, looked_at}
+use Rattle.auction_rules.specs.Standing.{stand}
+use Rattle.auction_rules.specs.Ask.{published}
+use Rattle.auction_rules.specs.Board.{board}
+use Rattle.auction_rules.specs.Traded.{traded}
+use Rattle.auction_rules.specs.Laws.{HasTwoParties, IsFlightPrice}
+use Rattle.trade_ledger.specs.Holdings.{sum_held}
+use Rattle.auction_core.specs.Books.{held_by}
+use Rattle.auction_core.specs.Auctions.{AuctionHistory}
+
+-- what happened, the newest entry first
+abbrev pub past_of : AuctionHistory → List Entry
+past_of auction = reverse auction.history
+
+-- the trades of the newest entry
+abbrev pub newest_trades : List Entry → List Trade
+newest_trades [] = []
+newest_trades (e ∷ past) = e.trades
+
+-- a hotel's published price does not fall
+abbrev pub NoLower : Rules → List Entry → List Entry → Type 0
+NoLower (HotelRules rooms live) past next = published rooms live past ≤ published rooms live next
+NoLower rules past next = ⊤
+
+abbrev pub KeepsQuote : AuctionHistory → AuctionHistory → Type 0
+KeepsQuote before after = NoLower before.setup.rules (past_of before) (past_of after)
+
+-- once an auction is closed nothing is traded
+abbrev pub TradesWhileOpen : AuctionHistory → AuctionHistory → Type 0
+TradesWhileOpen before after = is_closed (past_of before) ≡ true → newest_trades (past_of after) ≡ []
+
+-- a hotel that closes sells as many units as stand, up to its rooms
+abbrev pub SellsAll : Rules → List Entry → List Entry → Type 0
+SellsAll (HotelRules rooms live) past next =
+    is_closed past ≡ false → is_closed next ≡ true → traded (newest_trades next) ≡ min rooms (length (stand (HotelRules rooms live) past))
+SellsAll rules past next = ⊤
+
+abbrev pub SellsRooms : AuctionHistory → AuctionHistory → Type 0
+SellsRooms before after = SellsAll before.setup.rules (past_of before) (past_of after)
+
+-- the holdings of the nine parties keep their sum
+abbrev pub KeepsSum : AuctionHistory → AuctionHistory → Type 0
+KeepsSum before after = sum_held (held_by after.setup (past_of after)) ≡ sum_held (held_by before.setup (past_of before))
+
+-- nobody trades with itself
+abbrev pub HasNoSelfTrade : AuctionHistory → Type 0
+HasNoSelfTrade after = All HasTwoParties (newest_trades (past_of after))
+
+-- a flight's price lies in 150..800
+abbrev pub IsPriced : Rules → List Entry → Type 0
+IsPriced (FlightRules first bound) past = IsFlightPrice (price first bound past)
+IsPriced rules past = ⊤
+
+abbrev pub KeepsPrice : AuctionHistory → Type 0
+KeepsPrice after = IsPriced after.setup.rules (past_of after)
+
+-- the units that a party buys in trades at a price or more
+abbrev pub bought_at : List Trade → ℕ → ℕ → ℕ
+bought_at trades party price = sum_by (λ t. t.units) (filter (λ t. (t.buyer == party) && nat_le price t.price) trades)
+
+-- how many of the units are the party's, buy, and bid the price or more
+abbrev pub bid_at : List BidUnit → ℕ → ℕ → ℕ
+bid_at units party price = count_by (λ u. u.buys && ((u.agent == party) && nat_le price u.price)) units
+
+-- Nobody pays more than it bid: at whatever price, an agent buys no more units at that price or more in a call than it has units that
+-- bid so much, standing before the call, or, where it makes a new bid, new with that bid.
+abbrev pub ArePaid : Rules → List Entry → Type 0
+ArePaid rules [] = ⊤
+ArePaid rules (e ∷ past) =
+    (agent price : ℕ) → agent ≤ 7 → bought_at e.trades agent price ≤ bid_at (looked_at (stand rules past) (length past) e.caller e.call) agent price
+
+abbrev pub NobodyOverpays : AuctionHistory → Type 0
+NobodyOverpays after = ArePaid after.setup.rules (past_of after)
+
+-- where tickets show a bid and an ask, the bid is below the ask
+abbrev pub IsApart : Rules → List Entry → Type 0
+IsApart TicketRules past = 0 < (board TicketRules past).bid → 0 < (board TicketRules past).ask → (board TicketRules past).bid < (board TicketRules past).ask
+IsApart rules past = ⊤
+
+abbrev pub IsUncrossed : AuctionHistory → Type 0
+IsUncrossed after = IsApart after.setup.rules (past_of after)
