@@ -1,5 +1,5 @@
 -- Where every feature is fixed, the scarcity prices leave no more than the packages' worth.
-use Rattle.std.proofs.Common.{◌≡◌, ℕ, zero, suc, ◌+◌, ◌*◌, ◌/◌, ◌%◌, ◌<◌, ◌≤◌, ◌⊎◌, ◌&&◌, ◌||◌, not, ℤ, pos, ◌+ℤ◌, ◌-ℤ◌, ◌≤ℤ◌, Bool, true, false, cond, List, [], ◌∷◌, Option, Some, None, map, length, get_or, eqb, leb, int_le, inl, inr, refl, sym, ap, subst, ◌∙◌, arith}
+use Rattle.std.proofs.Common.{◌≡◌, ℕ, zero, suc, ◌+◌, ◌*◌, ◌/◌, ◌%◌, ◌<◌, ◌≤◌, ◌⊎◌, ◌&&◌, ℤ, pos, ◌+ℤ◌, ◌-ℤ◌, ◌≤ℤ◌, Bool, true, false, cond, List, [], ◌∷◌, Option, Some, None, is_some, IfNone, map, length, get_or, leb, int_le, inl, inr, refl, sym, ap, subst, ◌∙◌, arith}
 use Rattle.std.specs.List.{filter, slice_get}
 use Rattle.std.specs.Int.{int_max}
 use Rattle.std.proofs.lemmas.Int.{ints}
@@ -13,14 +13,15 @@ use Rattle.packages.specs.declared.travel_packages.Package.{Package}
 use Rattle.packages.specs.declared.travel_packages.Package.TheVariants as kinds
 use Rattle.packages.specs.Packages.{is_package, utility_of}
 use Rattle.packages.specs.Listing.{packages}
-use Rattle.packages.specs.Features.{feature_of, rank_of, narrowed}
+use Rattle.packages.specs.Features.{feature_of, rank_of}
 use Rattle.packages.specs.BestTotal.{total_of, used_by}
 use Rattle.packages.specs.Bounds.{Narrowing, sum_below, cost_of, stock_value, margin_of, greater, greatest, plus, best_margin, margins, leaf_bound}
 use Rattle.packages.proofs.Found.{package_lawful, ranges_of, three_of}
 use Rattle.bound_cert.specs.Certificate.{is_within}
 use Rattle.bound_cert.proofs.Duality.{all_cost, cost_together, sum_below_le}
 use Rattle.allocator.specs.Scarcity.{scarcity_price}
-use Rattle.allocator.specs.Searching.{IsFixed, AreLeft, IsOut}
+use Rattle.dual_bound.specs.Choices.{fits, fixed_at, has_fixed, chosen}
+use Rattle.allocator.specs.Searching.{IsFull, AreLeft, IsOut}
 
 -- packages with the same features are the same
 same_trip : (hotel arrive depart : ℕ) (nights : List ℕ) (hotel' arrive' depart' : ℕ) (nights' : List ℕ)
@@ -127,12 +128,16 @@ by_margins : (o : Option ℤ) (stock claim : ℕ) → ((m : ℤ) → o ≡ Some 
 by_margins None stock claim h = refl
 by_margins (Some m) stock claim h = le_bool (pos stock +ℤ m) (pos claim) (h m refl)
 
+-- each feature of the eight clients has one value among the packages left
+abbrev pub AreFixed : Narrowing → Type 0
+AreFixed left = (client feature : ℕ) → client < 8 → feature < 4 → (p q : Package) → left client p ≡ true → left client q ≡ true → feature_of feature p ≡ feature_of feature q
+
 -- the prices are scarce for the packages
 abbrev pub IsScarcity : AccountFile → List Package → List ℕ → Type 0
 IsScarcity account ps prices = (good : ℕ) → good < 28 → get_or prices good 0 ≡ scarcity_price (stock_of account.holdings) ps good
 
 -- where every feature is fixed, the scarcity prices of the packages left bound them by a claim that is no less than their worth, or that does not matter since they use too much
-pub full_leaf : (account : AccountFile) (is_account : IsAccount account) (left : Narrowing) (prices : List ℕ) (ps : List Package) (claim : ℕ) → length ps ≡ 8 → AreLeft left ps → IsFixed 32 left → IsScarcity account ps prices → total_of account.clients ps ≤ 14000
+pub full_leaf : (account : AccountFile) (is_account : IsAccount account) (left : Narrowing) (prices : List ℕ) (ps : List Package) (claim : ℕ) → length ps ≡ 8 → AreLeft left ps → AreFixed left → IsScarcity account ps prices → total_of account.clients ps ≤ 14000
     → (total_of account.clients ps ≤ claim) ⊎ ((good : ℕ) × (good < 28) × (stock_of account.holdings good < used_by ps good))
     → is_within (leaf_bound account left prices) claim ≡ true
 full_leaf account is_account left prices ps claim eight are_left fixed scarce small settled =
@@ -141,7 +146,7 @@ full_leaf account is_account left prices ps claim eight are_left fixed scarce sm
     let cost = all_cost prices ps in
     let only : (k number : ℕ) (q : Package) → k < length ps → slice_get packages number ≡ Some q → left (0 + k) q ≡ true → q ≡ get_or ps k kinds.None = λ k number q lt at h.
     same_package q (get_or ps k kinds.None) (package_lawful number q at) (are_left.lawful k)
-    (λ feature below. fixed k feature below (omega (arith, eight)) q (get_or ps k kinds.None) (subst (λ j. left j q ≡ true) (omega arith) h) (are_left.kept k (omega (arith, eight)))) in
+    (λ feature below. fixed k feature (omega (arith, eight)) below q (get_or ps k kinds.None) (subst (λ j. left j q ≡ true) (omega arith) h) (are_left.kept k (omega (arith, eight)))) in
     let upper = margins_upper left prices account.clients ps 0 (is_account.clients.count ∙ sym eight) only in
     let terms : (j : ℕ) → j < 28 → price j * stock_of account.holdings j ≤ price j * used_by ps j = λ j lt. term_le (price j) (stock_of account.holdings j) (used_by ps j) (scarce j lt) in
     elim settled [
@@ -177,24 +182,46 @@ out_leaf account is_account left prices claim client lt out =
     let none = margins_out left prices account.clients 0 client (omega (arith, is_account.clients.count)) (subst (λ j. (i : ℕ) (p : Package) → slice_get packages i ≡ Some p → left j p ≡ false) (omega arith) out) in
     rw none
 
-value_from : (b : Bool) (k c x v : ℕ) → (b && (not (eqb k c) || eqb x v)) ≡ true → k ≡ c → x ≡ v
-value_from b k c x v h is = grind (arith, nat_tests)
+fits_same : (o : Option ℕ) (a b : ℕ) → is_some o ≡ true → fits o a ≡ true → fits o b ≡ true → a ≡ b
+fits_same None a b h ha hb = cc
+fits_same (Some v) a b h ha hb = grind (arith, nat_tests)
 
--- one more feature is fixed by a split
-pub fixed_more : (level c f : ℕ) (left : Narrowing) (value : ℕ) → c ≡ level / 4 → f ≡ level % 4 → IsFixed level left → IsFixed (level + 1) (narrowed left c f value)
-fixed_more level c f left value c_is f_is fixed k feature lt below p q hp hq =
-    let parts_p = and_parts (left k p) (not (eqb k c) || eqb (feature_of f p) value) hp in
-    let parts_q = and_parts (left k q) (not (eqb k c) || eqb (feature_of f q) value) hq in
-    elim (cases_lt (4 * k + feature) level) [
-      | inl before ↦ fixed k feature lt before p q parts_p.0 parts_q.0
-      | inr here ↦
-          let client_is : k ≡ c = omega (arith, c_is) in
-          let feature_is : feature ≡ f = omega (arith, f_is) in
-          let at_p = value_from (left k p) k c (feature_of f p) value hp client_is in
-          let at_q = value_from (left k q) k c (feature_of f q) value hq client_is in
-          subst (λ j. feature_of j p ≡ feature_of j q) (sym feature_is) (at_p ∙ sym at_q)
-    ]
+-- the four fits of a row
+abbrev Fits4 : List (Option ℕ) → Package → Type 0
+Fits4 row p =
+    (fits (get_or row 0 None) (feature_of 0 p) ≡ true) × (fits (get_or row 1 None) (feature_of 1 p) ≡ true)
+    × (fits (get_or row 2 None) (feature_of 2 p) ≡ true) × (fits (get_or row 3 None) (feature_of 3 p) ≡ true)
 
--- nothing is fixed at first
-pub fixed_none : (left : Narrowing) → IsFixed 0 left
-fixed_none left k feature lt below = absurd (omega arith)
+-- one of four features
+by_feature : (row : List (Option ℕ)) (feature : ℕ) (p q : Package) → feature < 4 → is_some (get_or row feature None) ≡ true → Fits4 row p → Fits4 row q → feature_of feature p ≡ feature_of feature q
+by_feature row zero p q lt is hp hq = fits_same (get_or row 0 None) (feature_of 0 p) (feature_of 0 q) is hp.0 hq.0
+by_feature row (suc zero) p q lt is hp hq = fits_same (get_or row 1 None) (feature_of 1 p) (feature_of 1 q) is hp.1 hq.1
+by_feature row (suc (suc zero)) p q lt is hp hq = fits_same (get_or row 2 None) (feature_of 2 p) (feature_of 2 q) is hp.2 hq.2
+by_feature row (suc (suc (suc zero))) p q lt is hp hq = fits_same (get_or row 3 None) (feature_of 3 p) (feature_of 3 q) is hp.3 hq.3
+by_feature row (suc (suc (suc (suc n)))) p q lt is hp hq = absurd (omega (arith, lt))
+
+-- packages that have the fixed values of a row have the same value where one is fixed
+row_same : (row : List (Option ℕ)) (feature : ℕ) (p q : Package) → feature < 4 → is_some (get_or row feature None) ≡ true → has_fixed row p ≡ true → has_fixed row q ≡ true → feature_of feature p ≡ feature_of feature q
+unfolding has_fixed
+row_same row feature p q lt is hp hq =
+    let fit : ℕ → Package → Bool = λ j r. fits (get_or row j None) (feature_of j r) in
+    let p0 = and_parts (fit 0 p) (fit 1 p && (fit 2 p && fit 3 p)) hp in
+    let q0 = and_parts (fit 0 q) (fit 1 q && (fit 2 q && fit 3 q)) hq in
+    let p1 = and_parts (fit 1 p) (fit 2 p && fit 3 p) p0.1 in
+    let q1 = and_parts (fit 1 q) (fit 2 q && fit 3 q) q0.1 in
+    let p2 = and_parts (fit 2 p) (fit 3 p) p1.1 in
+    let q2 = and_parts (fit 2 q) (fit 3 q) q1.1 in
+    by_feature row feature p q lt is (p0.0, p1.0, p2.0, p2.1) (q0.0, q1.0, q2.0, q2.1)
+
+-- where every feature is fixed, what is left to a client has the same values
+pub full_same : (choice : List (List (Option ℕ))) → IsFull choice → AreFixed (chosen choice)
+full_same choice full = λ client feature client_in feature_in p q hp hq. row_same (get_or choice client []) feature p q feature_in (full client feature client_in feature_in) hp hq
+
+-- where no free place was found among the 32, every feature is fixed
+pub full_of_places : {X : Type 0} (choice : List (List (Option ℕ))) (found : Option X) (place : ℕ) → 32 ≤ place → IfNone found ((k : ℕ) → k < place → is_some (fixed_at choice (k / 4) (k % 4)) ≡ true) → IfNone found (IsFull choice)
+full_of_places choice (Some x) place far h = h
+full_of_places choice None place far h = λ client feature client_in feature_in.
+    let client_is : (4 * client + feature) / 4 ≡ client = omega arith in
+    let feature_is : (4 * client + feature) % 4 ≡ feature = omega arith in
+    let at = h (4 * client + feature) (omega arith) in
+    subst (λ j. is_some (fixed_at choice j feature) ≡ true) client_is (subst (λ j. is_some (fixed_at choice ((4 * client + feature) / 4) j) ≡ true) feature_is at)

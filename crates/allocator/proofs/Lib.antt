@@ -1,4 +1,5 @@
 pub mod FullLeaves
 pub mod Claims
-pub mod Splits
+pub mod Growing
 pub mod AtHome
+pub mod ChoiceStart

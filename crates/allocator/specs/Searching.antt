@@ -1,12 +1,12 @@
 -- What the search keeps; for private clauses.
-use Rattle.std.specs.Prelude.{◌≡◌, ℕ, ◌+◌, ◌*◌, ◌<◌, true, false, List, Some, slice_get, slice_index_or}
+use Rattle.std.specs.Prelude.{◌≡◌, ℕ, ◌<◌, true, false, List, Option, Some, is_some, slice_get, slice_index_or}
 use Rattle.game_text.specs.Accounts.{AccountFile}
 use Rattle.packages.specs.declared.travel_packages.Package.{Package}
 use Rattle.packages.specs.declared.travel_packages.Package.TheVariants as kinds
 use Rattle.packages.specs.Packages.{is_package}
 use Rattle.packages.specs.Listing.{packages}
 use Rattle.packages.specs.Bounds.{Narrowing}
-use Rattle.packages.specs.Features.{feature_of}
+use Rattle.dual_bound.specs.Choices.{fixed_at}
 use Rattle.packages.specs.BestTotal.{IsFeasible, total_of}
 
 -- a feasible allocation and what it is worth
@@ -14,10 +14,9 @@ pub record IsReached (account : AccountFile) (allocation : List Package) (total 
   pub feasible : IsFeasible account allocation
   pub worth : total_of account.clients allocation ≡ total
 
--- the first so many features, client by client, have one value each among the packages left
-abbrev pub IsFixed : ℕ → Narrowing → Type 0
-IsFixed level left =
-    (client feature : ℕ) → feature < 4 → 4 * client + feature < level → (p q : Package) → left client p ≡ true → left client q ≡ true → feature_of feature p ≡ feature_of feature q
+-- every feature of the eight clients is fixed
+abbrev pub IsFull : List (List (Option ℕ)) → Type 0
+IsFull choice = (client feature : ℕ) → client < 8 → feature < 4 → is_some (fixed_at choice client feature) ≡ true
 
 -- no package is left to the client
 abbrev pub IsOut : Narrowing → ℕ → Type 0

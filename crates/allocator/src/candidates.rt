@@ -1,26 +1,26 @@
-// Allocations of packages that the splits on a way leave.
+// Allocations of packages that a choice leaves.
 ghost use Rattle.std.specs.Prelude.{◌≡◌, ℕ, ◌<◌, true, length, IfSome, IfNone};
 ghost use Rattle.std.specs.List.{All};
 ghost use Rattle.packages.specs.Packages.{IsPackage};
-ghost use Rattle.bound_cert.specs.Ways.{left_by};
+ghost use Rattle.dual_bound.specs.Choices.{chosen};
 ghost use Rattle.allocator.specs.Searching.{IsOut, AreLeft};
 
 use crate::scarcity::scarcity_prices;
-use bound_cert::Way;
+use dual_bound::Choice;
 use game_text::Account;
 use packages::{Narrowing, Package, Prices, margin, package};
 
-/// The first package that is left to a client, 0..7: the one that uses nothing but what the splits name.
-fn first_left(way: &Way<'_>, client: usize) -> Option<Package>
+/// The first package that is left to a client, 0..7: the one that uses nothing but what is fixed.
+fn first_left(choice: &Choice, client: usize) -> Option<Package>
     requires { client < 8 }
     ensures lawful { IfSome result IsPackage }
-    ensures kept { IfSome result (λ p. left_by way.now client p ≡ true) }
-    ensures out { IfNone result (IsOut (left_by way.now) client) }
+    ensures kept { IfSome result (λ p. chosen choice.now client p ≡ true) }
+    ensures out { IfNone result (IsOut (chosen choice.now) client) }
 {
     for n in 0..393 {
-        if let Some(choice) = package(n) {
-            if way.keeps(client, &choice) {
-                return Some(choice);
+        if let Some(other) = package(n) {
+            if choice.keeps(client, &other) {
+                return Some(other);
             }
         }
     }
@@ -28,28 +28,28 @@ fn first_left(way: &Way<'_>, client: usize) -> Option<Package>
 }
 
 /// The first package that is left to each client; none where some client has none.
-pub(crate) fn first_choice(way: &Way<'_>) -> Option<[Package; 8]>
-    ensures eight { IfSome result (λ chosen. length chosen ≡ 8) }
+pub(crate) fn first_choice(choice: &Choice) -> Option<[Package; 8]>
+    ensures eight { IfSome result (λ allocation. length allocation ≡ 8) }
     ensures lawful { IfSome result (All IsPackage) }
-    ensures left { IfSome result (AreLeft (left_by way.now)) }
-    ensures out { IfNone result ((client : ℕ) × (client < 8) × IsOut (left_by way.now) client) }
+    ensures left { IfSome result (AreLeft (chosen choice.now)) }
+    ensures out { IfNone result ((client : ℕ) × (client < 8) × IsOut (chosen choice.now) client) }
 {
-    let mut chosen = [Package::None; 8];
+    let mut allocation = [Package::None; 8];
     for client in 0..8 {
-        match first_left(way, client) {
-            Some(choice) => {
-                chosen[client] = choice;
+        match first_left(choice, client) {
+            Some(first) => {
+                allocation[client] = first;
             }
             None => return None,
         }
     }
-    Some(chosen)
+    Some(allocation)
 }
 
 /// The package that is worth most to a client, 0..7, beyond its cost at the prices: the one that it has, or one that is left to it.
 fn best_left(
     account: &Account,
-    way: &Way<'_>,
+    choice: &Choice,
     prices: &Prices,
     client: usize,
     has: &Package,
@@ -62,12 +62,12 @@ fn best_left(
     let mut best = *has;
     let mut most = margin(wants, prices, has);
     for n in 0..393 {
-        if let Some(choice) = package(n) {
-            if way.keeps(client, &choice) {
-                let other = margin(wants, prices, &choice);
-                if other > most {
-                    best = choice;
-                    most = other;
+        if let Some(other) = package(n) {
+            if choice.keeps(client, &other) {
+                let more = margin(wants, prices, &other);
+                if more > most {
+                    best = other;
+                    most = more;
                 }
             }
         }
@@ -76,17 +76,21 @@ fn best_left(
 }
 
 /// Lets the clients take better packages in turn, each at prices that keep it from what the packages so far use up.
-pub(crate) fn better_choice(account: &Account, way: &Way<'_>, first: &[Package; 8]) -> [Package; 8]
+pub(crate) fn better_choice(
+    account: &Account,
+    choice: &Choice,
+    first: &[Package; 8],
+) -> [Package; 8]
     requires eight { length first.now ≡ 8 }
     requires lawful { All IsPackage first.now }
     ensures eight { length result ≡ 8 }
     ensures lawful { All IsPackage result }
 {
-    let mut chosen = *first;
+    let mut allocation = *first;
     for client in 0..8 {
-        let prices = scarcity_prices(account, &chosen);
-        let has = chosen[client];
-        chosen[client] = best_left(account, way, &prices, client, &has);
+        let prices = scarcity_prices(account, &allocation);
+        let has = allocation[client];
+        allocation[client] = best_left(account, choice, &prices, client, &has);
     }
-    chosen
+    allocation
 }

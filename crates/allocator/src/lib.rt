@@ -7,6 +7,7 @@ mod printing;
 mod scarcity;
 mod searching;
 mod solving;
+mod splits;
 #[cfg(test)]
 mod tests;
 

@@ -5,9 +5,10 @@ ghost use Rattle.bound_cert.specs.Views.{tree_of};
 ghost use Rattle.bound_cert.specs.Certificate.{holds, all_left};
 
 use crate::searching::{Found, explore};
-use bound_cert::{Cert, Way};
+use bound_cert::Cert;
+use dual_bound::{Choice, Relaxation};
 use game_text::Account;
-use packages::Package;
+use packages::{Package, Prices};
 use std::alloc::Global;
 use tac_base::Memory;
 
@@ -35,7 +36,15 @@ pub fn solve(alloc: Global, account: &Account) -> Result<Solved, Memory>
         allocation: [Package::None; 8],
         total: 0,
     };
-    let root = explore(alloc, account, 0, &Way::Start, &mut best)?;
+    let root = explore(
+        alloc,
+        account,
+        0,
+        &Choice::none(),
+        &Relaxation::new(account),
+        &Prices { dollars: [0; 28] },
+        &mut best,
+    )?;
     Ok(Solved {
         allocation: best.allocation,
         total: best.total,

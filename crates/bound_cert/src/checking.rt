@@ -7,14 +7,18 @@ ghost use Rattle.packages.specs.Bounds.{leaf_bound};
 use crate::trees::{Cert, CertNode};
 use crate::ways::Way;
 use game_text::Account;
-use packages::{Prices, leaf_bound, value_count};
+use packages::{Narrowing, Prices, leaf_bound, value_count};
 
-/// Whether the prices bound what is left at the end of the way by a claim in dollars. They do where some client has no
-/// package left there.
-pub fn leaf_holds(account: &Account, claim: u32, way: &Way<'_>, prices: &Prices) -> bool
-    ensures { result ≡ is_within (leaf_bound account.now (left_by way.now) prices.now) claim }
+/// Whether the prices bound what a narrowing leaves by a claim in dollars. They do where some client has no package left.
+pub fn leaf_holds<N: Narrowing>(
+    account: &Account,
+    claim: u32,
+    narrowing: &N,
+    prices: &Prices,
+) -> bool
+    ensures { result ≡ is_within (leaf_bound account.now (N.left narrowing.now) prices.now) claim }
 {
-    match leaf_bound(account, way, prices) {
+    match leaf_bound(account, narrowing, prices) {
         None => true,
         Some(bound) => bound <= i64::from(claim),
     }

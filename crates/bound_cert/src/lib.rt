@@ -16,4 +16,3 @@ pub use faults::CertFault;
 pub use printing::print_cert;
 pub use reading::read_cert;
 pub use trees::{Cert, CertNode};
-pub use ways::Way;

@@ -5,6 +5,6 @@ use Rattle.allocator.proofs.candidates.better_choice.Given as goal
 
 abbrev pub invariant-loop-client : goal.invariant-loop-client
 invariant-loop-client l = record {
-  eight : length l.chosen ≡ 8;
-  lawful : All IsPackage l.chosen;
+  eight : length l.allocation ≡ 8;
+  lawful : All IsPackage l.allocation;
 }

@@ -2,8 +2,8 @@ use Rattle.std.proofs.Common.{◌≡◌, ℕ, ◌<◌, Some, false}
 use Rattle.std.specs.List.{slice_get}
 use Rattle.packages.specs.declared.travel_packages.Package.{Package}
 use Rattle.packages.specs.Listing.{packages}
-use Rattle.bound_cert.specs.Ways.{left_by}
+use Rattle.dual_bound.specs.Choices.{chosen}
 use Rattle.allocator.proofs.candidates.first_left.Given as goal
 
 abbrev pub invariant-loop-n : goal.invariant-loop-n
-invariant-loop-n l = (m : ℕ) (p : Package) → m < l.n → slice_get packages m ≡ Some p → left_by l.way l.client p ≡ false
+invariant-loop-n l = (m : ℕ) (p : Package) → m < l.n → slice_get packages m ≡ Some p → chosen l.choice l.client p ≡ false

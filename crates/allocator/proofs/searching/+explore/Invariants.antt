@@ -1,7 +1,7 @@
 use Rattle.std.proofs.Common.{◌≡◌, ◌-◌, ◌≤◌, true, length}
 use Rattle.bound_cert.specs.Trees.{are_trees}
 use Rattle.bound_cert.specs.Views.{forest_of}
-use Rattle.bound_cert.specs.Ways.{left_by}
+use Rattle.dual_bound.specs.Choices.{chosen}
 use Rattle.bound_cert.specs.Certificate.{all_hold}
 use Rattle.allocator.specs.Searching.{IsReached}
 use Rattle.allocator.proofs.searching.+explore.Given as goal
@@ -14,6 +14,6 @@ invariant-loop-value l = record {
   reached : IsReached l.account l.best.allocation l.best.total;
   grows : l.initial.best.total ≤ l.best.total;
   count : length l.children.items ≡ l.value;
-  hold : all_hold l.account l.best.total (left_by l.way) l.client l.feature 0 (forest_of l.children.items) ≡ true;
+  hold : all_hold l.account l.best.total (chosen l.choice) l.client l.feature 0 (forest_of l.children.items) ≡ true;
   fit : are_trees (31 - l.level) (forest_of l.children.items) ≡ true;
 }

@@ -1,16 +1,16 @@
 -- A certificate that grows: a leaf, and a split child by child.
-use Rattle.std.proofs.Common.{Vec, Global, inl, inr, ltb, eq-eqb, get_or, ◌-◌, ◌≡◌, ℕ, zero, suc, ◌+◌, ◌<◌, ◌≤◌, Bool, true, false, List, [], ◌∷◌, ◌++◌, length, eqb, leb, refl, sym, subst, ◌∙◌, arith}
-use Rattle.std.proofs.lemmas.Bool.{and_parts, and_from, cases_lt, false≢true}
+use Rattle.std.proofs.Common.{Vec, Global, ltb, eq-eqb, get_or, ◌-◌, ◌≡◌, ℕ, zero, suc, ◌+◌, ◌<◌, ◌≤◌, true, List, [], ◌∷◌, ◌++◌, length, eqb, leb, refl, subst, ◌∙◌, arith}
+use Rattle.std.proofs.lemmas.Bool.{and_parts, and_from}
 use Rattle.std.proofs.lemmas.Bool.Decides.{nat_tests}
 use Rattle.std.proofs.lemmas.List.Sums.{list_all-from_AllPass}
 use Rattle.std.specs.List.{list_all}
 use Rattle.packages.specs.Prices.{ArePrices}
-use Rattle.bound_cert.proofs.Views.{tree_of-Leaf, tree_of-Split, count_of-forest_of}
+use Rattle.bound_cert.proofs.Views.{tree_of-Split, count_of-forest_of}
 use Rattle.game_text.specs.Accounts.{AccountFile}
 use Rattle.packages.specs.Bounds.{Narrowing}
 use Rattle.packages.specs.Features.{narrowed, values_of}
-use Rattle.bound_cert.specs.declared.trees.CertNode.{CertNode, Leaf, Split}
-use Rattle.bound_cert.specs.Trees.{count_of, are_prices, is_tree, are_trees}
+use Rattle.bound_cert.specs.declared.trees.CertNode.{CertNode, Split}
+use Rattle.bound_cert.specs.Trees.{leaf, count_of, are_prices, is_tree, are_trees}
 use Rattle.bound_cert.specs.Views.{tree_of, forest_of}
 use Rattle.bound_cert.specs.Certificate.{holds, all_hold}
 
@@ -40,16 +40,12 @@ prices_pass prices h =
     (list_all-from_AllPass (λ price. leb price 14001) prices (λ k d lt. price_passes (get_or prices k d) (h.each k d lt)))
 
 -- a leaf of prices is a certificate by itself
-pub is_tree-leaf : (depth : ℕ) (prices : List ℕ) → ArePrices prices → is_tree depth (tree_of (Leaf prices)) ≡ true
-is_tree-leaf zero prices h = rw (tree_of-Leaf prices) (prices_pass prices h)
-is_tree-leaf (suc depth) prices h = rw (tree_of-Leaf prices) (prices_pass prices h)
+pub is_tree-leaf : (prices : List ℕ) → ArePrices prices → (depth : ℕ) → is_tree depth (leaf prices) ≡ true
+is_tree-leaf prices h zero = prices_pass prices h
+is_tree-leaf prices h (suc depth) = prices_pass prices h
 
--- a leaf that does not hold is not at the last level
-pub below_last : (level : ℕ) (b : Bool) → level ≤ 32 → (level ≡ 32 → b ≡ true) → b ≡ false → level < 32
-below_last level b le full fails = elim (cases_lt level 32) [
-  | inl lt ↦ lt
-  | inr ge ↦ absurd (false≢true (sym fails ∙ full (omega arith)))
-]
+pub leaf_fits : (depth : ℕ) (node : CertNode) (prices : List ℕ) → tree_of node ≡ leaf prices → is_tree depth (leaf prices) ≡ true → is_tree depth (tree_of node) ≡ true
+leaf_fits depth node prices view fits = rw view fits
 
 -- a split at a level
 pub holds-split : (account : AccountFile) (claim : ℕ) (left : Narrowing) (client feature : ℕ) (children : Vec CertNode Global) → length children.items ≡ values_of feature → all_hold account claim left client feature 0 (forest_of children.items) ≡ true

@@ -1,0 +1,115 @@
+ghost use Rattle.std.specs.Prelude.{◌≡◌, ℕ, ◌+◌, ◌<◌, false, None, is_some};
+ghost use Rattle.packages.specs.Features.{feature_of, narrowed, values_of};
+ghost use Rattle.dual_bound.specs.Choices as choices;
+ghost use Rattle.packages.specs.Packages.{IsPackage};
+
+use packages::{Narrowing, Package, feature_value};
+use std::marker::Model;
+
+/// A narrowing of the packages of eight clients: those that have the fixed values of their features.
+#[derive(Clone, Copy, Debug, PartialEq, Eq)]
+pub struct Choice {
+    /// By client 0..7 and feature 0..3: a value, 0..20 of the trip and 0..4 of a night, or none where nothing is fixed.
+    pub fixed: [[Option<u8>; 4]; 8],
+}
+
+impl Model for Choice {
+    ghost use Rattle.std.specs.Prelude.{ℕ, List, Option};
+    ghost use Rattle.dual_bound.specs.Choices.{IsChoice};
+
+    ghost Value = { List (List (Option ℕ)) };
+
+    ghost view = { λ c. c.fixed };
+
+    ghost invariant = { λ c. IsChoice c.fixed };
+
+    ghost inverse = { λ fixed. record { fixed = fixed } };
+}
+
+/// Whether the package's feature has the fixed value, if one is fixed.
+fn fits(fixed: Option<u8>, package: &Package, feature: u8) -> bool
+    requires { IsPackage «package».now }
+    ensures { result ≡ choices.fits fixed (feature_of feature «package».now) }
+{
+    match fixed {
+        None => true,
+        Some(value) => feature_value(package, feature) == value,
+    }
+}
+
+impl Narrowing for Choice {
+    ghost use Rattle.dual_bound.specs.Choices.{chosen};
+
+    ghost left = { chosen };
+
+    #[tactic(auto, unfolding(crate::specs::Choices::has_fixed))]
+    fn keeps(&self, client: usize, package: &Package) -> bool {
+        let fixed = &self.fixed[client];
+        fits(fixed[0], package, 0)
+            && fits(fixed[1], package, 1)
+            && fits(fixed[2], package, 2)
+            && fits(fixed[3], package, 3)
+    }
+}
+
+impl Choice {
+    /// Nothing is fixed.
+    pub fn none() -> Choice
+        ensures { result ≡ choices.nothing }
+    {
+        Choice {
+            fixed: [[None; 4]; 8],
+        }
+    }
+
+    /// The fixed value of a client's feature, if there is one.
+    fn at(&self, client: u8, feature: u8) -> Option<u8>
+        requires client { client < 8 }
+        requires feature { feature < 4 }
+        ensures { result ≡ choices.fixed_at self.now client feature }
+    {
+        let fixed = &self.fixed[usize::from(client)];
+        fixed[usize::from(feature)]
+    }
+
+    /// Whether a client's feature is fixed. The client's number is 0..7, the feature's 0..3.
+    pub fn is_fixed(&self, client: u8, feature: u8) -> bool
+        requires client { client < 8 }
+        requires feature { feature < 4 }
+        ensures value { result ≡ is_some (choices.fixed_at self.now client feature) }
+        ensures few { result ≡ false → choices.fixed_count self.now < 32 }
+    {
+        // The count rests on the choice's form, which is known where it is read.
+        let _fixed = &self.fixed;
+        self.at(client, feature).is_some()
+    }
+
+    /// A client's feature has a value.
+    fn placed(&self, client: u8, feature: u8, value: u8) -> Choice
+        requires client { client < 8 }
+        requires feature { feature < 4 }
+        requires value { value < values_of feature }
+        ensures { result ≡ choices.with_fixed self.now client feature value }
+    {
+        let mut fixed = self.fixed;
+        let row = &mut fixed[usize::from(client)];
+        row[usize::from(feature)] = Some(value);
+        Choice { fixed }
+    }
+
+    /// A client's feature is fixed besides, which was not fixed. The client's number is 0..7, the feature's 0..3, and the value
+    /// is one of the feature's.
+    pub fn with(&self, client: u8, feature: u8, value: u8) -> Choice
+        requires client { client < 8 }
+        requires feature { feature < 4 }
+        requires value { value < values_of feature }
+        requires free { choices.fixed_at self.now client feature ≡ None }
+        ensures value { result ≡ choices.with_fixed self.now client feature value }
+        ensures left { choices.chosen result ≡ narrowed (choices.chosen self.now) client feature value }
+        ensures count { choices.fixed_count result ≡ choices.fixed_count self.now + 1 }
+    {
+        // The laws rest on the choice's form, which is known where it is read.
+        let _fixed = &self.fixed;
+        self.placed(client, feature, value)
+    }
+}

@@ -1,0 +1,17 @@
+//! Whole prices that bound what is left of an account's packages, by way of the relaxation to fractions of packages.
+#![tactic(auto)]
+
+mod charges;
+mod choices;
+mod relaxing;
+mod rounding;
+mod settling;
+mod shares;
+mod tableau;
+#[cfg(test)]
+mod tests;
+mod worths;
+
+pub use choices::Choice;
+pub use relaxing::Relaxation;
+pub use settling::dual_prices;

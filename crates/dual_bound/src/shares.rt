@@ -1,0 +1,201 @@
+// What fractions of packages say of an allocation and of a split.
+ghost use Rattle.std.specs.Prelude.{◌≡◌, ◌<◌, length, IfSome};
+ghost use Rattle.std.specs.List.{All};
+ghost use Rattle.packages.specs.Packages.{IsPackage};
+
+use crate::charges::charges;
+use crate::relaxing::Relaxation;
+use crate::rounding::row_of;
+use crate::tableau::{Column, SMALL};
+use packages::{Package, Prices, package};
+
+/// The package of a number, and none past the last one.
+fn numbered(number: usize) -> Package
+    ensures { IsPackage result }
+{
+    if number > 392 {
+        return Package::None;
+    }
+    package(number as u16).unwrap_or(Package::None)
+}
+
+impl Relaxation {
+    /// The packages that the clients have whole; a client that has none whole stays at home.
+    pub fn packages(&self) -> [Package; 8]
+        ensures eight { length result ≡ 8 }
+        ensures lawful { All IsPackage result }
+    {
+        let mut packages = [Package::None; 8];
+        for client in 0..8 {
+            packages[client] = self.package_of(client);
+        }
+        packages
+    }
+
+    /// The package that a client has whole, if it has one.
+    fn package_of(&self, client: usize) -> Package
+        ensures { IsPackage result }
+    {
+        let mut held = 0;
+        for member in 0..36 {
+            if let Column::Holds {
+                client: holder,
+                number,
+            } = &self.tableau.members[member]
+            {
+                if *holder == client && self.tableau.rows[member][36] > 1.0 - SMALL {
+                    held = *number;
+                }
+            }
+        }
+        numbered(held)
+    }
+
+    /// How much of a client's packages have each value of a feature, 0..3.
+    fn shares(&self, client: usize, feature: usize) -> [f64; 21] {
+        let mut shares = [0.0; 21];
+        for member in 0..36 {
+            if let Column::Holds {
+                client: holder,
+                number,
+            } = &self.tableau.members[member]
+            {
+                if *holder == client {
+                    let value = self.features.value_of(*number, feature);
+                    put(&mut shares, value, self.tableau.rows[member][36]);
+                }
+            }
+        }
+        shares
+    }
+
+    /// How much a split by a client's feature, 0..3, is called for: 0 where the feature has one value, and else more for a
+    /// trip than for a ticket, and more where no value has a great share.
+    pub fn call_for(&self, client: usize, feature: usize) -> f64 {
+        let undecided = 1.0 - greatest(&self.shares(client, feature));
+        if undecided < SMALL {
+            0.0
+        } else if feature == 0 {
+            1.0 + undecided
+        } else {
+            undecided
+        }
+    }
+
+    /// The feature by which a split is called for most, in the place 0..31 of four features for each client, if one is.
+    fn most_called_for(&self) -> Option<usize>
+        ensures { IfSome result (λ place. place < 32) }
+    {
+        let mut found = None;
+        let mut most = 0.0;
+        for place in 0..32 {
+            let called = self.call_for(place / 4, place % 4);
+            if called > most {
+                most = called;
+                found = Some(place);
+            }
+        }
+        found
+    }
+
+    /// What is left, solved, where the feature by which a split is called for most has the value with the greatest share; none
+    /// where no split is called for.
+    pub fn decided(&self) -> Option<Relaxation> {
+        let place = self.most_called_for()?;
+        let value = greatest_at(&self.shares(place / 4, place % 4));
+        let mut left = *self;
+        left.narrow(place / 4, (place % 4) as u8, value as u8);
+        left.solve();
+        Some(left)
+    }
+
+    /// The least that any split by a client's feature leaves: the greatest value of the relaxations of its parts that whole
+    /// prices do not bound by a total, and the number of these parts.
+    pub fn after_split(&self, client: usize, feature: u8, prices: &Prices, total: f64) -> (f64, u32)
+        requires { client < 8 }
+    {
+        let bounds = self.bounds_of_parts(client, usize::from(feature), prices);
+        let mut most = total;
+        let mut open = 0;
+        for value in 0..21 {
+            if bounds[usize::from(value)] > total + SMALL {
+                let left = self.value_of_part(client, feature, value);
+                if left > total + SMALL {
+                    most = most.max(left);
+                    open += 1;
+                }
+            }
+        }
+        (most, open)
+    }
+
+    /// What the relaxation of one part of a split is worth.
+    fn value_of_part(&self, client: usize, feature: u8, value: u8) -> f64
+        requires { client < 8 }
+    {
+        let mut part = *self;
+        part.narrow(client, feature, value);
+        part.solve();
+        part.value()
+    }
+
+    /// What whole prices bound in each part of a split by a client's feature.
+    fn bounds_of_parts(&self, client: usize, feature: usize, prices: &Prices) -> [f64; 21]
+        requires { client < 8 }
+    {
+        let charges = charges(&self.features, &row_of(prices));
+        let mut margins = [-1000000.0; 21];
+        let worths = &self.worths.dollars[client];
+        for number in 0..393 {
+            let margin = f64::from(worths[number]) - charges[number];
+            raise(
+                &mut margins,
+                self.features.value_of(number, feature),
+                margin,
+            );
+        }
+        let others = self.bound_at(prices) - greatest(&margins);
+        for value in 0..21 {
+            margins[value] += others;
+        }
+        margins
+    }
+}
+
+/// Adds to the number at a place.
+fn put(row: &mut [f64; 21], place: usize, more: f64) {
+    if let Some(sum) = row.get_mut(place) {
+        *sum += more;
+    }
+}
+
+/// Raises the number at a place to another one where that is greater.
+fn raise(row: &mut [f64; 21], place: usize, other: f64) {
+    if let Some(most) = row.get_mut(place) {
+        if other > *most {
+            *most = other;
+        }
+    }
+}
+
+/// The greatest number.
+fn greatest(row: &[f64; 21]) -> f64 {
+    let mut most = row[0];
+    for place in 1..21 {
+        most = most.max(row[place]);
+    }
+    most
+}
+
+/// The first place of the greatest number.
+fn greatest_at(row: &[f64; 21]) -> usize
+    ensures { result < 21 }
+{
+    let mut found = 0;
+    for place in 1..21 {
+        if row[place] > row[found] {
+            found = place;
+        }
+    }
+    found
+}

@@ -1,0 +1,124 @@
+// The tableau of the relaxation, in which clients may have fractions of packages.
+ghost use Rattle.std.specs.Prelude.{◌<◌, ◌≤◌, IfSome};
+
+use crate::charges::charge;
+use packages::package;
+
+/// Differences below this are taken for errors of rounding.
+pub(crate) const SMALL: f64 = 0.0000001;
+
+/// What takes up the goods and the places of clients.
+#[derive(Clone, Copy)]
+pub(crate) enum Column {
+    /// What is left over of a good, 0..27.
+    Spare { good: usize },
+    /// A client, 0..7, has the package of a number, 0..392.
+    Holds { client: usize, number: usize },
+}
+
+/// A basis of 36 columns, for the 28 goods and the 8 clients.
+#[derive(Clone, Copy)]
+pub(crate) struct Tableau {
+    /// The inverse of the basis, with the amounts of the members in column 36. Row 36 has the prices of the goods and what
+    /// the clients gain, with their sum in column 36.
+    pub(crate) rows: [[f64; 37]; 37],
+    pub(crate) members: [Column; 36],
+}
+
+impl Tableau {
+    /// All goods are left over, of which there are so many, and each client stays at home.
+    pub(crate) fn new(stock: &[f64; 28]) -> Tableau {
+        let mut rows = [[0.0; 37]; 37];
+        let mut members = [Column::Spare { good: 0 }; 36];
+        for good in 0..28 {
+            rows[good][good] = 1.0;
+            rows[good][36] = stock[good].min(8.0);
+            members[good] = Column::Spare { good };
+        }
+        for client in 0..8 {
+            rows[28 + client][28 + client] = 1.0;
+            rows[28 + client][36] = 1.0;
+            members[28 + client] = Column::Holds { client, number: 0 };
+        }
+        Tableau { rows, members }
+    }
+
+    /// What one more of a column takes from each member; last what it would gain, below 0.
+    pub(crate) fn takes(&self, column: &Column, gain: f64) -> [f64; 37] {
+        let mut takes = [0.0; 37];
+        for member in 0..36 {
+            takes[member] = part(&self.rows[member], column);
+        }
+        takes[36] = -gain;
+        takes
+    }
+
+    /// The member that is used up first where a column takes so much of each.
+    pub(crate) fn leaving(&self, takes: &[f64; 37]) -> Option<usize>
+        ensures { IfSome result (λ member. member < 36) }
+    {
+        let mut first = None;
+        let mut least = 1000000.0;
+        for member in 0..36 {
+            if takes[member] > SMALL {
+                let most = self.rows[member][36] / takes[member];
+                if most < least - SMALL {
+                    least = most;
+                    first = Some(member);
+                }
+            }
+        }
+        first
+    }
+
+    /// The column takes the place of the member.
+    pub(crate) fn enter(&mut self, column: &Column, takes: &[f64; 37], leaving: usize)
+        requires { leaving < 36 }
+    {
+        scale(&mut self.rows[leaving], takes[leaving]);
+        let entered = self.rows[leaving];
+        for row in 0..37 {
+            if row != leaving {
+                subtract(&mut self.rows[row], &entered, takes[row]);
+            }
+        }
+        self.members[leaving] = *column;
+    }
+}
+
+/// What one more of a column takes by a row of the tableau.
+fn part(row: &[f64; 37], column: &Column) -> f64 {
+    match column {
+        Column::Spare { good } => at(row, *good),
+        Column::Holds { client, number } => {
+            if *number > 392 {
+                return 0.0;
+            }
+            match package(*number as u16) {
+                Some(choice) => charge(row, &choice) + at(row, 28 + (*client).min(8)),
+                None => 0.0,
+            }
+        }
+    }
+}
+
+/// The number at a place of a row.
+fn at(row: &[f64; 37], place: usize) -> f64 {
+    row.get(place).copied().unwrap_or(0.0)
+}
+
+/// Divides a row by a number that is not 0.
+fn scale(row: &mut [f64; 37], by: f64) {
+    for place in 0..37 {
+        row[place] /= by;
+    }
+}
+
+/// Takes so many times a row from another one.
+fn subtract(row: &mut [f64; 37], other: &[f64; 37], times: f64) {
+    if times != 0.0 {
+        for place in 0..37 {
+            row[place] -= times * other[place];
+        }
+    }
+}
