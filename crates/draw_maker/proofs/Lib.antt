@@ -4,4 +4,6 @@ pub mod Exchanges
 pub mod ClientRanges
 pub mod GameRanges
 pub mod DrawnGames
+pub mod DrawnScripts
+pub mod ScriptLines
 pub mod Worked

@@ -1,8 +1,12 @@
--- Words and exchanges on worked rows.
-use Rattle.std.proofs.Common.{◌≡◌, [], ◌∷◌, refl}
+-- Words, exchanges and scripts on worked rows.
+use Rattle.std.proofs.Common.{◌≡◌, ℕ, [], ◌∷◌, ◌++◌, refl}
+use Rattle.std.specs.Prelude.{codes}
+use Rattle.std.specs.Fmt.{digits}
+use Rattle.std.specs.List.{repeat}
 use Rattle.rand_core.specs.Steps.{first_words}
-use Rattle.draw_maker.specs.Words.{generator, next_words}
+use Rattle.draw_maker.specs.Words.{generator, next_words, after}
 use Rattle.draw_maker.specs.ClosingOrders.{made_order}
+use Rattle.draw_maker.specs.Scripts.{made_script}
 
 first_words_of_42 : next_words 4 (generator 42 54) ≡ 2707161783 ∷ 2068313097 ∷ 3122475824 ∷ 2211639955 ∷ []
 unfolding first_words
@@ -15,3 +19,14 @@ own_place_keeps_order = refl
 -- each place changes its item with the first place, so that the first item ends at the last place
 first_place_turns_order : made_order (8 ∷ 7 ∷ 6 ∷ 5 ∷ 4 ∷ 3 ∷ 2 ∷ []) ≡ 9 ∷ 10 ∷ 11 ∷ 12 ∷ 13 ∷ 14 ∷ 15 ∷ 8 ∷ []
 first_place_turns_order = refl
+
+-- ---- made scripts
+
+no_requests : (seed : ℕ) → made_script seed 0 ≡ []
+unfolding made_script
+no_requests seed = refl
+
+-- the second of two requests comes after half of the ticks
+two_requests_of_7 : made_script 7 2 ≡ codes "3 bid 27 ((-1 46))\n" ++ (repeat 27 (codes "tick\n") ++ codes "3 bid 24 ((-1 178))\n")
+unfolding made_script first_words after digits
+two_requests_of_7 = refl

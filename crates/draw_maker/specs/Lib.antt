@@ -4,3 +4,5 @@ pub mod ClosingOrders
 pub mod Endowments
 pub mod Clients
 pub mod Games
+pub mod Scripts
+pub mod BidScripts

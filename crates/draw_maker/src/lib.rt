@@ -1,4 +1,4 @@
-//! Games that are made from a number.
+//! Games and game scripts that are made from a number.
 #![tactic(auto)]
 
 mod clients;
@@ -7,7 +7,9 @@ mod drawing;
 mod endowments;
 mod flights;
 mod games;
+mod scripts;
 #[cfg(test)]
 mod tests;
 
 pub use games::make_game;
+pub use scripts::make_script;

@@ -1,0 +1,47 @@
+-- The game script that is made from a number, with so many requests.
+use Rattle.std.specs.Prelude.{ℕ, ◌+◌, ◌*◌, ◌-◌, ◌/◌, ◌%◌, ◌==◌, if◌then◌else◌, List, [], ◌∷◌, ◌++◌, ℤ, pos, negsuc, decimal, codes, replicate, slice_index}
+use Rattle.std.specs.List.{flat_map, range_with_len}
+use Rattle.tac_base.specs.declared.bids.Point.{Point}
+use Rattle.tac_base.specs.declared.numbers.Kind.{Kind}
+use Rattle.tac_base.specs.declared.numbers.Kind.TheVariants.{Flight, Hotel, Ticket}
+use Rattle.tac_base.specs.Bids.{point_at}
+use Rattle.tac_base.specs.Kinds.{kind_of}
+use Rattle.text_forms.specs.Lines.{text_of}
+use Rattle.bid_strings.specs.Spelling.{spelling}
+use Rattle.draw_maker.specs.Words.{generator, next_words, after}
+
+-- the units of a bid for a ticket: one is bought or sold
+abbrev pub ticket_units : ℕ → ℤ
+ticket_units side = if side % 2 == 0 then pos 1 else negsuc 0
+
+-- 3 words: the point of a bid for a good of this kind; flights and hotel nights are bought, whatever the first word is
+abbrev pub made_point : Kind → ℕ → ℕ → ℕ → Point
+made_point Flight side units price = point_at (pos (1 + units % 2)) (150 + price % 651)
+made_point Hotel side units price = point_at (pos (1 + units % 4)) (1 + price % 400)
+made_point Ticket side units price = point_at (ticket_units side) (1 + price % 200)
+
+-- an agent's bid of one point for a good
+abbrev pub bid_line : ℕ → ℕ → Point → List ℕ
+bid_line agent good point = decimal agent ++ (codes " bid " ++ (decimal good ++ 32 ∷ spelling (point ∷ [])))
+
+-- 5 words: the agent, the good, and the three of the point
+abbrev pub made_request : List ℕ → List ℕ
+made_request words =
+    let good = slice_index words 1 % 28 in
+    bid_line (slice_index words 0 % 8) good (made_point (kind_of good) (slice_index words 2) (slice_index words 3) (slice_index words 4))
+
+-- how many ticks come before the request of this number, counted from 0: 54 in even steps
+abbrev pub ticks_before : ℕ → ℕ → ℕ
+ticks_before count i = 54 * i / count
+
+-- the lines that a request adds to those before it: the ticks that are due, and the request
+abbrev pub made_lines : ℕ → ℕ → List ℕ → List (List ℕ)
+made_lines count i words = replicate (ticks_before count i - ticks_before count (i - 1)) (codes "tick") ++ made_request words ∷ []
+
+-- the words of the request of this number, on stream 55: five for each request
+abbrev pub request_words : ℕ → ℕ → List ℕ
+request_words seed i = next_words 5 (after (5 * i) (generator seed 55))
+
+-- the text of so many requests
+unfoldable pub made_script : ℕ → ℕ → List ℕ
+made_script seed count = text_of (flat_map (λ i. made_lines count i (request_words seed i)) (range_with_len 0 count))
