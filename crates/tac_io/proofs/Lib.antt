@@ -1,3 +1,6 @@
 pub mod Tellings
 pub mod WholeFiles
 pub mod FilesInMemory
+pub mod LineEnds
+pub mod NextLine
+pub mod ByBytes

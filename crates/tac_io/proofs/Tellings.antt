@@ -1,9 +1,17 @@
 -- What is told, piece by piece.
-use Rattle.std.proofs.Common.{◌≡◌, ℕ, ◌+◌, List, ◌++◌, take, drop, refl, ap, sym, ◌∙◌, append_assoc}
+use Rattle.std.proofs.Common.{◌≡◌, ℕ, ◌+◌, List, ◌++◌, take, drop, [], refl, ap, sym, ◌∙◌, append_assoc, append-nil}
 use Rattle.std.proofs.Math.Seq.{take-add}
 use Rattle.std.specs.Prelude.{None, Some}
 use Rattle.std.specs.declared.option.Option.{Option}
 use Rattle.tac_io.specs.Told.{and_then_told, before_told}
+
+pub and_then_told-nothing : {A : Type 0} (told : Option (List A)) → and_then_told told [] ≡ told
+and_then_told-nothing None = refl
+and_then_told-nothing (Some xs) = ap (λ l. Some l) (append-nil xs)
+
+pub before_told-nothing : {A : Type 0} (told : Option (List A)) → before_told [] told ≡ told
+before_told-nothing None = refl
+before_told-nothing (Some xs) = refl
 
 pub and_then_told-twice : {A : Type 0} (told : Option (List A)) (xs ys : List A) → and_then_told (and_then_told told xs) ys ≡ and_then_told told (xs ++ ys)
 and_then_told-twice None xs ys = refl

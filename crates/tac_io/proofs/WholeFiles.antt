@@ -1,19 +1,15 @@
 -- A told file, read piece by piece.
-use Rattle.std.proofs.Common.{◌≡◌, ℕ, ◌+◌, ◌<◌, List, [], ◌++◌, length, take, drop, refl, ap, sym, ◌∙◌, arith, append-nil, length-append}
+use Rattle.std.proofs.Common.{◌≡◌, ℕ, ◌+◌, ◌<◌, List, [], ◌++◌, length, take, drop, ap, sym, ◌∙◌, arith, append-nil, length-append}
 use Rattle.std.proofs.Math.Seq.{take-add}
 use Rattle.std.specs.Prelude.{None, Some, IfSome, IsSome}
 use Rattle.std.specs.declared.option.Option.{Option}
 use Rattle.tac_io.specs.Told.{before_told, IsAtEnd}
 use Rattle.tac_io.specs.Reading.{IsFile, IsTooLong}
-use Rattle.tac_io.proofs.Tellings.{before_told-twice}
+use Rattle.tac_io.proofs.Tellings.{before_told-nothing, before_told-twice}
 
 -- what is told of the file of that name is these bytes, and then what is left
 abbrev pub IsReading : Option (List ℕ → Option (List ℕ)) → List ℕ → List ℕ → Option (List ℕ) → Type 0
 IsReading content name done left = IfSome content (λ files. IsSome (files name) × (files name ≡ before_told done left))
-
-before_told-nothing : (left : Option (List ℕ)) → before_told [] left ≡ left
-before_told-nothing None = refl
-before_told-nothing (Some xs) = refl
 
 pub begins : (content : Option (List ℕ → Option (List ℕ))) (name : List ℕ) (left : Option (List ℕ)) → IfSome content (λ files. IsSome (files name) × (left ≡ files name)) → IsReading content name [] left
 begins None name left h = tt

@@ -8,3 +8,8 @@ pub mod MemSink
 pub mod MemLink
 pub mod MemLinks
 pub mod MemTicker
+pub mod LineText
+pub mod HeldBytes
+pub mod LineAnswers
+pub mod AllAnswers
+pub mod Lines

@@ -1,4 +1,5 @@
-//! The outside of the server: files, a sink, links and a ticker, as traits, and their forms in memory.
+//! The outside of the server: files, a sink, links and a ticker, as traits, and their forms in
+//! memory; whole files, whole texts, and the lines of a link.
 //!
 //! Each object counts its faults, in a u64 that never falls and stays at its last value. A call
 //! fails only where that count rose or was at its last value, and a call that does not fail leaves
@@ -6,10 +7,13 @@
 //! not by those of the operating system.
 #![tactic(auto)]
 
+mod buffer;
 mod failed;
 mod faults;
 mod files;
 mod give;
+mod line_got;
+mod lines;
 mod link;
 mod links;
 mod mem_files;
@@ -24,6 +28,8 @@ mod writing;
 
 pub use failed::Failed;
 pub use files::Files;
+pub use line_got::LineGot;
+pub use lines::Lines;
 pub use link::Link;
 pub use links::Links;
 pub use mem_files::{MemFile, MemFiles};

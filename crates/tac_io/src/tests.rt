@@ -1,12 +1,14 @@
 // The two calls over the forms in memory, and each form through its trait.
-ghost use Rattle.std.specs.Prelude.{◌≡◌, ◌<◌, [], IfOk, IfSome, length};
+ghost use Rattle.std.specs.Prelude.{◌≡◌, ◌<◌, [], IfOk, IfSome, length, true, false};
+ghost use Rattle.tac_io.specs.LineAnswers.{goes_on};
+ghost use Rattle.tac_io.specs.Lines.{last_of};
 ghost use Rattle.tac_io.specs.MemFiles.{files_names};
 
 use super::{
-    FileFault, Files, Link, Links, MemFile, MemFiles, MemLink, MemLinks, MemSink, MemTicker, Sink,
-    Ticker, read_file, write_all,
+    FileFault, Files, LineGot, Lines, Link, Links, MemFile, MemFiles, MemLink, MemLinks, MemSink,
+    MemTicker, Sink, Ticker, read_file, write_all,
 };
-use std::alloc::Global;
+use std::alloc::{AllocError, Global};
 use std::rt::Clock;
 use std::sync::Wait;
 use std::test::Fail;
@@ -110,15 +112,6 @@ fn has_no_link<N: Links>(links: &mut N, port: u16) -> bool
     links.listen(port).is_ok() && matches!(links.next(), Ok(None)) && links.faults() == 0
 }
 
-// Whether a read and a write fail, each counted once.
-fn fails<L: Link + Send>(link: &mut L) -> bool {
-    let mut into = [0];
-    link.read(&mut into).is_err()
-        && link.write(b"x").is_err()
-        && link.faults() == 1
-        && link.write_faults() == 1
-}
-
 // Whether a tick is due, with no fault.
 fn is_due<R: Wait + Clock, T: Ticker + Send>(rt: &R, ticker: &mut T, tick: Tick) -> bool
     requires { IfSome (T.waited ticker.old) (λ ticks. length ticks < 54) }
@@ -132,8 +125,129 @@ fn links_and_a_ticker_in_memory_answer(rt: HostRuntime) -> Result<(), Fail> {
     let alloc = rt.alloc();
     let mut links: MemLinks<MemLink> = MemLinks::new(alloc);
     assert!(rt; has_no_link(&mut links, 7000));
-    assert!(rt; fails(&mut MemLink::new()));
     let mut ticker = MemTicker::new(alloc)?;
     assert!(rt; is_due(&rt, &mut ticker, Tick::new(54)?));
+    Ok(())
+}
+
+// Puts the next answer at the end of a text: `[LINE]`, `long`, `end`, `failed` or `budget`. Says
+// whether another may come.
+fn tell_next<L: Link>(lines: &mut Lines<L>, text: &mut Vec<u8>) -> Result<bool, AllocError>
+    requires { goes_on (last_of lines.old) ≡ true }
+    ensures { IfOk result (λ more. more ≡ true → goes_on (last_of lines.new) ≡ true) }
+{
+    match lines.next() {
+        LineGot::Line => {
+            text.push(b'[')?;
+            text.extend_from_slice(lines.line())?;
+            text.push(b']')?;
+            Ok(true)
+        }
+        LineGot::TooLong => {
+            text.extend_from_slice(b"long")?;
+            Ok(true)
+        }
+        LineGot::End => ended(text, b"end"),
+        LineGot::Failed => ended(text, b"failed"),
+        LineGot::Budget => ended(text, b"budget"),
+    }
+}
+
+fn ended(text: &mut Vec<u8>, word: &[u8]) -> Result<bool, AllocError>
+    ensures { IfOk result (λ more. more ≡ false) }
+{
+    text.extend_from_slice(word)?;
+    Ok(false)
+}
+
+// The answers of a link that gives `bytes`, at most `most_at_once` in a read, whose read of number
+// `failing` fails.
+fn answers(
+    alloc: Global,
+    bytes: &[u8],
+    most_at_once: usize,
+    failing: u64,
+) -> Result<Vec<u8>, AllocError> {
+    let bytes = bytes.to_vec(alloc)?;
+    let failing = vec![in alloc; failing]?;
+    let link = MemLink::new(alloc, bytes, most_at_once, 0, failing, Vec::new(alloc))?;
+    let mut lines = Lines::new(link);
+    let mut text = Vec::new(alloc);
+    for _ in 0..9 {
+        if !tell_next(&mut lines, &mut text)? {
+            return Ok(text);
+        }
+    }
+    Ok(text)
+}
+
+#[test]
+fn a_link_gives_the_same_lines_however_its_reads_cut_them(rt: HostRuntime) -> Result<(), Fail> {
+    let alloc = rt.alloc();
+    let mut bytes = b"hello seat0\n\n".to_vec(alloc)?;
+    bytes.extend_from_slice(&[b'a'; 512])?;
+    bytes.push(b'\n')?;
+    bytes.extend_from_slice(&[b'b'; 513])?;
+    bytes.push(b'\n')?;
+    bytes.extend_from_slice(&[b'c'; 3000])?;
+    bytes.extend_from_slice(b"\nquit\nrest")?;
+    let mut told = b"[hello seat0][][".to_vec(alloc)?;
+    told.extend_from_slice(&[b'a'; 512])?;
+    told.extend_from_slice(b"]longlong[quit]end")?;
+    for most_at_once in [1, 2, 13, 511, 512, 513, 514, 1000, 1024, 9999] {
+        let answers = answers(alloc, &bytes, most_at_once, 0)?;
+        assert_eq!(rt;
+            answers.as_slice(),
+            told.as_slice(),
+            "in pieces of {most_at_once}"
+        );
+    }
+    Ok(())
+}
+
+// In pieces of two bytes `ab\nc` takes two reads, and a third finds the end.
+#[test]
+fn a_rest_without_line_end_is_dropped(rt: HostRuntime) -> Result<(), Fail> {
+    let alloc = rt.alloc();
+    for (bytes, failing, told) in [
+        ("", 0, "end"),
+        ("", 1, "failed"),
+        ("\n", 0, "[]end"),
+        ("ab\nc", 0, "[ab]end"),
+        ("ab\nc", 1, "failed"),
+        ("ab\nc", 2, "failed"),
+        ("ab\nc", 3, "[ab]failed"),
+        ("ab\nc", 4, "[ab]end"),
+    ] {
+        let answers = answers(alloc, bytes.as_bytes(), 2, failing)?;
+        assert_eq!(rt; answers.as_slice(), told.as_bytes(), "{bytes} {failing}");
+    }
+    let long = answers(alloc, &[b'a'; 513], 1024, 0)?;
+    assert_eq!(rt; long.as_slice(), b"end".as_slice());
+    Ok(())
+}
+
+#[test]
+fn bytes_are_sent_whole_or_in_part(rt: HostRuntime) -> Result<(), Fail> {
+    let alloc = rt.alloc();
+    for (room, failing, sent) in [
+        (9, 0, "hello"),
+        (5, 2, "hello"),
+        (9, 1, ""),
+        (4, 0, "hell"),
+        (4, 2, "hell"),
+        (0, 0, ""),
+    ] {
+        let failing = vec![in alloc; failing]?;
+        let link = MemLink::new(alloc, Vec::new(alloc), 1, room, Vec::new(alloc), failing)?;
+        let mut lines = Lines::new(link);
+        let whole = lines.send(b"hello").is_ok();
+        assert!(rt; lines.send(b"").is_ok());
+        let link = lines.into_link();
+        assert_eq!(rt; link.sent(), sent.as_bytes());
+        assert_eq!(rt; whole, sent == "hello");
+        assert_eq!(rt; link.write_faults(), if whole { 0 } else { 1 });
+        assert_eq!(rt; link.faults(), 0);
+    }
     Ok(())
 }

@@ -1,0 +1,104 @@
+-- The answers of a link's lines are those of its bytes, however its reads cut them.
+use Rattle.std.proofs.Common.{zero, suc, ◌≡◌, ℕ, ◌+◌, ◌-◌, ◌<◌, ◌≤◌, List, [], ◌∷◌, ◌++◌, length, refl, ap, sym, ◌∙◌, true, false, Bool, arith, length-append, append_assoc, append-nil}
+use Rattle.std.specs.Prelude.{◌==◌, ◌^◌, None, Some, if◌then◌else◌}
+use Rattle.std.specs.declared.option.Option.{Option}
+use Rattle.std.proofs.lemmas.Bool.Decides.{nat_tests}
+use Rattle.tac_io.specs.AllAnswers.{all_answers, answers_left, ended_line, IsFirst, IsInTurn}
+use Rattle.tac_io.specs.HeldBytes.{Held}
+use Rattle.tac_io.specs.LineAnswers.{Answers, IsNext}
+use Rattle.tac_io.specs.LineText.{has_end, Begins}
+use Rattle.tac_io.proofs.LineEnds.{neither}
+use Rattle.tac_io.specs.declared.line_got.LineGot.{LineGot}
+use Rattle.tac_io.specs.declared.line_got.LineGot.TheVariants.{Line, TooLong, End, Failed, Budget}
+
+pick : {A : Type 0} (b : Bool) (x y : A) → b ≡ false → (if b then x else y) ≡ y
+pick true x y h = absurd (cc)
+pick false x y h = refl
+
+pub all_answers-line : (before line rest : List ℕ) (room after : ℕ) → has_end line ≡ false → room ≡ length line + suc after
+    → all_answers before room (line ++ 10 ∷ rest) ≡ ended_line (before ++ line) ∷ all_answers [] after rest
+all_answers-line before [] rest room after none is =
+    let e : room ≡ suc after = omega (arith, is) in
+    ap (λ n. all_answers before n (10 ∷ rest)) e ∙ ap (λ l. ended_line l ∷ all_answers [] after rest) (sym (append-nil before))
+all_answers-line before (byte ∷ line) rest room after none is =
+    let both = neither (byte == 10) (has_end line) none in
+    let e : room ≡ suc (length line + suc after) = omega (arith, is) in
+    ap (λ n. all_answers before n (byte ∷ line ++ 10 ∷ rest)) e
+    ∙ pick (byte == 10) _ _ both.0
+    ∙ all_answers-line (before ++ byte ∷ []) line rest (length line + suc after) after both.1 refl
+    ∙ ap (λ l. ended_line l ∷ all_answers [] after rest) (append_assoc before (byte ∷ []) line)
+
+pub all_answers-end : (before bytes : List ℕ) (room : ℕ) → has_end bytes ≡ false → length bytes < room → all_answers before room bytes ≡ (End, []) ∷ []
+all_answers-end before bytes zero none lt = absurd (omega (arith, lt))
+all_answers-end before [] (suc room) none lt = refl
+all_answers-end before (byte ∷ bytes) (suc room) none lt =
+    let both = neither (byte == 10) (has_end bytes) none in
+    pick (byte == 10) _ _ both.0 ∙ all_answers-end (before ++ byte ∷ []) bytes room both.1 (omega (arith, lt))
+
+pub all_answers-budget : (before bytes rest : List ℕ) (room : ℕ) → has_end bytes ≡ false → length bytes ≡ room → all_answers before room (bytes ++ rest) ≡ (Budget, []) ∷ []
+all_answers-budget before [] rest zero none is = refl
+all_answers-budget before [] rest (suc room) none is = absurd (omega (arith, is))
+all_answers-budget before (byte ∷ bytes) rest zero none is = absurd (omega (arith, is))
+all_answers-budget before (byte ∷ bytes) rest (suc room) none is =
+    let both = neither (byte == 10) (has_end bytes) none in
+    pick (byte == 10) _ _ both.0 ∙ all_answers-budget (before ++ byte ∷ []) bytes rest room both.1 (omega (arith, is))
+
+short_line : (line : List ℕ) → length line ≤ 512 → ended_line line ≡ (Line, line)
+short_line line le = grind (arith, nat_tests)
+
+long_line : (line : List ℕ) → 512 < length line → ended_line line ≡ (TooLong, [])
+long_line line lt = grind (arith, nat_tests)
+
+some_inj : (xs ys : List ℕ) → Some xs ≡ Some ys → xs ≡ ys
+some_inj xs ys h = cc
+
+-- after a line, what is to come are the answers of what is held and left then
+line_first : (held new : Held) (left left' more line : List ℕ) (count : ℕ) → left ≡ more ++ left' → count + length more ≤ 2 ^ 26 → Begins (held.unread ++ more) line new.unread
+    → answers_left held left count ≡ ended_line line ∷ answers_left new left' (count + length more)
+line_first held new left left' more line count gave le b =
+    let size : length held.unread + length more ≡ length line + suc (length new.unread) =
+    omega (arith, sym (length-append held.unread more) ∙ ap length b.whole ∙ length-append line (10 ∷ new.unread)) in
+    let bytes : held.unread ++ left ≡ line ++ 10 ∷ (new.unread ++ left') =
+    ap (λ l. held.unread ++ l) gave ∙ sym (append_assoc held.unread more left') ∙ ap (λ l. l ++ left') b.whole ∙ append_assoc line (10 ∷ new.unread) left' in
+    ap (all_answers [] (2 ^ 26 - count + length held.unread)) bytes
+    ∙ all_answers-line [] line (new.unread ++ left') (2 ^ 26 - count + length held.unread) (2 ^ 26 - (count + length more) + length new.unread) b.first (omega (arith, size, le))
+
+next_is_first : (held new : Held) (taken taken' : Option (List ℕ)) (left left' : List ℕ) (count count' : ℕ) (got : LineGot) → Answers held new taken taken' (Some left) (Some left') count count' got → count' ≤ 2 ^ 26
+    → IsFirst got new.line (answers_left held left count) (answers_left new left' count')
+next_is_first held new taken taken' left left' count count' got answers le = first got answers.next
+  where
+    gave : left ≡ answers.more ++ left'
+    gave = some_inj left (answers.more ++ left') answers.gave
+
+    within : count + length answers.more ≤ 2 ^ 26
+    within = omega (arith, answers.counted, le)
+
+    after : (line : List ℕ) → Begins (held.unread ++ answers.more) line new.unread → answers_left held left count ≡ ended_line line ∷ answers_left new left' count'
+    after line b = line_first held new left left' answers.more line count gave within b ∙ ap (λ n. ended_line line ∷ answers_left new left' n) (sym answers.counted)
+
+    size : length (held.unread ++ answers.more) ≡ length held.unread + length answers.more
+    size = length-append held.unread answers.more
+
+    bytes : held.unread ++ left ≡ (held.unread ++ answers.more) ++ left'
+    bytes = ap (λ l. held.unread ++ l) gave ∙ sym (append_assoc held.unread answers.more left')
+
+    first : (got : LineGot) → IsNext got (held.unread ++ answers.more) new (left' ≡ []) count' → IsFirst got new.line (answers_left held left count) (answers_left new left' count')
+    first Line next = after new.line next.0 ∙ ap (λ line. line ∷ answers_left new left' count') (short_line new.line next.1)
+    first TooLong next = after next.0 next.1 ∙ ap (λ line. line ∷ answers_left new left' count') (long_line next.0 next.2)
+    first End next =
+        ap (all_answers [] (2 ^ 26 - count + length held.unread)) (bytes ∙ ap (λ l. (held.unread ++ answers.more) ++ l) next.2 ∙ append-nil (held.unread ++ answers.more))
+        ∙ all_answers-end [] (held.unread ++ answers.more) (2 ^ 26 - count + length held.unread) next.0 (omega (arith, size, next.1, answers.counted))
+    first Failed next = tt
+    first Budget next =
+        ap (all_answers [] (2 ^ 26 - count + length held.unread)) bytes
+        ∙ all_answers-budget [] (held.unread ++ answers.more) left' (2 ^ 26 - count + length held.unread) next.0 (omega (arith, size, next.1, answers.counted))
+
+pub in_turn : (held new : Held) (taken taken' left left' : Option (List ℕ)) (count count' : ℕ) (got : LineGot) → Answers held new taken taken' left left' count count' got → count' ≤ 2 ^ 26
+    → IsInTurn held new left left' count count' got
+in_turn held new taken taken' None left' count count' got answers le = tt
+in_turn held new taken taken' (Some left) None count count' got answers le = tt
+in_turn held new taken taken' (Some left) (Some left') count count' got answers le = next_is_first held new taken taken' left left' count count' got answers le
+
+-- From the first answer on, they are those of all the bytes that the link has to give.
+pub from_the_first : (held : Held) (left : List ℕ) → held.unread ≡ [] → answers_left held left 0 ≡ all_answers [] (2 ^ 26) left
+from_the_first held left none = ap (λ unread. all_answers [] (2 ^ 26 - 0 + length unread) (unread ++ left)) none

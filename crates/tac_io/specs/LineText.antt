@@ -1,0 +1,12 @@
+-- Lines in bytes: a line ends with the byte 10.
+use Rattle.std.specs.Prelude.{◌≡◌, ℕ, List, [], ◌∷◌, ◌++◌, Bool, false, ◌||◌, ◌==◌}
+
+-- a line end is among the bytes
+abbrev pub has_end : List ℕ → Bool
+has_end [] = false
+has_end (byte ∷ bytes) = (byte == 10) || has_end bytes
+
+-- The bytes begin with this line and its end, and then comes the rest.
+pub record Begins (bytes line rest : List ℕ) : Type 0 where
+  pub whole : bytes ≡ line ++ 10 ∷ rest
+  pub first : has_end line ≡ false

@@ -1,0 +1,22 @@
+-- A link's lines, as their clauses show them.
+use Rattle.std.specs.Prelude.{ℕ}
+use Rattle.std.specs.declared.option.Option.{Option}
+use Rattle.tac_io.specs.HeldBytes.{Held}
+use Rattle.tac_io.specs.declared.line_got.LineGot.{LineGot}
+use Rattle.tac_io.specs.declared.lines.Lines.{Lines}
+
+-- the link
+abbrev pub link_of : {L : Type 0} → Lines L → L
+link_of s = s.link
+
+-- the last line, and the bytes that were taken and that no line has yet
+abbrev pub held_of : {L : Type 0} → Lines L → Held
+held_of s = s.buffer
+
+-- how many bytes were taken from the link
+abbrev pub count_of : {L : Type 0} → Lines L → ℕ
+count_of s = s.taken
+
+-- the last answer, if there was one
+abbrev pub last_of : {L : Type 0} → Lines L → Option LineGot
+last_of s = s.last

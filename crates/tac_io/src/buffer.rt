@@ -1,0 +1,144 @@
+// A buffer with the last line, and the bytes that no line has yet.
+ghost use Rattle.std.specs.Prelude.{◌≡◌, [], ◌+◌, ◌<◌, ◌≤◌, IfSome, IfNone, IfOk, length, take, drop, false, MatchResult};
+ghost use Rattle.tac_io.specs.Counts.{HasCause};
+ghost use Rattle.tac_io.specs.HeldBytes.{Fills};
+ghost use Rattle.tac_io.specs.LineText.{has_end, Begins};
+ghost use Rattle.tac_io.specs.Told.{and_then_told, before_told, IsAtEnd};
+
+use crate::{Failed, Link};
+use std::marker::Model;
+
+/// A buffer of 1024 bytes. It holds the last line, and the bytes that no line has yet.
+#[derive(Drop)]
+pub(crate) struct Buffer {
+    bytes: [u8; 1024],
+    // The last line is from `line` to `line_end`.
+    line: usize,
+    line_end: usize,
+    // The bytes that no line has yet are from `from` to `to`.
+    from: usize,
+    to: usize,
+}
+
+impl Model for Buffer {
+    ghost use Rattle.std.specs.Prelude.{◌≤◌, slice_range};
+    ghost use Rattle.tac_io.specs.HeldBytes.{Held};
+
+    ghost Value = { Held };
+
+    ghost view = { λ b. record { line = slice_range b.bytes b.line b.line_end; unread = slice_range b.bytes b.from b.to } };
+
+    ghost invariant = { λ b. (b.line ≤ b.line_end) × (b.line_end ≤ 1024) × (b.from ≤ b.to) × (b.to ≤ 1024) };
+}
+
+// Where the first line end is.
+fn end_of_line(bytes: &[u8]) -> Option<usize>
+    ensures found { IfSome result (λ i. (i < length bytes.now) × Begins bytes.now (take i bytes.now) (drop (i + 1) bytes.now)) }
+    ensures none { IfNone result (has_end bytes.now ≡ false) }
+{
+    for (i, byte) in bytes.iter().enumerate() {
+        if *byte == b'\n' {
+            return Some(i);
+        }
+    }
+    None
+}
+
+// Reads at most `most` bytes of the link into a place of the buffer.
+fn read_at<L: Link>(link: &mut L, bytes: &mut [u8], at: usize, most: usize) -> Result<usize, Failed>
+    requires most { 0 < most }
+    requires room { at < length bytes.old }
+    ensures front { take at bytes.new ≡ take at bytes.old }
+    ensures count { IfOk result (λ n. (n ≤ most) × (at + n ≤ length bytes.old)) }
+    ensures len { length bytes.new ≡ length bytes.old }
+    ensures taken { MatchResult result
+        (λ n. L.taken link.new ≡ and_then_told (L.taken link.old) (take n (drop at bytes.new)))
+        (λ _. L.taken link.new ≡ L.taken link.old) }
+    ensures left { MatchResult result
+        (λ n. (L.left link.old ≡ before_told (take n (drop at bytes.new)) (L.left link.new))
+        × (n ≡ 0 → IsAtEnd (L.left link.old)))
+        (λ _. L.left link.new ≡ L.left link.old) }
+    ensures sent { L.sent link.new ≡ L.sent link.old }
+    ensures cause { HasCause (L.faults link.old) (L.faults link.new) result }
+    ensures write_faults { L.write_faults link.new ≡ L.write_faults link.old }
+{
+    let room = most.min(bytes.len() - at);
+    link.read(&mut bytes[at..at + room])
+}
+
+impl Buffer {
+    pub(crate) fn new() -> Buffer
+        ensures { result.unread ≡ [] }
+    {
+        Buffer {
+            bytes: [0; 1024],
+            line: 0,
+            line_end: 0,
+            from: 0,
+            to: 0,
+        }
+    }
+
+    // The last line.
+    pub(crate) fn line(&self) -> &[u8]
+        ensures { result.now ≡ self.now.line }
+    {
+        &self.bytes[self.line..self.line_end]
+    }
+
+    // The bytes that no line has yet.
+    fn unread(&self) -> &[u8]
+        ensures { result.now ≡ self.now.unread }
+    {
+        &self.bytes[self.from..self.to]
+    }
+
+    // How many bytes no line has yet.
+    pub(crate) fn len(&self) -> usize
+        ensures count { result ≡ length self.now.unread }
+        ensures most { result ≤ 1024 }
+    {
+        self.to - self.from
+    }
+
+    // Takes the first line, and answers its length.
+    pub(crate) fn cut_line(&mut self) -> Option<usize>
+        ensures cut { IfSome result (λ n. Begins self.old.unread self.new.line self.new.unread × (n ≡ length self.new.line)) }
+        ensures none { IfNone result ((has_end self.old.unread ≡ false) × (self.new ≡ self.old)) }
+    {
+        let length = end_of_line(self.unread())?;
+        self.line = self.from;
+        self.line_end = self.from + length;
+        self.from = self.line_end + 1;
+        Some(length)
+    }
+
+    // Drops the bytes that no line has yet.
+    pub(crate) fn discard(&mut self)
+        ensures { self.new.unread ≡ [] }
+    {
+        self.from = 0;
+        self.to = 0;
+    }
+
+    // Reads at most `most` bytes of the link behind those that no line has yet. The last line is
+    // dropped.
+    pub(crate) fn fill<L: Link>(&mut self, link: &mut L, most: usize) -> Result<usize, Failed>
+        requires most { 0 < most }
+        requires room { length self.old.unread < 1024 }
+        ensures bytes { Fills self.old.unread self.new.unread (L.taken link.old) (L.taken link.new) (L.left link.old) (L.left link.new) most result }
+        ensures sent { L.sent link.new ≡ L.sent link.old }
+        ensures cause { HasCause (L.faults link.old) (L.faults link.new) result }
+        ensures write_faults { L.write_faults link.new ≡ L.write_faults link.old }
+    {
+        let len = self.to - self.from;
+        self.bytes.copy_within(self.from..self.to, 0);
+        self.line = 0;
+        self.line_end = 0;
+        self.from = 0;
+        self.to = len;
+        let count = read_at(link, &mut self.bytes, len, most)?;
+        self.to = len + count;
+        Ok(count)
+    }
+}

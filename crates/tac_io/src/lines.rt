@@ -1,0 +1,180 @@
+// A link, line by line.
+ghost use Rattle.std.specs.Prelude.{◌≡◌, [], ◌^◌, ◌<◌, ◌≤◌, OnOk, OnErr, length, true, false, MatchBool, Some, None};
+ghost use Rattle.tac_io.specs.Counts.{HasCause};
+ghost use Rattle.tac_io.specs.LineAnswers.{Answers, HasLineCause, IsDecided, IsKind};
+ghost use Rattle.tac_io.specs.Told.{TakesSome, and_then_told};
+
+use crate::buffer::Buffer;
+use crate::line_got::LineGot;
+use crate::{Failed, Link};
+
+/// How many bytes are taken from a link, at most.
+const MOST_BYTES: u32 = 67_108_864;
+
+/// How many bytes a line has, at most.
+const LONGEST_LINE: usize = 512;
+
+// Drops what is held of a line that is too long already, and says whether it is.
+fn skips(buffer: &mut Buffer, long: bool) -> bool
+    ensures skips { MatchBool result
+        ((buffer.new.unread ≡ []) × (long ≡ false → 512 < length buffer.old.unread))
+        ((buffer.new.unread ≡ buffer.old.unread) × (long ≡ false)) }
+    ensures room { length buffer.new.unread ≤ 512 }
+{
+    if long || buffer.len() > LONGEST_LINE {
+        buffer.discard();
+        return true;
+    }
+    false
+}
+
+// A line, or one that is too long.
+fn kind(long: bool, length: usize) -> LineGot
+    ensures { IsKind result long length }
+{
+    if long || length > LONGEST_LINE {
+        LineGot::TooLong
+    } else {
+        LineGot::Line
+    }
+}
+
+// What comes next of a link.
+fn next_line<L: Link>(link: &mut L, buffer: &mut Buffer, taken: &mut u32) -> LineGot
+    requires { taken.old ≤ 2 ^ 26 }
+    ensures answer { Answers buffer.old buffer.new (L.taken link.old) (L.taken link.new) (L.left link.old) (L.left link.new) taken.old taken.new result }
+    ensures budget { taken.new ≤ 2 ^ 26 }
+    ensures decided { IsDecided buffer.old.unread taken.old → link.new ≡ link.old }
+    ensures sent { L.sent link.new ≡ L.sent link.old }
+    ensures cause { HasLineCause (L.faults link.old) (L.faults link.new) result }
+    ensures write_faults { L.write_faults link.new ≡ L.write_faults link.old }
+{
+    let mut long = false;
+    'bytes: loop {
+        if let Some(length) = buffer.cut_line() {
+            return kind(long, length);
+        }
+        if *taken == MOST_BYTES {
+            return LineGot::Budget;
+        }
+        long = skips(buffer, long);
+        let Ok(count) = buffer.fill(link, (MOST_BYTES - *taken) as usize) else {
+            return LineGot::Failed;
+        };
+        if count == 0 {
+            return LineGot::End;
+        }
+        *taken += count as u32;
+    }
+}
+
+// Sends all bytes to a link.
+fn send_all<L: Link>(link: &mut L, bytes: &[u8]) -> Result<(), Failed>
+    ensures whole { OnOk result (L.sent link.new ≡ and_then_told (L.sent link.old) bytes.now) }
+    ensures failed { OnErr result (TakesSome (L.sent link.old) (L.sent link.new) bytes.now) }
+    ensures cause { HasCause (L.write_faults link.old) (L.write_faults link.new) result }
+    ensures taken { L.taken link.new ≡ L.taken link.old }
+    ensures left { L.left link.new ≡ L.left link.old }
+    ensures read_faults { L.faults link.new ≡ L.faults link.old }
+{
+    let mut done = 0;
+    while done < bytes.len() {
+        let (_, rest) = bytes.split_at(done);
+        done += link.write(rest)?;
+    }
+    Ok(())
+}
+
+/// A link whose bytes are read line by line, with a buffer of 1024 bytes. A line ends with byte 10.
+#[derive(Drop)]
+pub struct Lines<L> {
+    link: L,
+    buffer: Buffer,
+    // How many bytes were taken from the link.
+    taken: u32,
+    last: Option<LineGot>,
+    ghost budget: { taken ≤ 2 ^ 26 },
+}
+
+impl<L: Link> Lines<L> {
+    ghost use Rattle.tac_io.specs.AllAnswers.{IsInTurn};
+    ghost use Rattle.tac_io.specs.LineAnswers.{goes_on};
+    ghost use Rattle.tac_io.specs.Lines.{count_of, held_of, last_of, link_of};
+
+    /// The lines of a link, none of which was read.
+    pub fn new(link: L) -> Lines<L>
+        ensures link { link_of result ≡ link }
+        ensures unread { (held_of result).unread ≡ [] }
+        ensures count { count_of result ≡ 0 }
+        ensures last { last_of result ≡ None }
+    {
+        Lines {
+            link,
+            buffer: Buffer::new(),
+            taken: 0,
+            last: None,
+        }
+    }
+
+    /// Reads on to the next line end, the link's end, a fault, or until 67,108,864 bytes were taken
+    /// from the link, and says which came first. After `End`, `Failed` and `Budget` there is no
+    /// next line. Where the bytes taken before decide, the link stays as it was.
+    pub fn next(&mut self) -> LineGot
+        requires { goes_on (last_of self.old) ≡ true }
+        ensures answer { Answers (held_of self.old) (held_of self.new)
+            (L.taken (link_of self.old)) (L.taken (link_of self.new))
+            (L.left (link_of self.old)) (L.left (link_of self.new))
+            (count_of self.old) (count_of self.new) result }
+        ensures in_turn { IsInTurn (held_of self.old) (held_of self.new)
+            (L.left (link_of self.old)) (L.left (link_of self.new))
+            (count_of self.old) (count_of self.new) result }
+        ensures last { last_of self.new ≡ Some result }
+        ensures budget { count_of self.new ≤ 2 ^ 26 }
+        ensures decided { IsDecided (held_of self.old).unread (count_of self.old) → link_of self.new ≡ link_of self.old }
+        ensures sent { L.sent (link_of self.new) ≡ L.sent (link_of self.old) }
+        ensures cause { HasLineCause (L.faults (link_of self.old)) (L.faults (link_of self.new)) result }
+        ensures write_faults { L.write_faults (link_of self.new) ≡ L.write_faults (link_of self.old) }
+    {
+        let got = next_line(&mut self.link, &mut self.buffer, &mut self.taken);
+        self.last = Some(got);
+        got
+    }
+
+    /// The line that was read last, without its line end.
+    pub fn line(&self) -> &[u8]
+        requires { last_of self.now ≡ Some LineGot.Line }
+        ensures { result.now ≡ (held_of self.now).line }
+    {
+        self.buffer.line()
+    }
+
+    /// Sends all bytes to the link, in as many writes as it asks for, and in none where there are no
+    /// bytes. `Failed` comes exactly where the link counted a fault of a write in this call. Then
+    /// some of the first bytes were sent, or none, but not all.
+    pub fn send(&mut self, bytes: &[u8]) -> Result<(), Failed>
+        ensures whole { OnOk result (L.sent (link_of self.new) ≡ and_then_told (L.sent (link_of self.old)) bytes.now) }
+        ensures failed { OnErr result (TakesSome (L.sent (link_of self.old)) (L.sent (link_of self.new)) bytes.now) }
+        ensures cause { HasCause (L.write_faults (link_of self.old)) (L.write_faults (link_of self.new)) result }
+        ensures taken { L.taken (link_of self.new) ≡ L.taken (link_of self.old) }
+        ensures left { L.left (link_of self.new) ≡ L.left (link_of self.old) }
+        ensures read_faults { L.faults (link_of self.new) ≡ L.faults (link_of self.old) }
+        ensures held { held_of self.new ≡ held_of self.old }
+        ensures count { count_of self.new ≡ count_of self.old }
+        ensures last { last_of self.new ≡ last_of self.old }
+    {
+        send_all(&mut self.link, bytes)
+    }
+
+    /// The link, with what was not read of it. The bytes that no line had yet are dropped.
+    pub fn into_link(self) -> L
+        ensures { result ≡ link_of self }
+    {
+        let Lines {
+            link,
+            buffer: _,
+            taken: _,
+            last: _,
+        } = self;
+        link
+    }
+}
