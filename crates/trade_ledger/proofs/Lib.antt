@@ -1,3 +1,4 @@
 pub mod Trading
 pub mod CashSteps
 pub mod Taking
+pub mod Matching

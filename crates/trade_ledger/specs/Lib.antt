@@ -1,3 +1,4 @@
 pub mod Holdings
 pub mod CashHistory
 pub mod CashKeeping
+pub mod Posts

@@ -65,7 +65,7 @@ impl CashBook {
     ghost use Rattle.std.specs.Option.{option_copied};
     ghost use Rattle.trade_ledger.specs.CashHistory.{total_of};
 
-    /// The empty book, with room for all entries of a game.
+    /// The empty book, with room for all entries of a game. After `Memory` nothing was made.
     pub fn begin(alloc: Global) -> Result<CashBook, Memory>
         ensures { IfOk result (λ b. b ≡ []) }
     {

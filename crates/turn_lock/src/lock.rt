@@ -86,7 +86,7 @@ impl<S: Kept> TurnLock<S> {
         requires fit { S.fit caller call.now }
         ensures own { (seat.new.table_id ≡ seat.old.table_id) × (seat.new.id ≡ seat.old.id) }
         ensures entry { (x : S) × (h : List S.Entry) × (e : S.Entry) × (seat.old.me.1 ≡ (0, x) ∷ []) × (h ≡ S.history x ++ e ∷ [])
-            × (S.caller_of e ≡ caller) × (S.call_of e ≡ call.now) × (S.answer e ≡ result.1) × (result.0 ≡ length (S.history x)) × (seat.new.me ≡ (turned S.caller_of seat.old.me.0 h, [])) }
+            × (S.caller_of e ≡ caller) × (S.call_of e ≡ call.now) × (S.answer e ≡ result.1) × (result.0 ≡ length (S.history x)) × (seat.new.me ≡ (turned S.caller_of seat.old.me.0 h, [])) × S.legal (S.setup x) h }
     {
         let shared = &self.table.shared;
         let state = seat.slot_mut(shared, 0);
@@ -117,7 +117,7 @@ impl<S: Kept> TurnLock<S> {
 }
 
 impl<S: Kept> TurnLock<S> {
-    ghost use Rattle.std.specs.Prelude.{◌≡◌, ℕ, ◌+◌, ◌<◌, ◌≤◌, [], ◌∷◌, ◌++◌, length, IfOk, slice_index, vec_len};
+    ghost use Rattle.std.specs.Prelude.{◌≡◌, ℕ, ◌+◌, ◌<◌, ◌≤◌, List, [], ◌∷◌, ◌++◌, length, IfOk, slice_index, vec_len};
     ghost use mathlib.Core.Option.{some};
     ghost use lib.ListN.{get_elem?};
     ghost use Rattle.turn_lock.specs.Part.{part};
@@ -162,7 +162,7 @@ impl<S: Kept> TurnLock<S> {
     }
 
     /// Takes a turn: it may wait for it, acts on the state by the call, and answers the position of its entry and the reply. The position
-    /// is not below what the pass had seen.
+    /// is not below what the pass had seen, and some entries with its own after them are a legal history.
     pub fn call<R: Wait + Clock>(
         &self,
         rt: &R,
@@ -175,7 +175,8 @@ impl<S: Kept> TurnLock<S> {
         ensures own { (lock_of pass.new ≡ lock_of pass.old) × (caller_of pass.new ≡ caller_of pass.old)
             × (left_of pass.new + 1 ≡ left_of pass.old) × (noted_by pass.new ≡ noted_by pass.old) }
         ensures entry { (e : S.Entry) × (S.caller_of e ≡ caller_of pass.old) × (S.call_of e ≡ call.now) × (S.answer e ≡ result.1)
-            × (made_by pass.new ≡ made_by pass.old ++ (result.0, e) ∷ []) }
+            × (made_by pass.new ≡ made_by pass.old ++ (result.0, e) ∷ [])
+            × (setup : S.Setup) × (before : List S.Entry) × (length before ≡ result.0) × S.legal setup (before ++ e ∷ []) }
         ensures seen { (seen_by pass.old ≤ result.0) × (seen_by pass.new ≡ result.0 + 1) }
     {
         let ticket = self.draw(&mut pass.seat);

@@ -1,4 +1,4 @@
-use Rattle.std.proofs.Common.{◌≡◌, ◌+◌, length, ap, sym, ◌∙◌, arith, ◌∷◌, [], length-append}
+use Rattle.std.proofs.Common.{◌≡◌, ◌+◌, length, ap, sym, ◌∙◌, subst, arith, ◌∷◌, [], length-append}
 use Rattle.turn_lock.proofs.TurnSteps.{whole_turn}
 use Rattle.turn_lock.proofs.lock.TurnLock.call.Goals as goal
 
@@ -23,4 +23,4 @@ returns-clause-entry g c =
     let after = whole_turn kept.setup kept.history kept.legal kept.board kept.caller_of (kept.setup c.args.self.now.table.shared.key.value) pass.seat.me.0
     c.draw-ticket.result c.draw-ticket.new.seat.me c.wait.new.seat.me c.act-answer.new.seat.me took.0 acted.0 acted.1 acted.2 c.act-answer.result.0
     c.draw-ticket.ensures.view took.1 acted.3 acted.4 (acted.5 ∙ sym pass.live.1) took.3 acted.8 acted.9 in
-    (acted.2, acted.5, acted.6, acted.7, ap (λ m. m.0.mine) after)
+    (acted.2, acted.5, acted.6, acted.7, ap (λ m. m.0.mine) after, kept.setup acted.0, kept.history acted.0, sym acted.8, subst (λ h. kept.legal (kept.setup acted.0) h) acted.4 acted.10)

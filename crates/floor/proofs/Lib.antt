@@ -1,0 +1,9 @@
+pub mod Rows
+pub mod Tables
+pub mod Posts
+pub mod CashReplies
+pub mod Desks
+pub mod FreshPasses
+pub mod BornOut
+pub mod Told
+pub mod FirstDesks

@@ -1,0 +1,34 @@
+use Rattle.std.proofs.Common.{◌++◌, ℕ, ◌<◌, ◌≤◌, List, [], ◌∷◌, map, length, get_or, set, refl, sym, ap, ◌∙◌, subst, arith}
+use Rattle.std.proofs.lemmas.List.{length-map}
+use Rattle.tac_base.specs.declared.calls.Board.{Board}
+use Rattle.turn_lock.specs.Passes.{lock_of, lock_id, caller_of, left_of, made_by, noted_by, seen_by}
+use Rattle.floor.proofs.Rows.{map_get, map_set, map_set_same, same_at}
+use Rattle.floor.proofs.Desks.{kept_as}
+use Rattle.floor.proofs.desk.Desk.quote.Goals as goal
+
+pub peek-requires-clause-own : goal.peek-requires-clause-own
+peek-requires-clause-own c κs =
+    let ps = c.args.self.now.passes.items in let kept = c.args.self.now.kept in
+    same_at (λ p. lock_of p) (λ l. lock_id l) ps c.args.floor.now.auctions.items c.place-place.result _ _ (ap (λ t. t.0) c.requires.own)
+    (omega (arith, length-map ps (λ p. made_by p), kept.goods, c.place-place.ensures.range)) c.index_mut.ensures.value c.index.ensures
+
+pub invariant_of-self : goal.invariant_of-self
+invariant_of-self c =
+    let d = c.args.self.now in let ps = d.passes.items in let k : ℕ = c.place-place.result in let p = c.index_mut.result.now in let p' = c.peek.new.pass in let at = c.index_mut.ensures.value in let own = c.peek.ensures.own in
+    let inside : k < length ps = omega (arith, length-map ps (λ q. made_by q), d.kept.goods, c.place-place.ensures.range) in record {
+      kept = kept_as d.kept refl (map_set_same (λ q. caller_of q) ps k p p' inside at own.1) (map_set_same (λ q. left_of q) ps k p p' inside at own.2) (map_set_same (λ q. made_by q) ps k p p' inside at own.3) refl refl refl;
+    }
+
+pub returns-clause-seen : goal.returns-clause-seen
+returns-clause-seen c =
+    let d = c.args.self.now in let ps = d.passes.items in let k : ℕ = c.place-place.result in let p = c.index_mut.result.now in let p' = c.peek.new.pass in let at = c.index_mut.ensures.value in let own = c.peek.ensures.own in
+    let board = c.peek.result in let is = c.place-place.ensures.value in
+    let inside : k < length ps = omega (arith, length-map ps (λ q. made_by q), d.kept.goods, c.place-place.ensures.range) in record {
+      boards = map_set (λ q. noted_by q) ps k p' _ (c.peek.ensures.note ∙ ap (λ (l : List (ℕ × Board)). l ++ (board.count, board) ∷ []) (sym (map_get (λ q. noted_by q) ps k p [] inside at)))
+          ∙ ap (λ (j : ℕ). set (map (λ q. noted_by q) ps) j (get_or (map (λ q. noted_by q) ps) j [] ++ (board.count, board) ∷ [])) is;
+      seen_before = subst (λ (n : ℕ). n ≤ board.count) (sym (map_get (λ q. seen_by q) ps k p 0 inside at) ∙ ap (λ (j : ℕ). get_or (map (λ q. seen_by q) ps) j 0) is) c.peek.ensures.seen.0;
+      seen = map_set (λ q. seen_by q) ps k p' board.count c.peek.ensures.seen.1 ∙ ap (λ (j : ℕ). set (map (λ q. seen_by q) ps) j board.count) is;
+      entries = map_set_same (λ q. made_by q) ps k p p' inside at own.3;
+      cash = refl;
+      same = ((λ i. (map_set_same (λ q. lock_of q) ps k p p' inside at own.0 i, lock_of d.cash)), refl);
+    }

@@ -1,0 +1,71 @@
+-- What each call of a desk answers and adds.
+use Rattle.std.specs.Prelude.{⊤, ◌≡◌, ℕ, ◌+◌, ◌<◌, ◌≤◌, [], ◌∷◌, ◌++◌, length, slice_set}
+use Rattle.tac_base.specs.declared.calls.Call.{Call}
+use Rattle.tac_base.specs.declared.calls.Call.TheVariants.{Update, Publish, Close}
+use Rattle.tac_base.specs.declared.calls.Reply.{Reply}
+use Rattle.tac_base.specs.declared.calls.Board.{Board}
+use Rattle.auction_rules.specs.History.{Entry}
+use Rattle.trade_ledger.specs.declared.cash_calls.CashEntry.{CashEntry}
+use Rattle.trade_ledger.specs.declared.cash_calls.CashCall.TheVariants.{Read}
+use Rattle.trade_ledger.specs.declared.cash_calls.CashReply.TheVariants.{Cash}
+use Rattle.trade_ledger.specs.Posts.{due_post}
+use Rattle.floor.specs.declared.desk.Desk.{Desk}
+use Rattle.floor.specs.declared.outcomes.Outcome.{Outcome}
+use Rattle.floor.specs.declared.outcomes.Outcome.TheVariants.{At, Spent}
+use Rattle.floor.specs.declared.outcomes.CashOutcome.{CashOutcome}
+use Rattle.floor.specs.declared.outcomes.CashOutcome.TheVariants as cash_outcomes
+use Rattle.floor.specs.Keeping.{Adds, count_readings}
+use Rattle.floor.specs.Desks.{desk_ids, desk_caller, entries_of, entries_at, cash_of, boards_of, boards_at, seen_of, seen_at}
+
+-- the desk is of the same locks, and of the same caller
+abbrev pub IsSameDesk : Desk → Desk → Type 0
+IsSameDesk before after = (desk_ids after ≡ desk_ids before) × (desk_caller after ≡ desk_caller before)
+
+-- a call at a good was answered at a position: the desk has one entry more there, and at the other goods as before; the post that is
+-- due to that entry was made; and the position is not below what the desk had seen there
+pub record IsAnswered (before after : Desk) (good : ℕ) (asked : Call) (position : ℕ) (answered : Reply) : Type 0 where
+  pub entry : Entry
+  pub caller : entry.caller ≡ desk_caller before
+  pub call : entry.call ≡ asked
+  pub reply : entry.reply ≡ answered
+  pub entries : entries_of after ≡ slice_set (entries_of before) good (entries_at before good ++ (position, entry) ∷ [])
+  pub posts : Adds (cash_of before) (cash_of after) (due_post good position entry)
+  pub seen_before : seen_at before good ≤ position
+  pub seen : seen_of after ≡ slice_set (seen_of before) good (position + 1)
+  pub boards : boards_of after ≡ boards_of before
+  pub same : IsSameDesk before after
+
+-- an agent's call at a good is spent, and changes nothing, exactly where the desk made 1024 calls there before
+abbrev pub IsOutcome : Desk → Desk → ℕ → Call → Outcome → Type 0
+IsOutcome before after good asked Spent = (length (entries_at before good) ≡ 1024) × (after ≡ before)
+IsOutcome before after good asked (At position reply) = (length (entries_at before good) < 1024) × IsAnswered before after good asked position reply
+
+-- an agent's cash was read: the desk has that entry more in the cash history, and nothing else is changed
+pub record IsRead (before after : Desk) (position : ℕ) (entry : CashEntry) : Type 0 where
+  pub cash : cash_of after ≡ cash_of before ++ (position, entry) ∷ []
+  pub entries : entries_of after ≡ entries_of before
+  pub seen : seen_of after ≡ seen_of before
+  pub boards : boards_of after ≡ boards_of before
+  pub same : IsSameDesk before after
+
+-- a reading is spent, and changes nothing, exactly where the desk made 1024 readings before
+abbrev pub IsCashOutcome : Desk → Desk → CashOutcome → Type 0
+IsCashOutcome before after cash_outcomes.Spent = (count_readings (cash_of before) ≡ 1024) × (after ≡ before)
+IsCashOutcome before after (cash_outcomes.At position dollars) = (count_readings (cash_of before) < 1024)
+    × IsRead before after position (record { caller = desk_caller before; call = Read (desk_caller before); reply = Cash dollars })
+
+-- a board of a good was seen, which is not shorter than what the desk had seen there, and nothing else is changed
+pub record IsSeen (before after : Desk) (good : ℕ) (board : Board) : Type 0 where
+  pub boards : boards_of after ≡ slice_set (boards_of before) good (boards_at before good ++ (board.count, board) ∷ [])
+  pub seen_before : seen_at before good ≤ board.count
+  pub seen : seen_of after ≡ slice_set (seen_of before) good board.count
+  pub entries : entries_of after ≡ entries_of before
+  pub cash : cash_of after ≡ cash_of before
+  pub same : IsSameDesk before after
+
+-- the calls of the clock: an update of one of the ticks 1..53, a publication and a closing
+abbrev pub IsClockCall : Call → Type 0
+IsClockCall (Update tick draw) = tick ≤ 53
+IsClockCall Publish = ⊤
+IsClockCall Close = ⊤
+IsClockCall call = ⊥

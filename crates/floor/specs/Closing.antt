@@ -1,0 +1,46 @@
+-- What is so of a game whose calls are over.
+use Rattle.std.specs.Prelude.{◌≡◌, ℕ, ◌≤◌, List, [], map, length, reverse, take, slice_get, Some, None}
+use Rattle.std.specs.List.{AllZip}
+use Rattle.tac_base.specs.declared.calls.Board.{Board}
+use Rattle.tac_base.specs.declared.bids.Points.{Points}
+use Rattle.tac_base.specs.declared.calls.Call.TheVariants.{Bid}
+use Rattle.tac_base.specs.declared.calls.Reply.TheVariants.{Taken}
+use Rattle.auction_rules.specs.History.{Entry}
+use Rattle.auction_rules.specs.Board as boards
+use Rattle.auction_rules.specs.Legal.{Legal}
+use Rattle.auction_rules.specs.Refusals.{refusal}
+use Rattle.auction_core.specs.Auctions.{AuctionHistory}
+use Rattle.auction_core.specs.ClosedGame.{ClosedGame}
+use Rattle.turn_lock.specs.declared.view.Returned.{Returned}
+use Rattle.turn_lock.specs.Part.{part}
+use Rattle.turn_lock.specs.TurnRule.{AreNotes, AreKnown}
+use Rattle.floor.specs.declared.desk.Desk.{Desk}
+use Rattle.floor.specs.Desks.{desk_caller, entries_of, cash_of, boards_of}
+
+-- the board of an auction after a history
+abbrev pub board_of : AuctionHistory → List Entry → Board
+board_of auction history = boards.board auction.setup.rules (reverse history)
+
+-- an auction that a lock gave back: its setup is that of its start, its history is legal, what the returned passes knew is so of the
+-- history, and callers without a pass have no entry
+pub record IsGivenBack (start : AuctionHistory) (passes : ℕ) (returned : List (Returned Entry)) (auction : AuctionHistory) : Type 0 where
+  pub setup : auction.setup ≡ start.setup
+  pub legal : Legal auction.setup auction.history
+  pub known : AreKnown (board_of auction) (λ e. e.caller) auction.history returned
+  pub nobody_else : (c : ℕ) → passes ≤ c → part (λ e. e.caller) auction.history c ≡ []
+
+-- each board that was seen of a good is the board of as many first entries of its history as its count says
+abbrev pub AreBoards : List AuctionHistory → List (List (ℕ × Board)) → Type 0
+AreBoards auctions boards = AllZip (λ auction seen. AreNotes (board_of auction) auction.history (length auction.history) seen) auctions boards
+
+-- what a desk knew is so of the closed game: its own entries are its caller's part of each history, and its boards are of prefixes
+pub record IsBorneOut (closed : ClosedGame) (d : Desk) : Type 0 where
+  pub entries : entries_of d ≡ map (λ auction. part (λ e. e.caller) auction.history (desk_caller d)) closed.auctions
+  pub cash : cash_of d ≡ part (λ e. e.caller) closed.cash (desk_caller d)
+  pub boards : AreBoards closed.auctions (boards_of d)
+
+-- each bid to which no refusal applied after the entries before it is taken
+abbrev pub TakesLawfulBids : AuctionHistory → Type 0
+TakesLawfulBids auction = (position : ℕ) (e : Entry) (points : Points) → slice_get auction.history position ≡ Some e → e.call ≡ Bid points
+    → refusal auction.setup.rules (reverse (take position auction.history)) e.caller e.call ≡ None
+    → (bought : ℕ) × (sold : ℕ) × (e.reply ≡ Taken bought sold)

@@ -1,0 +1,50 @@
+-- What clauses say of a desk.
+use Rattle.std.specs.Prelude.{◌≡◌, ℕ, List, [], map, replicate, slice_index_or}
+use Rattle.atomic_table.specs.Seated.{TableId}
+use Rattle.tac_base.specs.declared.calls.Board.{Board}
+use Rattle.auction_rules.specs.History.{Entry}
+use Rattle.trade_ledger.specs.declared.cash_calls.CashEntry.{CashEntry}
+use Rattle.turn_lock.specs.Passes.{lock_of, caller_of, made_by, noted_by, seen_by}
+use Rattle.floor.specs.declared.desk.Desk.{Desk}
+
+-- the locks that the desk has passes of: those of the auctions, in the order of goods, and that of the cash book
+abbrev pub desk_ids : Desk → List TableId × TableId
+desk_ids d = (map (λ p. lock_of p) d.passes.items, lock_of d.cash)
+
+-- whose desk it is
+abbrev pub desk_caller : Desk → ℕ
+desk_caller d = caller_of d.cash
+
+-- the desk's own entries so far, by good, each with its position
+abbrev pub entries_of : Desk → List (List (ℕ × Entry))
+entries_of d = map (λ p. made_by p) d.passes.items
+
+abbrev pub entries_at : Desk → ℕ → List (ℕ × Entry)
+entries_at d good = slice_index_or (entries_of d) good []
+
+-- its own entries of the cash history so far, each with its position
+abbrev pub cash_of : Desk → List (ℕ × CashEntry)
+cash_of d = made_by d.cash
+
+-- the boards that it saw so far, by good, each with its count
+abbrev pub boards_of : Desk → List (List (ℕ × Board))
+boards_of d = map (λ p. noted_by p) d.passes.items
+
+abbrev pub boards_at : Desk → ℕ → List (ℕ × Board)
+boards_at d good = slice_index_or (boards_of d) good []
+
+-- how long each good's history is at least, by what the desk has seen
+abbrev pub seen_of : Desk → List ℕ
+seen_of d = map (λ p. seen_by p) d.passes.items
+
+abbrev pub seen_at : Desk → ℕ → ℕ
+seen_at d good = slice_index_or (seen_of d) good 0
+
+-- the desk of a caller at the locks of a floor that has made no call and seen no board
+pub record IsNewDesk (floor : List TableId × TableId) (number : ℕ) (d : Desk) : Type 0 where
+  pub ids : desk_ids d ≡ floor
+  pub caller : desk_caller d ≡ number
+  pub entries : entries_of d ≡ replicate 28 []
+  pub cash : cash_of d ≡ []
+  pub boards : boards_of d ≡ replicate 28 []
+  pub seen : seen_of d ≡ replicate 28 0

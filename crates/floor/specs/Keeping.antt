@@ -1,0 +1,41 @@
+-- What is so of every desk and every floor.
+use Rattle.std.specs.Prelude.{◌≡◌, ℕ, ◌+◌, ◌<◌, ◌≤◌, not, List, map, length, replicate, count_by, sum_by, slice_index_or, [], ◌++◌}
+use Rattle.auction_rules.specs.History.{Entry}
+use Rattle.auction_rules.specs.Goods.{clock}
+use Rattle.auction_rules.specs.Legal.{cap}
+use Rattle.auction_core.specs.Auctions.{AuctionHistory}
+use Rattle.trade_ledger.specs.declared.cash_calls.CashEntry.{CashEntry}
+use Rattle.trade_ledger.specs.CashHistory.{cash_cap}
+use Rattle.trade_ledger.specs.Posts.{HoldSame, is_post, posts_of, due_posts}
+
+-- entries were added to those of the cash history, all at one position: one entry, or none
+abbrev pub Adds : List (ℕ × CashEntry) → List (ℕ × CashEntry) → List CashEntry → Type 0
+Adds before after entries = (position : ℕ) × (after ≡ before ++ map (λ e. (position, e)) entries)
+
+-- a desk's posts are those that are due to its own entries so far, each once
+abbrev pub IsPosted : List (List (ℕ × Entry)) → List (ℕ × CashEntry) → Type 0
+IsPosted entries cash = HoldSame (posts_of (map (λ p. p.1) cash)) (due_posts entries)
+
+-- how many readings are among entries of the cash history
+abbrev pub count_readings : List (ℕ × CashEntry) → ℕ
+count_readings cash = count_by (λ p. not (is_post p.1.call)) cash
+
+-- how many entries there are at all goods
+abbrev pub count_entries : List (List (ℕ × Entry)) → ℕ
+count_entries entries = sum_by (λ row. length row) entries
+
+-- The desk of a caller has a pass of the caller at each of 28 auctions. Calls made and turns left make up the cap. It counts its
+-- readings, at most 1024, of which the clock makes none; and each post that is due is made.
+pub record IsKept (caller : ℕ) (callers lefts : List ℕ) (entries : List (List (ℕ × Entry))) (cash_left : ℕ) (cash : List (ℕ × CashEntry)) (count : ℕ) : Type 0 where
+  pub goods : length entries ≡ 28
+  pub own : callers ≡ replicate 28 caller
+  pub capped : (good : ℕ) → good < 28 → slice_index_or lefts good 0 + length (slice_index_or entries good []) ≡ cap caller
+  pub cash_capped : cash_left + length cash ≡ cash_cap caller
+  pub counted : count ≡ count_readings cash
+  pub few : count ≤ 1024
+  pub clock_reads_nothing : caller ≡ clock → count ≡ 0
+  pub posted : IsPosted entries cash
+
+-- the goods of auctions in order
+abbrev pub goods_of : List AuctionHistory → List ℕ
+goods_of auctions = map (λ a. a.setup.good) auctions

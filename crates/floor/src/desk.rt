@@ -1,0 +1,182 @@
+ghost use Rattle.std.specs.Prelude.{◌≡◌, ◌≤◌, map};
+ghost use Rattle.turn_lock.specs.Passes.{caller_of, left_of, made_by};
+ghost use Rattle.floor.specs.Keeping.{IsKept};
+
+use crate::cash_turns::{post, read};
+use crate::floor::Floor;
+use crate::outcomes::{CashOutcome, Outcome};
+use auction_core::{Auction, Struck};
+use std::sync::Wait;
+use std::time::Clock;
+use tac_base::{Agent, Board, Call, Caller, Good, Points, Reply};
+use trade_ledger::CashBook;
+use turn_lock::Pass;
+
+/// The most readings of its cash that an agent may make.
+const READINGS: u32 = 1_024;
+
+/// The right of one caller to call at all auctions of a floor and at its cash book. It knows its own entries so far, each of whose
+/// trades it has posted.
+#[derive(Drop)]
+pub struct Desk {
+    pub(crate) passes: Vec<Pass<Auction>>,
+    pub(crate) cash: Pass<CashBook>,
+    /// How many readings of its cash it made.
+    pub(crate) readings: u32,
+    ghost kept: { IsKept (caller_of cash) (map (λ p. caller_of p) passes.items) (map (λ p. left_of p) passes.items)
+        (map (λ p. made_by p) passes.items) (left_of cash) (made_by cash) readings },
+}
+
+/// The number of a good's auction.
+fn place(good: Good) -> usize
+    ensures value { result ≡ good }
+    ensures range { result ≤ 27 }
+{
+    usize::from(good.get())
+}
+
+impl Desk {
+    ghost use Rattle.std.specs.Prelude.{◌≡◌, ◌+◌, ◌<◌, ◌≤◌, length, slice_index_or};
+    ghost use Rattle.auction_core.specs.Calls.{IsFit};
+    ghost use Rattle.tac_base.specs.declared.calls.Call.{Call};
+    ghost use Rattle.auction_rules.specs.Legal.{cap};
+    ghost use Rattle.turn_lock.specs.Passes.{left_of};
+    ghost use Rattle.floor.specs.Keeping.{IsPosted, count_entries};
+    ghost use Rattle.floor.specs.Desks.{desk_ids, desk_caller, entries_of, entries_at, cash_of, seen_at};
+    ghost use Rattle.floor.specs.Floors.{floor_ids};
+    ghost use Rattle.floor.specs.Answers.{IsSameDesk, IsAnswered, IsOutcome, IsCashOutcome, IsSeen, IsClockCall};
+
+    /// Whose desk it is.
+    pub fn caller(&self) -> Caller
+        ensures { result ≡ desk_caller self.now }
+    {
+        self.cash.caller()
+    }
+
+    /// Makes a call at a good, and posts the trades of its entry.
+    fn call<R: Wait + Clock>(
+        &mut self,
+        rt: &R,
+        floor: &Floor,
+        good: Good,
+        call: &Call,
+    ) -> (u32, Reply)
+        requires own { desk_ids self.old ≡ floor_ids floor.now }
+        requires fit { IsFit call.now }
+        requires left { length (entries_at self.old good) < cap (desk_caller self.old) }
+        requires cash_left { 1 ≤ left_of self.old.cash }
+        ensures answered { IsAnswered self.old self.new good call.now result.0 result.1 }
+    {
+        let place = place(good);
+        let lock = &floor.auctions[place];
+        let (position, struck) = lock.call(rt, &mut self.passes[place], call);
+        post(rt, &floor.cash, &mut self.cash, good, position, &struck);
+        let Struck { reply, .. } = struck;
+        (position, reply)
+    }
+
+    /// Makes an agent's call at a good, if it made fewer than 1024 there.
+    fn ask<R: Wait + Clock>(&mut self, rt: &R, floor: &Floor, good: Good, call: &Call) -> Outcome
+        requires own { desk_ids self.old ≡ floor_ids floor.now }
+        requires agent { desk_caller self.old < 8 }
+        requires fit { IsFit call.now }
+        ensures outcome { IsOutcome self.old self.new good call.now result }
+        ensures same { IsSameDesk self.old self.new }
+        ensures posted { IsPosted (entries_of self.new) (cash_of self.new) }
+    {
+        if self.passes[place(good)].left() == 0 {
+            return Outcome::Spent;
+        }
+        let (position, reply) = self.call(rt, floor, good, call);
+        Outcome::At { position, reply }
+    }
+
+    /// An agent's bid, which takes the place of its whole earlier bid there. It may wait for its turn. Its trades are posted before it
+    /// returns. `Spent` comes exactly after 1024 calls of the desk there, and changes nothing.
+    pub fn bid<R: Wait + Clock>(
+        &mut self,
+        rt: &R,
+        floor: &Floor,
+        good: Good,
+        points: &Points,
+    ) -> Outcome
+        requires own { desk_ids self.old ≡ floor_ids floor.now }
+        requires agent { desk_caller self.old < 8 }
+        ensures outcome { IsOutcome self.old self.new good (Call.Bid points.now) result }
+        ensures same { IsSameDesk self.old self.new }
+        ensures posted { IsPosted (entries_of self.new) (cash_of self.new) }
+    {
+        let call = Call::Bid(points.copy());
+        self.ask(rt, floor, good, &call)
+    }
+
+    /// An agent takes its bid back, which a hotel refuses. It may wait for its turn. `Spent` is as of `bid`.
+    pub fn withdraw<R: Wait + Clock>(&mut self, rt: &R, floor: &Floor, good: Good) -> Outcome
+        requires own { desk_ids self.old ≡ floor_ids floor.now }
+        requires agent { desk_caller self.old < 8 }
+        ensures outcome { IsOutcome self.old self.new good Call.Withdraw result }
+        ensures same { IsSameDesk self.old self.new }
+        ensures posted { IsPosted (entries_of self.new) (cash_of self.new) }
+    {
+        self.ask(rt, floor, good, &Call::Withdraw)
+    }
+
+    /// An agent asks for its own state. It may wait for its turn. `Spent` is as of `bid`.
+    pub fn own<R: Wait + Clock>(&mut self, rt: &R, floor: &Floor, good: Good) -> Outcome
+        requires own { desk_ids self.old ≡ floor_ids floor.now }
+        requires agent { desk_caller self.old < 8 }
+        ensures outcome { IsOutcome self.old self.new good Call.Own result }
+        ensures same { IsSameDesk self.old self.new }
+        ensures posted { IsPosted (entries_of self.new) (cash_of self.new) }
+    {
+        self.ask(rt, floor, good, &Call::Own)
+    }
+
+    /// The agent's cash in dollars: the sum of its nets in the posts so far. A trade that another caller's call made may be unposted for
+    /// a moment. It may wait for its turn. `Spent` comes exactly after 1024 readings, and changes nothing.
+    pub fn cash<R: Wait + Clock>(&mut self, rt: &R, floor: &Floor) -> CashOutcome
+        requires own { desk_ids self.old ≡ floor_ids floor.now }
+        requires agent { desk_caller self.old < 8 }
+        ensures outcome { IsCashOutcome self.old self.new result }
+        ensures same { IsSameDesk self.old self.new }
+        ensures posted { IsPosted (entries_of self.new) (cash_of self.new) }
+    {
+        if self.readings == READINGS {
+            return CashOutcome::Spent;
+        }
+        let agent = Agent::new(self.cash.caller().get()).unwrap();
+        let (position, dollars) = read(rt, &floor.cash, &mut self.cash, agent);
+        self.readings += 1;
+        CashOutcome::At { position, dollars }
+    }
+
+    /// The board of a good so far, which is not shorter than what the desk had seen there. It waits for nobody.
+    pub fn quote(&mut self, floor: &Floor, good: Good) -> Board
+        requires own { desk_ids self.old ≡ floor_ids floor.now }
+        ensures seen { IsSeen self.old self.new good result }
+        ensures posted { IsPosted (entries_of self.new) (cash_of self.new) }
+    {
+        let place = place(good);
+        floor.auctions[place].peek(&mut self.passes[place])
+    }
+
+    /// A call of the clock: an update of one of the ticks 1..53, a publication or a closing. The clock makes at most 64 at a good, and
+    /// 480 in all. It may wait for its turn, posts the trades before it returns, and answers the entry's position and reply.
+    pub fn clock_call<R: Wait + Clock>(
+        &mut self,
+        rt: &R,
+        floor: &Floor,
+        good: Good,
+        call: &Call,
+    ) -> (u32, Reply)
+        requires own { desk_ids self.old ≡ floor_ids floor.now }
+        requires clock { desk_caller self.old ≡ 8 }
+        requires call { IsClockCall call.now }
+        requires left { length (entries_at self.old good) < 64 }
+        requires all_left { count_entries (entries_of self.old) < 480 }
+        ensures answered { IsAnswered self.old self.new good call.now result.0 result.1 }
+        ensures posted { IsPosted (entries_of self.new) (cash_of self.new) }
+    {
+        self.call(rt, floor, good, call)
+    }
+}

@@ -1,0 +1,102 @@
+ghost use Rattle.std.specs.Prelude.{◌≡◌, ◌≤◌, [], length, map, replicate, vec_capacity};
+ghost use Rattle.auction_core.specs.ClosedGame.{all_goods};
+ghost use Rattle.floor.specs.Keeping.{goods_of};
+ghost use Rattle.turn_lock.specs.Passes.{start_of, passes_of, returned_to};
+
+use crate::closing::{close_all, return_passes};
+use crate::desk::Desk;
+use crate::growing::add;
+use crate::opening::{empty_hands, open, open_cash, seat};
+use auction_core::{Auction, Closed};
+use game_text::Game;
+use std::alloc::Global;
+use tac_base::{Good, Memory};
+use trade_ledger::CashBook;
+use turn_lock::TurnLock;
+
+/// How many goods there are.
+const GOODS: u8 = 28;
+
+/// The 28 auctions of a game, in the order of goods, and its cash book, each under a lock of its own.
+#[derive(Drop)]
+pub struct Floor {
+    pub(crate) auctions: Vec<TurnLock<Auction>>,
+    pub(crate) cash: TurnLock<CashBook>,
+    /// Where the auctions are put at the end.
+    room: Vec<Auction>,
+    ghost goods: { goods_of (map (λ lock. start_of lock) auctions.items) ≡ all_goods },
+    ghost passes: { (map (λ lock. passes_of lock) auctions.items ≡ replicate 28 9) × (passes_of cash ≡ 9) },
+    ghost returned: { (map (λ lock. returned_to lock) auctions.items ≡ replicate 28 []) × (returned_to cash ≡ []) },
+    ghost empty: { (room.items ≡ []) × (28 ≤ vec_capacity room) },
+}
+
+impl Floor {
+    ghost use Rattle.std.specs.Prelude.{◌≡◌, ◌≤◌, ℕ, [], ◌∷◌, length, map, replicate, All, IfOk};
+    ghost use mathlib.Core.Option.{some};
+    ghost use lib.ListN.{get_elem?};
+    ghost use Rattle.auction_rules.specs.Effects.{dollars};
+    ghost use Rattle.auction_rules.specs.Legal.{Legal};
+    ghost use Rattle.auction_core.specs.ClosedGame.{all_goods};
+    ghost use Rattle.auction_core.specs.Setups.{setup_of};
+    ghost use Rattle.trade_ledger.specs.CashHistory.{IsLegalCash, total_of};
+    ghost use Rattle.trade_ledger.specs.Posts.{Matched, trades_of_all};
+    ghost use Rattle.floor.specs.Desks.{IsNewDesk};
+    ghost use Rattle.floor.specs.Floors.{floor_ids, starts_of, AreDesksOf};
+    ghost use Rattle.floor.specs.Closing.{IsBorneOut, TakesLawfulBids};
+
+    /// The floor of a game at which nobody has called, and its nine desks: those of the agents in order, and then the clock's. All
+    /// memory of the game is taken here. After `Memory` nothing was made.
+    pub fn begin(alloc: Global, game: &Game) -> Result<(Floor, Vec<Desk>), Memory>
+        ensures starts { IfOk result (λ r. starts_of r.0 ≡ map (λ good. record { setup = setup_of good game.now; history = [] }) all_goods) }
+        ensures desks { IfOk result (λ r. AreDesksOf r.0 r.1.items) }
+        ensures new_desks { IfOk result (λ r. (i : ℕ) (d : Desk) → get_elem? r.1.items i ≡ some d → IsNewDesk (floor_ids r.0) i d) }
+    {
+        let mut hands = empty_hands(alloc)?;
+        let mut auctions = Vec::with_capacity(alloc, usize::from(GOODS))?;
+        for number in 0..GOODS {
+            let good = Good::new(number).unwrap();
+            let lock = open(alloc, good, game, &mut hands)?;
+            add(&mut auctions, lock)?;
+        }
+        let (cash, passes) = open_cash(alloc)?;
+        let desks = seat(alloc, hands, passes)?;
+        let room = Vec::with_capacity(alloc, usize::from(GOODS))?;
+        let floor = Floor {
+            auctions,
+            cash,
+            room,
+        };
+        Ok((floor, desks))
+    }
+
+    /// The game, once all its desks are back, in the order of callers.
+    pub fn close(self, desks: Vec<Desk>) -> Closed
+        requires { AreDesksOf self desks.items }
+        ensures setups { map (λ auction. auction.setup) result.auctions ≡ map (λ start. start.setup) (starts_of self) }
+        ensures legal { All (λ auction. Legal auction.setup auction.history) result.auctions }
+        ensures cash { IsLegalCash result.cash }
+        ensures borne_out { All (λ d. IsBorneOut result d) desks.items }
+        ensures matched { Matched (map (λ auction. auction.history) result.auctions) result.cash }
+        ensures totals { (party : ℕ) → party ≤ 8 → total_of result.cash party ≡ dollars (trades_of_all (map (λ auction. auction.history) result.auctions)) party }
+        ensures taken { All TakesLawfulBids result.auctions }
+    {
+        let Floor {
+            mut auctions,
+            mut cash,
+            room,
+        } = self;
+        for desk in desks {
+            let Desk {
+                passes,
+                cash: pass,
+                readings: _,
+            } = desk;
+            return_passes(&mut auctions, passes);
+            cash.take_back(pass);
+        }
+        Closed {
+            auctions: close_all(auctions, room),
+            cash: cash.close(),
+        }
+    }
+}

@@ -1,0 +1,19 @@
+//! The floor of a game: 28 auctions and one cash book, at which nine desks call from any threads. Each desk posts the trades of its own
+//! entries. No lock is taken inside another.
+#![tactic(auto)]
+
+mod cash_turns;
+mod closing;
+mod desk;
+mod floor;
+mod growing;
+mod opening;
+mod outcomes;
+mod sharing;
+
+pub use desk::Desk;
+pub use floor::Floor;
+pub use outcomes::{CashOutcome, Outcome};
+
+#[cfg(test)]
+mod tests;

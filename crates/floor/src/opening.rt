@@ -1,0 +1,113 @@
+//! The passes are made lock by lock, and each caller gets its own.
+ghost use Rattle.std.specs.Prelude.{◌≡◌, ℕ, List, [], ◌∷◌, ◌++◌, length, map, replicate, IfOk, OnOk};
+ghost use mathlib.Core.Option.{some};
+ghost use lib.ListN.{get_elem?};
+ghost use Rattle.atomic_table.specs.Seated.{TableId};
+ghost use Rattle.auction_core.specs.Setups.{setup_of};
+ghost use Rattle.auction_rules.specs.Legal.{cap};
+ghost use Rattle.trade_ledger.specs.CashHistory.{cash_cap};
+ghost use Rattle.turn_lock.specs.Passes.{lock_of, lock_id, caller_of, left_of, made_by, noted_by, seen_by, start_of, passes_of, returned_to};
+ghost use Rattle.floor.specs.Rows.{with_each};
+ghost use Rattle.floor.specs.Dealing.{AreFresh, MakeDesk};
+
+use crate::desk::Desk;
+use crate::growing::add;
+use auction_core::Auction;
+use game_text::Game;
+use std::alloc::Global;
+use tac_base::{Good, Memory};
+use trade_ledger::CashBook;
+use turn_lock::{Pass, TurnLock};
+
+/// How many callers there are.
+const CALLERS: usize = 9;
+
+/// How many calls each caller may make in an auction: the agents, and then the clock.
+const CALLS: [u32; 9] = [1024, 1024, 1024, 1024, 1024, 1024, 1024, 1024, 64];
+
+/// How many calls each caller may make of the cash book: an agent a post for each of its calls of auctions and 1,024 readings, and the
+/// clock a post for each of its 480 calls.
+const CASH_CALLS: [u32; 9] = [29696, 29696, 29696, 29696, 29696, 29696, 29696, 29696, 480];
+
+/// What the callers have of the auctions' passes before any is dealt.
+pub(crate) fn empty_hands(alloc: Global) -> Result<Vec<Vec<Pass<Auction>>>, Memory>
+    ensures { IfOk result (λ hands. map (λ hand. hand.items) hands.items ≡ replicate 9 []) }
+{
+    let mut hands = Vec::new(alloc);
+    for _ in 0..CALLERS {
+        match add(&mut hands, Vec::new(alloc)) {
+            Ok(()) => {}
+            Err(e) => return Err(e),
+        }
+    }
+    Ok(hands)
+}
+
+/// Gives each caller its pass of one lock.
+fn deal(hands: &mut Vec<Vec<Pass<Auction>>>, passes: Vec<Pass<Auction>>) -> Result<(), Memory>
+    requires { length hands.old.items ≡ length passes.items }
+    ensures { OnOk result (map (λ hand. hand.items) hands.new.items ≡ with_each (map (λ hand. hand.items) hands.old.items) passes.items) }
+{
+    let mut caller = 0;
+    for pass in passes {
+        add(&mut hands[caller], pass)?;
+        caller += 1;
+    }
+    Ok(())
+}
+
+/// The lock of a good's auction, of which each caller gets its pass.
+pub(crate) fn open(
+    alloc: Global,
+    good: Good,
+    game: &Game,
+    hands: &mut Vec<Vec<Pass<Auction>>>,
+) -> Result<TurnLock<Auction>, Memory>
+    requires { length hands.old.items ≡ 9 }
+    ensures start { IfOk result (λ lock. start_of lock ≡ record { setup = setup_of good game.now; history = [] }) }
+    ensures passes { IfOk result (λ lock. (passes_of lock ≡ 9) × (returned_to lock ≡ [])) }
+    ensures dealt { IfOk result (λ lock. (ids : List TableId) → AreFresh ids cap (map (λ hand. hand.items) hands.old.items)
+        → AreFresh (ids ++ lock_id lock ∷ []) cap (map (λ hand. hand.items) hands.new.items)) }
+    ensures nine { OnOk result (length hands.new.items ≡ 9) }
+{
+    let auction = Auction::begin(alloc, good, game)?;
+    let (lock, passes) = TurnLock::begin(alloc, auction, &CALLS)?;
+    deal(hands, passes)?;
+    Ok(lock)
+}
+
+/// The lock of the cash book, and its passes.
+pub(crate) fn open_cash(alloc: Global) -> Result<(TurnLock<CashBook>, Vec<Pass<CashBook>>), Memory>
+    ensures lock { IfOk result (λ r. (passes_of r.0 ≡ 9) × (returned_to r.0 ≡ [])) }
+    ensures passes { IfOk result (λ r. (length r.1.items ≡ 9) × ((i : ℕ) (p : _) → get_elem? r.1.items i ≡ some p →
+        (lock_of p ≡ lock_id r.0) × (caller_of p ≡ i) × (left_of p ≡ cash_cap i) × (made_by p ≡ []) × (noted_by p ≡ []) × (seen_by p ≡ 0))) }
+{
+    let book = CashBook::begin(alloc)?;
+    let (lock, passes) = TurnLock::begin(alloc, book, &CASH_CALLS)?;
+    Ok((lock, passes))
+}
+
+/// The desks of callers who have these passes at the auctions and at the cash book, in order.
+pub(crate) fn seat(
+    alloc: Global,
+    hands: Vec<Vec<Pass<Auction>>>,
+    passes: Vec<Pass<CashBook>>,
+) -> Result<Vec<Desk>, Memory>
+    requires lengths { length hands.items ≡ length passes.items }
+    requires fit { (i : ℕ) (hand : _) (pass : _) → get_elem? hands.items i ≡ some hand → get_elem? passes.items i ≡ some pass → MakeDesk hand.items pass }
+    ensures hands { IfOk result (λ desks. map (λ d. d.passes) desks.items ≡ hands.items) }
+    ensures passes { IfOk result (λ desks. map (λ d. d.cash) desks.items ≡ passes.items) }
+{
+    let mut desks = Vec::with_capacity(alloc, CALLERS)?;
+    let mut hands = hands.into_iter();
+    for cash in passes {
+        let hand = hands.next().unwrap();
+        let desk = Desk {
+            passes: hand,
+            cash,
+            readings: 0,
+        };
+        add(&mut desks, desk)?;
+    }
+    Ok(desks)
+}

@@ -1,0 +1,19 @@
+use tac_base::Reply;
+
+/// What an agent's call of an auction comes to.
+#[derive(Debug, Drop)]
+pub enum Outcome {
+    /// The call has an entry at the position, and is answered so.
+    At { position: u32, reply: Reply },
+    /// The desk made 1024 calls there before. Nothing was changed.
+    Spent,
+}
+
+/// What an agent's reading of its cash comes to.
+#[derive(Clone, Copy, Debug, PartialEq, Eq)]
+pub enum CashOutcome {
+    /// The reading has an entry at the position in the cash history, and so many dollars are the agent's.
+    At { position: u32, dollars: i64 },
+    /// The desk made 1024 readings before. Nothing was changed.
+    Spent,
+}

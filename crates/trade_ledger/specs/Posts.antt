@@ -1,0 +1,50 @@
+-- The posts of a cash history, and those that are due to the histories of auctions.
+use Rattle.std.specs.Prelude.{◌≡◌, ℕ, Bool, true, false, List, [], ◌∷◌, map, filter, sum_by}
+use Rattle.std.specs.List.{flat_map, enumerate_from}
+use Rattle.tac_base.specs.declared.calls.Trade.{Trade}
+use Rattle.auction_rules.specs.History.{Entry}
+use Rattle.auction_rules.specs.Effects.{nets}
+use Rattle.trade_ledger.specs.declared.cash_calls.CashCall.{CashCall}
+use Rattle.trade_ledger.specs.declared.cash_calls.CashCall.TheVariants.{Post, Read}
+use Rattle.trade_ledger.specs.declared.cash_calls.CashReply.TheVariants.{Done}
+use Rattle.trade_ledger.specs.declared.cash_calls.CashEntry.{CashEntry}
+
+-- whether a call is a post
+abbrev pub is_post : CashCall → Bool
+is_post (Post good position nets) = true
+is_post (Read agent) = false
+
+-- the posts of a cash history, in order
+abbrev pub posts_of : List CashEntry → List CashEntry
+posts_of history = filter (λ e. is_post e.call) history
+
+-- a post where there are trades, and none where there are none
+abbrev pub post_for : List Trade → CashEntry → List CashEntry
+post_for [] post = []
+post_for (trade ∷ trades) post = post ∷ []
+
+-- the post that is due to an entry of a good at a position, where the entry has a trade: made by the entry's caller, with the nets
+abbrev pub due_post : ℕ → ℕ → Entry → List CashEntry
+due_post good position e =
+    post_for e.trades (record { caller = e.caller; call = Post good position (record { dollars = nets e.trades }); reply = Done })
+
+-- the posts that are due to entries of a good, each with its position
+abbrev pub due_to : ℕ → List (ℕ × Entry) → List CashEntry
+due_to good entries = flat_map (λ p. due_post good p.0 p.1) entries
+
+-- the posts that are due to entries of the goods in order
+abbrev pub due_posts : List (List (ℕ × Entry)) → List CashEntry
+due_posts rows = flat_map (λ row. due_to row.0 row.1) (enumerate_from 0 rows)
+
+-- two lists hold the same entries, each equally often: however entries are weighed, both weigh the same
+abbrev pub HoldSame : List CashEntry → List CashEntry → Type 0
+HoldSame xs ys = (weight : CashEntry → ℕ) → sum_by weight xs ≡ sum_by weight ys
+
+-- the cash history has exactly one post for each entry of the goods' histories that has a trade, made by that entry's caller with its
+-- good, its position and the nets of its trades, and no other post: its posts are those that are due, in some order
+abbrev pub Matched : List (List Entry) → List CashEntry → Type 0
+Matched histories cash = HoldSame (posts_of cash) (due_posts (map (enumerate_from 0) histories))
+
+-- the trades of all goods' histories
+abbrev pub trades_of_all : List (List Entry) → List Trade
+trades_of_all histories = flat_map (λ history. flat_map (λ e. e.trades) history) histories
