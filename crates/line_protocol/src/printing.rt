@@ -50,11 +50,12 @@ fn print_left(left: &Left, out: &mut Text)
     print_points(left.as_slice(), out);
 }
 
-/// Appends the text of a reply, without its position.
-fn print_answer(reply: &Reply, out: &mut Text)
-    requires { length out.old + 384 ≤ 640 }
+/// Appends the text of a reply without its position, as a log shows it, where 288 bytes are free. It takes at most 288
+/// of them, and none of them is a line end.
+pub fn print_answer(reply: &Reply, out: &mut Text)
+    requires { length out.old + 288 ≤ 640 }
     ensures value { out.new ≡ out.old ++ reply_text reply.now }
-    ensures len { length out.new ≤ length out.old + 384 }
+    ensures len { length out.new ≤ length out.old + 288 }
     ensures one_line { IsOneLine (reply_text reply.now) }
 {
     match reply {

@@ -1,0 +1,110 @@
+-- Pieces of a text that are written one after another.
+use Rattle.std.proofs.Common.{◌≡◌, ℕ, ◌+◌, ◌<◌, ◌≤◌, List, [], ◌∷◌, ◌++◌, length, take, drop, get_or, ap, sym, subst, ◌∙◌, append_assoc, arith, Result, Ok, Err, inl, inr}
+use Rattle.std.proofs.Math.Seq.{take-append-add}
+use Rattle.std.proofs.lemmas.List.{length-append, take-append-le, take_more, take-append-drop, append-nil}
+use Rattle.std.proofs.lemmas.List.Concat.{flat_map-cons}
+use Rattle.std.proofs.lemmas.Grind.{flat_map-append}
+use Rattle.std.proofs.lemmas.Option.{slice_get_cases}
+use Rattle.std.specs.Prelude.{Some, slice_get, IsErr, OnOk, OnErr}
+use Rattle.std.specs.List.{flat_map}
+use Rattle.std.specs.declared.option.Option.{Option}
+use Rattle.tac_io.specs.Counts.{Rose}
+use Rattle.tac_io.specs.Told.{and_then_told, TakesSome}
+use Rattle.tac_io.specs.declared.failed.Failed.{Failed}
+use Rattle.tac_io.proofs.Tellings.{and_then_told-twice}
+use Rattle.game_log.specs.Written.{Writes}
+
+pub wrote_both : (t0 t1 t2 : Option (List ℕ)) (p q : List ℕ) → t1 ≡ and_then_told t0 p → t2 ≡ and_then_told t1 q → t2 ≡ and_then_told t0 (p ++ q)
+wrote_both t0 t1 t2 p q e f = f ∙ ap (λ (t : Option (List ℕ)). and_then_told t q) e ∙ and_then_told-twice t0 p q
+
+-- a proper prefix of a piece is one of what the piece begins
+pub some_before : (t0 t1 : Option (List ℕ)) (p q : List ℕ) → TakesSome t0 t1 p → TakesSome t0 t1 (p ++ q)
+some_before t0 t1 p q s =
+    let proper = s.proper in
+    let within : s.count ≤ length p = omega (arith, proper) in
+    record {
+      count = s.count;
+      proper = omega (arith, proper, length-append p q);
+      taken = s.taken ∙ ap (and_then_told t0) (sym (take-append-le s.count p q within));
+    }
+
+-- a proper prefix of a piece after a whole one is one of both together
+pub some_after : (t0 t1 t2 : Option (List ℕ)) (p q : List ℕ) → t1 ≡ and_then_told t0 p → TakesSome t1 t2 q → TakesSome t0 t2 (p ++ q)
+some_after t0 t1 t2 p q e s =
+    let proper = s.proper in
+    record {
+      count = length p + s.count;
+      proper = omega (arith, proper, length-append p q);
+      taken = wrote_both t0 t1 t2 p (take s.count q) e s.taken ∙ ap (and_then_told t0) (sym (take-append-add p q s.count));
+    }
+
+rose_from : (f0 f1 f2 : ℕ) → f1 ≡ f0 → Rose f1 f2 → Rose f0 f2
+rose_from f0 f1 f2 e r = rw e at r
+
+-- two pieces, of which the first was written whole
+pub writes_both : (a b p q : List ℕ) (t0 t1 t2 : Option (List ℕ)) (f0 f1 f2 : ℕ) (r : Result (Unit {0}) Failed) → a ≡ p → b ≡ q → (t1 ≡ and_then_told t0 a) × (f1 ≡ f0) → Writes b t1 t2 f1 f2 r → Writes (p ++ q) t0 t2 f0 f2 r
+writes_both a b p q t0 t1 t2 f0 f1 f2 (Ok done) pa qb v w = (wrote_both t0 t1 t2 p q (v.0 ∙ ap (and_then_told t0) pa) (w.0 ∙ ap (and_then_told t1) qb), w.1 ∙ v.1)
+writes_both a b p q t0 t1 t2 f0 f1 f2 (Err failed) pa qb v w = (some_after t0 t1 t2 p q (v.0 ∙ ap (and_then_told t0) pa) (subst (TakesSome t1 t2) qb w.0), rose_from f0 f1 f2 v.1 w.1)
+
+-- two pieces, of which the first was not written whole
+pub fails_both : (a p q : List ℕ) (t0 t1 : Option (List ℕ)) (f0 f1 : ℕ) → a ≡ p → TakesSome t0 t1 a × Rose f0 f1 → TakesSome t0 t1 (p ++ q) × Rose f0 f1
+fails_both a p q t0 t1 f0 f1 pa w = (some_before t0 t1 p q (subst (TakesSome t0 t1) pa w.0), w.1)
+
+pub failed_of : (p : List ℕ) (t0 t1 : Option (List ℕ)) (f0 f1 : ℕ) (r : Result (Unit {0}) Failed) → Writes p t0 t1 f0 f1 r → OnErr r (TakesSome t0 t1 p)
+failed_of p t0 t1 f0 f1 (Ok done) w = tt
+failed_of p t0 t1 f0 f1 (Err failed) w = w.0
+
+pub ok_weaker : (r : Result (Unit {0}) Failed) (P Q : Type 0) → (P → Q) → OnOk r P → OnOk r Q
+ok_weaker (Ok done) P Q make h = make h
+ok_weaker (Err failed) P Q make h = tt
+
+-- ---- the pieces of a list
+
+flat_map_one : {A : Type 0} (piece : A → List ℕ) (x : A) → flat_map piece (x ∷ []) ≡ piece x
+flat_map_one piece x = flat_map-cons piece x [] ∙ append-nil (piece x)
+
+-- the pieces up to an item are those before it and its own
+pub pieces_more : {A : Type 0} (piece : A → List ℕ) (xs : List A) (i : ℕ) (d : A) → i < length xs → flat_map piece (take (i + 1) xs) ≡ flat_map piece (take i xs) ++ piece (get_or xs i d)
+pieces_more piece xs i d lt =
+    ap (flat_map piece) (take_more xs i d lt) ∙ flat_map-append piece (take i xs) (get_or xs i d ∷ []) ∙ ap (λ (t : List ℕ). flat_map piece (take i xs) ++ t) (flat_map_one piece (get_or xs i d))
+
+-- all pieces are those before an item, its own, and those after it
+pub pieces_all : {A : Type 0} (piece : A → List ℕ) (xs : List A) (i : ℕ) (d : A) → i < length xs → flat_map piece xs ≡ flat_map piece (take i xs) ++ (piece (get_or xs i d) ++ flat_map piece (drop (i + 1) xs))
+pieces_all piece xs i d lt =
+    sym (ap (flat_map piece) (take-append-drop (i + 1) xs)) ∙ flat_map-append piece (take (i + 1) xs) (drop (i + 1) xs)
+    ∙ ap (λ (t : List ℕ). t ++ flat_map piece (drop (i + 1) xs)) (pieces_more piece xs i d lt)
+    ∙ append_assoc (flat_map piece (take i xs)) (piece (get_or xs i d)) (flat_map piece (drop (i + 1) xs))
+
+-- ---- loops that write a piece for each item
+
+-- the pieces of the items before one were written whole
+pub record WroteUpTo {A : Type 0} (piece : A → List ℕ) (xs : List A) (i : ℕ) (t0 t1 : Option (List ℕ)) (f0 f1 : ℕ) : Type 0 where
+  pub taken : t1 ≡ and_then_told t0 (flat_map piece (take i xs))
+  pub quiet : f1 ≡ f0
+
+-- one more piece was written
+pub wrote_next : {A : Type 0} (piece : A → List ℕ) (xs : List A) (i : ℕ) (x : A) (a : List ℕ) (t0 t1 t2 : Option (List ℕ)) (f0 f1 f2 : ℕ) → i < length xs → get_or xs i x ≡ x → a ≡ piece x → WroteUpTo piece xs i t0 t1 f0 f1 → (t2 ≡ and_then_told t1 a) × (f2 ≡ f1) → WroteUpTo piece xs (i + 1) t0 t2 f0 f2
+wrote_next {A = A} piece xs i x a t0 t1 t2 f0 f1 f2 lt is e before w = record {
+  taken = wrote_both t0 t1 t2 (flat_map piece (take i xs)) (piece x) before.taken (w.0 ∙ ap (and_then_told t1) e)
+      ∙ ap (and_then_told t0) (sym (pieces_more piece xs i x lt ∙ ap (λ (y : A). flat_map piece (take i xs) ++ piece y) is));
+  quiet = w.1 ∙ before.quiet;
+}
+
+some_next : {A : Type 0} (piece : A → List ℕ) (xs : List A) (i : ℕ) (x : A) (t0 t1 t2 : Option (List ℕ)) (f0 f1 : ℕ) → i < length xs → get_or xs i x ≡ x → WroteUpTo piece xs i t0 t1 f0 f1 → TakesSome t1 t2 (piece x) → TakesSome t0 t2 (flat_map piece xs)
+some_next {A = A} piece xs i x t0 t1 t2 f0 f1 lt is before some =
+    let after = flat_map piece (drop (i + 1) xs) in
+    let all : flat_map piece xs ≡ flat_map piece (take i xs) ++ (piece x ++ after) = pieces_all piece xs i x lt ∙ ap (λ (y : A). flat_map piece (take i xs) ++ (piece y ++ after)) is in
+    subst (TakesSome t0 t2) (sym all) (some_after t0 t1 t2 (flat_map piece (take i xs)) (piece x ++ after) before.taken (some_before t1 t2 (piece x) after some))
+
+-- a piece was not written whole, which is the loop's answer
+pub failed_next : {A : Type 0} (piece : A → List ℕ) (xs : List A) (i : ℕ) (x : A) (a : List ℕ) (t0 t1 t2 : Option (List ℕ)) (f0 f1 f2 : ℕ) (r : Result (Unit {0}) Failed) → i < length xs → get_or xs i x ≡ x → a ≡ piece x → WroteUpTo piece xs i t0 t1 f0 f1 → TakesSome t1 t2 a × Rose f1 f2 → IsErr r → Writes (flat_map piece xs) t0 t2 f0 f2 r
+failed_next piece xs i x a t0 t1 t2 f0 f1 f2 (Ok done) lt is e before w h = absurd cc
+failed_next piece xs i x a t0 t1 t2 f0 f1 f2 (Err failed) lt is e before w h =
+    (some_next piece xs i x t0 t1 t2 f0 f1 lt is before (subst (TakesSome t1 t2) e w.0), rose_from f0 f1 f2 before.quiet w.1)
+
+-- the item of a list at a place
+pub item_at : {A : Type 0} (xs : List A) (i : ℕ) → i < length xs → (x : A) × (slice_get xs i ≡ Some x) × (get_or xs i x ≡ x)
+item_at xs i lt = elim ((slice_get_cases xs i).1) [
+  | inl found ↦ (found.0, found.2, found.3)
+  | inr past ↦ absurd (omega (arith, lt, past.0))
+]

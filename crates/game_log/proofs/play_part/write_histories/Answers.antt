@@ -1,0 +1,25 @@
+use Rattle.std.proofs.Common.{◌∙◌, ap, sym, subst}
+use Rattle.std.specs.List.{AllByRecursion, flat_map}
+use Rattle.auction_core.specs.ClosedGame.{ClosedGame}
+use Rattle.game_log.specs.LogText.{auction_text, cash_text}
+use Rattle.game_log.specs.Logged.{IsAuction, IsCash, IsPlayed}
+use Rattle.game_log.proofs.Writing.{writes_both, ok_weaker}
+use Rattle.game_log.proofs.Trades.{goods_of}
+use Rattle.game_log.proofs.play_part.write_histories.Goals as goal
+
+pub returns-in-Ok-clause-text : goal.returns-in-Ok-clause-text
+returns-in-Ok-clause-text g c =
+    let game = c.args.closed.now in
+    let auctions = ap (flat_map auction_text) (c.as_slice.ensures.value ∙ ap (λ (game : ClosedGame). game.auctions) c.closed.view_is) in
+    writes_both _ _ (flat_map auction_text game.auctions) (cash_text game.cash) _ _ _ _ _ _ c.write_cash.result
+    auctions (ap (λ (game : ClosedGame). cash_text game.cash) c.closed.view_is) c.in-Ok.ensures.text c.write_cash.ensures.text
+
+pub returns-in-Ok-clause-known : goal.returns-in-Ok-clause-known
+returns-in-Ok-clause-known g c =
+    let game = c.args.closed.now in
+    let same = c.as_slice.ensures.value ∙ ap (λ (game : ClosedGame). game.auctions) c.closed.view_is in
+    ok_weaker c.write_cash.result (IsCash c.closed.inside.cash) (IsPlayed game) (λ cash. record {
+      goods = sym (ap (λ (game : ClosedGame). goods_of game.auctions) c.closed.view_is) ∙ c.closed.invariant;
+      auctions = subst (AllByRecursion IsAuction) same c.in-Ok.ensures.known;
+      cash = subst IsCash (ap (λ (game : ClosedGame). game.cash) c.closed.view_is) cash;
+    }) c.write_cash.ensures.known

@@ -1,0 +1,99 @@
+-- The text of the log of a game. Each of its lines ends with the byte 10.
+use Rattle.std.specs.Prelude.{ℕ, ℤ, List, [], ◌∷◌, ◌++◌, length, decimal, codes}
+use Rattle.std.specs.Fmt.{signed_decimal}
+use Rattle.std.specs.List.{flat_map, join_with_byte}
+use Rattle.tac_base.specs.declared.calls.Call.{Call}
+use Rattle.tac_base.specs.declared.calls.Call.TheVariants.{Bid, Withdraw, Own, Update, Publish, Close}
+use Rattle.tac_base.specs.declared.calls.Reply.{Reply}
+use Rattle.tac_base.specs.declared.calls.Trade.{Trade}
+use Rattle.bid_strings.specs.Spelling.{spelling}
+use Rattle.line_protocol.specs.Replies.{reply_text}
+use Rattle.auction_rules.specs.History.{Entry}
+use Rattle.trade_ledger.specs.declared.cash_calls.CashCall.{CashCall}
+use Rattle.trade_ledger.specs.declared.cash_calls.CashCall.TheVariants.{Post, Read}
+use Rattle.trade_ledger.specs.declared.cash_calls.CashReply.{CashReply}
+use Rattle.trade_ledger.specs.declared.cash_calls.CashReply.TheVariants.{Done, Cash}
+use Rattle.trade_ledger.specs.declared.cash_calls.CashEntry.{CashEntry}
+use Rattle.auction_core.specs.Auctions.{AuctionHistory}
+use Rattle.auction_core.specs.ClosedGame.{ClosedGame}
+use Rattle.game_log.specs.declared.head.LogHead.{LogHead}
+use Rattle.game_log.specs.declared.head.LogHead.TheVariants.{Play}
+
+-- a space and a number
+abbrev pub then_number : ℕ → List ℕ
+then_number n = 32 ∷ decimal n
+
+-- a space and a number that may have a sign
+abbrev pub then_signed : ℤ → List ℕ
+then_signed z = 32 ∷ signed_decimal z
+
+-- ---- histories of auctions
+
+abbrev pub call_words : Call → List (List ℕ)
+call_words (Bid points) = codes "bid" ∷ spelling points ∷ []
+call_words Withdraw = codes "withdraw" ∷ []
+call_words Own = codes "own" ∷ []
+call_words (Update tick draw) = codes "update" ∷ decimal tick ∷ decimal draw ∷ []
+call_words Publish = codes "publish" ∷ []
+call_words Close = codes "close" ∷ []
+
+abbrev pub call_text : Call → List ℕ
+call_text call = join_with_byte 32 (call_words call)
+
+-- the line of an entry: caller, call and reply
+abbrev pub entry_line : ℕ → Call → Reply → List ℕ
+entry_line caller call reply = decimal caller ++ codes " " ++ call_text call ++ codes " = " ++ reply_text reply ++ codes "\n"
+
+-- the line of a trade: buyer, seller, units and the price of one
+abbrev pub trade_line : Trade → List ℕ
+trade_line t = codes "trade" ++ then_number t.buyer ++ then_number t.seller ++ then_number t.units ++ then_number t.price ++ codes "\n"
+
+-- an entry and its trades in order
+abbrev pub entry_text : Entry → List ℕ
+entry_text e = entry_line e.caller e.call e.reply ++ flat_map trade_line e.trades
+
+-- the good and how many entries its history has
+abbrev pub auction_line : ℕ → ℕ → List ℕ
+auction_line good count = codes "auction" ++ then_number good ++ then_number count ++ codes "\n"
+
+-- an auction: its entries in order
+abbrev pub auction_text : AuctionHistory → List ℕ
+auction_text auction = auction_line auction.setup.good (length auction.history) ++ flat_map entry_text auction.history
+
+-- ---- the cash history
+
+-- a post shows the entry of an auction that it is of, and what each party gained; a reading shows what was answered
+abbrev pub cash_call_text : CashCall → List ℕ
+cash_call_text (Post good position nets) = codes " post" ++ then_number good ++ then_number position ++ flat_map then_signed nets.dollars
+cash_call_text (Read agent) = codes " read ="
+
+abbrev pub cash_reply_text : CashReply → List ℕ
+cash_reply_text Done = []
+cash_reply_text (Cash dollars) = then_signed dollars
+
+abbrev pub cash_entry_line : CashEntry → List ℕ
+cash_entry_line e = decimal e.caller ++ cash_call_text e.call ++ cash_reply_text e.reply ++ codes "\n"
+
+-- how many entries the cash history has
+abbrev pub cash_line : ℕ → List ℕ
+cash_line count = codes "cash" ++ then_number count ++ codes "\n"
+
+abbrev pub cash_text : List CashEntry → List ℕ
+cash_text history = cash_line (length history) ++ flat_map cash_entry_line history
+
+-- ---- the first part of a log
+
+-- what the log says of how the game was played
+abbrev pub head_text : LogHead → List ℕ
+head_text Play = codes "play\n"
+
+abbrev pub first_lines : LogHead → List ℕ
+first_lines head = codes "taclog 1\n" ++ head_text head
+
+-- the histories of the auctions in the order of their goods, and the cash history
+abbrev pub histories_text : ClosedGame → List ℕ
+histories_text closed = flat_map auction_text closed.auctions ++ cash_text closed.cash
+
+-- the first part of a log
+abbrev pub play_part : LogHead → ClosedGame → List ℕ
+play_part head closed = first_lines head ++ histories_text closed

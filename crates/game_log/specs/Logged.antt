@@ -1,0 +1,109 @@
+-- Which games a log tells apart, and what it tells of them.
+use Rattle.std.specs.Prelude.{◌≡◌, ℕ, ◌^◌, ◌<◌, ⊤, List, ℤ, None, unsigned_abs, length, map}
+use Rattle.std.specs.List.{AllByRecursion}
+use Rattle.tac_base.specs.declared.calls.Call.{Call}
+use Rattle.tac_base.specs.declared.calls.Call.TheVariants as calls
+use Rattle.tac_base.specs.declared.calls.Reply.{Reply}
+use Rattle.tac_base.specs.declared.calls.Reply.TheVariants as replies
+use Rattle.tac_base.specs.declared.calls.Trade.{Trade}
+use Rattle.tac_base.specs.Bids.{fault_of, left_fault}
+use Rattle.auction_rules.specs.History.{Entry}
+use Rattle.trade_ledger.specs.declared.cash_calls.CashCall.{CashCall}
+use Rattle.trade_ledger.specs.declared.cash_calls.CashCall.TheVariants.{Post, Read}
+use Rattle.trade_ledger.specs.declared.cash_calls.CashReply.{CashReply}
+use Rattle.trade_ledger.specs.declared.cash_calls.CashReply.TheVariants.{Done, Cash}
+use Rattle.trade_ledger.specs.declared.cash_calls.CashEntry.{CashEntry}
+use Rattle.auction_core.specs.Auctions.{AuctionHistory}
+use Rattle.auction_core.specs.ClosedGame.{ClosedGame, all_goods}
+
+-- numbers of 64 bits, which all that are shown are
+abbrev pub IsNumber : ℕ → Type 0
+IsNumber n = n < 2 ^ 64
+
+abbrev pub IsSigned : ℤ → Type 0
+IsSigned z = unsigned_abs z < 2 ^ 64
+
+abbrev pub IsCall : Call → Type 0
+IsCall (calls.Bid points) = fault_of points ≡ None
+IsCall calls.Withdraw = ⊤
+IsCall calls.Own = ⊤
+IsCall (calls.Update tick draw) = IsNumber tick × IsNumber draw
+IsCall calls.Publish = ⊤
+IsCall calls.Close = ⊤
+
+abbrev pub IsReply : Reply → Type 0
+IsReply (replies.Taken bought sold) = IsNumber bought × IsNumber sold
+IsReply (replies.Own holding left) = IsSigned holding × (left_fault left ≡ None)
+IsReply (replies.Sold units price) = IsNumber units × IsNumber price
+IsReply replies.Done = ⊤
+IsReply replies.Closed = ⊤
+IsReply replies.WrongCall = ⊤
+IsReply replies.NoBid = ⊤
+IsReply replies.Sell = ⊤
+IsReply replies.SelfCross = ⊤
+IsReply (replies.BelowQuote need at offered) = IsNumber need × IsNumber at × IsNumber offered
+
+pub record AreTradeNumbers (t : Trade) : Type 0 where
+  pub buyer : IsNumber t.buyer
+  pub seller : IsNumber t.seller
+  pub units : IsNumber t.units
+  pub price : IsNumber t.price
+
+pub record AreNumbers (e : Entry) : Type 0 where
+  pub caller : IsNumber e.caller
+  pub call : IsCall e.call
+  pub reply : IsReply e.reply
+  pub trades : AllByRecursion AreTradeNumbers e.trades
+
+-- the trades of an entry are of the auction's good, which their lines do not show
+abbrev pub AreOf : ℕ → Entry → Type 0
+AreOf good e = AllByRecursion (λ t. t.good ≡ good) e.trades
+
+pub record IsEntry (good : ℕ) (e : Entry) : Type 0 where
+  pub numbers : AreNumbers e
+  pub goods : AreOf good e
+
+pub record IsAuction (auction : AuctionHistory) : Type 0 where
+  pub good : IsNumber auction.setup.good
+  pub count : IsNumber (length auction.history)
+  pub entries : AllByRecursion (IsEntry auction.setup.good) auction.history
+
+abbrev pub AreCashNumbers : CashCall → Type 0
+AreCashNumbers (Post good position nets) = IsNumber good × IsNumber position × AllByRecursion IsSigned nets.dollars
+AreCashNumbers (Read agent) = ⊤
+
+abbrev pub IsCashReply : CashReply → Type 0
+IsCashReply Done = ⊤
+IsCashReply (Cash dollars) = IsSigned dollars
+
+pub record AreEntryNumbers (e : CashEntry) : Type 0 where
+  pub caller : IsNumber e.caller
+  pub call : AreCashNumbers e.call
+  pub reply : IsCashReply e.reply
+
+-- a post is done, and a reading is of its caller's own cash
+abbrev pub FitsCall : ℕ → CashCall → CashReply → Type 0
+FitsCall caller (Post good position nets) Done = ⊤
+FitsCall caller (Post good position nets) (Cash dollars) = ⊥
+FitsCall caller (Read agent) Done = ⊥
+FitsCall caller (Read agent) (Cash dollars) = agent ≡ caller
+
+pub record IsCashEntry (e : CashEntry) : Type 0 where
+  pub numbers : AreEntryNumbers e
+  pub fits : FitsCall e.caller e.call e.reply
+
+pub record IsCash (cash : List CashEntry) : Type 0 where
+  pub count : IsNumber (length cash)
+  pub entries : AllByRecursion IsCashEntry cash
+
+-- a game as the types of its parts keep it: the 28 goods in order, each trade in the auction of its good
+pub record IsPlayed (game : ClosedGame) : Type 0 where
+  pub goods : map (λ auction. auction.setup.good) game.auctions ≡ all_goods
+  pub auctions : AllByRecursion IsAuction game.auctions
+  pub cash : IsCash game.cash
+
+-- two games have the same goods and histories, and the same cash history
+pub record HaveOneHistory (game other : ClosedGame) : Type 0 where
+  pub goods : map (λ auction. auction.setup.good) game.auctions ≡ map (λ auction. auction.setup.good) other.auctions
+  pub histories : map (λ auction. auction.history) game.auctions ≡ map (λ auction. auction.history) other.auctions
+  pub cash : game.cash ≡ other.cash

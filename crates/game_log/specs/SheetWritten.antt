@@ -1,0 +1,13 @@
+-- What writing a piece that is first made in memory does to a sink.
+use Rattle.std.specs.Prelude.{◌≡◌, ℕ, List, Result, Ok, Err, Option}
+use Rattle.tac_io.specs.Counts.{Rose}
+use Rattle.tac_io.specs.Told.{and_then_told, TakesSome}
+use Rattle.game_log.specs.declared.fault.LogWriteFault.{LogWriteFault}
+use Rattle.game_log.specs.declared.fault.LogWriteFault.TheVariants.{Failed, Memory}
+
+-- The whole piece was taken and no fault was counted; or a fault was counted and the first bytes were taken, but not all; or memory
+-- was refused, nothing was taken and no fault was counted.
+abbrev pub WritesMade : List ℕ → Option (List ℕ) → Option (List ℕ) → ℕ → ℕ → Result (Unit {0}) LogWriteFault → Type 0
+WritesMade piece taken taken' faults faults' (Ok done) = (taken' ≡ and_then_told taken piece) × (faults' ≡ faults)
+WritesMade piece taken taken' faults faults' (Err Failed) = TakesSome taken taken' piece × Rose faults faults'
+WritesMade piece taken taken' faults faults' (Err Memory) = (taken' ≡ taken) × (faults' ≡ faults)

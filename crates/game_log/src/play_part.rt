@@ -1,0 +1,165 @@
+// The first part of a log, piece by piece.
+ghost use Rattle.std.specs.Prelude.{◌≡◌, ◌<◌, length, Some, OnOk, OnErr, slice_get};
+ghost use Rattle.std.specs.List.{AllByRecursion, flat_map};
+ghost use Rattle.tac_io.specs.Counts.{HasCause};
+ghost use Rattle.tac_io.specs.Told.{TakesSome, and_then_told};
+ghost use Rattle.auction_rules.specs.History.{Entry};
+ghost use Rattle.trade_ledger.specs.declared.cash_calls.CashEntry.{CashEntry};
+ghost use Rattle.game_log.specs.LogText as log;
+ghost use Rattle.game_log.specs.Logged.{AreTradeNumbers, AreNumbers, IsEntry, IsAuction, AreEntryNumbers, IsCash, IsPlayed};
+ghost use Rattle.game_log.specs.Written.{Writes};
+
+use crate::LogHead;
+use crate::known::{cash_entry_known, entry_known, trades_known};
+use crate::lines::{auction_line, cash_entry_line, cash_line, entry_line, head_text, trade_line};
+use auction_core::{Auction, Closed};
+use tac_base::Trade;
+use tac_io::{Failed, Sink, write_all};
+use trade_ledger::CashBook;
+use turn_lock::Kept;
+
+/// Writes a piece of the part.
+fn write_piece<K: Sink>(sink: &mut K, piece: &[u8]) -> Result<(), Failed>
+    ensures { Writes piece.now (K.taken sink.old) (K.taken sink.new) (K.faults sink.old) (K.faults sink.new) result }
+{
+    write_all(sink, piece)
+}
+
+/// Writes the lines of trades.
+fn write_trades<K: Sink>(sink: &mut K, trades: &[Trade]) -> Result<(), Failed>
+    ensures text { Writes (flat_map log.trade_line trades.now) (K.taken sink.old) (K.taken sink.new) (K.faults sink.old) (K.faults sink.new) result }
+    ensures known { OnOk result (AllByRecursion AreTradeNumbers trades.now) }
+{
+    trades_known(trades);
+    for trade in trades {
+        write_piece(sink, trade_line(trade).as_slice())?;
+    }
+    Ok(())
+}
+
+/// Writes the entry of an auction at a position, with its trades.
+fn write_entry<K: Sink>(sink: &mut K, auction: &Auction, position: u32) -> Result<(), Failed>
+    requires { position < length auction.now.history }
+    ensures text { (e : Entry) → slice_get auction.now.history position ≡ Some e →
+        Writes (log.entry_text e) (K.taken sink.old) (K.taken sink.new) (K.faults sink.old) (K.faults sink.new) result }
+    ensures known { (e : Entry) → slice_get auction.now.history position ≡ Some e → OnOk result (AreNumbers e) }
+{
+    let Some(entry) = auction.entry(position) else {
+        unreachable!()
+    };
+    entry_known(entry);
+    let line = entry_line(entry.caller, &entry.call, &entry.reply);
+    match write_piece(sink, line.as_slice()) {
+        Ok(()) => write_trades(sink, auction.trades_of(position)),
+        Err(failed) => Err(failed),
+    }
+}
+
+/// Writes the entries of an auction.
+fn write_entries<K: Sink>(sink: &mut K, auction: &Auction) -> Result<(), Failed>
+    ensures text { Writes (flat_map log.entry_text auction.now.history) (K.taken sink.old) (K.taken sink.new) (K.faults sink.old) (K.faults sink.new) result }
+    ensures known { OnOk result (AllByRecursion (IsEntry auction.now.setup.good) auction.now.history) }
+{
+    for position in 0..auction.len() {
+        write_entry(sink, auction, position)?;
+    }
+    Ok(())
+}
+
+/// Writes an auction.
+fn write_auction<K: Sink>(sink: &mut K, auction: &Auction) -> Result<(), Failed>
+    ensures text { Writes (log.auction_text auction.now) (K.taken sink.old) (K.taken sink.new) (K.faults sink.old) (K.faults sink.new) result }
+    ensures known { OnOk result (IsAuction auction.now) }
+{
+    let line = auction_line(auction.good(), auction.len());
+    match write_piece(sink, line.as_slice()) {
+        Ok(()) => write_entries(sink, auction),
+        Err(failed) => Err(failed),
+    }
+}
+
+/// Writes auctions in order.
+fn write_auctions<K: Sink>(sink: &mut K, auctions: &[Auction]) -> Result<(), Failed>
+    ensures text { Writes (flat_map log.auction_text auctions.now) (K.taken sink.old) (K.taken sink.new) (K.faults sink.old) (K.faults sink.new) result }
+    ensures known { OnOk result (AllByRecursion IsAuction auctions.now) }
+{
+    for auction in auctions {
+        write_auction(sink, auction)?;
+    }
+    Ok(())
+}
+
+/// Writes the entry of the cash history at a position.
+fn write_cash_entry<K: Sink>(sink: &mut K, cash: &CashBook, position: u32) -> Result<(), Failed>
+    requires { position < length cash.now }
+    ensures text { (e : CashEntry) → slice_get cash.now position ≡ Some e →
+        Writes (log.cash_entry_line e) (K.taken sink.old) (K.taken sink.new) (K.faults sink.old) (K.faults sink.new) result }
+    ensures known { (e : CashEntry) → slice_get cash.now position ≡ Some e → OnOk result (AreEntryNumbers e) }
+{
+    let Some(entry) = cash.entry(position) else {
+        unreachable!()
+    };
+    cash_entry_known(entry);
+    write_piece(sink, cash_entry_line(entry).as_slice())
+}
+
+/// Writes the entries of the cash history.
+fn write_cash_entries<K: Sink>(sink: &mut K, cash: &CashBook, count: u32) -> Result<(), Failed>
+    requires { count ≡ length cash.now }
+    ensures text { Writes (flat_map log.cash_entry_line cash.now) (K.taken sink.old) (K.taken sink.new) (K.faults sink.old) (K.faults sink.new) result }
+    ensures known { OnOk result (AllByRecursion AreEntryNumbers cash.now) }
+{
+    for position in 0..count {
+        write_cash_entry(sink, cash, position)?;
+    }
+    Ok(())
+}
+
+/// Writes the cash history.
+fn write_cash<K: Sink>(sink: &mut K, cash: &CashBook) -> Result<(), Failed>
+    ensures text { Writes (log.cash_text cash.now) (K.taken sink.old) (K.taken sink.new) (K.faults sink.old) (K.faults sink.new) result }
+    ensures known { OnOk result (IsCash cash.now) }
+{
+    let count = cash.board().count;
+    match write_piece(sink, cash_line(count).as_slice()) {
+        Ok(()) => write_cash_entries(sink, cash, count),
+        Err(failed) => Err(failed),
+    }
+}
+
+/// Writes the head of a log.
+fn write_head<K: Sink>(sink: &mut K, head: &LogHead) -> Result<(), Failed>
+    ensures { Writes (log.first_lines head.now) (K.taken sink.old) (K.taken sink.new) (K.faults sink.old) (K.faults sink.new) result }
+{
+    match write_piece(sink, b"taclog 1\n") {
+        Ok(()) => write_piece(sink, head_text(head)),
+        Err(failed) => Err(failed),
+    }
+}
+
+/// Writes all histories.
+fn write_histories<K: Sink>(sink: &mut K, closed: &Closed) -> Result<(), Failed>
+    ensures text { Writes (log.histories_text closed.now) (K.taken sink.old) (K.taken sink.new) (K.faults sink.old) (K.faults sink.new) result }
+    ensures known { OnOk result (IsPlayed closed.now) }
+{
+    match write_auctions(sink, closed.auctions.as_slice()) {
+        Ok(()) => write_cash(sink, &closed.cash),
+        Err(failed) => Err(failed),
+    }
+}
+
+/// Writes the first part of the log of a game: how it was played, the histories of its auctions, and the cash history. It takes no
+/// memory. `Failed` comes exactly where the sink counted a fault in this call. Then some of the first bytes of the part were written, or
+/// none, but not all. The form of the log is our own.
+pub fn write_play_part<K: Sink>(sink: &mut K, head: &LogHead, closed: &Closed) -> Result<(), Failed>
+    ensures whole { OnOk result (K.taken sink.new ≡ and_then_told (K.taken sink.old) (log.play_part head.now closed.now)) }
+    ensures failed { OnErr result (TakesSome (K.taken sink.old) (K.taken sink.new) (log.play_part head.now closed.now)) }
+    ensures cause { HasCause (K.faults sink.old) (K.faults sink.new) result }
+    // A game is written that the law of logs speaks of.
+    ensures known { OnOk result (IsPlayed closed.now) }
+{
+    match write_head(sink, head) {
+        Ok(()) => write_histories(sink, closed),
+        Err(failed) => Err(failed),
+    }
+}

@@ -1,0 +1,4 @@
+mod Filling
+mod Dollars
+mod EightScores
+mod GoodNumbers

@@ -1,0 +1,13 @@
+use Rattle.std.proofs.Common.{◌≡◌, length, take, map}
+use Rattle.std.specs.List.{All}
+use Rattle.auction_rules.specs.Goods.{agents}
+use Rattle.trade_ledger.specs.CashKeeping.{IsWithin}
+use Rattle.score_sheet.specs.Settlement.{cash_of}
+use Rattle.score_sheet.proofs.settling.all_cash.Given as goal
+
+abbrev pub invariant-loop-number : goal.invariant-loop-number
+invariant-loop-number l = record {
+  count : length l.cash ≡ 8;
+  filled : take l.number l.cash ≡ map (cash_of l.closed.auctions) (take l.number agents);
+  range : All (IsWithin 1000000000000000) (take l.number l.cash);
+}

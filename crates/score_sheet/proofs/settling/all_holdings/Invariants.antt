@@ -1,0 +1,12 @@
+use Rattle.std.proofs.Common.{◌≡◌, length, take, map}
+use Rattle.std.specs.List.{All}
+use Rattle.auction_rules.specs.Goods.{agents}
+use Rattle.score_sheet.specs.Settlement.{AreHoldings, holdings_of}
+use Rattle.score_sheet.proofs.settling.all_holdings.Given as goal
+
+abbrev pub invariant-loop-number : goal.invariant-loop-number
+invariant-loop-number l = record {
+  count : length l.holdings ≡ 8;
+  filled : take l.number l.holdings ≡ map (holdings_of l.closed.auctions) (take l.number agents);
+  range : All AreHoldings (take l.number l.holdings);
+}

@@ -1,0 +1,5 @@
+pub mod TreeCodes
+pub mod Settlement
+pub mod Score
+pub mod Sheets
+pub mod Joined

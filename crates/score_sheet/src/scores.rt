@@ -1,0 +1,161 @@
+// The scores of agents.
+ghost use Rattle.std.specs.Prelude.{◌≡◌, ◌<◌, ◌≤◌, pos, length, sum_by, slice_index_or, IfOk};
+ghost use Rattle.std.specs.List.{All};
+ghost use Rattle.game_text.specs.Accounts.{IsHolding};
+ghost use Rattle.trade_ledger.specs.CashKeeping.{IsWithin};
+ghost use Rattle.score_sheet.specs.Score as rules;
+ghost use Rattle.score_sheet.specs.Settlement.{AreHoldings};
+ghost use Rattle.score_sheet.specs.Sheets.{account_of, IsDue};
+
+use crate::settling::Accounts;
+use allocator::{Solved, solve};
+use game_text::{Account, Game};
+use std::alloc::Global;
+use std::marker::Model;
+use tac_base::Memory;
+
+/// The score of an agent with its parts.
+#[derive(Debug, Drop)]
+pub struct AgentScore {
+    /// The most that the agent's goods are worth to its clients, in dollars: 0..14000 where `sheet` reckoned it.
+    pub best: u32,
+    /// What it has earned less what it has paid, in dollars: at most 1000000000000000, gained or lost, where `sheet` reckoned it.
+    pub cash: i64,
+    /// How many tickets it is short, of all goods 16..27 together: 0..2400000 where `sheet` reckoned it.
+    pub short: u32,
+    /// The best total and the cash, less 200 dollars for each ticket short: the penalty is after TAC.
+    pub score: i64,
+    /// An allocation that reaches the best total, which is its total, with its certificate.
+    pub solved: Solved,
+}
+
+impl Model for AgentScore {
+    ghost use Rattle.std.specs.Prelude.{◌≡◌};
+    ghost use Rattle.bound_cert.specs.Views.{tree_of};
+    ghost use Rattle.std.specs.Coded.{codes};
+    ghost use Rattle.score_sheet.specs.Sheets.{Scored};
+    ghost use Rattle.score_sheet.specs.TreeCodes.{tree_code};
+
+    ghost Value = { Scored };
+
+    ghost coded = { Prim.hlevel (codes, tree_code) };
+
+    ghost view = { λ a. record {
+      best = a.best;
+      cash = a.cash;
+      short = a.short;
+      score = a.score;
+      allocation = a.solved.allocation;
+      tree = tree_of a.solved.cert.root;
+    } };
+
+    ghost invariant = { λ a. a.best ≡ a.solved.total };
+}
+
+/// The scores of the eight agents, in their order.
+#[derive(Debug, Drop)]
+pub struct Sheet {
+    pub agents: Vec<AgentScore>,
+}
+
+impl Model for Sheet {
+    ghost use Rattle.std.specs.Prelude.{◌≡◌, List, length};
+    ghost use Rattle.std.specs.Coded.{codes};
+    ghost use Rattle.score_sheet.specs.Sheets.{Scored};
+    ghost use Rattle.score_sheet.specs.TreeCodes.{tree_code};
+
+    ghost Value = { List Scored };
+
+    ghost coded = { Prim.hlevel (codes, tree_code) };
+
+    ghost view = { λ s. s.agents.items };
+
+    ghost invariant = { λ s. length s.agents.items ≡ 8 };
+}
+
+/// How many units a holding lies below 0.
+fn lacking(holding: i32) -> u32
+    ensures { result ≡ rules.lacking holding }
+{
+    if holding < 0 {
+        holding.unsigned_abs()
+    } else {
+        0
+    }
+}
+
+/// How many units all these holdings lie below 0.
+fn all_lacking(holdings: &[i32]) -> u32
+    requires few { length holdings.now ≤ 28 }
+    requires range { All IsHolding holdings.now }
+    ensures value { result ≡ sum_by rules.lacking holdings.now }
+    ensures bound { result ≤ 5600000 }
+{
+    let mut units = 0;
+    for holding in holdings {
+        units += lacking(*holding);
+    }
+    units
+}
+
+/// How many tickets are short.
+fn short(holdings: &[i32]) -> u32
+    requires { AreHoldings holdings.now }
+    ensures value { result ≡ rules.short_of holdings.now }
+    ensures bound { result ≤ 5600000 }
+{
+    all_lacking(&holdings[16..])
+}
+
+/// The account of an agent, 0..7.
+fn account(game: &Game, accounts: &Accounts, agent: usize) -> Account
+    requires { agent < 8 }
+    ensures { result ≡ account_of game.now accounts.now agent }
+{
+    Account {
+        clients: game.clients[agent],
+        holdings: accounts.holdings[agent],
+    }
+}
+
+/// The cash of an agent, 0..7.
+fn cash(accounts: &Accounts, agent: usize) -> i64
+    requires { agent < 8 }
+    ensures value { result ≡ slice_index_or accounts.now.cash agent (pos 0) }
+    ensures bound { IsWithin 1000000000000000 result }
+{
+    accounts.cash[agent]
+}
+
+/// The score of an agent with this best total and cash that is short of so many tickets.
+fn score(best: u32, cash: i64, short: u32) -> i64
+    requires cash { IsWithin 1000000000000000 cash }
+    requires short { short ≤ 5600000 }
+    ensures { result ≡ rules.score_of best cash short }
+{
+    i64::from(best) + cash - 200 * i64::from(short)
+}
+
+/// The score of an agent, 0..7.
+pub(crate) fn score_agent(
+    alloc: Global,
+    game: &Game,
+    accounts: &Accounts,
+    agent: usize,
+) -> Result<AgentScore, Memory>
+    requires { agent < 8 }
+    ensures { IfOk result (IsDue game.now accounts.now agent) }
+{
+    let account = account(game, accounts, agent);
+    let solved = solve(alloc, &account)?;
+    let best = solved.total;
+    let cash = cash(accounts, agent);
+    let short = short(&account.holdings);
+    Ok(AgentScore {
+        best,
+        cash,
+        short,
+        score: score(best, cash, short),
+        solved,
+    })
+}

@@ -1,0 +1,78 @@
+// What a game leaves to each agent.
+ghost use Rattle.std.specs.Prelude.{◌≡◌, map};
+ghost use Rattle.std.specs.List.{All};
+ghost use Rattle.trade_ledger.specs.CashKeeping.{IsWithin};
+ghost use Rattle.auction_rules.specs.Goods.{agents};
+ghost use Rattle.score_sheet.specs.Settlement.{AreHoldings, holdings_of, cash_of, settlement_of};
+
+use crate::gains::gain_of_game;
+use auction_core::Closed;
+use std::marker::Model;
+use tac_base::{Agent, Party};
+
+/// What each agent has when a game is over. The ranges are this project's own.
+#[derive(Clone, Copy, Debug, PartialEq, Eq)]
+pub struct Accounts {
+    /// How many of each good 0..27 each agent has, -200000..200000; below 0 it is short of them.
+    pub holdings: [[i32; 28]; 8],
+    /// What each agent has earned less what it has paid, in dollars, -1000000000000000..1000000000000000.
+    pub cash: [i64; 8],
+}
+
+impl Model for Accounts {
+    ghost use Rattle.score_sheet.specs.Settlement.{Settlement, IsSettlement};
+
+    ghost Value = { Settlement };
+
+    ghost view = { λ a. record { holdings = a.holdings; cash = a.cash } };
+
+    ghost invariant = { λ a. IsSettlement (record { holdings = a.holdings; cash = a.cash }) };
+
+    ghost inverse = { λ a. record { holdings = a.holdings; cash = a.cash } };
+}
+
+/// What a party holds of each good.
+fn holdings_after(closed: &Closed, party: Party) -> [i32; 28]
+    ensures value { result ≡ holdings_of closed.now.auctions party }
+    ensures range { AreHoldings result }
+{
+    let mut held = [0; 28];
+    for (good, auction) in closed.auctions.iter().enumerate() {
+        held[good] = auction.holding(party);
+    }
+    held
+}
+
+/// What each agent holds of each good.
+fn all_holdings(closed: &Closed) -> [[i32; 28]; 8]
+    ensures value { result ≡ map (holdings_of closed.now.auctions) agents }
+    ensures range { All AreHoldings result }
+{
+    let mut holdings = [[0; 28]; 8];
+    for (number, agent) in Agent::all().iter().enumerate() {
+        holdings[number] = holdings_after(closed, agent.party());
+    }
+    holdings
+}
+
+/// What each agent has gained.
+fn all_cash(closed: &Closed) -> [i64; 8]
+    ensures value { result ≡ map (cash_of closed.now.auctions) agents }
+    ensures range { All (IsWithin 1000000000000000) result }
+{
+    let mut cash = [0; 8];
+    for (number, agent) in Agent::all().iter().enumerate() {
+        cash[number] = gain_of_game(closed, agent.party());
+    }
+    cash
+}
+
+/// Tells each agent's holdings, and its cash by the trades of all auctions; the cash book is not read.
+pub fn settle(closed: &Closed) -> Accounts
+    ensures { result ≡ settlement_of closed.now.auctions }
+{
+    Accounts {
+        holdings: all_holdings(closed),
+        cash: all_cash(closed),
+    }
+}
