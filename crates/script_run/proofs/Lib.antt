@@ -1,1 +1,10 @@
 pub mod Running
+pub mod OpenGames
+pub mod CashMore
+pub mod Counted
+pub mod Tables
+pub mod ScriptReading
+pub mod ClosedCounts
+pub mod Written
+pub mod PlayedGames
+pub mod GameCounting

@@ -10,7 +10,7 @@ use Rattle.text_forms.specs.Words.{words_of}
 use Rattle.bid_strings.specs.BidForm.{points_of, judged}
 use Rattle.auction_rules.specs.Goods.{clock}
 use Rattle.script_run.specs.declared.hotel_lines.HotelLine.{HotelLine}
-use Rattle.script_run.specs.declared.hotel_lines.HotelLine.TheVariants.{Bid, Publish, Close}
+use Rattle.script_run.specs.declared.hotel_lines.HotelLine.TheVariants.{Bid, Own, Publish, Close}
 
 -- a line of one word is the clock's
 abbrev pub clock_line : List ℕ → Result HotelLine ℕ
@@ -35,10 +35,10 @@ abbrev pub bid_line : Option ℕ → List ℕ → List ℕ → Result HotelLine 
 bid_line None keyword points = Err 1
 bid_line (Some agent) keyword points = if bytes_eq keyword (codes "bid") then bid_of agent (judged (points_of points)) else Err 1
 
--- a line of an agent and a word; `own` cannot be answered yet
+-- a line of an agent and a word
 abbrev pub own_line : Option ℕ → List ℕ → Result HotelLine ℕ
 own_line None keyword = Err 1
-own_line (Some agent) keyword = if bytes_eq keyword (codes "own") then Err 9 else Err 1
+own_line (Some agent) keyword = if bytes_eq keyword (codes "own") then Ok (Own agent) else Err 1
 
 abbrev pub line_of_words : List (List ℕ) → Result HotelLine ℕ
 line_of_words [] = Err 1
@@ -46,13 +46,13 @@ line_of_words (word ∷ []) = clock_line word
 line_of_words (agent ∷ keyword ∷ []) = own_line (agent_of agent) keyword
 line_of_words (agent ∷ keyword ∷ word ∷ words) = bid_line (agent_of agent) keyword (join_with_byte 32 (word ∷ words))
 
--- what a line asks, or the reason why it is bad in itself: 1 where it has no form, 2 where its points are refused, 9 where it
--- cannot be answered yet
+-- what a line asks, or the reason why it is bad in itself: 1 where it has no form, 2 where its points are refused
 unfoldable pub line_of : List ℕ → Result HotelLine ℕ
 line_of line = line_of_words (words_of line)
 
 -- the caller and the call of a line
 abbrev pub asked : HotelLine → ℕ × Call
 asked (Bid agent points) = (agent, calls.Bid points)
+asked (Own agent) = (agent, calls.Own)
 asked Publish = (clock, calls.Publish)
 asked Close = (clock, calls.Close)

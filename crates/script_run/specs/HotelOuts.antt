@@ -1,5 +1,5 @@
 -- What running a hotel script does to a sink.
-use Rattle.std.specs.Prelude.{◌≡◌, ℕ, ◌<◌, ◌≤◌, ⊤, List, length, Result, Ok, Err, Option}
+use Rattle.std.specs.Prelude.{◌≡◌, ℕ, ◌<◌, ◌≤◌, ⊤, List, [], length, Result, Ok, Err, Option}
 use Rattle.tac_io.specs.Counts.{Rose}
 use Rattle.tac_io.specs.Told.{and_then_told, TakesSome}
 use Rattle.script_run.specs.declared.hotel_lines.HotelLine.{HotelLine}
@@ -24,6 +24,14 @@ pub record IsOut (script text : List ℕ) : Type 0 where
 pub record IsBad (script : List ℕ) (line reason : ℕ) : Type 0 where
   pub within : length script ≤ longest_script
   pub bad : script_of script ≡ Err (line, reason)
+
+-- no line was run yet, or there was no memory to begin
+abbrev pub Begins : Result HotelRun ScriptFault → Type 0
+Begins (Ok run) = HasRun [] run
+Begins (Err (Line line reason)) = ⊥
+Begins (Err TooLong) = ⊥
+Begins (Err Failed) = ⊥
+Begins (Err Memory) = ⊤
 
 -- the lines of a script were run, or the first bad one is told
 abbrev pub RunsLines : List ℕ → Result HotelRun ScriptFault → Type 0

@@ -54,10 +54,14 @@ one_hotel = record { good = 8; rules = HotelRules 16 false; endow = replicate 8 
 abbrev pub script_past : List HotelLine → List Entry
 script_past lines = past_of one_hotel (map asked lines)
 
--- what is written of a history: the line of each reply, and then the lines of its trades
+-- what is written of an entry at a position: the line of its reply, and then the lines of its trades
+abbrev pub entry_text : ℕ → Entry → List ℕ
+entry_text position e = reply_line position e.reply ++ flat_map trade_line e.trades
+
+-- what is written of a history
 abbrev pub past_text : List Entry → List ℕ
 past_text [] = []
-past_text (e ∷ past) = past_text past ++ (reply_line (length past) e.reply ++ flat_map trade_line e.trades)
+past_text (e ∷ past) = past_text past ++ entry_text (length past) e
 
 -- what is written of a script
 abbrev pub hotel_out : List HotelLine → List ℕ

@@ -4,3 +4,16 @@ pub mod HotelScripts
 pub mod LineCounts
 pub mod HotelRuns
 pub mod HotelOuts
+pub mod ScriptLines
+pub mod GameLines
+pub mod GameScripts
+pub mod GameStates
+pub mod OneThreadRun
+pub mod GameCounts
+pub mod CallCounts
+pub mod OpenGames
+pub mod Tables
+pub mod GameRuns
+pub mod GameOuts
+pub mod PlayedGames
+pub mod QuietGames

@@ -1,17 +1,23 @@
 // The lines of a hotel script.
 ghost use Rattle.std.specs.Prelude.{◌≡◌, ◌≤◌, [], ◌∷◌, List, Some, option_map};
 ghost use Rattle.bid_strings.specs.BidForm.{points_of, judged};
+ghost use Rattle.auction_core.specs.Calls.{IsFit};
 ghost use Rattle.script_run.specs.HotelLines as lines;
 
 use bid_strings::read_points;
-use tac_base::{Agent, Caller, Points};
+use tac_base::{Agent, Call, Caller, Points};
 use text_forms::Words;
 
 /// What a line asks.
 #[derive(Debug, Drop)]
 pub enum HotelLine {
+    /// An agent's bid.
     Bid { agent: Agent, points: Points },
+    /// An agent asks for its own state.
+    Own { agent: Agent },
+    /// The clock publishes the price.
     Publish,
+    /// The clock closes the hotel.
     Close,
 }
 
@@ -22,8 +28,22 @@ impl HotelLine {
     {
         match self {
             HotelLine::Bid { agent, .. } => agent.caller(),
+            HotelLine::Own { agent } => agent.caller(),
             HotelLine::Publish => Caller::clock(),
             HotelLine::Close => Caller::clock(),
+        }
+    }
+
+    /// What is called.
+    pub(crate) fn call(&self) -> Call
+        ensures value { result ≡ (lines.asked self.now).1 }
+        ensures fit { IsFit result }
+    {
+        match self {
+            HotelLine::Bid { points, .. } => Call::Bid(points.copy()),
+            HotelLine::Own { .. } => Call::Own,
+            HotelLine::Publish => Call::Publish,
+            HotelLine::Close => Call::Close,
         }
     }
 }
@@ -50,7 +70,7 @@ fn agent_of(word: &[u8]) -> Option<Agent>
     }
 }
 
-fn agent_of_digit(digit: u8) -> Option<Agent>
+pub(crate) fn agent_of_digit(digit: u8) -> Option<Agent>
     ensures { result ≡ lines.agent_of (digit ∷ []) }
 {
     if 48 <= digit && digit <= 55 {
@@ -74,8 +94,11 @@ fn bid_of(agent: Agent, text: &[u8]) -> Result<HotelLine, u8>
 fn own_line(agent: Option<Agent>, keyword: &[u8]) -> Result<HotelLine, u8>
     ensures { result ≡ lines.own_line agent keyword.now }
 {
-    if agent.is_some() && keyword == b"own".as_slice() {
-        Err(9)
+    let Some(agent) = agent else {
+        return Err(1);
+    };
+    if keyword == b"own".as_slice() {
+        Ok(HotelLine::Own { agent })
     } else {
         Err(1)
     }
@@ -95,7 +118,7 @@ fn bid_line(agent: Option<Agent>, keyword: &[u8], points: &[u8]) -> Result<Hotel
     }
 }
 
-/// What a line asks, or the reason why it is bad in itself: 1, 2 or 9.
+/// What a line asks, or the reason why it is bad in itself: 1 or 2.
 #[tactic(auto, unfolding(crate::specs::HotelLines::line_of))]
 pub(crate) fn line_of(line: &[u8]) -> Result<HotelLine, u8>
     ensures { result ≡ lines.line_of line.now }

@@ -1,25 +1,27 @@
 // A hotel that is run line by line.
-ghost use Rattle.std.specs.Prelude.{◌≡◌, ◌++◌, ◌≤◌, [], List, length, OnOk};
+ghost use Rattle.std.specs.Prelude.{◌≡◌, ◌++◌, ◌≤◌, ◌<◌, [], List, length, reverse, OnOk, IfOk};
 ghost use Rattle.std.specs.List.{flat_map};
-ghost use Rattle.auction_rules.specs.Setup.{Setup};
-ghost use Rattle.auction_rules.specs.History.{Entry};
-ghost use Rattle.auction_rules.specs.Follows.{Follows};
-ghost use Rattle.hotel_book.specs.Book.{StandsFor};
+ghost use Rattle.auction_rules.specs.Legal.{cap, entry_of};
+ghost use Rattle.turn_lock.specs.Part.{part};
 ghost use Rattle.script_run.specs.HotelLines.{asked};
+ghost use Rattle.script_run.specs.HotelRuns.{called};
+ghost use Rattle.script_run.specs.HotelScripts.{entry_text};
 ghost use Rattle.script_run.specs.Replies as replies;
 
 use crate::ScriptFault;
 use crate::hotel_lines::HotelLine;
 use crate::line_counts::LineCounts;
+use crate::one_game::one_game;
 use crate::replies::{reply_line, trade_line};
-use hotel_book::Hotel;
+use auction_core::Auction;
 use std::alloc::{AllocError, Global};
-use tac_base::{Fills, Good, Reply, Trade};
+use tac_base::{Good, Memory, Reply, Trade};
+use turn_lock::Kept;
 
-/// The hotel, how many lines were run, and the text that is to be written of them.
+/// The hotel's auction, how many lines were run, and the text that is to be written of them.
 #[derive(Drop)]
 pub(crate) struct HotelRun {
-    hotel: Hotel,
+    auction: Auction,
     counts: LineCounts,
     text: Vec<u8>,
 }
@@ -31,21 +33,6 @@ fn first_night() -> Good
     match Good::new(8) {
         Ok(good) => good,
         Err(_) => unreachable!(),
-    }
-}
-
-/// Makes the call of a line at a position.
-fn call(hotel: &mut Hotel, at: u32, line: &HotelLine, fills: &mut Fills) -> Reply
-    ensures { (setup : Setup) (past : List Entry) → StandsFor hotel.old setup past → at ≡ length past →
-        Follows setup past (asked line.now).0 (asked line.now).1 result fills.new (StandsFor hotel.new setup) }
-{
-    match line {
-        HotelLine::Bid { agent, points } => hotel.bid(at, *agent, points, fills),
-        HotelLine::Publish => {
-            fills.clear();
-            hotel.publish(at)
-        }
-        HotelLine::Close => hotel.close(at, fills),
     }
 }
 
@@ -72,18 +59,34 @@ fn push_entry(
     push_trades(text, trades)
 }
 
+/// Makes the call of a line at a position, and appends the lines of its entry.
+fn call(
+    auction: &mut Auction,
+    text: &mut Vec<u8>,
+    position: u32,
+    line: &HotelLine,
+) -> Result<(), AllocError>
+    requires room { length (part (λ e. e.caller) auction.old.history (asked line.now).0) < cap (asked line.now).0 }
+    requires place { position ≡ length auction.old.history }
+    ensures auction { auction.new ≡ called auction.old (asked line.now) }
+    ensures text { OnOk result (text.new.items ≡ text.old.items ++ entry_text position (entry_of auction.old.setup (reverse auction.old.history) (asked line.now).0 (asked line.now).1)) }
+{
+    let struck = auction.act(line.caller(), &line.call());
+    push_entry(text, position, struck.reply, auction.trades_of(position))
+}
+
 impl HotelRun {
-    ghost use Rattle.script_run.specs.HotelRuns.{HasRun, Steps};
+    ghost use Rattle.script_run.specs.HotelRuns.{HasRun, Runs, Steps};
 
     /// The hotel before the first line.
-    pub(crate) fn new(alloc: Global) -> HotelRun
-        ensures { HasRun [] result }
+    pub(crate) fn new(alloc: Global) -> Result<HotelRun, Memory>
+        ensures { IfOk result (HasRun []) }
     {
-        HotelRun {
-            hotel: Hotel::new(first_night()),
+        Ok(HotelRun {
+            auction: Auction::begin(alloc, first_night(), &one_game())?,
             counts: LineCounts::new(),
             text: Vec::new(alloc),
-        }
+        })
     }
 
     /// What is to be written of the lines that were run.
@@ -103,6 +106,7 @@ impl HotelRun {
 
     /// Runs a line. After an error the run is of no more use.
     pub(crate) fn step(&mut self, line: &[u8]) -> Result<(), ScriptFault>
+        requires { Runs self.old }
         ensures { (lines : List HotelLine) → HasRun lines self.old → Steps lines line.now self.new result }
     {
         let position = self.counts.all();
@@ -115,9 +119,7 @@ impl HotelRun {
                 });
             }
         };
-        let mut fills = Fills::new();
-        let reply = call(&mut self.hotel, position, &asked, &mut fills);
-        match push_entry(&mut self.text, position, reply, fills.as_slice()) {
+        match call(&mut self.auction, &mut self.text, position, &asked) {
             Ok(()) => Ok(()),
             Err(_) => Err(ScriptFault::Memory),
         }

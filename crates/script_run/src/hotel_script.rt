@@ -1,6 +1,6 @@
 // A hotel that is run from a script.
 ghost use Rattle.std.specs.Prelude.{◌≡◌, ◌≤◌, length};
-ghost use Rattle.script_run.specs.HotelOuts.{RunsScript, RunsLines};
+ghost use Rattle.script_run.specs.HotelOuts.{RunsScript, RunsLines, Begins};
 
 use crate::ScriptFault;
 use crate::hotel_run::HotelRun;
@@ -11,11 +11,21 @@ use text_forms::cut;
 /// The most bytes of a script.
 const LONGEST_SCRIPT: usize = 67_108_864;
 
+/// The hotel before the first line.
+fn begun(alloc: Global) -> Result<HotelRun, ScriptFault>
+    ensures { Begins result }
+{
+    match HotelRun::new(alloc) {
+        Ok(run) => Ok(run),
+        Err(_) => Err(ScriptFault::Memory),
+    }
+}
+
 /// The run of all lines of a script.
 fn run_lines(alloc: Global, script: &[u8]) -> Result<HotelRun, ScriptFault>
     ensures { RunsLines script.now result }
 {
-    let mut run = HotelRun::new(alloc);
+    let mut run = begun(alloc)?;
     let mut rest = script;
     while let Some((line, after)) = cut(rest, b'\n') {
         run.step(line)?;

@@ -1,13 +1,28 @@
-//! A hotel auction that is run from a script.
+//! A hotel auction, and a whole game, that is run from a script.
 #![tactic(auto)]
 
+mod call_counts;
 mod fault;
+mod game_counts;
+mod game_lines;
+mod game_run;
 mod hotel_lines;
 mod hotel_run;
 mod hotel_script;
 mod line_counts;
+mod one_game;
+mod open_game;
+mod play_count;
+mod playing;
 mod replies;
+mod table;
 
-pub use fault::ScriptFault;
+pub use fault::{QuietFault, ScriptFault};
+pub use game_lines::GameLine;
 pub use hotel_lines::HotelLine;
 pub use hotel_script::run_hotel_script;
+pub use play_count::PlayCount;
+pub use playing::{play, play_quiet};
+
+#[cfg(test)]
+mod game_tests;

@@ -5,3 +5,7 @@ pub mod CodedOutcomes
 pub mod RefusedGames
 pub mod RefusedTexts
 pub mod Completeness
+pub mod Selecting
+pub mod PlayEnds
+pub mod ReadFaults
+pub mod MadeScripts

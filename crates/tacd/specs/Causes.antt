@@ -5,8 +5,10 @@ use Rattle.tac_io.specs.Counts.{Rose}
 use Rattle.game_text.specs.declared.fault.GameFault.{GameFault}
 use Rattle.game_text.specs.Games.{GameFile, game_of}
 use Rattle.game_text.specs.Accounts.{AccountFile, account_of}
+use Rattle.script_run.specs.declared.game_lines.GameLine.{GameLine}
 use Rattle.script_run.specs.HotelOuts.{IsBad, IsOut, longest_script}
-use Rattle.tacd.specs.Commands.{Command, Hotel, Show, Make, Solve}
+use Rattle.script_run.specs.GameOuts.{IsGoodScript, IsBadScript}
+use Rattle.tacd.specs.Commands.{Command, Hotel, Show, Make, Solve, Play, Trial}
 use Rattle.tacd.specs.Allowed.{Content}
 
 -- no call failed: the count is as before, and below its last value
@@ -29,56 +31,66 @@ pub record WriteFaultExactly (before now code : ℕ) : Type 0 where
   pub only : code ≡ 4 → Rose before now
   pub always : before < now → code ≡ 4
 
--- a script that is not run: it is too long, or has a bad line
-abbrev pub IsRefusedScript : List ℕ → Type 0
-IsRefusedScript script = (longest_script < length script) ⊎ ((line : ℕ) × (reason : ℕ) × IsBad script line reason)
-
--- the file of the command is a script or an account that is refused
-abbrev pub IsRefusedText : Option Command → List ℕ → Type 0
-IsRefusedText (Some (Hotel name)) file = IsRefusedScript file
-IsRefusedText (Some (Solve name)) file = (fault : GameFault) × (account_of file ≡ Err fault)
-IsRefusedText command file = ⊥
-
--- the file of the command is a game file that is refused
-abbrev pub IsRefusedGame : Option Command → List ℕ → Type 0
-IsRefusedGame (Some (Show name)) file = (fault : GameFault) × (game_of file ≡ Err fault)
-IsRefusedGame command file = ⊥
-
 -- the bytes of the file of that name, where files are told
 abbrev pub told_file : Content → List ℕ → Option (List ℕ)
 told_file None name = None
 told_file (Some files) name = files name
 
--- the bytes of the file that the command names, where it names one and files are told
-abbrev pub file_of : Content → Option Command → Option (List ℕ)
-file_of content None = None
-file_of content (Some (Hotel name)) = told_file content name
-file_of content (Some (Show name)) = told_file content name
-file_of content (Some (Make seed)) = None
-file_of content (Some (Solve name)) = told_file content name
+-- a hotel script that is not run: it is too long, or has a bad line
+abbrev pub IsRefusedScript : List ℕ → Type 0
+IsRefusedScript script = (longest_script < length script) ⊎ ((line : ℕ) × (reason : ℕ) × IsBad script line reason)
 
--- some file of the command is as P says, where files are told
-abbrev pub HasFile : Content → Option Command → (List ℕ → Type 0) → Type 0
-HasFile content command P = IfSome content (λ _. (file : List ℕ) × (file_of content command ≡ Some file) × P file)
+-- the same of a game script
+abbrev pub IsRefusedGameScript : List ℕ → Type 0
+IsRefusedGameScript script = (longest_script < length script) ⊎ ((line : ℕ) × (reason : ℕ) × IsBadScript script line reason)
+
+-- the file of that name is a game file, or one that is refused
+pub record HasGame (content : Content) (name : List ℕ) : Type 0 where
+  pub file : List ℕ
+  pub told : told_file content name ≡ Some file
+  pub game : GameFile
+  pub good : game_of file ≡ Ok game
+
+pub record HasBadGame (content : Content) (name : List ℕ) : Type 0 where
+  pub file : List ℕ
+  pub told : told_file content name ≡ Some file
+  pub fault : GameFault
+  pub bad : game_of file ≡ Err fault
+
+-- the command has a script or an account that is refused; where it has a game file, that one is not refused
+abbrev pub HasRefusedText : Content → Option Command → Type 0
+HasRefusedText content (Some (Hotel name)) = (script : List ℕ) × (told_file content name ≡ Some script) × IsRefusedScript script
+HasRefusedText content (Some (Solve name)) = (file : List ℕ) × (fault : GameFault) × (told_file content name ≡ Some file) × (account_of file ≡ Err fault)
+HasRefusedText content (Some (Play game name)) = HasGame content game × ((script : List ℕ) × (told_file content name ≡ Some script) × IsRefusedGameScript script)
+HasRefusedText content command = ⊥
+
+-- the command has a game file that is refused
+abbrev pub HasRefusedGame : Content → Option Command → Type 0
+HasRefusedGame content (Some (Show name)) = HasBadGame content name
+HasRefusedGame content (Some (Play name script)) = HasBadGame content name
+HasRefusedGame content command = ⊥
 
 -- 8 comes exactly where a script or an account is read and refused
 pub record TextRefusedExactly (content : Content) (command : Option Command) (before now code : ℕ) : Type 0 where
-  pub only : code ≡ 8 → HasFile content command (IsRefusedText command)
-  pub always : (file : List ℕ) → file_of content command ≡ Some file → IsRefusedText command file → IsQuiet before now → (code ≡ 8) ⊎ (code ≡ 4) ⊎ (code ≡ 7)
+  pub only : code ≡ 8 → IfSome content (λ _. HasRefusedText content command)
+  pub always : HasRefusedText content command → IsQuiet before now → (code ≡ 8) ⊎ (code ≡ 4) ⊎ (code ≡ 7)
 
 -- 2 comes exactly where a game file is read and refused
 pub record GameRefusedExactly (content : Content) (command : Option Command) (before now code : ℕ) : Type 0 where
-  pub only : code ≡ 2 → HasFile content command (IsRefusedGame command)
-  pub always : (file : List ℕ) → file_of content command ≡ Some file → IsRefusedGame command file → IsQuiet before now → (code ≡ 2) ⊎ (code ≡ 4) ⊎ (code ≡ 7)
+  pub only : code ≡ 2 → IfSome content (λ _. HasRefusedGame content command)
+  pub always : HasRefusedGame content command → IsQuiet before now → (code ≡ 2) ⊎ (code ≡ 4) ⊎ (code ≡ 7)
 
--- the words are a command, and its file, if it names one, is told and has the form that is due
+-- the words are a command, and its files, if it names some, are told and have the form that is due
 abbrev pub IsReady : Content → Option Command → Type 0
 IsReady content None = ⊥
 IsReady content (Some (Hotel name)) = (file : List ℕ) × (text : List ℕ) × (told_file content name ≡ Some file) × IsOut file text
-IsReady content (Some (Show name)) = (file : List ℕ) × (game : GameFile) × (told_file content name ≡ Some file) × (game_of file ≡ Ok game)
+IsReady content (Some (Show name)) = HasGame content name
 IsReady content (Some (Make seed)) = ⊤
 IsReady content (Some (Solve name)) = (file : List ℕ) × (account : AccountFile) × (told_file content name ≡ Some file) × (account_of file ≡ Ok account)
+IsReady content (Some (Play game name)) =
+    HasGame content game × ((script : List ℕ) × (lines : List GameLine) × (told_file content name ≡ Some script) × IsGoodScript script lines)
+IsReady content (Some (Trial seed count)) = ⊤
 
--- where the words are a command, its file is good and no count rose, the code is 0, or 7
+-- where the words are a command, its files are good and no count rose, the code is 0, or 7
 pub record IsComplete (content : Content) (command : Option Command) (before now out_before out_now code : ℕ) : Type 0 where
   pub good : IsReady content command → IsQuiet before now → IsQuiet out_before out_now → (code ≡ 0) ⊎ (code ≡ 7)

@@ -11,6 +11,8 @@ pub data Command : Type 0 where
   Show : (game : List ℕ) → Command
   Make : (seed : ℕ) → Command
   Solve : (account : List ℕ) → Command
+  Play : (game : List ℕ) → (script : List ℕ) → Command
+  Trial : (seed : ℕ) → (count : ℕ) → Command
 
 -- a command of one word after its own; a seed is a numeral of at most 20 digits that has 64 bits
 abbrev pub command_with : List ℕ → List ℕ → Option Command
@@ -21,8 +23,22 @@ command_with word argument =
     else if bytes_eq word (codes "make") then option_map Make (below (2 ^ 64) (numeral 20 argument))
     else None
 
+-- a trial has a seed as a made game has, and a count of at most 50000
+abbrev pub trial_of : Option ℕ → Option ℕ → Option Command
+trial_of None count = None
+trial_of (Some seed) None = None
+trial_of (Some seed) (Some count) = Some (Trial seed count)
+
+-- a command of two words after its own
+abbrev pub command_with_two : List ℕ → List ℕ → List ℕ → Option Command
+command_with_two word first second =
+    if bytes_eq word (codes "play") then Some (Play first second)
+    else if bytes_eq word (codes "trial") then trial_of (below (2 ^ 64) (numeral 20 first)) (below 50001 (numeral 5 second))
+    else None
+
 abbrev pub command_of : List (List ℕ) → Option Command
 command_of (word ∷ argument ∷ []) = command_with word argument
+command_of (word ∷ first ∷ second ∷ []) = command_with_two word first second
 command_of words = None
 
 -- the words of a command that name its files, in order
@@ -32,6 +48,8 @@ files_of (Some (Hotel script)) = script ∷ []
 files_of (Some (Show game)) = game ∷ []
 files_of (Some (Make seed)) = []
 files_of (Some (Solve account)) = account ∷ []
+files_of (Some (Play game script)) = game ∷ script ∷ []
+files_of (Some (Trial seed count)) = []
 
 -- the command as the code has it, with its words as they stand in memory
 abbrev pub seen : Asked → Command
@@ -39,3 +57,5 @@ seen (asked.Hotel script) = Hotel script.now
 seen (asked.Show game) = Show game.now
 seen (asked.Make seed) = Make seed
 seen (asked.Solve account) = Solve account.now
+seen (asked.Play game script) = Play game.now script.now
+seen (asked.Trial seed count) = Trial seed count

@@ -1,12 +1,12 @@
 -- What is written of an outcome, by a command and by what finishes it.
-use Rattle.std.specs.Prelude.{◌≡◌, ℕ, ◌==◌, List, Option, MatchBool}
+use Rattle.std.specs.Prelude.{◌≡◌, ℕ, ◌==◌, ◌⊎◌, List, Option, MatchBool}
 use Rattle.tac_io.specs.Counts.{Rose}
 use Rattle.tac_io.specs.Told.{and_then_told, TakesSome}
 use Rattle.script_run.specs.HotelOuts.{IsUntouched}
 use Rattle.tacd.specs.declared.refusals.Refusal.TheVariants.{Memory}
 use Rattle.tacd.specs.declared.ends.End.{End}
 use Rattle.tacd.specs.declared.ends.End.TheVariants as ends
-use Rattle.tacd.specs.Outcomes.{Outcome, Done, Refused, code_of, text_of}
+use Rattle.tacd.specs.Outcomes.{Outcome, Done, Cut, Refused, code_of, text_of}
 
 -- The text that is due was written and the code that is due answered; or a write failed, the code is 4, and the first bytes of
 -- the text were written, but not all.
@@ -20,6 +20,18 @@ abbrev pub Ends : (Outcome → Type 0) → Option (List ℕ) → Option (List �
 Ends allows taken taken' before now ends.Done = (text : List ℕ) × allows (Done text) × (taken' ≡ and_then_told taken text) × (now ≡ before)
 Ends allows taken taken' before now ends.WriteFault = (text : List ℕ) × allows (Done text) × TakesSome taken taken' text × Rose before now
 Ends allows taken taken' before now (ends.Refused refusal) = allows (Refused refusal) × IsUntouched taken taken' before now
+
+-- a first part of a text was written, and then there was no memory for the rest; or the first bytes of that part alone
+abbrev pub IsCut : List ℕ → Option (List ℕ) → Option (List ℕ) → ℕ → ℕ → End → Type 0
+IsCut text taken taken' before now ends.Done = ⊥
+IsCut text taken taken' before now ends.WriteFault = TakesSome taken taken' text × Rose before now
+IsCut text taken taken' before now (ends.Refused Memory) = (taken' ≡ and_then_told taken text) × (now ≡ before)
+IsCut text taken taken' before now (ends.Refused refusal) = ⊥
+
+-- a command that allows these outcomes, of which some may be cut off, ended so, and left the sink so
+abbrev pub EndsOrIsCut : (Outcome → Type 0) → Option (List ℕ) → Option (List ℕ) → ℕ → ℕ → End → Type 0
+EndsOrIsCut allows taken taken' before now end =
+    Ends allows taken taken' before now end ⊎ ((text : List ℕ) × allows (Cut text) × IsCut text taken taken' before now end)
 
 -- what writing a whole text as a command's did
 abbrev pub WritesWhole : List ℕ → Option (List ℕ) → Option (List ℕ) → ℕ → ℕ → End → Type 0

@@ -5,3 +5,5 @@ pub mod Allowed
 pub mod Files
 pub mod Ends
 pub mod Causes
+pub mod Selected
+pub mod Trials

@@ -3,9 +3,10 @@ use Rattle.std.specs.Prelude.{ℕ, List, ◌++◌, decimal, codes}
 use Rattle.tacd.specs.declared.refusals.Refusal.{Refusal}
 use Rattle.tacd.specs.declared.refusals.Refusal.TheVariants.{Usage, GameLine, GameTooLong, ReadFault, Memory, TextLine, TextTooLong}
 
--- a command's text, or what is told in its place
+-- a command's text, or a first part of it where memory was refused for the rest, or what is told in its place
 pub data Outcome : Type 0 where
   Done : (text : List ℕ) → Outcome
+  Cut : (text : List ℕ) → Outcome
   Refused : (refusal : Refusal) → Outcome
 
 -- the code of a refusal
@@ -35,9 +36,11 @@ refusal_text TextTooLong = codes "text too long\n"
 -- the code that the process ends with
 abbrev pub code_of : Outcome → ℕ
 code_of (Done text) = 0
+code_of (Cut text) = refusal_code Memory
 code_of (Refused refusal) = refusal_code refusal
 
 -- the text that is due on the sink
 abbrev pub text_of : Outcome → List ℕ
 text_of (Done text) = text
+text_of (Cut text) = text ++ refusal_text Memory
 text_of (Refused refusal) = refusal_text refusal

@@ -1,56 +1,33 @@
 // The commands.
 ghost use Rattle.std.specs.Prelude.{◌≡◌, ℕ, Some, ◌<◌, ◌≤◌, [], ◌∷◌, length, map, string_bytes, IfOk, IfErr, IfSome, OnOk, All, string_len};
 ghost use Rattle.game_text.specs.Games.{spelling};
-ghost use Rattle.tac_io.specs.Reading.{IsFile};
 ghost use Rattle.tac_io.specs.Told.{and_then_told};
 ghost use Rattle.tacd.specs.Allowed.{AccountAllows, Allows, HotelAllows, MakeAllows, ShowAllows, SolveAllows};
-ghost use Rattle.tacd.specs.Commands.{command_of, files_of, seen};
+ghost use Rattle.tacd.specs.Commands.{command_of, seen};
 ghost use Rattle.tacd.specs.Ends.{Ends, Tells, WritesWhole};
-ghost use Rattle.tacd.specs.Files.{IsUnread};
 ghost use Rattle.tacd.specs.Outcomes.{Outcome};
+ghost use Rattle.tacd.specs.Selected.{Selects};
 ghost use Rattle.tacd.specs.Words.{HasShortNames};
 
 use crate::ends::{End, finish};
+use crate::play_command::play_files;
+use crate::reading::{game_file, whole_file};
 use crate::refusals::Refusal;
+use crate::trial_command::trial;
 use crate::words::{Asked, command_asked};
 use allocator::{print_solved, solve};
 use draw_maker::make_game;
-use game_text::{Account, Game, GameFault, print_game, read_account, read_game};
+use game_text::{Account, Game, GameFault, print_game, read_account};
 use script_run::{ScriptFault, run_hotel_script};
 use std::alloc::Global;
-use tac_io::{FileFault, Files, Sink, read_file, write_all};
+use std::thread::Threads;
+use tac_io::{Files, Sink, write_all};
 
 /// The most bytes of a script.
 const LONGEST_SCRIPT: usize = 67_108_864;
 
-/// The most bytes of a game file.
-const LONGEST_GAME: usize = 1_048_576;
-
 /// The most bytes of an account file.
 const LONGEST_ACCOUNT: usize = 67_108_864;
-
-/// Reads the file of that name, or says what is told in its place.
-fn whole_file<F: Files>(
-    alloc: Global,
-    files: &mut F,
-    name: &str,
-    limit: usize,
-    too_long: Refusal,
-) -> Result<Vec<u8>, Refusal>
-    requires { IfSome (F.names files.old) (λ names. (length names < 128) × (length name.now ≤ 1024)) }
-    ensures whole { IfOk result (λ bytes. IsFile (F.content files.old) name.now bytes.items) }
-    ensures within { IfOk result (λ bytes. length bytes.items ≤ limit) }
-    ensures quiet { OnOk result (F.faults files.new ≡ F.faults files.old) }
-    ensures unread { IfErr result (IsUnread (F.content files.old) name.now limit too_long (F.faults files.old) (F.faults files.new)) }
-    ensures names { F.names files.new ≡ and_then_told (F.names files.old) (name.now ∷ []) }
-{
-    match read_file(alloc, files, name, limit) {
-        Ok(bytes) => Ok(bytes),
-        Err(FileFault::Failed) => Err(Refusal::ReadFault),
-        Err(FileFault::TooLong) => Err(too_long),
-        Err(FileFault::Memory) => Err(Refusal::Memory),
-    }
-}
 
 /// Runs one hotel by the script of that name.
 fn hotel<F: Files, K: Sink>(alloc: Global, name: &str, files: &mut F, out: &mut K) -> End
@@ -79,16 +56,9 @@ fn show<F: Files, K: Sink>(alloc: Global, name: &str, files: &mut F, out: &mut K
         (K.taken out.old) (K.taken out.new) (K.faults out.old) (K.faults out.new) result }
     ensures names { F.names files.new ≡ and_then_told (F.names files.old) (name.now ∷ []) }
 {
-    let file = match whole_file(alloc, files, name, LONGEST_GAME, Refusal::GameTooLong) {
-        Ok(file) => file,
-        Err(refusal) => return End::Refused(refusal),
-    };
-    let game = match read_game(file.as_slice()) {
+    let game = match game_file(alloc, files, name) {
         Ok(game) => game,
-        Err(GameFault::Line { line, reason }) => {
-            return End::Refused(Refusal::GameLine { line, reason });
-        }
-        Err(GameFault::TooLong) => return End::Refused(Refusal::GameTooLong),
+        Err(refusal) => return End::Refused(refusal),
     };
     write_game(alloc, &game, out)
 }
@@ -152,13 +122,19 @@ fn write_solved<K: Sink>(alloc: Global, account: &Account, out: &mut K) -> End
 
 /// Runs a command, and gives its code.
 #[tactic(auto, using(crate::proofs::Endings::tells))]
-fn run_asked<F: Files, K: Sink>(alloc: Global, asked: Asked<'_>, files: &mut F, out: &mut K) -> u8
+fn run_asked<R: Threads + Sync, F: Files, K: Sink>(
+    rt: &R,
+    alloc: Global,
+    asked: Asked<'_>,
+    files: &mut F,
+    out: &mut K,
+) -> u8
     requires names { IfSome (F.names files.old) (λ names. names ≡ []) }
     requires short { HasShortNames asked }
     ensures outcome { (outcome : Outcome)
         × Allows (F.content files.old) (Some (seen asked.entry)) (F.faults files.old) (F.faults files.new) outcome
         × Tells outcome (K.taken out.old) (K.taken out.new) (K.faults out.old) (K.faults out.new) result }
-    ensures names { F.names files.new ≡ and_then_told (F.names files.old) (files_of (Some (seen asked.entry))) }
+    ensures names { Selects (Some (seen asked.entry)) (F.names files.old) (F.names files.new) result }
 {
     match asked {
         Asked::Hotel { script } => {
@@ -177,11 +153,20 @@ fn run_asked<F: Files, K: Sink>(alloc: Global, asked: Asked<'_>, files: &mut F, 
             let end = solve_file(alloc, account, files, out);
             finish(out, end)
         }
+        Asked::Play { game, script } => {
+            let end = play_files(rt, alloc, game, script, files, out);
+            finish(out, end)
+        }
+        Asked::Trial { seed, count } => {
+            let end = trial(rt, alloc, seed, count, out);
+            finish(out, end)
+        }
     }
 }
 
 /// Runs the command of the words, and gives its code.
-pub(crate) fn run<F: Files, K: Sink>(
+pub(crate) fn run<R: Threads + Sync, F: Files, K: Sink>(
+    rt: &R,
     alloc: Global,
     words: &[String],
     files: &mut F,
@@ -192,10 +177,10 @@ pub(crate) fn run<F: Files, K: Sink>(
     ensures outcome { (outcome : Outcome)
         × Allows (F.content files.old) (command_of (map (λ word. string_bytes word) words.now)) (F.faults files.old) (F.faults files.new) outcome
         × Tells outcome (K.taken out.old) (K.taken out.new) (K.faults out.old) (K.faults out.new) result }
-    ensures names { F.names files.new ≡ and_then_told (F.names files.old) (files_of (command_of (map (λ word. string_bytes word) words.now))) }
+    ensures names { Selects (command_of (map (λ word. string_bytes word) words.now)) (F.names files.old) (F.names files.new) result }
 {
     match command_asked(words) {
-        Some(asked) => run_asked(alloc, asked, files, out),
+        Some(asked) => run_asked(rt, alloc, asked, files, out),
         None => finish(out, End::Refused(Refusal::Usage)),
     }
 }

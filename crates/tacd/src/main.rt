@@ -4,11 +4,14 @@
 mod commands;
 mod ends;
 mod host_files;
+mod play_command;
+mod reading;
 mod refusals;
 mod std_sink;
 #[cfg(test)]
 mod tests;
 mod top;
+mod trial_command;
 mod words;
 
 ghost use Rattle.std.specs.Prelude.{◌≤◌, ◌↔◌, All, IfOk, IsTrue, string_len};

@@ -36,12 +36,46 @@ const NO_FAULT: Faults = Faults {
     most_at_once: 1_000_000,
 };
 
+// The file of that name.
+fn file(alloc: Global, name: &str, bytes: &[u8]) -> Result<MemFile, Fail> {
+    Ok(MemFile {
+        name: String::from_str(alloc, name)?,
+        bytes: bytes.to_vec(alloc)?,
+    })
+}
+
 // Runs the words of a line, parted by spaces, where `script` is the one file.
 fn run<R: Threads + Sync + Wait + Clock>(
     rt: &R,
     alloc: Global,
     line: &str,
     script: &[u8],
+    faults: Faults,
+) -> Result<Ran, Fail> {
+    let script = file(alloc, "script", script)?;
+    run_over(rt, alloc, line, vec![in alloc; script]?, faults)
+}
+
+// Plays a game by a script.
+fn run_play<R: Threads + Sync + Wait + Clock>(
+    rt: &R,
+    alloc: Global,
+    game: &str,
+    script: &str,
+    faults: Faults,
+) -> Result<Ran, Fail> {
+    let game = file(alloc, "game", game.as_bytes())?;
+    let script = file(alloc, "script", script.as_bytes())?;
+    let files = vec![in alloc; game, script]?;
+    run_over(rt, alloc, "play game script", files, faults)
+}
+
+// Runs the words of a line, parted by spaces, over files.
+fn run_over<R: Threads + Sync + Wait + Clock>(
+    rt: &R,
+    alloc: Global,
+    line: &str,
+    files: Vec<MemFile>,
     faults: Faults,
 ) -> Result<Ran, Fail> {
     let mut words = Vec::new(alloc);
@@ -51,16 +85,7 @@ fn run<R: Threads + Sync + Wait + Clock>(
     if !are_short(&words) {
         return Err(Fail::from("a word is too long"));
     }
-    let file = MemFile {
-        name: String::from_str(alloc, "script")?,
-        bytes: script.to_vec(alloc)?,
-    };
-    let mut files = MemFiles::new(
-        alloc,
-        vec![in alloc; file]?,
-        1_000_000,
-        vec![in alloc; faults.read]?,
-    )?;
+    let mut files = MemFiles::new(alloc, files, 1_000_000, vec![in alloc; faults.read]?)?;
     let mut out = MemSink::new(
         alloc,
         1_000_000,
@@ -127,7 +152,12 @@ fn scripts_give_their_texts(rt: HostRuntime) -> Result<(), Fail> {
             "@0 taken 0 0\n@1 taken 0 0\n@2 done\n@3 no belowquote 3 101 2\n",
         ),
         ("0 bid ((-1 5))\n", 0, "@0 no sell\n"),
-        ("0 own\n", 8, "text 1 9\n"),
+        ("0 own\n", 0, "@0 own 0 ()\n"),
+        (
+            "0 bid ((15 100))\nclose\n0 own\n",
+            0,
+            "@0 taken 0 0\n@1 sold 15 0\ntrade 0 8 15 0\n@2 own 15 ()\n",
+        ),
         ("close\n0 bid ((01 5))\n", 8, "text 2 2\n"),
         ("close\n0 bid\n", 8, "text 2 1\n"),
         ("close\nclose", 8, "text 2 3\n"),
@@ -144,6 +174,7 @@ fn an_agent_has_1024_lines_and_a_clock_64(rt: HostRuntime) -> Result<(), Fail> {
     let alloc = rt.alloc();
     for (line, count, text) in [
         ("0 bid ((1 1))\n", 1025, "text 1025 5\n"),
+        ("0 own\n", 1025, "text 1025 5\n"),
         ("publish\n", 65, "text 65 5\n"),
     ] {
         let mut script = Vec::new(alloc);
@@ -165,8 +196,11 @@ fn other_words_are_no_command(rt: HostRuntime) -> Result<(), Fail> {
         "hotel",
         "Hotel script",
         "hotel script script",
-        "play script script",
+        "play script",
         "solve",
+        "trial 7 50001",
+        "trial 7 01",
+        "trial -7 0",
     ] {
         let ran = run(&rt, alloc, line, b"", NO_FAULT)?;
         assert_eq!(rt; ran.text.as_slice(), b"usage\n".as_slice(), "{line}");
@@ -287,6 +321,104 @@ fn a_made_game_is_shown_as_it_was_made(rt: HostRuntime) -> Result<(), Fail> {
         let ran = run(&rt, alloc, line, b"", NO_FAULT)?;
         assert_eq!(rt; ran.code, 1, "{line}");
     }
+    Ok(())
+}
+
+// The trades of a game in which agent 1 sells two tickets that it does not have, agent 0 travels and agent 2 keeps a ticket.
+const TRADES: &str =
+    "0 bid 0 ((1 300))\n0 bid 4 ((1 300))\n0 bid 8 ((1 50))\n1 bid 24 ((-2 60))\n0 bid 24 ((1 70))\n2 bid 24 ((1 70))\n1 own 24\n0 cash\n0 quote 8\n";
+
+// What the agents are told there.
+const TRADES_TOLD: &str =
+    "0 @0 taken 1 0\n0 @0 taken 1 0\n0 @0 taken 0 0\n1 @0 taken 0 0\n0 @1 taken 1 0\n2 @2 taken 1 0\n1 @3 own -2 ()\n0 @4 cash -660\n0 @1 quote 0 0 open\ntaclog 1\nplay\nauction 0 55\n";
+
+#[test]
+fn games_are_played_to_their_sheets(rt: HostRuntime) -> Result<(), Fail> {
+    let alloc = rt.alloc();
+    let game = plain_game(alloc, "client 0 0 1 2 100 0 0 100\n")?;
+    for (script, told, middle, scores) in [
+        (
+            "",
+            "taclog 1\nplay\nauction 0 54\n",
+            "\ncash 0\nsheet\nscore 0 0 0 0 0\npackage 0 0 none\n",
+            "\nscore 7 0 0 0 0\npackage 7 0 none\n",
+        ),
+        (
+            "0 quit\n",
+            "0 bye\ntaclog 1\nplay\nauction 0 54\n",
+            "\ncash 0\nsheet\n",
+            "\nscore 7 0 0 0 0\n",
+        ),
+        (
+            "0 bid 24 ((-1 60))\n1 bid 24 ((2 70))\n1 quote 24\n",
+            "0 @0 taken 0 0\n1 @1 taken 1 0\n1 @2 quote 70 0 open\ntaclog 1\nplay\n",
+            "\n1 bid ((2 70)) = taken 1 0\ntrade 1 0 1 60\n",
+            "\nscore 0 0 60 1 -140\n",
+        ),
+        (
+            TRADES,
+            TRADES_TOLD,
+            "\nauction 24 5\n1 bid ((-2 60)) = taken 0 0\n0 bid ((1 70)) = taken 1 0\ntrade 0 1 1 60\n2 bid ((1 70)) = taken 1 0\ntrade 2 1 1 60\n1 own = own -2 ()\n8 close = done\n",
+            "\nscore 0 1100 -660 0 440\n",
+        ),
+        (
+            TRADES,
+            TRADES_TOLD,
+            "\ncash 6\n0 post 0 0 -300 0 0 0 0 0 0 0 300\n0 post 4 0 -300 0 0 0 0 0 0 0 300\n0 post 24 1 -60 60 0 0 0 0 0 0 0\n2 post 24 2 0 60 -60 0 0 0 0 0 0\n0 read = -660\n8 post 8 1 0 0 0 0 0 0 0 0 0\nsheet\n",
+            "\nscore 1 0 120 2 -280\n",
+        ),
+        (
+            TRADES,
+            TRADES_TOLD,
+            "\nauction 8 2\n",
+            "\nscore 2 0 -60 0 -60\n",
+        ),
+    ] {
+        let ran = run_play(&rt, alloc, &game, script, NO_FAULT)?;
+        let text = str::from_utf8(ran.text.as_slice())?;
+        assert_eq!(rt; ran.code, 0, "of {script}");
+        assert!(rt; text.starts_with(told));
+        assert!(rt; text.find(middle).is_some());
+        assert!(rt; text.find(scores).is_some());
+    }
+    Ok(())
+}
+
+#[test]
+fn a_trial_is_summed_up(rt: HostRuntime) -> Result<(), Fail> {
+    let alloc = rt.alloc();
+    let ran = run(&rt, alloc, "trial 7 0", b"", NO_FAULT)?;
+    let due =
+        "trial 7 0\nentries 480\ntrades 0\nscore 0 0 0 0 0\nscore 1 0 0 0 0\nscore 2 0 0 0 0\nscore 3 0 0 0 0\nscore 4 0 0 0 0\nscore 5 0 0 0 0\nscore 6 0 0 0 0\nscore 7 0 0 0 0\nend\n";
+    assert_eq!(rt; ran.text.as_slice(), due.as_bytes());
+    assert_eq!(rt; ran.code, 0);
+    Ok(())
+}
+
+#[test]
+fn a_game_or_its_script_is_refused(rt: HostRuntime) -> Result<(), Fail> {
+    let alloc = rt.alloc();
+    let game = plain_game(alloc, "client 0 0 1 2 100 0 0 100\n")?;
+    let bad = plain_game(alloc, "client 0 0 2 2 100 0 0 100\n")?;
+    for (game, script, read, code, text) in [
+        (&game, "0 quit\n0 cash\n", 0, 8, "text 2 2\n"),
+        (&bad, "0 quit\n0 cash\n", 0, 2, "game 20 4\n"),
+        (&bad, "", 1, 3, "fault read\n"),
+        // The game is selected, read, and read at its end; then the script is selected.
+        (&game, "", 4, 3, "fault read\n"),
+    ] {
+        let ran = run_play(&rt, alloc, game, script, Faults { read, ..NO_FAULT })?;
+        assert_eq!(rt; ran.text.as_slice(), text.as_bytes());
+        assert_eq!(rt; ran.code, code, "of {text}");
+    }
+    let faults = Faults {
+        write: 4,
+        most_at_once: 5,
+        ..NO_FAULT
+    };
+    let ran = run_play(&rt, alloc, &game, "0 quit\n", faults)?;
+    assert_eq!(rt; ran.text.as_slice(), b"0 bye\ntaclo".as_slice());
+    assert_eq!(rt; ran.code, 4);
     Ok(())
 }
 

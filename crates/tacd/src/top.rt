@@ -1,11 +1,11 @@
 // The top call.
 ghost use Rattle.std.specs.Prelude.{◌≡◌, ◌≤◌, [], map, string_bytes, string_len, All, IfSome};
-ghost use Rattle.tac_io.specs.Told.{and_then_told};
 ghost use Rattle.tacd.specs.Causes.{GameRefusedExactly, IsComplete, ReadFaultExactly, TextRefusedExactly, UsageExactly, WriteFaultExactly};
-ghost use Rattle.tacd.specs.Commands.{command_of, files_of};
+ghost use Rattle.tacd.specs.Commands.{command_of};
 ghost use Rattle.tacd.specs.Allowed.{Allows};
 ghost use Rattle.tacd.specs.Ends.{Tells};
 ghost use Rattle.tacd.specs.Outcomes.{Outcome};
+ghost use Rattle.tacd.specs.Selected.{Selects};
 
 use crate::commands::run;
 use std::alloc::Global;
@@ -25,7 +25,7 @@ pub struct Answer<L> {
 /// Runs the command of the words of a command line after the program's name, over the files, the
 /// sink, the links and the ticker of the outside.
 pub fn tac<R: Threads + Sync + Wait + Clock, F: Files, K: Sink, N: Links, T: Ticker + Send>(
-    _rt: &R,
+    rt: &R,
     alloc: Global,
     words: &[String],
     files: &mut F,
@@ -46,12 +46,12 @@ pub fn tac<R: Threads + Sync + Wait + Clock, F: Files, K: Sink, N: Links, T: Tic
     ensures game_refused { GameRefusedExactly (F.content files.old) (command_of (map (λ word. string_bytes word) words.now)) (F.faults files.old) (F.faults files.new) result.code }
     ensures text_refused { TextRefusedExactly (F.content files.old) (command_of (map (λ word. string_bytes word) words.now)) (F.faults files.old) (F.faults files.new) result.code }
     ensures complete { IsComplete (F.content files.old) (command_of (map (λ word. string_bytes word) words.now)) (F.faults files.old) (F.faults files.new) (K.faults out.old) (K.faults out.new) result.code }
-    ensures names { F.names files.new ≡ and_then_told (F.names files.old) (files_of (command_of (map (λ word. string_bytes word) words.now))) }
+    ensures names { Selects (command_of (map (λ word. string_bytes word) words.now)) (F.names files.old) (F.names files.new) result.code }
     ensures links { links.new ≡ links.old }
     ensures ticker { ticker.new ≡ ticker.old }
     ensures ended { result.ended.items ≡ [] }
 {
-    let code = run(alloc, words, files, out);
+    let code = run(rt, alloc, words, files, out);
     Answer {
         code,
         ended: Vec::new(alloc),

@@ -1,9 +1,14 @@
 // The words of a command line.
-ghost use Rattle.std.specs.Prelude.{◌≡◌, ◌≤◌, length, map, string_bytes, string_len, MatchOption, Some, None, All, IfSome};
+ghost use Rattle.std.specs.Prelude.{◌≡◌, ◌≤◌, ◌^◌, length, map, string_bytes, string_len, MatchOption, Some, None, All, IfSome};
+ghost use Rattle.tac_base.specs.Numerals.{below, numeral};
+ghost use Rattle.tacd.specs.Commands as commands;
 ghost use Rattle.tacd.specs.Commands.{command_of, seen};
 ghost use Rattle.tacd.specs.Words.{HasShortNames};
 
 use tac_base::read_numeral;
+
+/// The most requests of a made script.
+const MOST_REQUESTS: u64 = 50_000;
 
 /// A command of the list, with its words.
 #[derive(Clone, Copy)]
@@ -12,6 +17,81 @@ pub(crate) enum Asked<'a> {
     Show { game: &'a str },
     Make { seed: u64 },
     Solve { account: &'a str },
+    Play { game: &'a str, script: &'a str },
+    Trial { seed: u64, count: u32 },
+}
+
+/// The command of a word and one more.
+fn command_with<'a>(word: &str, argument: &'a str) -> Option<Asked<'a>>
+    requires { length argument.now ≤ 1024 }
+    ensures command { MatchOption result (commands.command_with word.now argument.now ≡ None)
+        (λ asked. commands.command_with word.now argument.now ≡ Some (seen asked)) }
+    ensures short { IfSome result HasShortNames }
+{
+    if word == "hotel" {
+        Some(Asked::Hotel { script: argument })
+    } else if word == "show" {
+        Some(Asked::Show { game: argument })
+    } else if word == "solve" {
+        Some(Asked::Solve { account: argument })
+    } else if word == "make" {
+        read_numeral(argument.as_bytes(), 20).map(|seed| Asked::Make { seed })
+    } else {
+        None
+    }
+}
+
+/// The seed of a word.
+fn seed_of(word: &str) -> Option<u64>
+    ensures { result ≡ below (2 ^ 64) (numeral 20 word.now) }
+{
+    read_numeral(word.as_bytes(), 20)
+}
+
+/// The count of a word.
+fn count_of(word: &str) -> Option<u32>
+    ensures value { result ≡ below 50001 (numeral 5 word.now) }
+    ensures few { IfSome result (λ count. count ≤ 50000) }
+{
+    match read_numeral(word.as_bytes(), 5) {
+        Some(count) if count <= MOST_REQUESTS => Some(count as u32),
+        _ => None,
+    }
+}
+
+/// The trial of a seed and a count.
+fn trial_of<'a>(seed: Option<u64>, count: Option<u32>) -> Option<Asked<'a>>
+    requires { IfSome count (λ count. count ≤ 50000) }
+    ensures command { MatchOption result (commands.trial_of seed count ≡ None) (λ asked. commands.trial_of seed count ≡ Some (seen asked)) }
+    ensures short { IfSome result HasShortNames }
+{
+    let Some(seed) = seed else {
+        return None;
+    };
+    let Some(count) = count else {
+        return None;
+    };
+    Some(Asked::Trial { seed, count })
+}
+
+/// The command of a word and two more.
+fn command_with_two<'a>(word: &str, first: &'a str, second: &'a str) -> Option<Asked<'a>>
+    requires first { length first.now ≤ 1024 }
+    requires second { length second.now ≤ 1024 }
+    ensures command { MatchOption result (commands.command_with_two word.now first.now second.now ≡ None)
+        (λ asked. commands.command_with_two word.now first.now second.now ≡ Some (seen asked)) }
+    ensures short { IfSome result HasShortNames }
+{
+    if word == "play" {
+        Some(Asked::Play {
+            game: first,
+            script: second,
+        })
+    } else if word == "trial" {
+        trial_of(seed_of(first), count_of(second))
+    } else {
+        None
+    }
 }
 
 /// The command of the words, if they are one of the list.
@@ -22,18 +102,8 @@ pub(crate) fn command_asked(words: &[String]) -> Option<Asked<'_>>
     ensures short { IfSome result HasShortNames }
 {
     match words {
-        [word, script] if word.as_str() == "hotel" => Some(Asked::Hotel {
-            script: script.as_str(),
-        }),
-        [word, game] if word.as_str() == "show" => Some(Asked::Show {
-            game: game.as_str(),
-        }),
-        [word, account] if word.as_str() == "solve" => Some(Asked::Solve {
-            account: account.as_str(),
-        }),
-        [word, seed] if word.as_str() == "make" => {
-            read_numeral(seed.as_bytes(), 20).map(|seed| Asked::Make { seed })
-        }
+        [word, argument] => command_with(word.as_str(), argument.as_str()),
+        [word, first, second] => command_with_two(word.as_str(), first.as_str(), second.as_str()),
         _ => None,
     }
 }

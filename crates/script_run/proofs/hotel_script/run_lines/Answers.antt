@@ -5,7 +5,7 @@ use Rattle.script_run.proofs.hotel_script.run_lines.Goals as goal
 
 pub returns-in_err-step : goal.returns-in_err-step
 returns-in_err-step c =
-    let p = err_from_is_err_and c.from_residual.result c.from_residual.ensures.1 in
+    let p = err_from_is_err_and c.from_residual-in_err-step.result c.from_residual-in_err-step.ensures.1 in
     let running = c.loop-line.invariant in
     rw (p.1, p.2) (fails c.args.script.now c.loop-line.rest.now c.in-Some.line.now c.in-Some.after.now c.loop-line.run c.step.new.self c.in_err-step.field-0.0 running c.in-Some.ensures.parts
     (c.in_err-step.ensures running.lines running.ran))
@@ -19,3 +19,6 @@ loop-line-preserved c =
       ran = stepped.2;
       left = sym (goes_on running.lines c.loop-line.rest.now c.in-Some.line.now c.in-Some.after.now stepped.0 c.in-Some.ensures.parts stepped.1) ∙ running.left;
     }
+
+pub step-requires : goal.step-requires
+step-requires c = (c.loop-line.invariant.lines, c.loop-line.invariant.ran)

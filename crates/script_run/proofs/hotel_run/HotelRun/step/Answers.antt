@@ -1,21 +1,35 @@
-use Rattle.std.proofs.Common.{◌≡◌, sym, ◌∙◌, length}
-use Rattle.auction_rules.specs.Legal.{entry_of}
-use Rattle.script_run.specs.HotelLines.{asked}
-use Rattle.script_run.specs.HotelScripts.{one_hotel, script_past}
-use Rattle.script_run.proofs.Running.{length-script_past, text_more}
+use Rattle.std.proofs.Common.{sym, ◌∙◌, arith}
+use Rattle.script_run.specs.HotelLines.{line_of, asked}
+use Rattle.script_run.proofs.Running.{has_room, part_script, length-script, history_more, text_more}
 use Rattle.script_run.proofs.hotel_run.HotelRun.step.Goals as goal
 
-pub returns-in-Ok-push_entry : goal.returns-in-Ok-push_entry
-returns-in-Ok-push_entry c lines ran =
+pub call-requires-clause-room : goal.call-requires-clause-room
+call-requires-clause-room c =
+    let lines = c.requires.0 in
+    let ran = c.requires.1 in
     let judged = c.in-Ok.ensures lines ran.counted in
-    let at : c.all-position.result ≡ length (script_past lines) = c.all-position.ensures.value lines ran.counted ∙ sym (length-script_past lines) in
-    let follows = c.call-reply.ensures one_hotel (script_past lines) ran.stands at in (
-      c.in-Ok.asked,
+    let room = has_room lines (line_of c.args.line.now) c.in-Ok.asked judged.0 in
+    let part = part_script lines c.args.self.now.auction.history (asked c.in-Ok.asked).0 ran.history in
+    omega (arith, room, part)
+
+pub call-requires-clause-place : goal.call-requires-clause-place
+call-requires-clause-place c =
+    let lines = c.requires.0 in
+    let ran = c.requires.1 in
+    c.all-position.ensures.value lines ran.counted ∙ sym (length-script lines c.args.self.now.auction.history ran.history)
+
+pub returns-in-Ok-call : goal.returns-in-Ok-call
+returns-in-Ok-call c lines ran =
+    let judged = c.in-Ok.ensures lines ran.counted in
+    let line = c.in-Ok.asked in
+    let before = c.args.self.now.auction in
+    let more = history_more lines line before ran.setup ran.history c.call.new.auction c.call.ensures.auction in (
+      line,
       judged.0,
       record {
-        stands = follows.stands;
+        setup = more.0;
+        history = more.1;
         counted = judged.1;
-        text = text_more (script_past lines) (entry_of one_hotel (script_past lines) (asked c.in-Ok.asked).0 (asked c.in-Ok.asked).1) _ _ _ _ _
-            ran.text at follows.replied (c.as_slice.ensures.value ∙ follows.traded) c.in-Ok-push_entry.ensures;
+        text = text_more lines line before ran.setup ran.history c.args.self.now.text.items c.call.new.text.items c.all-position.result ran.text (c.all-position.ensures.value lines ran.counted) c.in-Ok-call.ensures.text;
       },
     )

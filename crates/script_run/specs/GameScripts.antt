@@ -1,0 +1,60 @@
+-- Game scripts: which are played.
+use Rattle.std.specs.Prelude.{ℕ, ◌==◌, ◌&&◌, Bool, true, false, nat_le, if◌then◌else◌, List, count_by, Result, Ok, Err}
+use Rattle.std.specs.List.{list_any}
+use Rattle.line_protocol.specs.declared.asking.Request.{Request}
+use Rattle.line_protocol.specs.declared.asking.Request.TheVariants.{Quit}
+use Rattle.line_protocol.specs.declared.asking.RequestFault.{RequestFault}
+use Rattle.script_run.specs.declared.game_lines.GameLine.{GameLine}
+use Rattle.script_run.specs.declared.game_lines.GameLine.TheVariants.{Tick, Asks}
+use Rattle.script_run.specs.ScriptLines.{BadLine, lines_of_text}
+use Rattle.script_run.specs.GameLines.{line_of}
+
+abbrev pub is_tick : GameLine → Bool
+is_tick Tick = true
+is_tick (Asks agent asked) = false
+
+-- whether the line is the agent's
+abbrev pub is_of : ℕ → GameLine → Bool
+is_of agent Tick = false
+is_of agent (Asks asking asked) = asking == agent
+
+abbrev pub is_quit : Result Request RequestFault → Bool
+is_quit (Ok Quit) = true
+is_quit asked = false
+
+-- whether the agent ends its session in the line
+abbrev pub quits : ℕ → GameLine → Bool
+quits agent Tick = false
+quits agent (Asks asking asked) = (asking == agent) && is_quit asked
+
+-- how many of the lines are ticks, and how many are the agent's
+abbrev pub ticks_of : List GameLine → ℕ
+ticks_of lines = count_by is_tick lines
+
+abbrev pub lines_of : List GameLine → ℕ → ℕ
+lines_of lines agent = count_by (is_of agent) lines
+
+-- whether the agent ended its session
+abbrev pub has_quit : List GameLine → ℕ → Bool
+has_quit lines agent = list_any (quits agent) lines
+
+-- A line after others, where its agent has not ended its session, 2, and where there are not too many: 54 ticks, or 65,536 lines of
+-- its agent, 4.
+abbrev pub limited : List GameLine → GameLine → Result GameLine ℕ
+limited lines Tick = if nat_le 54 (ticks_of lines) then Err 4 else Ok Tick
+limited lines (Asks agent asked) =
+    if has_quit lines agent then Err 2
+    else if nat_le 65536 (lines_of lines agent) then Err 4
+    else Ok (Asks agent asked)
+
+-- what a line after others asks, or the first reason why it is bad
+abbrev pub judged : List GameLine → Result GameLine ℕ → Result GameLine ℕ
+judged lines (Err reason) = Err reason
+judged lines (Ok line) = limited lines line
+
+abbrev pub judge : List GameLine → List ℕ → Result GameLine ℕ
+judge lines line = judged lines (line_of line)
+
+-- the lines of a game script, the last line first, or the first bad line
+abbrev pub game_script : List ℕ → Result (List GameLine) BadLine
+game_script text = lines_of_text judge text

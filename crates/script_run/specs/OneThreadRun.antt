@@ -1,0 +1,58 @@
+-- A game that one thread plays by the lines of a script, and what is written of it.
+use Rattle.std.specs.Prelude.{ℕ, zero, suc, ◌-◌, List, [], ◌∷◌, ◌++◌, length, map, reverse, sum_by, decimal, codes}
+use Rattle.std.specs.List.{enumerate_from}
+use Rattle.game_text.specs.Games.{GameFile}
+use Rattle.auction_rules.specs.History.{Entry}
+use Rattle.auction_rules.specs.Effects.{all_trades}
+use Rattle.auction_core.specs.Setups.{setup_of}
+use Rattle.auction_core.specs.Auctions.{AuctionHistory}
+use Rattle.auction_core.specs.ClosedGame.{ClosedGame}
+use Rattle.line_protocol.specs.declared.saying.Said.{Said}
+use Rattle.line_protocol.specs.Replies.{said_text}
+use Rattle.script_run.specs.declared.game_lines.GameLine.{GameLine}
+use Rattle.script_run.specs.declared.game_lines.GameLine.TheVariants.{Tick, Asks}
+use Rattle.script_run.specs.declared.play_count.PlayCount.{PlayCount}
+use Rattle.script_run.specs.GameStates.{GameState, opening, turn, ticked}
+
+-- the line that tells an agent something
+abbrev pub told_line : ℕ → Said → List ℕ
+told_line agent said = decimal agent ++ codes " " ++ said_text said ++ codes "\n"
+
+-- the game after a line, and what is written of the line
+abbrev pub after_line : GameFile → GameLine → GameState → GameState
+after_line game Tick state = ticked game state
+after_line game (Asks agent asked) state = (turn game agent asked state).1
+
+abbrev pub line_text : GameFile → GameLine → GameState → List ℕ
+line_text game Tick state = []
+line_text game (Asks agent asked) state = told_line agent (turn game agent asked state).0
+
+-- the game after lines, the last line first, and what was written of them
+abbrev pub played : GameFile → List GameLine → GameState
+played game [] = opening
+played game (line ∷ lines) = after_line game line (played game lines)
+
+abbrev pub replies : GameFile → List GameLine → List ℕ
+replies game [] = []
+replies game (line ∷ lines) = replies game lines ++ line_text game line (played game lines)
+
+-- so many ticks more
+abbrev pub ticked_often : GameFile → ℕ → GameState → GameState
+ticked_often game zero state = state
+ticked_often game (suc n) state = ticked game (ticked_often game n state)
+
+-- the game after a script's lines and the ticks that are left
+abbrev pub whole_game : GameFile → List GameLine → GameState
+whole_game game lines = ticked_often game (54 - (played game lines).ticks) (played game lines)
+
+-- the auction of a good with its past
+abbrev pub auction_with : GameFile → ℕ × List Entry → AuctionHistory
+auction_with game (good, past) = record { setup = setup_of good game; history = reverse past }
+
+-- the histories of a game, the oldest entry first
+abbrev pub closed_of : GameFile → GameState → ClosedGame
+closed_of game state = record { auctions = map (auction_with game) (enumerate_from 0 state.pasts); cash = state.cash }
+
+-- how many entries and trades the auctions have
+abbrev pub count_of : GameState → PlayCount
+count_of state = record { entries = sum_by length state.pasts; trades = sum_by (λ past. length (all_trades past)) state.pasts }

@@ -1,0 +1,35 @@
+-- What a contract sees of a game that is played, and what is so of every such game.
+use Rattle.std.specs.Prelude.{◌≡◌, ℕ, ◌≤◌, List, map, reverse}
+use Rattle.game_text.specs.Games.{GameFile}
+use Rattle.trade_ledger.specs.declared.cash_calls.CashEntry.{CashEntry}
+use Rattle.auction_rules.specs.Setup.{Setup}
+use Rattle.auction_rules.specs.History.{Entry}
+use Rattle.auction_core.specs.Setups.{setup_of}
+use Rattle.auction_core.specs.Auctions.{AuctionHistory}
+use Rattle.auction_core.specs.ClosedGame.{all_goods}
+use Rattle.script_run.specs.GameStates.{GameState}
+
+-- a game, and how far it has come
+pub record SeenGame : Type 0 where
+  pub game : GameFile
+  pub state : GameState
+
+-- the auctions' pasts, the newest entry first, and their setups
+abbrev pub pasts_of : List AuctionHistory → List (List Entry)
+pasts_of auctions = map (λ auction. reverse auction.history) auctions
+
+abbrev pub setups_of : List AuctionHistory → List Setup
+setups_of auctions = map (λ auction. auction.setup) auctions
+
+-- the setups of all goods in order
+abbrev pub all_setups : GameFile → List Setup
+all_setups game = map (λ good. setup_of good game) all_goods
+
+-- the state of a game that is kept in auctions and a cash book
+abbrev pub state_of : List AuctionHistory → List CashEntry → ℕ → GameState
+state_of auctions cash ticks = record { pasts = pasts_of auctions; cash = cash; ticks = ticks }
+
+-- the auctions are those of the game's goods in order, and the game has 54 ticks
+pub record IsOpen (game : GameFile) (auctions : List AuctionHistory) (ticks : ℕ) : Type 0 where
+  pub setups : setups_of auctions ≡ all_setups game
+  pub few : ticks ≤ 54

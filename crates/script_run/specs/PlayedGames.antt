@@ -1,0 +1,56 @@
+-- A game that was played to its end, and what writing it does to a sink; for private clauses.
+use Rattle.std.specs.Prelude.{◌≡◌, ℕ, ◌<◌, ◌⊎◌, ⊤, List, ◌++◌, length, Result, Ok, Err, Option}
+use Rattle.tac_io.specs.Counts.{Rose}
+use Rattle.tac_io.specs.Told.{and_then_told, TakesSome}
+use Rattle.game_text.specs.Games.{GameFile}
+use Rattle.auction_core.specs.ClosedGame.{ClosedGame}
+use Rattle.score_sheet.specs.Sheets.{Scored}
+use Rattle.game_log.specs.LogText.{play_part}
+use Rattle.game_log.specs.SheetText.{sheet_part}
+use Rattle.game_log.specs.declared.head.LogHead.TheVariants.{Play}
+use Rattle.game_log.specs.declared.fault.LogWriteFault.{LogWriteFault}
+use Rattle.game_log.specs.declared.fault.LogWriteFault.TheVariants as log
+use Rattle.script_run.specs.declared.game_lines.GameLine.{GameLine}
+use Rattle.script_run.specs.declared.fault.ScriptFault.{ScriptFault}
+use Rattle.script_run.specs.declared.fault.ScriptFault.TheVariants.{Line, TooLong, Failed, Memory}
+use Rattle.script_run.specs.declared.playing.Played.{Played}
+use Rattle.script_run.specs.OneThreadRun.{replies}
+use Rattle.script_run.specs.HotelOuts.{longest_script, IsUntouched}
+use Rattle.script_run.specs.GameOuts.{closed_game, IsGoodScript, IsBadScript, IsSheetOf}
+
+-- the game by these lines was played to its end
+pub record HasPlayed (game : GameFile) (lines : List GameLine) (played : Played) : Type 0 where
+  pub replies : played.replies.items ≡ replies game lines
+  pub closed : played.closed ≡ closed_game game lines
+
+-- the game of a script was played to its end, or the script is refused
+abbrev pub PlaysToEnd : GameFile → List ℕ → Result Played ScriptFault → Type 0
+PlaysToEnd game script (Ok played) = (lines : List GameLine) × IsGoodScript script lines × HasPlayed game lines played
+PlaysToEnd game script (Err (Line line reason)) = IsBadScript script line reason
+PlaysToEnd game script (Err TooLong) = longest_script < length script
+PlaysToEnd game script (Err Failed) = ⊥
+PlaysToEnd game script (Err Memory) = ⊤
+
+-- the second part of the log was written with some sheet of the game, or not all of it, or there was no memory for it
+abbrev pub WritesSheet : GameFile → ClosedGame → Option (List ℕ) → Option (List ℕ) → ℕ → ℕ → Result (Unit {0}) LogWriteFault → Type 0
+WritesSheet game closed taken taken' faults faults' (Ok done) =
+    (sheet : List Scored) × IsSheetOf game closed sheet × (taken' ≡ and_then_told taken (sheet_part sheet)) × (faults' ≡ faults)
+WritesSheet game closed taken taken' faults faults' (Err log.Failed) =
+    (sheet : List Scored) × IsSheetOf game closed sheet × TakesSome taken taken' (sheet_part sheet) × Rose faults faults'
+WritesSheet game closed taken taken' faults faults' (Err log.Memory) = IsUntouched taken taken' faults faults'
+
+-- what is written before the sheet
+abbrev pub first_text : Played → List ℕ
+first_text played = played.replies.items ++ play_part Play played.closed
+
+-- the whole text of the game was written with some sheet of it, or not all of it, or all but the sheet where there was no memory for it
+abbrev pub WritesPlayed : GameFile → Played → Option (List ℕ) → Option (List ℕ) → ℕ → ℕ → Result (Unit {0}) ScriptFault → Type 0
+WritesPlayed game played taken taken' faults faults' (Ok done) =
+    (sheet : List Scored) × IsSheetOf game played.closed sheet × (taken' ≡ and_then_told taken (first_text played ++ sheet_part sheet)) × (faults' ≡ faults)
+WritesPlayed game played taken taken' faults faults' (Err (Line line reason)) = ⊥
+WritesPlayed game played taken taken' faults faults' (Err TooLong) = ⊥
+WritesPlayed game played taken taken' faults faults' (Err Failed) =
+    (TakesSome taken taken' (first_text played)
+    ⊎ ((sheet : List Scored) × IsSheetOf game played.closed sheet × TakesSome taken taken' (first_text played ++ sheet_part sheet)))
+    × Rose faults faults'
+WritesPlayed game played taken taken' faults faults' (Err Memory) = (taken' ≡ and_then_told taken (first_text played)) × (faults' ≡ faults)

@@ -1,0 +1,39 @@
+-- The counts that are kept beside a game that is played.
+use Rattle.std.specs.Prelude.{◌≡◌, ℕ, ◌+◌, ◌≤◌, ◌==◌, List, length, sum_by, count_by, take, slice_index}
+use Rattle.tac_base.specs.declared.calls.Call.{Call}
+use Rattle.game_text.specs.Games.{GameFile}
+use Rattle.auction_rules.specs.Goods.{clock}
+use Rattle.auction_rules.specs.History.{Entry}
+use Rattle.auction_rules.specs.Legal.{entries_of}
+use Rattle.turn_lock.specs.Part.{part}
+use Rattle.clock_events.specs.Schedule as schedule
+use Rattle.script_run.specs.declared.call_counts.CallCounts.{CallCounts}
+use Rattle.script_run.specs.CallCounts.{count_at}
+use Rattle.script_run.specs.GameStates.{GameState, past_at, readings_of}
+
+-- the caller's entries in all auctions
+abbrev pub made : List (List Entry) → ℕ → ℕ
+made pasts caller = sum_by (λ past. entries_of past caller) pasts
+
+-- the clock's calls of so many ticks
+abbrev pub due : GameFile → ℕ → ℕ
+due game ticks = sum_by (λ tick. length (schedule.calls_at game tick)) (take ticks schedule.ticks)
+
+-- the clock may make the calls that are left of its tick: each good then has at most one call for each tick, and all goods no more
+-- calls than the schedule
+pub record HasClockRoom (game : GameFile) (state : GameState) (left : List (ℕ × Call)) : Type 0 where
+  pub each : (good : ℕ) → entries_of (past_at state.pasts good) clock + count_by (λ call. call.0 == good) left ≤ state.ticks
+  pub all : made state.pasts clock + length left ≤ due game state.ticks
+
+-- the agents' calls and readings are counted, and no more than 1024 each; each post in the cash history is that of an entry
+pub record AreCounted (game : GameFile) (state : GameState) (counts : CallCounts) (read : List ℕ) : Type 0 where
+  pub goods : length state.pasts ≡ 28
+  pub ticks : state.ticks ≤ 54
+  pub calls : (agent good : ℕ) → agent ≤ 7 → good ≤ 27 → count_at counts agent good ≡ entries_of (past_at state.pasts good) agent
+  pub few_calls : (agent good : ℕ) → agent ≤ 7 → entries_of (past_at state.pasts good) agent ≤ 1024
+  pub readings : (agent : ℕ) → agent ≤ 7 → slice_index read agent ≡ readings_of state.cash agent
+  pub few_readings : (agent : ℕ) → agent ≤ 7 → readings_of state.cash agent ≤ 1024
+  pub no_reading : readings_of state.cash clock ≡ 0
+  pub posted : (caller : ℕ) → length (part (λ e. e.caller) state.cash caller) ≤ made state.pasts caller + readings_of state.cash caller
+  pub clock_each : (good : ℕ) → entries_of (past_at state.pasts good) clock ≤ state.ticks
+  pub clock_all : made state.pasts clock ≤ due game state.ticks

@@ -1,0 +1,117 @@
+// How many lines of a game script there were.
+ghost use Rattle.std.specs.Prelude.{◌≡◌, ◌≤◌, [], ◌∷◌, List, MatchResult, Ok, Err};
+ghost use Rattle.script_run.specs.GameLines as lines;
+ghost use Rattle.script_run.specs.GameScripts as scripts;
+ghost use Rattle.script_run.specs.declared.game_lines.GameLine.{GameLine};
+
+use crate::game_lines::{GameLine, line_of};
+use line_protocol::{Request, RequestFault};
+use tac_base::Agent;
+
+/// The ticks of a game.
+const TICKS: u8 = 54;
+
+/// The most lines of an agent.
+const MOST_LINES: u32 = 65_536;
+
+/// How many ticks there were, how many lines of each agent, and which agents ended their sessions.
+#[derive(Drop)]
+pub(crate) struct GameCounts {
+    ticks: u8,
+    of_agent: [u32; 8],
+    has_quit: [bool; 8],
+}
+
+/// Whether the session ends as the agent asks.
+fn is_quit(asked: &Result<Request, RequestFault>) -> bool
+    ensures { result ≡ scripts.is_quit asked.now }
+{
+    matches!(asked, Ok(Request::Quit))
+}
+
+impl GameCounts {
+    ghost use Rattle.script_run.specs.GameCounts.{Counts};
+
+    pub(crate) fn new() -> GameCounts
+        ensures { Counts [] result }
+    {
+        GameCounts {
+            ticks: 0,
+            of_agent: [0; 8],
+            has_quit: [false; 8],
+        }
+    }
+
+    /// What a line asks, which is counted, or the first reason why it is bad.
+    pub(crate) fn judge(&mut self, line: &[u8]) -> Result<GameLine, u8>
+        ensures { (lines : List GameLine) → Counts lines self.old →
+            MatchResult result
+            (λ asked. (scripts.judge lines line.now ≡ Ok asked) × Counts (asked ∷ lines) self.new)
+            (λ reason. scripts.judge lines line.now ≡ Err reason) }
+    {
+        match line_of(line) {
+            Ok(line) => self.admit(line),
+            Err(reason) => Err(reason),
+        }
+    }
+
+    /// Counts a line where it may stand here, or gives the reason: 2 or 4.
+    fn admit(&mut self, line: GameLine) -> Result<GameLine, u8>
+        ensures { (lines : List GameLine) → Counts lines self.old →
+            MatchResult result
+            (λ admitted. (scripts.limited lines line ≡ Ok admitted) × Counts (admitted ∷ lines) self.new)
+            (λ reason. scripts.limited lines line ≡ Err reason) }
+    {
+        match self.count(&line) {
+            Ok(()) => Ok(line),
+            Err(reason) => Err(reason),
+        }
+    }
+
+    /// Counts a line where it may stand here, or gives the reason.
+    fn count(&mut self, line: &GameLine) -> Result<(), u8>
+        ensures { (lines : List GameLine) → Counts lines self.old →
+            MatchResult result
+            (λ _. (scripts.limited lines line.now ≡ Ok line.now) × Counts (line.now ∷ lines) self.new)
+            (λ reason. scripts.limited lines line.now ≡ Err reason) }
+    {
+        match line {
+            GameLine::Tick => self.count_tick(),
+            GameLine::Asks { agent, asked } => self.count_line(*agent, asked),
+        }
+    }
+
+    /// Counts a tick, where one is left.
+    fn count_tick(&mut self) -> Result<(), u8>
+        ensures { (lines : List GameLine) → Counts lines self.old →
+            MatchResult result
+            (λ _. (scripts.limited lines GameLine.Tick ≡ Ok GameLine.Tick) × Counts (GameLine.Tick ∷ lines) self.new)
+            (λ reason. scripts.limited lines GameLine.Tick ≡ Err reason) }
+    {
+        if self.ticks >= TICKS {
+            return Err(4);
+        }
+        self.ticks += 1;
+        Ok(())
+    }
+
+    /// Counts a line of an agent that has lines left and has not ended its session.
+    fn count_line(&mut self, agent: Agent, asked: &Result<Request, RequestFault>) -> Result<(), u8>
+        ensures { (lines : List GameLine) → Counts lines self.old →
+            MatchResult result
+            (λ _. (scripts.limited lines (GameLine.Asks agent asked.now) ≡ Ok (GameLine.Asks agent asked.now)) × Counts (GameLine.Asks agent asked.now ∷ lines) self.new)
+            (λ reason. scripts.limited lines (GameLine.Asks agent asked.now) ≡ Err reason) }
+    {
+        let place = usize::from(agent.get());
+        if self.has_quit[place] {
+            return Err(2);
+        }
+        let count = self.of_agent[place];
+        if count >= MOST_LINES {
+            return Err(4);
+        }
+        self.of_agent[place] = count + 1;
+        self.has_quit[place] = is_quit(asked);
+        Ok(())
+    }
+}

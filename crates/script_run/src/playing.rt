@@ -1,0 +1,185 @@
+// A game that is played from a script.
+ghost use Rattle.std.specs.Prelude.{◌≡◌, ◌≤◌, length, IfOk};
+ghost use Rattle.game_log.specs.Written.{Writes};
+ghost use Rattle.script_run.specs.OneThreadRun.{whole_game, count_of};
+ghost use Rattle.script_run.specs.GameOuts.{IsSheetOf, PlaysScript};
+ghost use Rattle.script_run.specs.GameRuns.{PlaysLines};
+ghost use Rattle.script_run.specs.PlayedGames.{PlaysToEnd, WritesSheet, WritesPlayed, first_text};
+ghost use Rattle.script_run.specs.QuietGames.{PlaysQuietly, IsQuietFault, quiet_of};
+
+use crate::fault::{QuietFault, ScriptFault};
+use crate::game_run::GameRun;
+use crate::play_count::{PlayCount, counted};
+use auction_core::Closed;
+use game_log::{LogHead, LogWriteFault, write_play_part, write_sheet_part};
+use game_text::Game;
+use score_sheet::{Sheet, settle, sheet};
+use std::alloc::Global;
+use std::thread::Threads;
+use tac_base::Memory;
+use tac_io::{Failed, Sink, write_all};
+use text_forms::cut;
+
+/// The most bytes of a script.
+const LONGEST_SCRIPT: usize = 67_108_864;
+
+/// A game that was played to its end: what is to be written of the lines, and the histories.
+#[derive(Drop)]
+pub(crate) struct Played {
+    replies: Vec<u8>,
+    closed: Closed,
+}
+
+/// The game after all lines of a script.
+fn play_lines<'a>(alloc: Global, game: &'a Game, script: &[u8]) -> Result<GameRun<'a>, ScriptFault>
+    requires { length script.now ≤ 67108864 }
+    ensures { PlaysLines game.now script.now result }
+{
+    let Ok(mut run) = GameRun::begin(alloc, game) else {
+        return Err(ScriptFault::Memory);
+    };
+    let mut rest = script;
+    let mut number = 1;
+    while let Some((line, after)) = cut(rest, b'\n') {
+        run.step(number, line)?;
+        rest = after;
+        number += 1;
+    }
+    if rest.is_empty() {
+        Ok(run)
+    } else {
+        Err(ScriptFault::Line {
+            line: number,
+            reason: 3,
+        })
+    }
+}
+
+/// Plays a whole game by the lines of a script.
+fn play_to_end(alloc: Global, game: &Game, script: &[u8]) -> Result<Played, ScriptFault>
+    ensures { PlaysToEnd game.now script.now result }
+{
+    if script.len() > LONGEST_SCRIPT {
+        return Err(ScriptFault::TooLong);
+    }
+    match play_lines(alloc, game, script) {
+        Ok(run) => {
+            let (replies, closed) = run.close();
+            Ok(Played { replies, closed })
+        }
+        Err(fault) => Err(fault),
+    }
+}
+
+/// The scores of a game whose calls are over.
+fn scored<R: Threads + Sync>(
+    rt: &R,
+    alloc: Global,
+    game: &Game,
+    closed: &Closed,
+) -> Result<Sheet, Memory>
+    ensures { IfOk result (IsSheetOf game.now closed.now) }
+{
+    sheet(rt, alloc, game, &settle(closed))
+}
+
+/// Writes the replies of a game and the first part of its log.
+fn write_first<K: Sink>(sink: &mut K, played: &Played) -> Result<(), Failed>
+    ensures { Writes (first_text played.now) (K.taken sink.old) (K.taken sink.new) (K.faults sink.old) (K.faults sink.new) result }
+{
+    match write_all(sink, played.replies.as_slice()) {
+        Ok(()) => write_play_part(sink, &LogHead::Play, &played.closed),
+        Err(failed) => Err(failed),
+    }
+}
+
+/// Scores a game whose calls are over, and writes the second part of its log.
+fn write_second<R: Threads + Sync, K: Sink>(
+    rt: &R,
+    alloc: Global,
+    game: &Game,
+    closed: &Closed,
+    sink: &mut K,
+) -> Result<(), LogWriteFault>
+    ensures { WritesSheet game.now closed.now (K.taken sink.old) (K.taken sink.new) (K.faults sink.old) (K.faults sink.new) result }
+{
+    match scored(rt, alloc, game, closed) {
+        Ok(sheet) => write_sheet_part(alloc, sink, &sheet),
+        Err(_) => Err(LogWriteFault::Memory),
+    }
+}
+
+/// Writes the replies of a game and its log.
+fn write_played<R: Threads + Sync, K: Sink>(
+    rt: &R,
+    alloc: Global,
+    game: &Game,
+    played: &Played,
+    sink: &mut K,
+) -> Result<(), ScriptFault>
+    ensures { WritesPlayed game.now played.now (K.taken sink.old) (K.taken sink.new) (K.faults sink.old) (K.faults sink.new) result }
+{
+    match write_first(sink, played) {
+        Ok(()) => match write_second(rt, alloc, game, &played.closed, sink) {
+            Ok(()) => Ok(()),
+            Err(LogWriteFault::Failed) => Err(ScriptFault::Failed),
+            Err(LogWriteFault::Memory) => Err(ScriptFault::Memory),
+        },
+        Err(_) => Err(ScriptFault::Failed),
+    }
+}
+
+/// Plays a whole game on one thread by the lines of a script, and writes the replies and then the log. All lines are tested, and
+/// all calls made, before anything is written. After `Failed` the first bytes of the text were written, but not all. After
+/// `Memory` nothing was written, or the replies and the first part of the log. The form of the text is our own.
+pub fn play<R: Threads + Sync, K: Sink>(
+    rt: &R,
+    alloc: Global,
+    game: &Game,
+    text: &[u8],
+    sink: &mut K,
+) -> Result<PlayCount, ScriptFault>
+    ensures { PlaysScript game.now text.now (K.taken sink.old) (K.taken sink.new) (K.faults sink.old) (K.faults sink.new) result }
+{
+    let played = match play_to_end(alloc, game, text) {
+        Ok(played) => played,
+        Err(fault) => return Err(fault),
+    };
+    match write_played(rt, alloc, game, &played, sink) {
+        Ok(()) => Ok(counted(&played.closed)),
+        Err(fault) => Err(fault),
+    }
+}
+
+/// The fault of a script that was played without writing.
+fn quiet(fault: ScriptFault) -> QuietFault
+    requires { IsQuietFault fault }
+    ensures { result ≡ quiet_of fault }
+{
+    match fault {
+        ScriptFault::Line { line, reason } => QuietFault::Line { line, reason },
+        ScriptFault::TooLong => QuietFault::TooLong,
+        ScriptFault::Failed => unreachable!(),
+        ScriptFault::Memory => QuietFault::Memory,
+    }
+}
+
+/// Plays the same game as `play`, and writes nothing. Gives how much happened, and the scores. The faults are those of `play` but
+/// for a failed write.
+pub fn play_quiet<R: Threads + Sync>(
+    rt: &R,
+    alloc: Global,
+    game: &Game,
+    text: &[u8],
+) -> Result<(PlayCount, Sheet), QuietFault>
+    ensures { PlaysQuietly game.now text.now result }
+{
+    let played = match play_to_end(alloc, game, text) {
+        Ok(played) => played,
+        Err(fault) => return Err(quiet(fault)),
+    };
+    match scored(rt, alloc, game, &played.closed) {
+        Ok(sheet) => Ok((counted(&played.closed), sheet)),
+        Err(_) => Err(QuietFault::Memory),
+    }
+}
