@@ -26,13 +26,14 @@ pub(crate) struct Tableau {
 }
 
 impl Tableau {
-    /// All goods are left over, of which there are so many, and each client stays at home.
+    /// All goods are left over, of which there are so many, and each client stays at home. Of a good of which eight clients can't use up
+    /// all, one more than they can use is as good as any number, and so it gets no price.
     pub(crate) fn new(stock: &[f64; 28]) -> Tableau {
         let mut rows = [[0.0; 37]; 37];
         let mut members = [Column::Spare { good: 0 }; 36];
         for good in 0..28 {
             rows[good][good] = 1.0;
-            rows[good][36] = stock[good].min(8.0);
+            rows[good][36] = stock[good].min(9.0);
             members[good] = Column::Spare { good };
         }
         for client in 0..8 {
