@@ -18,10 +18,14 @@ one_more count = min (count + 1) (2 ^ 64 - 1)
 abbrev pub IsNextToFail : Calls → Type 0
 IsNextToFail calls = Contains calls.failing (one_more calls.made)
 
+-- the count of faults, after a call that answered this
+abbrev pub count_after : {T E : Type 0} → ℕ → Result T E → ℕ
+count_after faults result = if is_err result then one_more faults else faults
+
 -- one more call was made, and answered this
 abbrev pub after_call : {T E : Type 0} → Calls → Result T E → Calls
 after_call calls result = record {
   failing = calls.failing;
   made = one_more calls.made;
-  faults = if is_err result then one_more calls.faults else calls.faults;
+  faults = count_after calls.faults result;
 }

@@ -6,6 +6,7 @@ pub mod FileList
 pub mod MemFiles
 pub mod MemSink
 pub mod MemLink
+pub mod HeldLink
 pub mod MemLinks
 pub mod MemTicker
 pub mod LineText

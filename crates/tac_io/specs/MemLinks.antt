@@ -1,5 +1,6 @@
 -- Links in memory, as their clauses show them.
 use Rattle.std.specs.Prelude.{ℕ, List, Bool, option_to_list}
+use Rattle.tac_io.specs.Calls.{Calls}
 use Rattle.tac_io.specs.declared.mem_links.MemLinks.{MemLinks}
 
 -- whether they listen
@@ -13,3 +14,7 @@ links_ports s = option_to_list s.port
 -- the links that are still to be given, in order
 abbrev pub links_pending : {L : Type 0} → MemLinks L → List L
 links_pending s = s.links.items
+
+-- their calls of `listen` and `next`, and the count of their faults
+abbrev pub links_calls : {L : Type 0} → MemLinks L → Calls
+links_calls s = s.faults

@@ -1,6 +1,7 @@
 -- A ticker in memory, as its clauses show it.
 use Rattle.std.specs.Prelude.{ℕ, List, Bool}
 use Rattle.std.specs.declared.option.Option.{Option}
+use Rattle.tac_io.specs.Calls.{Calls}
 use Rattle.tac_io.specs.declared.mem_ticker.MemTicker.{MemTicker}
 
 -- the pace, if one was set
@@ -10,3 +11,7 @@ ticker_pace s = s.pace
 -- the ticks that were waited for, in order, each with whether it lapsed
 abbrev pub ticker_waited : MemTicker → List (ℕ × Bool)
 ticker_waited s = s.waited.items
+
+-- its waits, and the count of its faults
+abbrev pub ticker_calls : MemTicker → Calls
+ticker_calls s = s.faults

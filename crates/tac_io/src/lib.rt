@@ -12,6 +12,7 @@ mod failed;
 mod faults;
 mod files;
 mod give;
+mod held_link;
 mod line_got;
 mod lines;
 mod link;
@@ -28,6 +29,7 @@ mod writing;
 
 pub use failed::Failed;
 pub use files::Files;
+pub use held_link::{HeldLink, Hold, LinesSent};
 pub use line_got::LineGot;
 pub use lines::Lines;
 pub use link::Link;

@@ -59,6 +59,13 @@ impl MemLink {
         })
     }
 
+    // The bytes that it still has to give.
+    pub(crate) fn left(&self) -> &[u8]
+        ensures { result.now ≡ link_left self.now }
+    {
+        &self.bytes[self.at..]
+    }
+
     /// The bytes that it was sent, in order.
     pub fn sent(&self) -> &[u8]
         ensures { result.now ≡ link_sent self.now }

@@ -1,7 +1,9 @@
 // A ticker in memory.
 ghost use Rattle.std.specs.Prelude.{◌≡◌, ◌≤◌, [], None, IfOk, vec_capacity};
+ghost use Rattle.tac_io.specs.Calls.{no_calls};
 
 use crate::Ticker;
+use crate::faults::Faults;
 use std::alloc::{AllocError, Global};
 use std::marker::Model;
 use std::rt::Clock;
@@ -22,7 +24,7 @@ impl Model for MemDue {
     ghost view = { λ due. due.tick };
 }
 
-/// A tick whose wait lapsed. This ticker makes none.
+/// A tick whose wait lapsed.
 #[derive(Drop)]
 pub struct MemLapse {
     tick: Tick,
@@ -39,33 +41,39 @@ impl Model for MemLapse {
 /// How many ticks can be waited for.
 const MOST_TICKS: usize = 54;
 
-/// A ticker in memory, with room for 54 ticks. It does not wait, and no tick lapses.
+/// A ticker in memory, with room for 54 ticks. It does not wait, and lapses at stated waits.
 #[derive(Drop)]
 pub struct MemTicker {
     pace: Option<u16>,
     // Each with whether it lapsed.
     waited: Vec<(Tick, bool)>,
+    faults: Faults,
     ghost room: { 54 ≤ vec_capacity waited },
 }
 
 impl MemTicker {
-    ghost use Rattle.tac_io.specs.MemTicker.{ticker_pace, ticker_waited};
+    ghost use Rattle.tac_io.specs.MemTicker.{ticker_calls, ticker_pace, ticker_waited};
 
-    /// A ticker without a pace that has waited for no tick.
-    pub fn new(alloc: Global) -> Result<MemTicker, AllocError>
+    /// A ticker without a pace that has waited for no tick. The waits that are to lapse are listed
+    /// in `lapsing`, counted from 1: where the ticks are waited for in order, those ticks lapse.
+    pub fn new(alloc: Global, lapsing: Vec<u64>) -> Result<MemTicker, AllocError>
         ensures pace { IfOk result (λ ticker. ticker_pace ticker ≡ None) }
         ensures waited { IfOk result (λ ticker. ticker_waited ticker ≡ []) }
+        ensures calls { IfOk result (λ ticker. ticker_calls ticker ≡ no_calls lapsing.items) }
     {
         Ok(MemTicker {
             pace: None,
             waited: Vec::with_capacity(alloc, MOST_TICKS)?,
+            faults: Faults::new(lapsing),
         })
     }
 }
 
 impl Ticker for MemTicker {
-    ghost use Rattle.std.specs.Prelude.{◌≡◌, ◌<◌, ◌++◌, ◌∷◌, [], Some, IsOkAnd, false, length};
-    ghost use Rattle.tac_io.specs.MemTicker.{ticker_pace, ticker_waited};
+    ghost use Rattle.std.specs.Prelude.{◌≡◌, ◌↔◌, ◌<◌, ◌++◌, ◌∷◌, [], Some, IsErr, MatchResult, is_err, length};
+    ghost use Rattle.tac_io.specs.Calls.{IsNextToFail, after_call};
+    ghost use Rattle.tac_io.specs.Counts.{HasCause};
+    ghost use Rattle.tac_io.specs.MemTicker.{ticker_calls, ticker_pace, ticker_waited};
 
     type Due = MemDue;
 
@@ -79,30 +87,47 @@ impl Ticker for MemTicker {
 
     ghost waited = { λ s. Some (ticker_waited s) };
 
-    ghost faults = { λ _. 0 };
+    ghost faults = { λ s. (ticker_calls s).faults };
 
-    fn pace(&mut self, milliseconds: u16) {
+    fn pace(&mut self, milliseconds: u16)
+        ensures pace { ticker_pace self.new ≡ Some milliseconds }
+        ensures waited { ticker_waited self.new ≡ ticker_waited self.old }
+        ensures calls { ticker_calls self.new ≡ ticker_calls self.old }
+    {
         self.pace = Some(milliseconds);
     }
 
     fn wait<R: Wait + Clock>(&mut self, _rt: &R, tick: Tick) -> Result<MemDue, MemLapse>
         requires { length (ticker_waited self.old) < 54 }
-        ensures due { IsOkAnd result (λ due. due ≡ tick) }
-        ensures waited { ticker_waited self.new ≡ ticker_waited self.old ++ (tick, false) ∷ [] }
+        ensures lapses { IsErr result ↔ IsNextToFail (ticker_calls self.old) }
+        ensures tick { MatchResult result (λ due. due ≡ tick) (λ lapse. lapse ≡ tick) }
+        ensures waited { ticker_waited self.new ≡ ticker_waited self.old ++ (tick, is_err result) ∷ [] }
         ensures pace { ticker_pace self.new ≡ ticker_pace self.old }
+        ensures calls { ticker_calls self.new ≡ after_call (ticker_calls self.old) result }
+        ensures cause { HasCause (ticker_calls self.old).faults (ticker_calls self.new).faults result }
     {
-        if self.waited.push((tick, false)).is_err() {
+        let lapses = self.faults.next_fails();
+        if self.waited.push((tick, lapses)).is_err() {
             unreachable!()
+        }
+        if lapses {
+            self.faults.add();
+            return Err(MemLapse { tick });
         }
         Ok(MemDue { tick })
     }
 
-    fn late(&mut self, lapse: MemLapse) -> MemDue {
+    fn late(&mut self, lapse: MemLapse) -> MemDue
+        ensures tick { result ≡ lapse }
+        ensures waited { ticker_waited self.new ≡ ticker_waited self.old }
+        ensures pace { ticker_pace self.new ≡ ticker_pace self.old }
+        ensures calls { ticker_calls self.new ≡ ticker_calls self.old }
+    {
         let MemLapse { tick } = lapse;
         MemDue { tick }
     }
 
     fn faults(&self) -> u64 {
-        0
+        self.faults.count()
     }
 }

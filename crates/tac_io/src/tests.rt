@@ -1,17 +1,20 @@
 // The two calls over the forms in memory, and each form through its trait.
-ghost use Rattle.std.specs.Prelude.{◌≡◌, ◌<◌, [], IfOk, IfSome, length, true, false};
+ghost use Rattle.std.specs.Prelude.{◌≡◌, ◌<◌, ◌∷◌, [], Bool, IfOk, IfSome, IsTrue, length, true, false};
 ghost use Rattle.tac_io.specs.LineAnswers.{goes_on};
 ghost use Rattle.tac_io.specs.Lines.{last_of};
 ghost use Rattle.tac_io.specs.MemFiles.{files_names};
+ghost use Rattle.tac_io.specs.Told.{and_then_told};
 
 use super::{
-    FileFault, Files, LineGot, Lines, Link, Links, MemFile, MemFiles, MemLink, MemLinks, MemSink,
-    MemTicker, Sink, Ticker, read_file, write_all,
+    Failed, FileFault, Files, HeldLink, Hold, LineGot, Lines, LinesSent, Link, Links, MemFile,
+    MemFiles, MemLink, MemLinks, MemSink, MemTicker, Sink, Ticker, read_file, write_all,
 };
 use std::alloc::{AllocError, Global};
 use std::rt::Clock;
-use std::sync::Wait;
+use std::sync::atomic::{AtomicU64, Ordering};
+use std::sync::{Arc, Wait};
 use std::test::Fail;
+use std::thread::join;
 use tac_base::Tick;
 
 // A file `hello` of these five bytes, a file `empty`, and a file `long` of 200,000 bytes.
@@ -105,28 +108,129 @@ fn a_text_is_written_whole_or_in_part(rt: HostRuntime) -> Result<(), Fail> {
     Ok(())
 }
 
-// Listens on a port, and says whether no link comes.
-fn has_no_link<N: Links>(links: &mut N, port: u16) -> bool
-    requires { IfSome (N.ports links.old) (λ ports. ports ≡ []) }
+// The byte that the next link gives, `-` where none is left, or `!` for a fault.
+fn next_name<N: Links>(links: &mut N) -> u8
+    requires { IsTrue (N.listens links.old) }
+    ensures { IsTrue (N.listens links.new) }
 {
-    links.listen(port).is_ok() && matches!(links.next(), Ok(None)) && links.faults() == 0
+    let mut name = [0];
+    match links.next() {
+        Ok(Some(mut link)) => match link.read(&mut name) {
+            Ok(_) => name[0],
+            Err(Failed) => b'?',
+        },
+        Ok(None) => b'-',
+        Err(Failed) => b'!',
+    }
 }
 
-// Whether a tick is due, with no fault.
-fn is_due<R: Wait + Clock, T: Ticker + Send>(rt: &R, ticker: &mut T, tick: Tick) -> bool
-    requires { IfSome (T.waited ticker.old) (λ ticks. length ticks < 54) }
+// What comes of listening and asking for four links.
+fn names<N: Links>(links: &mut N) -> Option<[u8; 4]>
+    requires { IfSome (N.ports links.old) (λ ports. ports ≡ []) }
 {
-    ticker.pace(100);
-    ticker.wait(rt, tick).is_ok() && ticker.faults() == 0
+    links.listen(7000).ok()?;
+    Some([
+        next_name(links),
+        next_name(links),
+        next_name(links),
+        next_name(links),
+    ])
 }
 
 #[test]
-fn links_and_a_ticker_in_memory_answer(rt: HostRuntime) -> Result<(), Fail> {
+fn links_come_in_order_and_fail_where_stated(rt: HostRuntime) -> Result<(), Fail> {
     let alloc = rt.alloc();
-    let mut links: MemLinks<MemLink> = MemLinks::new(alloc);
-    assert!(rt; has_no_link(&mut links, 7000));
-    let mut ticker = MemTicker::new(alloc)?;
-    assert!(rt; is_due(&rt, &mut ticker, Tick::new(54)?));
+    for (failing, told) in [
+        (0, Some(*b"ab--")),
+        (1, None),
+        (2, Some(*b"!ab-")),
+        (3, Some(*b"a!b-")),
+        (5, Some(*b"ab-!")),
+        (6, Some(*b"ab--")),
+    ] {
+        let mut given = Vec::new(alloc);
+        for name in [b'a', b'b'] {
+            let bytes = vec![in alloc; name]?;
+            given.push(MemLink::new(alloc, bytes, 1, 0, Vec::new(alloc), Vec::new(alloc))?)?;
+        }
+        let mut links = MemLinks::new(given, vec![in alloc; failing]?);
+        assert_eq!(rt; names(&mut links), told, "call {failing}");
+        assert_eq!(rt;
+            links.faults(),
+            if failing == 0 || failing == 6 { 0 } else { 1 }
+        );
+    }
+    Ok(())
+}
+
+// Whether a tick is due in time.
+fn is_due<R: Wait + Clock, T: Ticker + Send>(rt: &R, ticker: &mut T, tick: Tick) -> bool
+    requires { IfSome (T.waited ticker.old) (λ ticks. length ticks < 54) }
+    ensures { (late : Bool) × (T.waited ticker.new ≡ and_then_told (T.waited ticker.old) ((tick, late) ∷ [])) }
+{
+    ticker.pace(100);
+    match ticker.wait(rt, tick) {
+        Ok(_) => true,
+        Err(lapse) => {
+            ticker.late(lapse);
+            false
+        }
+    }
+}
+
+#[test]
+fn a_ticker_lapses_at_a_stated_tick(rt: HostRuntime) -> Result<(), Fail> {
+    let alloc = rt.alloc();
+    let mut ticker = MemTicker::new(alloc, vec![in alloc; 2]?)?;
+    assert!(rt; is_due(&rt, &mut ticker, Tick::new(1)?));
+    assert!(rt; !is_due(&rt, &mut ticker, Tick::new(2)?));
+    assert!(rt; is_due(&rt, &mut ticker, Tick::new(3)?));
+    assert_eq!(rt; ticker.faults(), 1);
+    Ok(())
+}
+
+// A link of two lines. The second comes once another link was sent the ten lines of a welcome and
+// a reply.
+fn held(alloc: Global, lines_sent: &LinesSent, other: &LinesSent) -> Result<HeldLink, Fail> {
+    let bytes = b"hello\nquit\n".to_vec(alloc)?;
+    let hold = Hold {
+        read: 2,
+        other: Arc::try_clone(other)?,
+        lines: 11,
+    };
+    Ok(HeldLink::new(alloc, bytes, 100, Arc::try_clone(lines_sent)?, Some(hold))?)
+}
+
+// Welcomes a link and replies to each of its two lines. Says whether both came, the second not
+// before the other link was sent its reply.
+fn serves(link: HeldLink, other: &LinesSent) -> bool {
+    let mut lines = Lines::new(link);
+    let served = lines.send(b"1\n2\n3\n4\n5\n6\n7\n8\n9\n10\n").is_ok()
+        && lines.next() == LineGot::Line
+        && lines.line() == b"hello".as_slice()
+        && lines.send(b"ok\n").is_ok()
+        && lines.next() == LineGot::Line
+        && other.load(Ordering::SeqCst) >= 11
+        && lines.line() == b"quit".as_slice()
+        && lines.send(b"bye\n").is_ok()
+        && lines.next() == LineGot::End;
+    let link = lines.into_link();
+    served
+        && link.sent() == b"1\n2\n3\n4\n5\n6\n7\n8\n9\n10\nok\nbye\n".as_slice()
+        && link.faults() == 0
+        && link.write_faults() == 0
+}
+
+#[test]
+fn two_links_wait_for_one_another(rt: HostRuntime) -> Result<(), Fail> {
+    let alloc = rt.alloc();
+    let first = Arc::new(alloc, AtomicU64::new(0))?;
+    let second = Arc::new(alloc, AtomicU64::new(0))?;
+    let one = held(alloc, &first, &second)?;
+    let two = held(alloc, &second, &first)?;
+    let (one, two) = join(&rt, || serves(one, &second), || serves(two, &first));
+    assert!(rt; one);
+    assert!(rt; two);
     Ok(())
 }
 

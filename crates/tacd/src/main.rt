@@ -61,11 +61,11 @@ fn main(rt: HostRuntime) -> ExitCode {
         Ok(words) => words,
         Err(refusal) => return ExitCode::from(finish(&mut out, End::Refused(refusal))),
     };
-    let Ok(mut ticker) = MemTicker::new(rt.alloc()) else {
+    let Ok(mut ticker) = MemTicker::new(rt.alloc(), Vec::new(rt.alloc())) else {
         return ExitCode::from(finish(&mut out, End::Refused(Refusal::Memory)));
     };
     let mut files = HostFiles::new(&rt);
-    let mut links = MemLinks::<MemLink>::new(rt.alloc());
+    let mut links = MemLinks::<MemLink>::new(Vec::new(rt.alloc()), Vec::new(rt.alloc()));
     let answer = tac(
         &rt,
         rt.alloc(),

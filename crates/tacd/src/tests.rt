@@ -92,8 +92,8 @@ fn run_over<R: Threads + Sync + Wait + Clock>(
         faults.most_at_once,
         vec![in alloc; faults.write]?,
     )?;
-    let mut links = MemLinks::<MemLink>::new(alloc);
-    let mut ticker = MemTicker::new(alloc)?;
+    let mut links = MemLinks::<MemLink>::new(Vec::new(alloc), Vec::new(alloc));
+    let mut ticker = MemTicker::new(alloc, Vec::new(alloc))?;
     let answer = tac(
         rt,
         alloc,
