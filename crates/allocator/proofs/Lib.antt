@@ -1,4 +1,5 @@
 pub mod FullLeaves
+pub mod CeilingLaws
 pub mod Claims
 pub mod Growing
 pub mod AtHome

@@ -1,4 +1,5 @@
 pub mod Scarcity
+pub mod Ceilings
 pub mod Searching
 pub mod SolvedTexts
 pub mod Solutions

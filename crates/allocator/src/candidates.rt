@@ -6,9 +6,9 @@ ghost use Rattle.dual_bound.specs.Choices.{chosen};
 ghost use Rattle.allocator.specs.Searching.{IsOut, AreLeft};
 
 use crate::scarcity::scarcity_prices;
-use dual_bound::Choice;
+use dual_bound::{Choice, Relaxation};
 use game_text::Account;
-use packages::{Narrowing, Package, Prices, margin, package};
+use packages::{Narrowing, Package, package};
 
 /// The first package that is left to a client, 0..7: the one that uses nothing but what is fixed.
 fn first_left(choice: &Choice, client: usize) -> Option<Package>
@@ -46,39 +46,10 @@ pub(crate) fn first_choice(choice: &Choice) -> Option<[Package; 8]>
     Some(allocation)
 }
 
-/// The package that is worth most to a client, 0..7, beyond its cost at the prices: the one that it has, or one that is left to it.
-fn best_left(
-    account: &Account,
-    choice: &Choice,
-    prices: &Prices,
-    client: usize,
-    has: &Package,
-) -> Package
-    requires client { client < 8 }
-    requires lawful { IsPackage has.now }
-    ensures { IsPackage result }
-{
-    let wants = &account.clients[client];
-    let mut best = *has;
-    let mut most = margin(wants, prices, has);
-    for n in 0..393 {
-        if let Some(other) = package(n) {
-            if choice.keeps(client, &other) {
-                let more = margin(wants, prices, &other);
-                if more > most {
-                    best = other;
-                    most = more;
-                }
-            }
-        }
-    }
-    best
-}
-
 /// Lets the clients take better packages in turn, each at prices that keep it from what the packages so far use up.
 pub(crate) fn better_choice(
     account: &Account,
-    choice: &Choice,
+    relaxation: &Relaxation,
     first: &[Package; 8],
 ) -> [Package; 8]
     requires eight { length first.now ≡ 8 }
@@ -90,7 +61,7 @@ pub(crate) fn better_choice(
     for client in 0..8 {
         let prices = scarcity_prices(account, &allocation);
         let has = allocation[client];
-        allocation[client] = best_left(account, choice, &prices, client, &has);
+        allocation[client] = relaxation.best_left(client, &prices, &has);
     }
     allocation
 }

@@ -1,9 +1,10 @@
 //! The best allocation of an account, by branch and bound, with a certificate that none is worth more.
 #![tactic(auto)]
 
-mod allocations;
 mod candidates;
+mod ceilings;
 mod printing;
+mod quotes;
 mod scarcity;
 mod searching;
 mod solving;

@@ -6,7 +6,7 @@ ghost use Rattle.packages.specs.Prices.{ArePrices};
 ghost use Rattle.packages.specs.Stocks.{stock_of};
 ghost use Rattle.allocator.specs.Scarcity.{scarcity_price};
 
-use crate::allocations::is_used_up;
+use dual_bound::is_used_up;
 use game_text::Account;
 use packages::{Package, Prices};
 

@@ -2,7 +2,7 @@
 ghost use Rattle.std.specs.Prelude.{◌≡◌, ℕ, ◌+◌, ◌-◌, ◌/◌, ◌%◌, ◌<◌, ◌≤◌, ◌⊎◌, true, length, IsTrue, IfOk};
 ghost use Rattle.std.specs.List.{All};
 ghost use Rattle.packages.specs.Packages.{IsPackage};
-ghost use Rattle.packages.specs.Bounds.{leaf_bound};
+ghost use Rattle.packages.specs.Bounds.{leaf_bound, stock_value};
 ghost use Rattle.packages.specs.BestTotal.{total_of, used_by};
 ghost use Rattle.packages.specs.Prices.{ArePrices};
 ghost use Rattle.packages.specs.Stocks.{stock_of};
@@ -11,14 +11,16 @@ ghost use Rattle.bound_cert.specs.Trees.{is_tree};
 ghost use Rattle.bound_cert.specs.Views.{tree_of};
 ghost use Rattle.dual_bound.specs.Choices.{chosen, fixed_count};
 ghost use Rattle.bound_cert.specs.Certificate.{holds, is_within};
+ghost use Rattle.allocator.specs.Ceilings.{IsCeiling};
 ghost use Rattle.allocator.specs.Searching.{IsFull, IsReached};
 
-use crate::allocations::{is_enough, worth};
 use crate::candidates::{better_choice, first_choice};
+use crate::ceilings::Ceilings;
+use crate::quotes::Quote;
 use crate::scarcity::scarcity_prices;
 use crate::splits::{Split, next_split};
-use bound_cert::{CertNode, leaf_holds};
-use dual_bound::{Choice, Relaxation};
+use bound_cert::CertNode;
+use dual_bound::{Choice, Relaxation, is_enough, worth};
 use game_text::Account;
 use packages::{Package, Prices, value_count};
 use std::alloc::{AllocError, Global};
@@ -58,25 +60,25 @@ fn offer(account: &Account, chosen: &[Package; 8], best: &mut Found)
 }
 
 /// Offers the packages that the relaxation gives whole, and where it leaves some out, what the clients take better in turn.
-fn offer_left(account: &Account, choice: &Choice, relaxation: &Relaxation, best: &mut Found)
+fn offer_left(account: &Account, relaxation: &Relaxation, best: &mut Found)
     requires reached { IsReached account.now best.old.allocation best.old.total }
     ensures reached { IsReached account.now best.new.allocation best.new.total }
     ensures grows { best.old.total ≤ best.new.total }
 {
     let whole = relaxation.packages();
     offer(account, &whole, best);
-    offer(account, &better_choice(account, choice, &whole), best);
+    offer(account, &better_choice(account, relaxation, &whole), best);
 }
 
 /// Offers what the relaxation gives as it is decided feature by feature, a bounded number of times.
-fn dive(account: &Account, choice: &Choice, relaxation: &Relaxation, best: &mut Found)
+pub(crate) fn dive(account: &Account, relaxation: &Relaxation, best: &mut Found)
     requires reached { IsReached account.now best.old.allocation best.old.total }
     ensures reached { IsReached account.now best.new.allocation best.new.total }
     ensures grows { best.old.total ≤ best.new.total }
 {
     let mut left = *relaxation;
     for _ in 0..MOST_DECIDED {
-        offer_left(account, choice, &left, best);
+        offer_left(account, &left, best);
         match left.decided() {
             Some(decided) => left = decided,
             None => return,
@@ -84,22 +86,16 @@ fn dive(account: &Account, choice: &Choice, relaxation: &Relaxation, best: &mut 
     }
 }
 
-/// Offers what the relaxation gives, on the first levels as far as a dive goes.
-fn offer_near(
-    level: u8,
-    account: &Account,
-    choice: &Choice,
-    relaxation: &Relaxation,
-    best: &mut Found,
-)
+/// Offers what the relaxation gives, on the first levels as far as a dive goes. Before the first split that was done already.
+fn offer_near(level: u8, account: &Account, relaxation: &Relaxation, best: &mut Found)
     requires reached { IsReached account.now best.old.allocation best.old.total }
     ensures reached { IsReached account.now best.new.allocation best.new.total }
     ensures grows { best.old.total ≤ best.new.total }
 {
-    if level < DIVE_LEVELS {
-        dive(account, choice, relaxation, best);
-    } else {
-        offer_left(account, choice, relaxation, best);
+    if level >= DIVE_LEVELS {
+        offer_left(account, relaxation, best);
+    } else if level > 0 {
+        dive(account, relaxation, best);
     }
 }
 
@@ -121,13 +117,6 @@ fn full_prices(account: &Account, choice: &Choice, best: &mut Found) -> Prices
     scarcity_prices(account, &first)
 }
 
-/// Whether nothing that a choice leaves is worth more than the best so far, as far as the prices tell.
-fn is_settled(account: &Account, choice: &Choice, prices: &Prices, best: &Found) -> bool
-    ensures { result ≡ is_within (leaf_bound account.now (chosen choice.now) prices.now) best.now.total }
-{
-    leaf_holds(account, best.total, choice, prices)
-}
-
 /// The certificate of prices alone.
 fn leaf(prices: &Prices) -> CertNode
     ensures view { tree_of result ≡ trees.leaf prices.now }
@@ -138,46 +127,53 @@ fn leaf(prices: &Prices) -> CertNode
     CertNode::Leaf(*prices)
 }
 
-/// Searches what a choice leaves, where so many features are fixed, after the relaxation of more and its prices. After an
-/// error the best is a feasible allocation still.
+/// What is known where less is fixed: a relaxation, and whole prices with what they say.
+#[derive(Drop)]
+pub(crate) struct Before {
+    pub(crate) relaxation: Relaxation,
+    pub(crate) quote: Quote,
+}
+
+/// Searches what a choice leaves, where so many features are fixed. After an error the best is a feasible allocation still.
 pub(crate) fn explore(
     alloc: Global,
     account: &Account,
     level: u8,
     choice: &Choice,
-    before: &Relaxation,
-    prices_before: &Prices,
+    left: &Ceilings,
+    before: &Before,
     best: &mut Found,
 ) -> Result<CertNode, AllocError>
     requires level { level ≡ fixed_count choice.now }
+    requires ceiling { IsCeiling account.now (chosen choice.now) left.now.dollars }
+    requires stock { before.now.quote.stock_value ≡ stock_value account.now.holdings before.now.quote.prices }
     requires reached { IsReached account.now best.old.allocation best.old.total }
     ensures reached { IsReached account.now best.new.allocation best.new.total }
     ensures grows { best.old.total ≤ best.new.total }
     ensures holds { IfOk result (λ node. holds account.now best.new.total (chosen choice.now) (tree_of node) ≡ true) }
     ensures fits { IfOk result (λ node. is_tree (32 - level) (tree_of node) ≡ true) }
 {
-    if is_settled(account, choice, prices_before, best) {
-        return Ok(leaf(prices_before));
+    // The proof rests on the account's ranges, which are known where it is read.
+    let _holdings = &account.holdings;
+    if before.quote.holds(left, best.total) {
+        return Ok(leaf(&before.quote.prices));
     }
-    let relaxation = before.narrowed(choice);
-    offer_near(level, account, choice, &relaxation, best);
-    let prices = relaxation.prices_for(best.total);
-    if is_settled(account, choice, &prices, best) {
-        return Ok(leaf(&prices));
+    let relaxation = before.relaxation.narrowed(choice, best.total);
+    offer_near(level, account, &relaxation, best);
+    let quote = Quote::new(account, &relaxation.prices_for(best.total));
+    if quote.holds(left, best.total) {
+        return Ok(leaf(&quote.prices));
     }
-    let Some(Split { client, feature }) = next_split(
-        level,
-        choice,
-        &relaxation,
-        &prices,
-        best.total,
-    ) else {
+    let Some(Split { client, feature }) = next_split(choice, &relaxation, &quote.prices, best.total)
+    else {
         return Ok(leaf(&full_prices(account, choice, best)));
     };
+    let here = Before { relaxation, quote };
     let mut children = Vec::new(alloc);
     for value in 0..value_count(feature) {
         let next = choice.with(client, feature, value);
-        let child = explore(alloc, account, level + 1, &next, &relaxation, &prices, best)?;
+        let next_left = left.narrowed(client, feature, value);
+        let child = explore(alloc, account, level + 1, &next, &next_left, &here, best)?;
         children.push(child)?;
     }
     Ok(CertNode::Split {

@@ -4,9 +4,11 @@ ghost use Rattle.packages.specs.BestTotal.{IsBest, IsFeasible, total_of};
 ghost use Rattle.bound_cert.specs.Views.{tree_of};
 ghost use Rattle.bound_cert.specs.Certificate.{holds, all_left};
 
-use crate::searching::{Found, explore};
+use crate::ceilings::Ceilings;
+use crate::quotes::Quote;
+use crate::searching::{Before, Found, dive, explore};
 use bound_cert::Cert;
-use dual_bound::{Choice, Relaxation};
+use dual_bound::{Choice, Relaxation, dual_prices};
 use game_text::Account;
 use packages::{Package, Prices};
 use std::alloc::Global;
@@ -20,6 +22,15 @@ pub struct Solved {
     /// What the packages are worth to the clients together, 0..14000 dollars.
     pub total: u32,
     pub cert: Cert,
+}
+
+/// Prices that bound all by the total, as far as that may be.
+fn first_prices(account: &Account, relaxation: &Relaxation, total: u32) -> Prices {
+    if relaxation.is_worth_more(total) {
+        Prices { dollars: [0; 28] }
+    } else {
+        dual_prices(account, &Choice::none())
+    }
 }
 
 /// Finds a best allocation of an account's goods to its clients, by depth-first search. The one of several and the
@@ -36,13 +47,20 @@ pub fn solve(alloc: Global, account: &Account) -> Result<Solved, Memory>
         allocation: [Package::None; 8],
         total: 0,
     };
+    let relaxation = Relaxation::new(account);
+    dive(account, &relaxation, &mut best);
+    let prices = first_prices(account, &relaxation, best.total);
+    let before = Before {
+        relaxation,
+        quote: Quote::new(account, &prices),
+    };
     let root = explore(
         alloc,
         account,
         0,
         &Choice::none(),
-        &Relaxation::new(account),
-        &Prices { dollars: [0; 28] },
+        &Ceilings::new(account),
+        &before,
         &mut best,
     )?;
     Ok(Solved {

@@ -6,14 +6,8 @@ ghost use Rattle.allocator.specs.Searching.{IsFull};
 use dual_bound::{Choice, Relaxation};
 use packages::Prices;
 
-/// Splits are probed on so many levels.
-const PROBED_LEVELS: u8 = 6;
-
-/// Splits are probed where at most so many features are undecided.
-const MOST_PROBES: u32 = 12;
-
-/// What a split counts that tells nothing.
-const LAST: f64 = 1000000000.0;
+/// What a split counts that tells nothing, more than any other.
+const LAST: f64 = 1.0e30;
 
 /// A client, 0..7, and a feature of its package, 0..3.
 #[derive(Clone, Copy)]
@@ -22,33 +16,21 @@ pub(crate) struct Split {
     pub(crate) feature: u8,
 }
 
-/// How many splits the relaxation calls for.
-fn called_for_count(relaxation: &Relaxation) -> u32 {
-    let mut count = 0;
-    for place in 0..32 {
-        if relaxation.call_for(place / 4, place % 4) > 0.0 {
-            count += 1;
-        }
-    }
-    count
-}
-
-/// How far a split is from the best one, by the relaxations of its parts.
-fn probed(relaxation: &Relaxation, prices: &Prices, total: u32, split: &Split) -> f64
+/// How much a split leaves to search, as far as that is less than so much.
+fn left_by(relaxation: &Relaxation, prices: &Prices, total: u32, split: &Split, most: f64) -> f64
     requires { split.now.client < 8 }
 {
-    let (most, open) = relaxation.after_split(
-        usize::from(split.client),
-        split.feature,
-        prices,
-        f64::from(total),
-    );
-    most * 1000.0 + f64::from(open)
+    let client = usize::from(split.client);
+    let feature = usize::from(split.feature);
+    if relaxation.call_for(client, feature) > 0.0 {
+        relaxation.after_split(client, feature, prices, f64::from(total), most)
+    } else {
+        LAST
+    }
 }
 
-/// The next feature to split by, which is not fixed yet; none where all are.
+/// The next feature to split by, which is not fixed yet: the one that leaves least to search. None where all are fixed.
 pub(crate) fn next_split(
-    level: u8,
     choice: &Choice,
     relaxation: &Relaxation,
     prices: &Prices,
@@ -60,26 +42,18 @@ pub(crate) fn next_split(
     ensures few { IfSome result (λ _. fixed_count choice.now < 32) }
     ensures full { IfNone result (IsFull choice.now) }
 {
-    let is_probed = level < PROBED_LEVELS && called_for_count(relaxation) <= MOST_PROBES;
     let mut best = None;
-    let mut least = 0.0;
+    let mut least = LAST;
     for place in 0..32 {
         let split = Split {
             client: place / 4,
             feature: place % 4,
         };
         if !choice.is_fixed(split.client, split.feature) {
-            let called = relaxation.call_for(usize::from(split.client), usize::from(split.feature));
-            let distance = if called <= 0.0 {
-                LAST
-            } else if is_probed {
-                probed(relaxation, prices, total, &split)
-            } else {
-                -called
-            };
-            if best.is_none() || distance < least {
+            let after = left_by(relaxation, prices, total, &split, least);
+            if best.is_none() || after < least {
                 best = Some(split);
-                least = distance;
+                least = after;
             }
         }
     }

@@ -120,9 +120,9 @@ fn no_goods_are_told_with_one_leaf(rt: HostRuntime) -> Result<(), Fail> {
     let hold = "0 0 0 0 0 0 0 0 0 0 0 0 0 0 0 0 0 0 0 0 0 0 0 0 0 0 0 0";
     let account = account(alloc, hold, MIXED_CLIENTS)?;
     let text = print_solved(alloc, &solve(alloc, &account)?)?;
-    // A seat in costs the most that any client gets of a stay that begins on its day, so that no trip is worth more than it costs.
+    // A good of which there is none has the greatest price.
     let due =
-        b"total 0\npackage 0 none\npackage 1 none\npackage 2 none\npackage 3 none\npackage 4 none\npackage 5 none\npackage 6 none\npackage 7 none\ncert 1\nleaf 1290 1220 1060 1100 0 0 0 0 0 0 0 0 0 0 0 0 0 0 0 0 0 0 0 0 0 0 0 0\nend\n";
+        b"total 0\npackage 0 none\npackage 1 none\npackage 2 none\npackage 3 none\npackage 4 none\npackage 5 none\npackage 6 none\npackage 7 none\ncert 1\nleaf 14001 14001 14001 14001 14001 14001 14001 14001 14001 14001 14001 14001 14001 14001 14001 14001 14001 14001 14001 14001 14001 14001 14001 14001 14001 14001 14001 14001\nend\n";
     assert_eq!(rt; text.as_slice(), due.as_slice());
     Ok(())
 }

@@ -114,7 +114,7 @@ cost_together prices (p ∷ ps) =
     ap (λ n. cost_of prices p + n) (cost_together prices ps) ∙ more
 
 -- the cost of a feasible allocation is at most that of the stock
-cost_within : (account : AccountFile) (prices : List ℕ) (ps : List Package) → IsFeasible account ps → all_cost prices ps ≤ stock_value account.holdings prices
+pub cost_within : (account : AccountFile) (prices : List ℕ) (ps : List Package) → IsFeasible account ps → all_cost prices ps ≤ stock_value account.holdings prices
 cost_within account prices ps feasible =
     let price : ℕ → ℕ = λ good. get_or prices good 0 in
     let le = sum_below_le (λ good. price good * used_by ps good) (λ good. price good * stock_of account.holdings good) 28 (λ k lt. mul-le-mul_left (price k) (feasible.enough k lt)) in

@@ -7,6 +7,7 @@ use packages::{Package, feature_value, package};
 /// The features of all packages, by number 0..392.
 #[derive(Clone, Copy)]
 pub(crate) struct Features {
+    /// By package and feature 0..3.
     values: [[u8; 4]; 393],
 }
 
@@ -56,42 +57,6 @@ fn trip_charge(prices: &[f64; 37], hotel: usize, arrive: usize, depart: usize) -
     total
 }
 
-/// What the ticket of a type costs; no night costs nothing.
-fn ticket_charge(prices: &[f64; 37], kind: usize, night: usize) -> f64
-    requires kind { kind < 3 }
-    requires night { night < 5 }
-{
-    if night == 0 {
-        0.0
-    } else {
-        prices[15 + 4 * kind + night]
-    }
-}
-
-/// What the goods of a package cost. The package is one of the 393.
-pub(crate) fn charge(prices: &[f64; 37], package: &Package) -> f64
-    requires { IsPackage «package».now }
-{
-    match package {
-        Package::None => 0.0,
-        Package::Trip {
-            hotel,
-            arrive,
-            depart,
-            nights,
-        } => {
-            trip_charge(
-                prices,
-                usize::from(*hotel),
-                usize::from(*arrive),
-                usize::from(*depart),
-            ) + ticket_charge(prices, 0, usize::from(nights[0]))
-                + ticket_charge(prices, 1, usize::from(nights[1]))
-                + ticket_charge(prices, 2, usize::from(nights[2]))
-        }
-    }
-}
-
 /// The days of arrival and departure of a trip, by its rank 0..9.
 fn days(rank: usize) -> (usize, usize)
     requires { rank < 10 }
@@ -110,47 +75,35 @@ fn days(rank: usize) -> (usize, usize)
     }
 }
 
-/// What the trips cost without tickets, by the value of the feature 0..20.
-fn trip_charges(prices: &[f64; 37]) -> [f64; 21] {
-    let mut charges = [0.0; 21];
+/// What each value of a feature costs, each feature from its own place on.
+fn charge_table(prices: &[f64; 37]) -> [f64; 64] {
+    let mut table = [0.0; 64];
     for trip in 0..20 {
         let (arrive, depart) = days(trip % 10);
-        charges[1 + trip] = trip_charge(prices, trip / 10, arrive, depart);
+        table[1 + trip] = trip_charge(prices, trip / 10, arrive, depart);
     }
-    charges
+    for ticket in 0..12 {
+        table[25 + 8 * (ticket / 4) + ticket % 4] = prices[16 + ticket];
+    }
+    table
 }
 
-/// What the nights of a ticket type cost, by the value of the feature 0..4.
-fn ticket_charges(prices: &[f64; 37], kind: usize) -> [f64; 5]
-    requires { kind < 3 }
-{
-    [
-        0.0,
-        ticket_charge(prices, kind, 1),
-        ticket_charge(prices, kind, 2),
-        ticket_charge(prices, kind, 3),
-        ticket_charge(prices, kind, 4),
-    ]
+/// The charge in a place of the table.
+fn charge_at(table: &[f64; 64], place: u8) -> f64 {
+    table[usize::from(place) % 64]
 }
 
-/// The charge of a value, if there is one.
-fn charge_at(charges: &[f64], value: u8) -> f64 {
-    charges.get(usize::from(value)).copied().unwrap_or(0.0)
-}
-
-/// What each package costs, by number 0..392.
+/// What each package costs, by number 0..392. The second hotel has the ticket choices of the first.
 pub(crate) fn charges(features: &Features, prices: &[f64; 37]) -> [f64; 393] {
-    let trips = trip_charges(prices);
-    let first = ticket_charges(prices, 0);
-    let second = ticket_charges(prices, 1);
-    let third = ticket_charges(prices, 2);
+    let table = charge_table(prices);
     let mut charges = [0.0; 393];
-    for n in 0..393 {
-        let values = &features.values[n];
-        charges[n] = charge_at(&trips, values[0])
-            + charge_at(&first, values[1])
-            + charge_at(&second, values[2])
-            + charge_at(&third, values[3]);
+    for number in 1..197 {
+        let values = &features.values[number];
+        let tickets = charge_at(&table, 24 + values[1] % 8)
+            + charge_at(&table, 32 + values[2] % 8)
+            + charge_at(&table, 40 + values[3] % 8);
+        charges[number] = charge_at(&table, values[0]) + tickets;
+        charges[number + 196] = charge_at(&table, values[0] % 16 + 10) + tickets;
     }
     charges
 }

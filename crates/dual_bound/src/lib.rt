@@ -1,6 +1,7 @@
 //! Whole prices that bound what is left of an account's packages, by way of the relaxation to fractions of packages.
 #![tactic(auto)]
 
+mod allocations;
 mod charges;
 mod choices;
 mod relaxing;
@@ -12,6 +13,7 @@ mod tableau;
 mod tests;
 mod worths;
 
+pub use allocations::{is_enough, is_used_up, worth};
 pub use choices::Choice;
 pub use relaxing::Relaxation;
 pub use settling::dual_prices;

@@ -26,7 +26,7 @@ fn margin_at(worths: &[i32; 393], charges: &[f64; 393], number: usize) -> f64
 }
 
 /// The greatest of the margins of a client's packages, by four at a time.
-fn best_margin(worths: &[i32; 393], charges: &[f64; 393]) -> f64 {
+pub(crate) fn best_margin(worths: &[i32; 393], charges: &[f64; 393]) -> f64 {
     let mut most = [margin_at(worths, charges, 392); 4];
     for block in 0..98 {
         for lane in 0..4 {
@@ -63,11 +63,24 @@ impl Relaxation {
         bound
     }
 
+    /// The relaxation's price of a good, 0..27, raised by a part of a dollar and then cut to whole dollars; the greatest price of
+    /// a good of which there is none.
+    fn shifted_price(&self, good: usize, shift: f64) -> u16
+        requires { good < 28 }
+        ensures { result ≤ 14001 }
+    {
+        if self.stock[good] < 0.5 {
+            14001
+        } else {
+            whole(self.tableau.rows[36][good] + shift)
+        }
+    }
+
     /// The prices of the relaxation, each raised by a part of a dollar and then cut to whole dollars.
     fn shifted(&self, shift: f64) -> Prices {
         let mut dollars = [0; 28];
         for good in 0..28 {
-            dollars[good] = whole(self.tableau.rows[36][good] + shift);
+            dollars[good] = self.shifted_price(good, shift);
         }
         Prices { dollars }
     }
@@ -76,7 +89,7 @@ impl Relaxation {
     /// that they may bound what is left by it.
     pub fn prices_for(&self, total: u32) -> Prices {
         let best = self.rounded();
-        if self.value() > f64::from(total) + SMALL {
+        if self.is_worth_more(total) {
             best
         } else {
             self.moved(best, f64::from(total) + 1.0)

@@ -1,14 +1,19 @@
 // Prices of which none is worth moving by 50.
-ghost use Rattle.std.specs.Prelude.{◌≡◌, ℕ, ◌<◌, ◌≤◌, true, false, set, IfSome, IfNone};
+ghost use Rattle.std.specs.Prelude.{◌≡◌, ℕ, ◌<◌, ◌≤◌, true, false, set, length, IfSome, IfNone};
+ghost use Rattle.std.specs.List.{All};
+ghost use Rattle.bound_cert.specs.Certificate.{IsLeft};
+ghost use Rattle.packages.specs.Packages.{IsPackage};
 ghost use Rattle.packages.specs.Bounds.{leaf_bound};
 ghost use Rattle.packages.specs.Prices.{ArePrices};
 ghost use Rattle.dual_bound.specs.Choices.{chosen};
 ghost use Rattle.dual_bound.specs.Settled as settled;
 
+use crate::allocations::{is_enough, worth};
 use crate::choices::Choice;
 use crate::relaxing::Relaxation;
+use bound_cert::leaf_holds;
 use game_text::Account;
-use packages::{Prices, leaf_bound};
+use packages::{Narrowing, Package, Prices, leaf_bound};
 
 /// Whether a bound is lower than another, where both are there.
 fn is_lower(bound: Option<i64>, other: Option<i64>) -> bool
@@ -112,12 +117,50 @@ fn settle(account: &Account, choice: &Choice, start: Prices) -> Prices
     prices
 }
 
+/// Whether each client has its package left.
+fn are_left(choice: &Choice, allocation: &[Package; 8]) -> bool
+    requires lawful { All IsPackage allocation.now }
+    requires eight { length allocation.now ≡ 8 }
+    ensures { result ≡ true → IsLeft (chosen choice.now) allocation.now }
+{
+    for client in 0..8 {
+        if !choice.keeps(client, &allocation[client]) {
+            return false;
+        }
+    }
+    true
+}
+
+/// Whether packages that are left reach what the prices bound, so that no prices bound what is left lower.
+fn is_reached(
+    account: &Account,
+    choice: &Choice,
+    prices: &Prices,
+    allocation: &[Package; 8],
+) -> bool
+    requires lawful { All IsPackage allocation.now }
+    requires eight { length allocation.now ≡ 8 }
+    ensures { result ≡ true → settled.IsSettled account.now (chosen choice.now) prices.now }
+{
+    // The law of prices rests on the account's ranges, which are known where it is read.
+    let _holdings = &account.holdings;
+    are_left(choice, allocation)
+        && is_enough(account, allocation)
+        && leaf_holds(account, worth(account, allocation), choice, prices)
+}
+
 /// Whole prices for what a choice leaves of an account's packages, by which the leaf bound is low. No single price is worth
 /// moving by 50. That prices are found so is our own rule; any prices bound what is left.
 pub fn dual_prices(account: &Account, choice: &Choice) -> Prices
     ensures range { ArePrices result }
     ensures settled { settled.IsSettled account.now (chosen choice.now) result }
 {
-    let relaxation = Relaxation::new(account).narrowed(choice);
-    settle(account, choice, relaxation.prices())
+    let relaxation = Relaxation::new(account).narrowed(choice, 0);
+    let prices = relaxation.prices();
+    if is_reached(account, choice, &prices, &relaxation.packages()) {
+        // The range of the prices is known where they are read.
+        let _dollars = &prices.dollars;
+        return prices;
+    }
+    settle(account, choice, prices)
 }

@@ -4,7 +4,7 @@ ghost use Rattle.std.specs.List.{All};
 ghost use Rattle.packages.specs.Packages.{IsPackage};
 
 use crate::charges::charges;
-use crate::relaxing::Relaxation;
+use crate::relaxing::{Relaxation, best_package};
 use crate::rounding::row_of;
 use crate::tableau::{Column, SMALL};
 use packages::{Package, Prices, package};
@@ -49,6 +49,18 @@ impl Relaxation {
             }
         }
         numbered(held)
+    }
+
+    /// The package that is worth most to a client, 0..7, beyond its cost at the prices: one that is left to it, or the one that
+    /// it has.
+    pub fn best_left(&self, client: usize, prices: &Prices, has: &Package) -> Package
+        requires client { client < 8 }
+        requires lawful { IsPackage has.now }
+        ensures { IsPackage result }
+    {
+        let charges = charges(&self.features, &row_of(prices));
+        let (number, most) = best_package(&self.worths.dollars[client], &charges);
+        if most < 0.0 { *has } else { numbered(number) }
     }
 
     /// How much of a client's packages have each value of a feature, 0..3.
@@ -104,38 +116,43 @@ impl Relaxation {
         let place = self.most_called_for()?;
         let value = greatest_at(&self.shares(place / 4, place % 4));
         let mut left = *self;
-        left.narrow(place / 4, (place % 4) as u8, value as u8);
-        left.solve();
+        left.narrow(place / 4, place % 4, value as u8);
+        left.repair(0.0);
         Some(left)
     }
 
-    /// The least that any split by a client's feature leaves: the greatest value of the relaxations of its parts that whole
-    /// prices do not bound by a total, and the number of these parts.
-    pub fn after_split(&self, client: usize, feature: u8, prices: &Prices, total: f64) -> (f64, u32)
+    /// How much a split by a client's feature leaves to search: for each part of it that whole prices do not bound by a total,
+    /// the square of what its relaxation is worth beyond the total. Where that comes to so much, no more parts are looked at.
+    pub fn after_split(
+        &self,
+        client: usize,
+        feature: usize,
+        prices: &Prices,
+        total: f64,
+        most: f64,
+    ) -> f64
         requires { client < 8 }
     {
-        let bounds = self.bounds_of_parts(client, usize::from(feature), prices);
-        let mut most = total;
-        let mut open = 0;
+        let bounds = self.bounds_of_parts(client, feature, prices);
+        let mut sum = 0.0;
         for value in 0..21 {
-            if bounds[usize::from(value)] > total + SMALL {
-                let left = self.value_of_part(client, feature, value);
-                if left > total + SMALL {
-                    most = most.max(left);
-                    open += 1;
+            if bounds[usize::from(value)] > total + SMALL && sum < most {
+                let more = self.value_of_part(client, feature, value, total) - total;
+                if more > SMALL {
+                    sum += 1.0 + more * more;
                 }
             }
         }
-        (most, open)
+        sum
     }
 
-    /// What the relaxation of one part of a split is worth.
-    fn value_of_part(&self, client: usize, feature: u8, value: u8) -> f64
+    /// What the relaxation of one part of a split is worth, as far as it is more than a total.
+    fn value_of_part(&self, client: usize, feature: usize, value: u8, total: f64) -> f64
         requires { client < 8 }
     {
         let mut part = *self;
         part.narrow(client, feature, value);
-        part.solve();
+        part.repair(total);
         part.value()
     }
 

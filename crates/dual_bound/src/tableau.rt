@@ -1,8 +1,7 @@
 // The tableau of the relaxation, in which clients may have fractions of packages.
 ghost use Rattle.std.specs.Prelude.{◌<◌, ◌≤◌, IfSome};
 
-use crate::charges::charge;
-use packages::package;
+use packages::{Package, package};
 
 /// Differences below this are taken for errors of rounding.
 pub(crate) const SMALL: f64 = 0.0000001;
@@ -46,9 +45,10 @@ impl Tableau {
 
     /// What one more of a column takes from each member; last what it would gain, below 0.
     pub(crate) fn takes(&self, column: &Column, gain: f64) -> [f64; 37] {
+        let places = places_of(column);
         let mut takes = [0.0; 37];
         for member in 0..36 {
-            takes[member] = part(&self.rows[member], column);
+            takes[member] = part(&self.rows[member], &places);
         }
         takes[36] = -gain;
         takes
@@ -87,20 +87,58 @@ impl Tableau {
     }
 }
 
-/// What one more of a column takes by a row of the tableau.
-fn part(row: &[f64; 37], column: &Column) -> f64 {
+/// The place that no row has.
+const NOWHERE: usize = 37;
+
+/// The places of a row that a column takes up, at most ten; the others are nowhere.
+fn places_of(column: &Column) -> [usize; 10] {
     match column {
-        Column::Spare { good } => at(row, *good),
+        Column::Spare { good } => {
+            let mut places = [NOWHERE; 10];
+            places[0] = *good;
+            places
+        }
         Column::Holds { client, number } => {
-            if *number > 392 {
-                return 0.0;
-            }
-            match package(*number as u16) {
-                Some(choice) => charge(row, &choice) + at(row, 28 + (*client).min(8)),
-                None => 0.0,
+            let mut places = places_of_package((*number).min(392) as u16);
+            places[0] = 28 + (*client).min(8);
+            places
+        }
+    }
+}
+
+/// The places of the goods of a package, from the second on.
+fn places_of_package(number: u16) -> [usize; 10] {
+    let mut places = [NOWHERE; 10];
+    if let Some(
+        Package::Trip {
+            hotel,
+            arrive,
+            depart,
+            nights,
+        },
+    ) = package(number)
+    {
+        places[1] = usize::from(arrive) - 1;
+        places[2] = usize::from(depart) + 2;
+        for night in arrive..depart {
+            places[2 + usize::from(night)] = 7 + 4 * usize::from(hotel) + usize::from(night);
+        }
+        for kind in 0..3 {
+            if nights[kind] > 0 {
+                places[7 + kind] = 15 + 4 * kind + usize::from(nights[kind]);
             }
         }
     }
+    places
+}
+
+/// What one more of a column takes by a row of the tableau.
+fn part(row: &[f64; 37], places: &[usize; 10]) -> f64 {
+    let mut sum = 0.0;
+    for place in places {
+        sum += at(row, *place);
+    }
+    sum
 }
 
 /// The number at a place of a row.

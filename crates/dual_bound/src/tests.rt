@@ -55,7 +55,7 @@ fn choice_bounds_what_it_leaves(rt: HostRuntime) -> Result<(), Fail> {
 #[test]
 fn relaxation_gives_whole_packages_and_prices(rt: HostRuntime) -> Result<(), Fail> {
     let account = one_seat()?;
-    let relaxation = Relaxation::new(&account).narrowed(&Choice::none());
+    let relaxation = Relaxation::new(&account).narrowed(&Choice::none(), 0);
     let mut due = [Package::None; 8];
     due[1] = Package::Trip {
         hotel: 0,
@@ -72,13 +72,13 @@ fn relaxation_gives_whole_packages_and_prices(rt: HostRuntime) -> Result<(), Fai
 }
 
 #[test]
-fn part_of_a_split_is_worth_what_it_leaves(rt: HostRuntime) -> Result<(), Fail> {
+fn split_leaves_the_parts_that_are_worth_more(rt: HostRuntime) -> Result<(), Fail> {
     let account = one_seat()?;
-    let relaxation = Relaxation::new(&account).narrowed(&Choice::none());
+    let relaxation = Relaxation::new(&account);
     // All parts are worth at most 1150, and only the part where client 1 takes the trip is worth more than 1100.
     let prices = relaxation.prices_for(1150);
-    let (most, open) = relaxation.after_split(1, 0, &prices, 1100.0);
-    assert_eq!(rt; open, 1);
-    assert!(rt; most > 1149.0 && most < 1151.0);
+    let left = relaxation.after_split(1, 0, &prices, 1100.0, 1000000.0);
+    assert!(rt; left > 2500.0 && left < 2502.0);
+    assert!(rt; relaxation.after_split(1, 0, &prices, 1150.0, 1000000.0) <= 0.0);
     Ok(())
 }

@@ -39,7 +39,7 @@ greater_none : (most : Option ℤ) → greater most None ≡ most
 greater_none None = refl
 greater_none (Some a) = refl
 
-drop_past : {X : Type 0} (xs : List X) (n : ℕ) → length xs ≤ n → drop n xs ≡ []
+pub drop_past : {X : Type 0} (xs : List X) (n : ℕ) → length xs ≤ n → drop n xs ≡ []
 drop_past [] zero h = refl
 drop_past [] (suc n) h = refl
 drop_past (x ∷ xs) zero h = absurd (omega arith)

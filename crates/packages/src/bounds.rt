@@ -45,7 +45,7 @@ fn stock_value_at(account: &Account, prices: &Prices, good: usize) -> u64
 
 /// What the goods that an agent can use cost together at the prices, in dollars; a good of which it is short costs nothing.
 #[tactic(auto, using(crate::proofs::Sums::sum_below_more, crate::proofs::Sums::sum_below_none))]
-fn stock_value(account: &Account, prices: &Prices) -> u64
+pub fn stock_value(account: &Account, prices: &Prices) -> u64
     ensures value { result ≡ bounds.stock_value account.now.holdings prices.now }
     ensures few { result ≤ 28 * 2 ^ 48 }
 {
@@ -57,7 +57,7 @@ fn stock_value(account: &Account, prices: &Prices) -> u64
 }
 
 /// What the package is worth to the client beyond its cost, in dollars. The package is one of the 393.
-pub fn margin(client: &Client, prices: &Prices, package: &Package) -> i64
+fn margin(client: &Client, prices: &Prices, package: &Package) -> i64
     requires { IsPackage «package».now }
     ensures value { result ≡ bounds.margin_of client.now prices.now «package».now }
     ensures low { negsuc 126008 ≤ℤ result }

@@ -12,7 +12,7 @@ mod tests;
 mod travel_packages;
 mod utilities;
 
-pub use bounds::{Narrowing, leaf_bound, margin, stock};
+pub use bounds::{Narrowing, leaf_bound, stock, stock_value};
 pub use costs::cost;
 pub use features::{feature_value, value_count};
 pub use goods_used::uses;

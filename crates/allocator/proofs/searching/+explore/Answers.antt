@@ -1,9 +1,13 @@
-use Rattle.std.proofs.Common.{◌≡◌, ◌-◌, ◌<◌, true, [], ◌∷◌, length-append, subst, ◌∙◌, arith}
+use Rattle.std.proofs.Common.{◌≡◌, ◌+◌, ◌-◌, ◌<◌, true, [], ◌∷◌, length-append, sym, ap, subst, ◌∙◌, rules, arith}
+use Rattle.game_text.specs.Accounts.{IsAccount}
+use Rattle.packages.specs.Bounds.{stock_value}
 use Rattle.bound_cert.specs.Trees.{is_tree}
 use Rattle.bound_cert.specs.Views.{tree_of, forest_of}
 use Rattle.bound_cert.specs.Certificate.{holds}
 use Rattle.packages.specs.Features.{narrowed}
-use Rattle.dual_bound.specs.Choices.{chosen}
+use Rattle.dual_bound.specs.Choices.{chosen, fixed_count}
+use Rattle.allocator.specs.Ceilings.{IsCeiling}
+use Rattle.allocator.proofs.CeilingLaws.{ceiling_narrowed}
 use Rattle.allocator.proofs.Claims.{all_hold_more}
 use Rattle.allocator.proofs.Growing.{all_hold-push, are_trees-push, holds-split, is_tree-split, leaf_fits}
 use Rattle.allocator.proofs.searching.+explore.Goals as goal
@@ -28,11 +32,11 @@ loop-value-preserved t c =
       fit = rw c.in_ok-push.ensures.items (are_trees-push (31 - c.args.level) l.children.items child l.invariant.fit fits);
     }
 
-pub returns-then-is_settled-clause-fits : goal.returns-then-is_settled-clause-fits
-returns-then-is_settled-clause-fits t c = leaf_fits (32 - c.args.level) c.leaf.result c.args.prices_before.now c.leaf.ensures.view (c.leaf.ensures.fits (32 - c.args.level))
+pub returns-then-holds-clause-fits : goal.returns-then-holds-clause-fits
+returns-then-holds-clause-fits t c = leaf_fits (32 - c.args.level) c.leaf.result c.args.before.now.quote.prices c.leaf.ensures.view (c.leaf.ensures.fits (32 - c.args.level))
 
-pub returns-then-is_settled-2-clause-fits : goal.returns-then-is_settled-2-clause-fits
-returns-then-is_settled-2-clause-fits t c = leaf_fits (32 - c.args.level) c.leaf-then-is_settled-2.result c.prices_for-prices.result c.leaf-then-is_settled-2.ensures.view (c.leaf-then-is_settled-2.ensures.fits (32 - c.args.level))
+pub returns-then-holds-2-clause-fits : goal.returns-then-holds-2-clause-fits
+returns-then-holds-2-clause-fits t c = leaf_fits (32 - c.args.level) c.leaf-then-holds-2.result c.new-quote.result.prices c.leaf-then-holds-2.ensures.view (c.leaf-then-holds-2.ensures.fits (32 - c.args.level))
 
 pub returns-in_default-clause-fits : goal.returns-in_default-clause-fits
 returns-in_default-clause-fits t c = leaf_fits (32 - c.args.level) c.leaf-in_default.result c.full_prices.result c.leaf-in_default.ensures.view (c.leaf-in_default.ensures.fits (32 - c.args.level))
@@ -47,3 +51,15 @@ returns-clause-fits t c =
     let l = c.loop-value in
     let deep : c.args.level < 32 = omega (arith, c.requires.level, c.in-Some.ensures.few) in
     is_tree-split c.args.level c.in-Some.field-0.client c.in-Some.field-0.feature l.children deep c.in-Some.ensures.client c.in-Some.ensures.feature (omega (arith, l.invariant.count, c.value_count-value-end.ensures)) l.invariant.fit
+
+pub explore-requires : goal.explore-requires
+explore-requires t c =
+    let account = c.args.account.now in
+    let ranges = subst IsAccount c.account.view_is c.account.invariant in
+    let deep : c.args.level < 32 = omega (arith, c.requires.level, c.in-Some.ensures.few) in
+    let level : c.args.level + 1 ≡ fixed_count c.with-next.result = omega (arith, c.requires.level, c.with-next.ensures.count) in
+    let table = c.narrowed-next_left.result.dollars in
+    let narrow = ceiling_narrowed account ranges (chosen c.args.choice.now) c.in-Some.field-0.client c.in-Some.field-0.feature c.loop-value.value c.args.left.now.dollars table c.requires.ceiling c.narrowed-next_left.ensures in
+    let ceiling = subst (λ left. IsCeiling account left table) (sym c.with-next.ensures.left) narrow in
+    let stock : c.new-quote.result.stock_value ≡ stock_value account.holdings c.new-quote.result.prices = c.new-quote.ensures.stock ∙ ap (stock_value account.holdings) (sym c.new-quote.ensures.prices) in
+    (search rules, (level, (ceiling, (stock, c.loop-value.invariant.reached))))

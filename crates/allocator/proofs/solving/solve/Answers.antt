@@ -6,8 +6,8 @@ use Rattle.allocator.proofs.AtHome.{reached_none}
 use Rattle.allocator.proofs.ChoiceStart.{holds_at_start}
 use Rattle.allocator.proofs.solving.solve.Goals as goal
 
-pub explore-requires-clause-reached : goal.explore-requires-clause-reached
-explore-requires-clause-reached c = reached_none c.args.account.now
+pub dive-requires : goal.dive-requires
+dive-requires c = record { reached = reached_none c.args.account.now }
 
 pub returns-clause-holds : goal.returns-clause-holds
 returns-clause-holds c = holds_at_start c.args.account.now c.explore.new.best.total c.none.result (tree_of c.in_ok-root.root) c.none.ensures c.in_ok-root.ensures.holds

@@ -10,6 +10,6 @@ pub loop-good-preserved : goal.loop-good-preserved
 loop-good-preserved c =
     let l = c.loop-good in
     record {
-      count = omega (arith, length-set l.dollars l.good c.whole.result, l.invariant.count);
-      each = All-set (λ price. price ≤ 14001) l.dollars l.good c.whole.result c.whole.ensures l.invariant.each;
+      count = omega (arith, length-set l.dollars l.good c.shifted_price.result, l.invariant.count);
+      each = All-set (λ price. price ≤ 14001) l.dollars l.good c.shifted_price.result c.shifted_price.ensures l.invariant.each;
     }

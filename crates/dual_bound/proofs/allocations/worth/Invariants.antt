@@ -1,6 +1,6 @@
 use Rattle.std.proofs.Common.{◌≡◌, ◌+◌, ◌*◌, ◌≤◌, drop}
 use Rattle.packages.specs.BestTotal.{total_of}
-use Rattle.allocator.proofs.allocations.worth.Given as goal
+use Rattle.dual_bound.proofs.allocations.worth.Given as goal
 
 abbrev pub invariant-loop-number : goal.invariant-loop-number
 invariant-loop-number l = record {

@@ -1,6 +1,6 @@
 use Rattle.std.proofs.Common.{◌≡◌, ◌≤◌, sum_by, take}
 use Rattle.packages.specs.Packages.{use_of}
-use Rattle.allocator.proofs.allocations.used.Given as goal
+use Rattle.dual_bound.proofs.allocations.used.Given as goal
 
 abbrev pub invariant-loop-package : goal.invariant-loop-package
 invariant-loop-package l = record {

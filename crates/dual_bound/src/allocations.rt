@@ -30,8 +30,9 @@ fn used(allocation: &[Package; 8], good: Good) -> u32
     total
 }
 
-/// Whether the packages use up the good of a number, 0..27: nothing of it is left, or more is used than there is.
-pub(crate) fn is_used_up(account: &Account, allocation: &[Package; 8], number: u8) -> bool
+/// Whether the packages, each one of the 393, use up the good of a number, 0..27: nothing of it is left, or more is used than
+/// there is.
+pub fn is_used_up(account: &Account, allocation: &[Package; 8], number: u8) -> bool
     requires lawful { All IsPackage allocation.now }
     requires good { number < 28 }
     ensures { result ≡ nat_le (stock_of account.now.holdings number) (used_by allocation.now number) }
@@ -39,8 +40,8 @@ pub(crate) fn is_used_up(account: &Account, allocation: &[Package; 8], number: u
     stock(account, usize::from(number)) <= used(allocation, good(number))
 }
 
-/// Whether the packages use no more of any good than there is.
-pub(crate) fn is_enough(account: &Account, allocation: &[Package; 8]) -> bool
+/// Whether the packages, each one of the 393, use no more of any good than there is.
+pub fn is_enough(account: &Account, allocation: &[Package; 8]) -> bool
     requires { All IsPackage allocation.now }
     ensures enough { IsTrue result → (good : ℕ) → good < 28 → used_by allocation.now good ≤ stock_of account.now.holdings good }
     ensures short { result ≡ false → (good : ℕ) × (good < 28) × (stock_of account.now.holdings good < used_by allocation.now good) }
@@ -53,8 +54,8 @@ pub(crate) fn is_enough(account: &Account, allocation: &[Package; 8]) -> bool
     true
 }
 
-/// What the packages are worth to the clients together, in dollars.
-pub(crate) fn worth(account: &Account, allocation: &[Package; 8]) -> u32
+/// What the packages, each one of the 393, are worth to the clients together, in dollars.
+pub fn worth(account: &Account, allocation: &[Package; 8]) -> u32
     requires lawful { All IsPackage allocation.now }
     requires eight { length allocation.now ≡ 8 }
     ensures value { result ≡ total_of account.now.clients allocation.now }
