@@ -16,6 +16,11 @@ use Rattle.auction_rules.specs.Legal.{Legal, IsLawful, entry_of, entry_by, admit
 use Rattle.auction_rules.specs.Refusals.{refusal}
 use Rattle.auction_core.specs.Auctions.{AuctionHistory}
 use Rattle.turn_lock.specs.TurnRule.{AreNotes}
+use Rattle.floor.specs.declared.desk.Desk.{Desk}
+use Rattle.floor.specs.declared.outcomes.Outcome.{Outcome}
+use Rattle.floor.specs.declared.outcomes.Outcome.TheVariants.{At, Spent}
+use Rattle.floor.specs.Desks.{desk_caller}
+use Rattle.floor.specs.Answers.{IsOutcome, TakesLawfulBid}
 use Rattle.floor.specs.Closing.{board_of, AreBoards, TakesLawfulBids}
 
 module _ {A : Type 0} where
@@ -89,6 +94,17 @@ taken_by setup past caller points none = ap (λ r. (entry_by setup past caller (
 lawful_at : (setup : Setup) (later : List Entry) (e : Entry) (past : List Entry) → IsLawful setup (later ++ e ∷ past) → e ≡ entry_of setup past e.caller e.call
 lawful_at setup [] e past lawful = lawful.0
 lawful_at setup (x ∷ later) e past lawful = lawful_at setup later e past lawful.1
+
+-- the last entry of a legal history is the one that the rules give after the others
+pub last_is_ruled : (setup : Setup) (before : List Entry) (e : Entry) → Legal setup (before ++ e ∷ []) → e ≡ entry_of setup (reverse before) e.caller e.call
+last_is_ruled setup before e legal = (subst (IsLawful setup) (reverse-append before (e ∷ [])) legal.lawful).0
+
+-- an answered bid has the reply of the rules, so it is taken where none of their refusals applies
+pub takes_lawful_bid : (before after : Desk) (good : ℕ) (points : Points) (outcome : Outcome) → IsOutcome before after good (Bid points) outcome → TakesLawfulBid before after good points outcome
+takes_lawful_bid before after good points Spent outcome = tt
+takes_lawful_bid before after good points (At position reply) outcome =
+    let told = outcome.1 in
+    (told, λ none. (_, _, sym told.reply ∙ (ap (λ (e : Entry). e.reply) told.ruled ∙ taken_by told.setup (reverse told.earlier) (desk_caller before) points none)))
 
 split_at : (h : List Entry) (k : ℕ) (e : Entry) → slice_get h k ≡ Some e → (later : List Entry) × (h ≡ take k h ++ e ∷ later)
 split_at [] k e at = let never : None ≡ Some e = at in absurd cc

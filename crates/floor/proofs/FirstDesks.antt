@@ -1,5 +1,7 @@
--- The first of a list, by what the list is read by; and the list with the first two put back.
-use Rattle.std.proofs.Common.{◌≡◌, List, [], ◌∷◌, ◌++◌, map, drop, get_or, sym, ap, ◌∙◌, append-nil}
+-- The first of a list, by what the list is read by; the list with the first two put back; and entries where there is none.
+use Rattle.std.proofs.Common.{◌≡◌, ℕ, zero, suc, ◌<◌, List, [], ◌∷◌, ◌++◌, map, drop, get_or, sym, ap, ◌∙◌, append-nil, length, replicate, refl, subst, arith}
+use Rattle.auction_rules.specs.History.{Entry}
+use Rattle.floor.specs.Keeping.{count_entries}
 
 module _ {A B : Type 0} where
   -- the first element is read as the first value, and the others as the others
@@ -13,3 +15,13 @@ module _ {A B : Type 0} where
   put_back f all all0 all1 none desks rest rest' left a b a' b' kept end empty first second same whole fa fb =
       let two : all0 ≡ a' ∷ b' ∷ [] = second ∙ ap (λ (l : List A). l ++ b' ∷ []) (first ∙ ap (λ (l : List A). l ++ a' ∷ []) empty) in
       sym (ap (λ (l : List A). map f all ++ map f l) end ∙ append-nil (map f all)) ∙ (kept ∙ ((λ i. map f (two i) ++ map f (same i)) ∙ ((λ i. fa i ∷ fb i ∷ map f rest) ∙ sym (ap (map f) whole))))
+
+none_at : (A : Type 0) (n k : ℕ) → let none : List A = [] in length (get_or (replicate n none) k none) ≡ 0
+none_at A zero k = refl
+none_at A (suc n) zero = refl
+none_at A (suc n) (suc k) = none_at A n k
+
+-- where there is no entry at any good
+pub idle : (entries : List (List (ℕ × Entry))) → entries ≡ replicate 28 [] → ((good : ℕ) → length (get_or entries good []) < 64) × (count_entries entries < 480)
+idle entries none = subst (λ (l : List (List (ℕ × Entry))). ((good : ℕ) → length (get_or l good []) < 64) × (count_entries l < 480)) (sym none)
+    (λ good. let zero_long = none_at (ℕ × Entry) 28 good in omega arith, omega arith)

@@ -3,20 +3,21 @@ use Rattle.std.proofs.Common.{◌≡◌, ℕ, zero, suc, ◌<◌, List, [], ◌�
 use Rattle.std.proofs.lemmas.List.{map_push, replicate_more, length_push}
 use mathlib.Core.Option.{some, some-injective, some-ne-none}
 use lib.ListN.{get_elem?}
-use Rattle.atomic_table.specs.Seated.{TableId}
+use Rattle.auction_core.specs.Auctions.{AuctionHistory}
 use Rattle.auction_rules.specs.History.{Entry}
 use Rattle.auction_rules.specs.Legal.{cap}
 use Rattle.trade_ledger.specs.declared.cash_calls.CashEntry.{CashEntry}
 use Rattle.trade_ledger.specs.CashHistory.{cash_cap}
 use Rattle.turn_lock.specs.declared.kept.Kept.{Ghosts}
 use Rattle.turn_lock.specs.declared.pass.Pass.{Pass}
-use Rattle.turn_lock.specs.Passes.{lock_of, caller_of, left_of, made_by, noted_by, seen_by}
+use Rattle.turn_lock.specs.Passes.{LockId, lock_of, caller_of, left_of, made_by, noted_by, seen_by}
 use Rattle.floor.specs.Rows.{with_each}
 use Rattle.floor.specs.Dealing.{IsFresh, AreFresh, MakeDesk}
 use Rattle.floor.specs.declared.desk.Desk.{Desk}
 use Rattle.floor.specs.Desks.{IsNewDesk}
 use Rattle.floor.proofs.Tables.{with_each_at}
 use Rattle.floor.proofs.Desks.{kept_first, kept_as}
+use Rattle.floor.proofs.Orders.{order_as, order_first}
 
 -- how many calls each caller may make
 pub calls_are : (i : ℕ) → i < 9 → get_or (1024 ∷ 1024 ∷ 1024 ∷ 1024 ∷ 1024 ∷ 1024 ∷ 1024 ∷ 1024 ∷ 64 ∷ []) i 0 ≡ cap i
@@ -50,12 +51,12 @@ at_replicate (suc n) a x (suc i) at = at_replicate n a x i at
 
 module _ {S C R G E : Type 0} {K : Ghosts S C R G E} where
   -- one more of each in two lists
-  longer : {A : Type 0} (f : Pass S C R G E K → A) (ids : List TableId) (id : TableId) (hand : List (Pass S C R G E K)) (p : Pass S C R G E K) (a : A)
+  longer : {A : Type 0} (f : Pass S C R G E K → A) (ids : List (LockId S)) (id : LockId S) (hand : List (Pass S C R G E K)) (p : Pass S C R G E K) (a : A)
       → map f hand ≡ replicate (length ids) a → f p ≡ a → map f (hand ++ p ∷ []) ≡ replicate (length (ids ++ id ∷ [])) a
   longer {A = A} f ids id hand p a before is =
       map_push f hand p ∙ ((λ k. before k ++ is k ∷ []) ∙ (replicate_more (length ids) a ∙ ap (λ (n : ℕ). replicate n a) (sym (length_push ids id))))
 
-  pub record IsFreshPass (id : TableId) (caller left : ℕ) (p : Pass S C R G E K) : Type 0 where
+  pub record IsFreshPass (id : LockId S) (caller left : ℕ) (p : Pass S C R G E K) : Type 0 where
     pub lock : lock_of p ≡ id
     pub caller_is : caller_of p ≡ caller
     pub left_is : left_of p ≡ left
@@ -63,7 +64,7 @@ module _ {S C R G E : Type 0} {K : Ghosts S C R G E} where
     pub noted : noted_by p ≡ []
     pub seen : seen_by p ≡ 0
 
-  fresh_more : {ids : List TableId} {id : TableId} {caller left : ℕ} {hand : List (Pass S C R G E K)} {p : Pass S C R G E K} → IsFresh ids caller left hand → IsFreshPass id caller left p
+  fresh_more : {ids : List (LockId S)} {id : LockId S} {caller left : ℕ} {hand : List (Pass S C R G E K)} {p : Pass S C R G E K} → IsFresh ids caller left hand → IsFreshPass id caller left p
       → IsFresh (ids ++ id ∷ []) caller left (hand ++ p ∷ [])
   fresh_more {ids = ids} {id = id} {caller = caller} {left = left} {hand = hand} {p = p} fresh one = record {
     locks = map_push (λ q. lock_of q) hand p ∙ (λ k. fresh.locks k ++ one.lock k ∷ []);
@@ -74,7 +75,7 @@ module _ {S C R G E : Type 0} {K : Ghosts S C R G E} where
     seen = longer (λ q. seen_by q) ids id hand p 0 fresh.seen one.seen;
   }
 
-  pub fresh_dealt : (ids : List TableId) (id : TableId) (left : ℕ → ℕ) (hands : List (List (Pass S C R G E K))) (passes : List (Pass S C R G E K)) → AreFresh ids left hands → length hands ≡ length passes
+  pub fresh_dealt : (ids : List (LockId S)) (id : LockId S) (left : ℕ → ℕ) (hands : List (List (Pass S C R G E K))) (passes : List (Pass S C R G E K)) → AreFresh ids left hands → length hands ≡ length passes
       → ((i : ℕ) (p : Pass S C R G E K) → get_elem? passes i ≡ some p → IsFreshPass id i (left i) p) → AreFresh (ids ++ id ∷ []) left (with_each hands passes)
   fresh_dealt ids id left hands passes fresh long one caller after at =
       let t = with_each_at hands passes caller after long at in
@@ -84,11 +85,14 @@ module _ {S C R G E : Type 0} {K : Ghosts S C R G E} where
   fresh_first left caller passes at = subst (IsFresh [] caller (left caller)) (at_replicate 9 [] passes caller at) (record { locks = refl; callers = refl; lefts = refl; made = refl; noted = refl; seen = refl })
 
 module _ {S C R G T D Q H : Type 0} {K : Ghosts S C R G Entry} {L : Ghosts T D Q H CashEntry} where
-  pub make_desk : (ids : List TableId) (id : TableId) (i : ℕ) (hand : List (Pass S C R G Entry K)) (cash : Pass T D Q H CashEntry L) → length ids ≡ 28 → IsFresh ids i (cap i) hand → IsFreshPass id i (cash_cap i) cash → MakeDesk hand cash
-  make_desk ids id i hand cash long fresh one = kept_as (kept_first i) one.caller_is
-      (fresh.callers ∙ ap (λ (n : ℕ). replicate n i) long) (fresh.lefts ∙ ap (λ (n : ℕ). replicate n (cap i)) long) (fresh.made ∙ ap (λ (n : ℕ). replicate n []) long) one.left_is one.made refl
+  pub make_desk : (ids : List (LockId S)) (id : LockId T) (i : ℕ) (hand : List (Pass S C R G Entry K)) (cash : Pass T D Q H CashEntry L) → length ids ≡ 28 → IsFresh ids i (cap i) hand → IsFreshPass id i (cash_cap i) cash → MakeDesk hand cash
+  make_desk ids id i hand cash long fresh one = (
+    kept_as (kept_first i) one.caller_is
+        (fresh.callers ∙ ap (λ (n : ℕ). replicate n i) long) (fresh.lefts ∙ ap (λ (n : ℕ). replicate n (cap i)) long) (fresh.made ∙ ap (λ (n : ℕ). replicate n []) long) one.left_is one.made refl,
+    order_as order_first (fresh.made ∙ ap (λ (n : ℕ). replicate n []) long) (fresh.noted ∙ ap (λ (n : ℕ). replicate n []) long) (fresh.seen ∙ ap (λ (n : ℕ). replicate n 0) long),
+  )
 
-pub new_desk : (d : Desk) (i : ℕ) (ids : List TableId) (id : TableId) → length ids ≡ 28 → IsFresh ids i (cap i) d.passes.items → IsFreshPass id i (cash_cap i) d.cash → IsNewDesk (ids, id) i d
+pub new_desk : (d : Desk) (i : ℕ) (ids : List (LockId AuctionHistory)) (id : LockId (List CashEntry)) → length ids ≡ 28 → IsFresh ids i (cap i) d.passes.items → IsFreshPass id i (cash_cap i) d.cash → IsNewDesk (ids, id) i d
 new_desk d i ids id long fresh one = record {
   ids = λ k. (fresh.locks k, one.lock k);
   caller = one.caller_is;

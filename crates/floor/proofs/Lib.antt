@@ -3,6 +3,7 @@ pub mod Tables
 pub mod Posts
 pub mod CashReplies
 pub mod Desks
+pub mod Orders
 pub mod FreshPasses
 pub mod BornOut
 pub mod Told

@@ -1,11 +1,20 @@
 -- Lists beside one another, and one of them after a change at one place.
-use Rattle.std.proofs.Common.{◌≡◌, ℕ, ◌<◌, List, [], ◌∷◌, map, length, get_or, set, sym, refl, ap, ◌∙◌, arith}
+use Rattle.std.proofs.Common.{◌≡◌, ℕ, zero, suc, ◌+◌, ◌<◌, List, [], ◌∷◌, Option, Some, slice_get, map, length, get_or, set, sym, refl, ap, ◌∙◌, arith}
+use Rattle.std.specs.Prelude.{option_and_then}
+use Rattle.std.specs.Option.{option_map}
+use Rattle.std.specs.List.{range_with_len}
 use Rattle.std.proofs.lemmas.List.{length-map, get_or-map, map-set, set-get_or}
 
 module _ {A B : Type 0} where
   -- what stands at a place of a list that is read by a function
   pub map_get : (f : A → B) (xs : List A) (k : ℕ) (x : A) (d : B) → k < length xs → x ≡ get_or xs k x → get_or (map f xs) k d ≡ f x
   map_get f xs k x d inside is = get_or-map f xs k x d inside ∙ ap f (sym is)
+
+  -- what a place of a list that is read by a function has, where there is such a place
+  pub map_at : (f : A → B) (xs : List A) (k : ℕ) (x : A) → k < length xs → x ≡ get_or xs k x → slice_get (map f xs) k ≡ Some (f x)
+  map_at f [] k x inside is = absurd (omega arith)
+  map_at f (y ∷ ys) zero x inside is = ap (λ (z : A). Some (f z)) (sym is)
+  map_at f (y ∷ ys) (suc k) x inside is = map_at f ys k x (omega arith) is
 
   pub map_set : (f : A → B) (xs : List A) (k : ℕ) (x : A) (y : B) → f x ≡ y → map f (set xs k x) ≡ set (map f xs) k y
   map_set f xs k x y is = map-set f xs k x ∙ ap (λ (z : B). set (map f xs) k z) is
@@ -24,3 +33,18 @@ module _ {A B C : Type 0} where
   pub map_of : (f : B → C) (h : A → B) (xs : List A) → map f (map h xs) ≡ map (λ x. f (h x)) xs
   map_of f h [] = refl
   map_of f h (x ∷ xs) = ap (λ (l : List C). f (h x) ∷ l) (map_of f h xs)
+
+module _ {A B C D : Type 0} where
+  -- what is read at a place of a list in two ways that agree
+  pub read_twice : (f : A → B) (h : A → C) (by_f : B → Option D) (by_h : C → D) → ((x : A) → by_f (f x) ≡ Some (by_h (h x))) → (xs : List A) (k : ℕ)
+      → option_and_then by_f (slice_get (map f xs) k) ≡ option_map by_h (slice_get (map h xs) k)
+  read_twice f h by_f by_h same [] k = refl
+  read_twice f h by_f by_h same (x ∷ xs) zero = same x
+  read_twice f h by_f by_h same (x ∷ xs) (suc k) = read_twice f h by_f by_h same xs k
+
+module _ {A : Type 0} where
+  -- what a place of a list has that is made of numbers in order
+  pub at_numbered : (f : ℕ → A) (from n k : ℕ) → k < n → slice_get (map f (range_with_len from n)) k ≡ Some (f (from + k))
+  at_numbered f from zero k inside = absurd (omega arith)
+  at_numbered f from (suc n) zero inside = ap (λ (j : ℕ). Some (f j)) (omega arith)
+  at_numbered f from (suc n) (suc k) inside = at_numbered f (from + 1) n k (omega arith) ∙ ap (λ (j : ℕ). Some (f j)) (omega arith)

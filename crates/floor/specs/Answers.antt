@@ -1,10 +1,16 @@
 -- What each call of a desk answers and adds.
-use Rattle.std.specs.Prelude.{⊤, ◌≡◌, ℕ, ◌+◌, ◌<◌, ◌≤◌, [], ◌∷◌, ◌++◌, length, slice_set}
+use Rattle.std.specs.Prelude.{⊤, ◌≡◌, ℕ, ◌+◌, ◌<◌, ◌≤◌, List, [], ◌∷◌, ◌++◌, length, reverse, slice_set, Some, None}
 use Rattle.tac_base.specs.declared.calls.Call.{Call}
-use Rattle.tac_base.specs.declared.calls.Call.TheVariants.{Update, Publish, Close}
+use Rattle.tac_base.specs.declared.calls.Call.TheVariants.{Bid, Update, Publish, Close}
+use Rattle.tac_base.specs.declared.bids.Points.{Points}
 use Rattle.tac_base.specs.declared.calls.Reply.{Reply}
+use Rattle.tac_base.specs.declared.calls.Reply.TheVariants.{Taken}
 use Rattle.tac_base.specs.declared.calls.Board.{Board}
 use Rattle.auction_rules.specs.History.{Entry}
+use Rattle.auction_rules.specs.Setup.{Setup}
+use Rattle.auction_rules.specs.Legal.{Legal, entry_of}
+use Rattle.auction_rules.specs.Refusals.{refusal}
+use Rattle.turn_lock.specs.Part.{part}
 use Rattle.trade_ledger.specs.declared.cash_calls.CashEntry.{CashEntry}
 use Rattle.trade_ledger.specs.declared.cash_calls.CashCall.TheVariants.{Read}
 use Rattle.trade_ledger.specs.declared.cash_calls.CashReply.TheVariants.{Cash}
@@ -15,14 +21,15 @@ use Rattle.floor.specs.declared.outcomes.Outcome.TheVariants.{At, Spent}
 use Rattle.floor.specs.declared.outcomes.CashOutcome.{CashOutcome}
 use Rattle.floor.specs.declared.outcomes.CashOutcome.TheVariants as cash_outcomes
 use Rattle.floor.specs.Keeping.{Adds, count_readings}
-use Rattle.floor.specs.Desks.{desk_ids, desk_caller, entries_of, entries_at, cash_of, boards_of, boards_at, seen_of, seen_at}
+use Rattle.floor.specs.Desks.{desk_ids, desk_caller, setup_at, entries_of, entries_at, cash_of, boards_of, boards_at, seen_of, seen_at}
 
 -- the desk is of the same locks, and of the same caller
 abbrev pub IsSameDesk : Desk → Desk → Type 0
 IsSameDesk before after = (desk_ids after ≡ desk_ids before) × (desk_caller after ≡ desk_caller before)
 
 -- a call at a good was answered at a position: the desk has one entry more there, and at the other goods as before; the post that is
--- due to that entry was made; and the position is not below what the desk had seen there
+-- due to that entry was made; and the position is not below what the desk had seen there. The entry is the one that the rules give
+-- after the entries before it, of which the desk's own are those that it had made
 pub record IsAnswered (before after : Desk) (good : ℕ) (asked : Call) (position : ℕ) (answered : Reply) : Type 0 where
   pub entry : Entry
   pub caller : entry.caller ≡ desk_caller before
@@ -34,11 +41,25 @@ pub record IsAnswered (before after : Desk) (good : ℕ) (asked : Call) (positio
   pub seen : seen_of after ≡ slice_set (seen_of before) good (position + 1)
   pub boards : boards_of after ≡ boards_of before
   pub same : IsSameDesk before after
+  -- what is fixed of the auction, and its entries before this one
+  pub setup : Setup
+  pub setup_is : setup_at before good ≡ Some setup
+  pub earlier : List Entry
+  pub count : length earlier ≡ position
+  pub own : part (λ e. e.caller) earlier (desk_caller before) ≡ entries_at before good
+  pub legal : Legal setup (earlier ++ entry ∷ [])
+  pub ruled : entry ≡ entry_of setup (reverse earlier) (desk_caller before) asked
 
 -- an agent's call at a good is spent, and changes nothing, exactly where the desk made 1024 calls there before
 abbrev pub IsOutcome : Desk → Desk → ℕ → Call → Outcome → Type 0
 IsOutcome before after good asked Spent = (length (entries_at before good) ≡ 1024) × (after ≡ before)
 IsOutcome before after good asked (At position reply) = (length (entries_at before good) < 1024) × IsAnswered before after good asked position reply
+
+-- a bid that is not spent is taken, where no refusal of the rules applies to it after the entries before it
+abbrev pub TakesLawfulBid : Desk → Desk → ℕ → Points → Outcome → Type 0
+TakesLawfulBid before after good points Spent = ⊤
+TakesLawfulBid before after good points (At position reply) = (told : IsAnswered before after good (Bid points) position reply)
+    × (refusal told.setup.rules (reverse told.earlier) (desk_caller before) (Bid points) ≡ None → (bought : ℕ) × (sold : ℕ) × (reply ≡ Taken bought sold))
 
 -- an agent's cash was read: the desk has that entry more in the cash history, and nothing else is changed
 pub record IsRead (before after : Desk) (position : ℕ) (entry : CashEntry) : Type 0 where

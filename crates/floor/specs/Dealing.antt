@@ -2,17 +2,16 @@
 use Rattle.std.specs.Prelude.{◌≡◌, ℕ, List, [], map, length, replicate}
 use mathlib.Core.Option.{some}
 use lib.ListN.{get_elem?}
-use Rattle.atomic_table.specs.Seated.{TableId}
 use Rattle.turn_lock.specs.declared.kept.Kept.{Ghosts}
 use Rattle.turn_lock.specs.declared.pass.Pass.{Pass}
 use Rattle.auction_rules.specs.History.{Entry}
 use Rattle.trade_ledger.specs.declared.cash_calls.CashEntry.{CashEntry}
-use Rattle.floor.specs.Keeping.{IsKept}
-use Rattle.turn_lock.specs.Passes.{lock_of, caller_of, left_of, made_by, noted_by, seen_by}
+use Rattle.floor.specs.Keeping.{IsKept, AreInOrder}
+use Rattle.turn_lock.specs.Passes.{LockId, lock_of, caller_of, left_of, made_by, noted_by, seen_by}
 
 module _ {S C R G E : Type 0} {K : Ghosts S C R G E} where
   -- one pass of the caller for each of these locks, with no call made and no board seen
-  pub record IsFresh (ids : List TableId) (caller left : ℕ) (passes : List (Pass S C R G E K)) : Type 0 where
+  pub record IsFresh (ids : List (LockId S)) (caller left : ℕ) (passes : List (Pass S C R G E K)) : Type 0 where
     pub locks : map (λ p. lock_of p) passes ≡ ids
     pub callers : map (λ p. caller_of p) passes ≡ replicate (length ids) caller
     pub lefts : map (λ p. left_of p) passes ≡ replicate (length ids) left
@@ -21,10 +20,11 @@ module _ {S C R G E : Type 0} {K : Ghosts S C R G E} where
     pub seen : map (λ p. seen_by p) passes ≡ replicate (length ids) 0
 
   -- the same of each caller's passes
-  abbrev pub AreFresh : List TableId → (ℕ → ℕ) → List (List (Pass S C R G E K)) → Type 0
+  abbrev pub AreFresh : List (LockId S) → (ℕ → ℕ) → List (List (Pass S C R G E K)) → Type 0
   AreFresh ids left hands = (caller : ℕ) (passes : List (Pass S C R G E K)) → get_elem? hands caller ≡ some passes → IsFresh ids caller (left caller) passes
 
 module _ {S C R G T D Q H : Type 0} {K : Ghosts S C R G Entry} {L : Ghosts T D Q H CashEntry} where
   -- passes of auctions and a pass of the cash book are those of one desk that made no reading
   abbrev pub MakeDesk : List (Pass S C R G Entry K) → Pass T D Q H CashEntry L → Type 0
   MakeDesk passes cash = IsKept (caller_of cash) (map (λ p. caller_of p) passes) (map (λ p. left_of p) passes) (map (λ p. made_by p) passes) (left_of cash) (made_by cash) 0
+      × AreInOrder (map (λ p. made_by p) passes) (map (λ p. noted_by p) passes) (map (λ p. seen_by p) passes)

@@ -1,15 +1,21 @@
 -- What clauses say of a desk.
-use Rattle.std.specs.Prelude.{◌≡◌, ℕ, List, [], map, replicate, slice_index_or}
-use Rattle.atomic_table.specs.Seated.{TableId}
+use Rattle.std.specs.Prelude.{◌≡◌, ℕ, List, [], map, replicate, slice_index_or, slice_get, Option, option_and_then}
+use Rattle.std.specs.Option.{option_map}
 use Rattle.tac_base.specs.declared.calls.Board.{Board}
 use Rattle.auction_rules.specs.History.{Entry}
+use Rattle.auction_rules.specs.Setup.{Setup}
+use Rattle.auction_core.specs.Auctions.{AuctionHistory}
 use Rattle.trade_ledger.specs.declared.cash_calls.CashEntry.{CashEntry}
-use Rattle.turn_lock.specs.Passes.{lock_of, caller_of, made_by, noted_by, seen_by}
+use Rattle.turn_lock.specs.Passes.{LockId, lock_of, caller_of, made_by, noted_by, seen_by}
 use Rattle.floor.specs.declared.desk.Desk.{Desk}
 
 -- the locks that the desk has passes of: those of the auctions, in the order of goods, and that of the cash book
-abbrev pub desk_ids : Desk → List TableId × TableId
+abbrev pub desk_ids : Desk → List (LockId AuctionHistory) × LockId (List CashEntry)
 desk_ids d = (map (λ p. lock_of p) d.passes.items, lock_of d.cash)
+
+-- the setup of a good's auction, by the state that its lock was made with
+abbrev pub setup_at : Desk → ℕ → Option Setup
+setup_at d good = option_and_then (λ id. option_map (λ start. start.setup) id.start) (slice_get (desk_ids d).0 good)
 
 -- whose desk it is
 abbrev pub desk_caller : Desk → ℕ
@@ -41,7 +47,7 @@ abbrev pub seen_at : Desk → ℕ → ℕ
 seen_at d good = slice_index_or (seen_of d) good 0
 
 -- the desk of a caller at the locks of a floor that has made no call and seen no board
-pub record IsNewDesk (floor : List TableId × TableId) (number : ℕ) (d : Desk) : Type 0 where
+pub record IsNewDesk (floor : List (LockId AuctionHistory) × LockId (List CashEntry)) (number : ℕ) (d : Desk) : Type 0 where
   pub ids : desk_ids d ≡ floor
   pub caller : desk_caller d ≡ number
   pub entries : entries_of d ≡ replicate 28 []

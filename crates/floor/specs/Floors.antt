@@ -1,14 +1,14 @@
 -- What clauses say of a floor.
 use Rattle.std.specs.Prelude.{◌≡◌, List, [], ◌∷◌, map, replicate}
-use Rattle.atomic_table.specs.Seated.{TableId}
 use Rattle.auction_core.specs.Auctions.{AuctionHistory}
-use Rattle.turn_lock.specs.Passes.{lock_id, start_of}
+use Rattle.trade_ledger.specs.declared.cash_calls.CashEntry.{CashEntry}
+use Rattle.turn_lock.specs.Passes.{LockId, lock_id, start_of}
 use Rattle.floor.specs.declared.floor.Floor.{Floor}
 use Rattle.floor.specs.declared.desk.Desk.{Desk}
 use Rattle.floor.specs.Desks.{desk_ids, desk_caller}
 
 -- which locks the floor has: those of the auctions, in the order of goods, and that of the cash book
-abbrev pub floor_ids : Floor → List TableId × TableId
+abbrev pub floor_ids : Floor → List (LockId AuctionHistory) × LockId (List CashEntry)
 floor_ids f = (map (λ lock. lock_id lock) f.auctions.items, lock_id f.cash)
 
 -- the auctions that the floor was made with

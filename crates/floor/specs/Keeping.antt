@@ -1,5 +1,7 @@
 -- What is so of every desk and every floor.
-use Rattle.std.specs.Prelude.{◌≡◌, ℕ, ◌+◌, ◌<◌, ◌≤◌, not, List, map, length, replicate, count_by, sum_by, slice_index_or, [], ◌++◌}
+use Rattle.std.specs.Prelude.{◌≡◌, ℕ, ◌+◌, ◌<◌, ◌≤◌, not, List, map, length, replicate, count_by, sum_by, slice_index_or, [], ◌++◌, All}
+use Rattle.std.specs.List.Sorted.{IsStrictlyIncreasing}
+use Rattle.tac_base.specs.declared.calls.Board.{Board}
 use Rattle.auction_rules.specs.History.{Entry}
 use Rattle.auction_rules.specs.Goods.{clock}
 use Rattle.auction_rules.specs.Legal.{cap}
@@ -35,6 +37,17 @@ pub record IsKept (caller : ℕ) (callers lefts : List ℕ) (entries : List (Lis
   pub few : count ≤ 1024
   pub clock_reads_nothing : caller ≡ clock → count ≡ 0
   pub posted : IsPosted entries cash
+
+-- what was told of a good is in order: positions rise, and what was seen is above each, and not below the count of a board
+pub record IsInOrder (entries : List (ℕ × Entry)) (boards : List (ℕ × Board)) (seen : ℕ) : Type 0 where
+  pub rising : IsStrictlyIncreasing (map (λ p. p.0) entries)
+  pub past : All (λ p. p.0 < seen) entries
+  pub counts : All (λ b. b.0 ≤ seen) boards
+
+-- so it is of each of the 28 goods
+pub record AreInOrder (entries : List (List (ℕ × Entry))) (boards : List (List (ℕ × Board))) (seen : List ℕ) : Type 0 where
+  pub goods : length entries ≡ 28
+  pub each : (good : ℕ) → good < 28 → IsInOrder (slice_index_or entries good []) (slice_index_or boards good []) (slice_index_or seen good 0)
 
 -- the goods of auctions in order
 abbrev pub goods_of : List AuctionHistory → List ℕ

@@ -1,6 +1,6 @@
 ghost use Rattle.std.specs.Prelude.{◌≡◌, ◌≤◌, map};
-ghost use Rattle.turn_lock.specs.Passes.{caller_of, left_of, made_by};
-ghost use Rattle.floor.specs.Keeping.{IsKept};
+ghost use Rattle.turn_lock.specs.Passes.{caller_of, left_of, made_by, noted_by, seen_by};
+ghost use Rattle.floor.specs.Keeping.{IsKept, AreInOrder};
 
 use crate::cash_turns::{post, read};
 use crate::floor::Floor;
@@ -25,6 +25,8 @@ pub struct Desk {
     pub(crate) readings: u32,
     ghost kept: { IsKept (caller_of cash) (map (λ p. caller_of p) passes.items) (map (λ p. left_of p) passes.items)
         (map (λ p. made_by p) passes.items) (left_of cash) (made_by cash) readings },
+    /// What it was told of each good is in order.
+    pub ghost in_order: { AreInOrder (map (λ p. made_by p) passes.items) (map (λ p. noted_by p) passes.items) (map (λ p. seen_by p) passes.items) },
 }
 
 /// The number of a good's auction.
@@ -44,7 +46,7 @@ impl Desk {
     ghost use Rattle.floor.specs.Keeping.{IsPosted, count_entries};
     ghost use Rattle.floor.specs.Desks.{desk_ids, desk_caller, entries_of, entries_at, cash_of, seen_at};
     ghost use Rattle.floor.specs.Floors.{floor_ids};
-    ghost use Rattle.floor.specs.Answers.{IsSameDesk, IsAnswered, IsOutcome, IsCashOutcome, IsSeen, IsClockCall};
+    ghost use Rattle.floor.specs.Answers.{IsSameDesk, IsAnswered, IsOutcome, TakesLawfulBid, IsCashOutcome, IsSeen, IsClockCall};
 
     /// Whose desk it is.
     pub fn caller(&self) -> Caller
@@ -103,6 +105,7 @@ impl Desk {
         requires own { desk_ids self.old ≡ floor_ids floor.now }
         requires agent { desk_caller self.old < 8 }
         ensures outcome { IsOutcome self.old self.new good (Call.Bid points.now) result }
+        ensures taken { TakesLawfulBid self.old self.new good points.now result }
         ensures same { IsSameDesk self.old self.new }
         ensures posted { IsPosted (entries_of self.new) (cash_of self.new) }
     {

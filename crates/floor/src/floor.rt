@@ -31,7 +31,7 @@ pub struct Floor {
 }
 
 impl Floor {
-    ghost use Rattle.std.specs.Prelude.{◌≡◌, ◌≤◌, ℕ, [], ◌∷◌, length, map, replicate, All, IfOk};
+    ghost use Rattle.std.specs.Prelude.{◌≡◌, ◌<◌, ◌≤◌, ℕ, [], ◌∷◌, Some, length, map, replicate, All, IfOk};
     ghost use mathlib.Core.Option.{some};
     ghost use lib.ListN.{get_elem?};
     ghost use Rattle.auction_rules.specs.Effects.{dollars};
@@ -40,7 +40,7 @@ impl Floor {
     ghost use Rattle.auction_core.specs.Setups.{setup_of};
     ghost use Rattle.trade_ledger.specs.CashHistory.{IsLegalCash, total_of};
     ghost use Rattle.trade_ledger.specs.Posts.{Matched, trades_of_all};
-    ghost use Rattle.floor.specs.Desks.{IsNewDesk};
+    ghost use Rattle.floor.specs.Desks.{IsNewDesk, setup_at};
     ghost use Rattle.floor.specs.Floors.{floor_ids, starts_of, AreDesksOf};
     ghost use Rattle.floor.specs.Closing.{IsBorneOut, TakesLawfulBids};
 
@@ -49,6 +49,7 @@ impl Floor {
     pub fn begin(alloc: Global, game: &Game) -> Result<(Floor, Vec<Desk>), Memory>
         ensures starts { IfOk result (λ r. starts_of r.0 ≡ map (λ good. record { setup = setup_of good game.now; history = [] }) all_goods) }
         ensures desks { IfOk result (λ r. AreDesksOf r.0 r.1.items) }
+        ensures setups { IfOk result (λ r. All (λ d. (good : ℕ) → good < 28 → setup_at d good ≡ Some (setup_of good game.now)) r.1.items) }
         ensures new_desks { IfOk result (λ r. (i : ℕ) (d : Desk) → get_elem? r.1.items i ≡ some d → IsNewDesk (floor_ids r.0) i d) }
     {
         let mut hands = empty_hands(alloc)?;
@@ -75,6 +76,7 @@ impl Floor {
         ensures setups { map (λ auction. auction.setup) result.auctions ≡ map (λ start. start.setup) (starts_of self) }
         ensures legal { All (λ auction. Legal auction.setup auction.history) result.auctions }
         ensures cash { IsLegalCash result.cash }
+        ensures callers { All (λ e. e.caller ≤ 8) result.cash }
         ensures borne_out { All (λ d. IsBorneOut result d) desks.items }
         ensures matched { Matched (map (λ auction. auction.history) result.auctions) result.cash }
         ensures totals { (party : ℕ) → party ≤ 8 → total_of result.cash party ≡ dollars (trades_of_all (map (λ auction. auction.history) result.auctions)) party }

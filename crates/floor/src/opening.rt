@@ -2,11 +2,11 @@
 ghost use Rattle.std.specs.Prelude.{◌≡◌, ℕ, List, [], ◌∷◌, ◌++◌, length, map, replicate, IfOk, OnOk};
 ghost use mathlib.Core.Option.{some};
 ghost use lib.ListN.{get_elem?};
-ghost use Rattle.atomic_table.specs.Seated.{TableId};
 ghost use Rattle.auction_core.specs.Setups.{setup_of};
 ghost use Rattle.auction_rules.specs.Legal.{cap};
 ghost use Rattle.trade_ledger.specs.CashHistory.{cash_cap};
-ghost use Rattle.turn_lock.specs.Passes.{lock_of, lock_id, caller_of, left_of, made_by, noted_by, seen_by, start_of, passes_of, returned_to};
+ghost use Rattle.auction_core.specs.Auctions.{AuctionHistory};
+ghost use Rattle.turn_lock.specs.Passes.{LockId, lock_of, lock_id, caller_of, left_of, made_by, noted_by, seen_by, start_of, passes_of, returned_to};
 ghost use Rattle.floor.specs.Rows.{with_each};
 ghost use Rattle.floor.specs.Dealing.{AreFresh, MakeDesk};
 
@@ -66,7 +66,7 @@ pub(crate) fn open(
     requires { length hands.old.items ≡ 9 }
     ensures start { IfOk result (λ lock. start_of lock ≡ record { setup = setup_of good game.now; history = [] }) }
     ensures passes { IfOk result (λ lock. (passes_of lock ≡ 9) × (returned_to lock ≡ [])) }
-    ensures dealt { IfOk result (λ lock. (ids : List TableId) → AreFresh ids cap (map (λ hand. hand.items) hands.old.items)
+    ensures dealt { IfOk result (λ lock. (ids : List (LockId AuctionHistory)) → AreFresh ids cap (map (λ hand. hand.items) hands.old.items)
         → AreFresh (ids ++ lock_id lock ∷ []) cap (map (λ hand. hand.items) hands.new.items)) }
     ensures nine { OnOk result (length hands.new.items ≡ 9) }
 {

@@ -1,30 +1,65 @@
-ghost use Rattle.std.specs.Prelude.{◌≡◌, ◌<◌, ◌≤◌, IfOk};
-ghost use Rattle.floor.specs.Desks.{desk_ids, desk_caller};
+ghost use Rattle.std.specs.Prelude.{◌≡◌, ◌<◌, ◌≤◌, ℕ, length, IfOk};
+ghost use Rattle.floor.specs.Desks.{desk_ids, desk_caller, entries_of, entries_at};
+ghost use Rattle.floor.specs.Keeping.{count_entries};
 ghost use Rattle.floor.specs.Floors.{floor_ids};
 
 use crate::growing::add;
 use crate::{CashOutcome, Desk, Floor, Outcome};
 use auction_core::{Auction, Closed};
 use draw_maker::make_game;
-use std::alloc::Global;
+use game_text::{Game, read_game};
+use std::alloc::{AllocError, Global};
 use std::sync::Wait;
 use std::test::Fail;
 use std::thread::{Threads, join};
 use std::time::Clock;
-use tac_base::{Good, Memory, Party, Point, Points, Reply};
+use tac_base::{Call, Good, Memory, Party, Point, Points, Reply};
 
-/// A floor, and the desks of its agents 0, 1 and 2.
-fn begin_three(alloc: Global) -> Result<(Floor, Desk, Desk, Desk), Fail>
+/// The text of a game in which each flight stays at 300 dollars and nobody has a ticket.
+fn quiet_game(alloc: Global) -> Result<Vec<u8>, AllocError> {
+    let mut text = Vec::new(alloc);
+    text.extend_from_slice(b"tac 1\nwords seat0 seat1 seat2 seat3 seat4 seat5 seat6 seat7\n")?;
+    for good in b'0'..b'8' {
+        text.extend_from_slice(b"flight ")?;
+        text.push(good)?;
+        text.extend_from_slice(b" 300 10")?;
+        for _ in 0..53u8 {
+            text.extend_from_slice(b" 10")?;
+        }
+        text.push(b'\n')?;
+    }
+    text.extend_from_slice(b"close 8 9 10 11 12 13 14 15\n")?;
+    for agent in b'0'..b'8' {
+        text.extend_from_slice(b"endow ")?;
+        text.push(agent)?;
+        text.extend_from_slice(b" 0 0 0 0 0 0 0 0 0 0 0 0\n")?;
+    }
+    for agent in b'0'..b'8' {
+        for client in b'0'..b'8' {
+            text.extend_from_slice(b"client ")?;
+            text.extend_from_slice(&[agent, b' ', client])?;
+            text.extend_from_slice(b" 1 2 100 0 0 100\n")?;
+        }
+    }
+    text.extend_from_slice(b"end\n")?;
+    Ok(text)
+}
+
+/// A floor, the desks of its agents 0, 1 and 2, and that of the clock.
+fn begin_four(alloc: Global, game: &Game) -> Result<(Floor, Desk, Desk, Desk, Desk), Fail>
     ensures first { IfOk result (λ r. (desk_ids r.1 ≡ floor_ids r.0) × (desk_caller r.1 ≡ 0)) }
     ensures second { IfOk result (λ r. (desk_ids r.2 ≡ floor_ids r.0) × (desk_caller r.2 ≡ 1)) }
     ensures third { IfOk result (λ r. (desk_ids r.3 ≡ floor_ids r.0) × (desk_caller r.3 ≡ 2)) }
+    ensures clock { IfOk result (λ r. (desk_ids r.4 ≡ floor_ids r.0) × (desk_caller r.4 ≡ 8)) }
+    ensures idle { IfOk result (λ r. ((good : ℕ) → length (entries_at r.4 good) < 64) × (count_entries (entries_of r.4) < 480)) }
 {
-    let (floor, desks) = Floor::begin(alloc, &make_game(7))?;
+    let (floor, mut desks) = Floor::begin(alloc, game)?;
+    let clock = desks.pop().unwrap();
     let mut desks = desks.into_iter();
     let first = desks.next().unwrap();
     let second = desks.next().unwrap();
     let third = desks.next().unwrap();
-    Ok((floor, first, second, third))
+    Ok((floor, first, second, third, clock))
 }
 
 fn point(units: i8, price: u16) -> Point {
@@ -44,7 +79,8 @@ fn is_taken(outcome: &Outcome, at: u32, units: (u8, u8)) -> bool {
 
 #[test]
 fn tickets_are_traded_and_posted(rt: HostRuntime) -> Result<(), Fail> {
-    let (floor, mut first, mut second, mut third) = begin_three(rt.alloc())?;
+    let game = read_game(quiet_game(rt.alloc())?.as_slice())?;
+    let (floor, mut first, mut second, mut third, mut clock) = begin_four(rt.alloc(), &game)?;
     let museum = Good::new(24)?;
     let sells = Points::new(&[point(-1, 60)])?;
     let buys = Points::new(&[point(1, 70)])?;
@@ -73,31 +109,44 @@ fn tickets_are_traded_and_posted(rt: HostRuntime) -> Result<(), Fail> {
         )
     );
     assert_eq!(rt; second.caller().get(), 1);
+    let closed = clock.clock_call(&rt, &floor, museum, &Call::Close);
+    assert!(rt; matches!(closed, (3, Reply::Done)));
     Ok(())
 }
 
-/// How many of so many calls `own` are answered with a position.
-fn own_often<R: Wait + Clock>(rt: &R, floor: &Floor, desk: &mut Desk, good: Good, calls: u32) -> u32
+/// How many of so many calls `own`, and of as many readings of cash, are answered with a position.
+fn call_often<R: Wait + Clock>(
+    rt: &R,
+    floor: &Floor,
+    desk: &mut Desk,
+    good: Good,
+    calls: u32,
+) -> (u32, u32)
     requires own { desk_ids desk.old ≡ floor_ids floor.now }
     requires agent { desk_caller desk.old < 8 }
     ensures own { (desk_ids desk.new ≡ floor_ids floor.now) × (desk_caller desk.new < 8) }
 {
     let mut answered = 0u32;
+    let mut read = 0u32;
     for _ in 0..calls {
         let outcome = desk.own(rt, floor, good);
         answered = answered.saturating_add(u32::from(matches!(outcome, Outcome::At { .. })));
+        let cash = desk.cash(rt, floor);
+        read = read.saturating_add(u32::from(matches!(cash, CashOutcome::At { .. })));
     }
-    answered
+    (answered, read)
 }
 
 #[test]
 fn calls_are_spent_after_1024(rt: HostRuntime) -> Result<(), Fail> {
-    let (floor, mut desk, _second, _third) = begin_three(rt.alloc())?;
+    let (floor, mut desk, _second, _third, _clock) = begin_four(rt.alloc(), &make_game(7))?;
     let museum = Good::new(24)?;
-    let answered = own_often(&rt, &floor, &mut desk, museum, 1024);
-    assert_eq!(rt; answered, 1024);
+    let answered = call_often(&rt, &floor, &mut desk, museum, 1024);
+    assert_eq!(rt; answered, (1024, 1024));
     let spent = desk.own(&rt, &floor, museum);
     assert!(rt; matches!(spent, Outcome::Spent));
+    let spent = desk.cash(&rt, &floor);
+    assert_eq!(rt; spent, CashOutcome::Spent);
     assert_eq!(rt; desk.quote(&floor, museum).count, 1024);
     Ok(())
 }

@@ -36,9 +36,12 @@ get_or_else (x ∷ xs) d = x
 pub in_hand : {A : Type 0} (l r : List (ℕ × A)) (x y : A) → l ≡ (0, x) ∷ [] → l ≡ (0, y) ∷ r → x ≡ y
 in_hand {A} l r x y a b = ap (λ (k : List (ℕ × A)). (get_or_else k (0, x)).1) (sym a ∙ b)
 
-module _ {S G E : Type 0} (setup : S → G) (history : S → List E) (legal : G → List E → Type 0) (board : G → List E → Board) (caller_of : E → ℕ) (the_setup : G) where
+module _ {S G E : Type 0} (setup : S → G) (history : S → List E) (legal : G → List E → Type 0) (board : G → List E → Board) (caller_of : E → ℕ) (the_start : S) where
+  abbrev the_setup : G
+  the_setup = setup the_start
+
   abbrev V : Type 0
-  V = View G E
+  V = View S G E
 
   abbrev live : V → ℕ
   live v = v.live
@@ -53,13 +56,13 @@ module _ {S G E : Type 0} (setup : S → G) (history : S → List E) (legal : G 
   M = Me S V
 
   abbrev Rule : St → Type 0
-  Rule = Turning setup history legal board caller_of the_setup
+  Rule = Turning setup history legal board caller_of the_start
 
   abbrev Known : List E → ℕ → ℕ → V → Type 0
-  Known log drawn i v = Knows (board the_setup) caller_of the_setup log drawn i v
+  Known log drawn i v = Knows (board the_setup) caller_of the_start the_setup log drawn i v
 
   abbrev Shelf : List (Option_ S) → List E → List V → Type 0
-  Shelf = IsShelved setup history legal board caller_of the_setup
+  Shelf = IsShelved setup history legal board caller_of the_start
 
   alive : (log : List E) (drawn i : ℕ) (v : V) → Known log drawn i v → v.waits ≡ 1 → v.live ≡ 1
   alive log drawn i v k one = let f = k.flags in omega arith
@@ -76,7 +79,7 @@ module _ {S G E : Type 0} (setup : S → G) (history : S → List E) (legal : G 
   more_drawn log drawn drawn' i v more k = record {
     flags = k.flags;
     idle = k.idle;
-    pass = λ up. let l = k.pass up in record { seat = l.seat; mine = l.mine; past = l.past; seen = l.seen; notes = l.notes; turn = λ one. let t = l.turn one in (t.0, omega arith); held = l.held };
+    pass = λ up. let l = k.pass up in record { seat = l.seat; origin = l.origin; mine = l.mine; past = l.past; seen = l.seen; notes = l.notes; turn = λ one. let t = l.turn one in (t.0, omega arith); held = l.held };
   }
 
   shelf_keeps : (hs : List (Option_ S)) (log : List E) (vs : List V) (id : ℕ) (v w : V) → get_elem? vs id ≡ some v → w.held ≡ v.held → w.live ≡ v.live → Shelf hs log vs
@@ -108,6 +111,7 @@ module _ {S G E : Type 0} (setup : S → G) (history : S → List E) (legal : G 
     tickets = let t = r.tickets in let a = sum_by-set waits s.views id v w at in omega arith;
     first = set_else s.views id 0 w (λ e. not_own s r id v at up (sym e)) ∙ r.first;
     quiet = r.quiet;
+    origin = r.origin;
     seats = length-set s.views id w ∙ r.seats;
     few = r.few;
     lives = let l = r.lives in let a = sum_by-set live s.views id v w at in omega arith;
@@ -166,6 +170,7 @@ module _ {S G E : Type 0} (setup : S → G) (history : S → List E) (legal : G 
               idle = λ none. absurd (omega arith);
               pass = λ _. record {
                 seat = l.seat;
+                origin = l.origin;
                 mine = l.mine;
                 past = l.past;
                 seen = l.seen;
@@ -199,6 +204,7 @@ module _ {S G E : Type 0} (setup : S → G) (history : S → List E) (legal : G 
               idle = λ none. absurd (omega arith);
               pass = λ _. record {
                 seat = l.seat;
+                origin = l.origin;
                 mine = l.mine;
                 past = l.past;
                 seen = l.seen;
@@ -213,6 +219,7 @@ module _ {S G E : Type 0} (setup : S → G) (history : S → List E) (legal : G 
           (λ _. record {
             state = y;
             is = refl;
+            kept = λ start from. t.2 ∙ ap setup (some_inj the_start start (sym l.origin ∙ from));
             count = ap length t.3 ∙ (sym count ∙ hit);
             mine = ap (λ (h : List E). part caller_of h v.caller) t.3 ∙ sym l.mine;
             seen = subst (λ (h : List E). v.seen ≤ length h) (sym t.3) l.seen;
@@ -263,6 +270,7 @@ module _ {S G E : Type 0} (setup : S → G) (history : S → List E) (legal : G 
           tickets = let t = r.tickets in let a = sum_by-set waits s.views id v w at in let o = f.0 in omega arith;
           first = set_else s.views id 0 w (λ q. not_own s r id v at up (sym q)) ∙ r.first;
           quiet = r.quiet;
+          origin = r.origin;
           seats = length-set s.views id w ∙ r.seats;
           few = r.few;
           lives = let n = r.lives in let a = sum_by-set live s.views id v w at in omega arith;
@@ -273,6 +281,7 @@ module _ {S G E : Type 0} (setup : S → G) (history : S → List E) (legal : G 
                 idle = λ none. absurd (omega arith);
                 pass = λ _. record {
                   seat = l.seat;
+                  origin = l.origin;
                   mine = refl;
                   past = part_below caller_of log' v.caller;
                   seen = omega arith;
@@ -286,6 +295,7 @@ module _ {S G E : Type 0} (setup : S → G) (history : S → List E) (legal : G 
                 idle = ku.idle;
                 pass = λ up'. let lu = ku.pass up' in record {
                   seat = lu.seat;
+                  origin = lu.origin;
                   mine = lu.mine ∙ sym (others u.caller (λ is. q.0 (sym lu.seat ∙ (ap (λ (n : ℕ). n + 1) is ∙ l.seat))));
                   past = lu.past;
                   seen = let sn = lu.seen in omega arith;
@@ -343,6 +353,7 @@ module _ {S G E : Type 0} (setup : S → G) (history : S → List E) (legal : G 
               idle = λ down. absurd (omega arith);
               pass = λ _. record {
                 seat = l.seat;
+                origin = l.origin;
                 mine = l.mine;
                 past = λ i p e. let below = l.past i p e in omega arith;
                 seen = omega arith;
@@ -363,6 +374,7 @@ module _ {S G E : Type 0} (setup : S → G) (history : S → List E) (legal : G 
   splits_off v room s r at = let same : v ≡ r.own = same_view s.views 0 v r.own at r.first in let made : v.passes ≡ r.own.passes = ap (λ (x : V). x.passes) same in
       let down : v.live ≡ 0 = ap live same ∙ r.quiet in let back : v.returned ≡ r.own.returned = ap (λ (x : V). x.returned) same in let k = r.each 0 v at in let flags = k.flags in
       let w : V = with_pass v in let f : V = next_pass v in let vs : List V = set s.views 0 w in let long : length vs ≡ length s.views = length-set s.views 0 w in
+      let first_start : v.start ≡ Some the_start = ap (λ (x : V). x.start) same ∙ r.origin in
       let seats = r.seats in record {
         log = r.log;
         drawn = r.drawn;
@@ -374,6 +386,7 @@ module _ {S G E : Type 0} (setup : S → G) (history : S → List E) (legal : G 
         tickets = let t = r.tickets in let a = sum_by-set waits s.views 0 v w at in let b = sum_by_push waits vs f in omega arith;
         first = at_longer vs (f ∷ []) 0 w (set_here s.views 0 w (place_below s.views 0 v at));
         quiet = down;
+        origin = ap (λ (x : V). x.start) same ∙ r.origin;
         seats = let b = length-append vs (f ∷ []) in omega arith;
         few = omega arith;
         lives = let t = r.lives in let a = sum_by-set live s.views 0 v w at in let b = sum_by_push live vs f in
@@ -387,6 +400,7 @@ module _ {S G E : Type 0} (setup : S → G) (history : S → List E) (legal : G 
               idle = λ _. refl;
               pass = λ _. record {
                 seat = let p = t.0 in omega arith;
+                origin = first_start;
                 mine = sym (r.nobody_else v.passes (omega arith));
                 past = λ j p bad. absurd (some-ne-none p (sym bad));
                 seen = omega arith;
@@ -436,6 +450,7 @@ module _ {S G E : Type 0} (setup : S → G) (history : S → List E) (legal : G 
         tickets = let t = r.tickets in let a = sum_by-set waits s.views 0 v n at in let b = sum_by-set waits vs other w spent there' in omega arith;
         first = set_else vs other 0 spent (λ e. ne (sym e)) ∙ set_here s.views 0 n (place_below s.views 0 v at);
         quiet = down;
+        origin = ap (λ (x : V). x.start) same ∙ r.origin;
         seats = omega arith;
         few = let f = r.few in omega arith;
         lives = let t = r.lives in let a = sum_by-set live s.views 0 v n at in let b = sum_by-set live vs other w spent there' in
@@ -478,13 +493,13 @@ module _ {S G E : Type 0} (setup : S → G) (history : S → List E) (legal : G 
 
   pub begins : (x : S) (b : ℕ) (shown : Board) → setup x ≡ the_setup → history x ≡ [] → legal (setup x) (history x) → shown ≡ board (setup x) (history x)
       → shown.count ≡ length (history x) → (shown.count < 16777216) × (shown.bid ≤ 10001) × (shown.ask ≤ 10001) → b ≡ packed shown
-      → Rule (opening (0 ∷ b ∷ []) (x ∷ []) own_at_first)
+      → Rule (opening (0 ∷ b ∷ []) (x ∷ []) (own_at_first the_start))
   begins x b shown same empty lawful is counted small word =
       let fits : IsSmall shown = let p = small.0 in let q = small.1 in let t = small.2 in (omega arith, omega arith, omega arith) in
       let now : shown ≡ board the_setup [] = is ∙ λ i. board (same i) (empty i) in record {
         log = [];
         drawn = 0;
-        own = own_at_first;
+        own = (own_at_first the_start);
         words = ap (λ (n : ℕ). 0 ∷ n ∷ []) (word ∙ ap packed now);
         lawful = subst (λ (p : G × List E). legal p.0 p.1) (λ i. (same i, empty i)) lawful;
         counted = sym (ap (λ (q : Board). q.count) now) ∙ (counted ∙ ap length empty);
@@ -492,14 +507,15 @@ module _ {S G E : Type 0} (setup : S → G) (history : S → List E) (legal : G 
         tickets = refl;
         first = refl;
         quiet = refl;
+        origin = refl;
         seats = refl;
         few = omega arith;
         lives = refl;
         nobody_else = λ c _. refl;
-        each = λ i v e. let t = at_only own_at_first v i e in subst (λ (p : V). Known [] 0 i p) t.1 record { flags = (omega arith, omega arith); idle = λ _. refl; pass = λ bad. absurd (omega arith) };
-        apart = λ i j v w e f _ _ _. (at_only own_at_first v i e).0 ∙ sym (at_only own_at_first w j f).0;
+        each = λ i v e. let t = at_only (own_at_first the_start) v i e in subst (λ (p : V). Known [] 0 i p) t.1 record { flags = (omega arith, omega arith); idle = λ _. refl; pass = λ bad. absurd (omega arith) };
+        apart = λ i j v w e f _ _ _. (at_only (own_at_first the_start) v i e).0 ∙ sym (at_only (own_at_first the_start) w j f).0;
         returned = λ k c e. absurd (some-ne-none c (sym e));
-        shelf = inl (x, refl, same, empty, λ i v e. ap (λ (p : V). p.held) (sym (at_only own_at_first v i e).1));
+        shelf = inl (x, refl, same, empty, λ i v e. ap (λ (p : V). p.held) (sym (at_only (own_at_first the_start) v i e).1));
       }
 
   -- once all passes are back, the slot's value stands for the history, of which they left the parts

@@ -2,4 +2,5 @@ pub mod Part
 pub mod BoardWord
 pub mod TurnRule
 pub mod Steps
+pub mod Turn
 pub mod Passes

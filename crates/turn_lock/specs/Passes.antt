@@ -1,5 +1,5 @@
 -- What clauses say of a pass and of a lock.
-use Rattle.std.specs.Prelude.{ℕ, List}
+use Rattle.std.specs.Prelude.{ℕ, List, Option, Some}
 use Rattle.atomic_table.specs.Seated.{TableId}
 use Rattle.tac_base.specs.declared.calls.Board.{Board}
 use Rattle.turn_lock.specs.declared.kept.Kept.{Ghosts}
@@ -8,10 +8,15 @@ use Rattle.turn_lock.specs.TurnRule.{own_view}
 use Rattle.turn_lock.specs.declared.pass.Pass.{Pass}
 use Rattle.turn_lock.specs.declared.lock.TurnLock.{TurnLock}
 
+-- which lock it is: its table, and the state that it was made with
+pub record LockId (S : Type 0) : Type 0 where
+  pub table : TableId
+  pub start : Option S
+
 module _ {S C R G E : Type 0} {K : Ghosts S C R G E} where
   -- which lock the pass is of
-  abbrev pub lock_of : Pass S C R G E K → TableId
-  lock_of p = p.seat.table_id
+  abbrev pub lock_of : Pass S C R G E K → LockId S
+  lock_of p = record { table = p.seat.table_id; start = p.seat.me.0.start }
 
   abbrev pub caller_of : Pass S C R G E K → ℕ
   caller_of p = p.caller
@@ -37,13 +42,13 @@ module _ {S C R G E : Type 0} {K : Ghosts S C R G E} where
   returned_by p = record { caller = caller_of p; mine = made_by p; notes = noted_by p }
 
 module _ {S C R G E : Type 0} where
-  -- which lock it is
-  abbrev pub lock_id : TurnLock S C R G E → TableId
-  lock_id l = l.table.shared.table_id
-
   -- the state that the lock was made with
   abbrev pub start_of : TurnLock S C R G E → S
   start_of l = l.table.shared.key.value
+
+  -- which lock it is
+  abbrev pub lock_id : TurnLock S C R G E → LockId S
+  lock_id l = record { table = l.table.shared.table_id; start = Some (start_of l) }
 
   -- how many passes were made
   abbrev pub passes_of : TurnLock S C R G E → ℕ

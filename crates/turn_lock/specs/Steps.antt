@@ -1,71 +1,73 @@
 -- What each step on the table of a lock tells the seat that makes it.
-use Rattle.std.specs.Prelude.{◌≡◌, ◌≢◌, ℕ, ◌+◌, ◌%◌, ◌≤◌, List, [], ◌∷◌, ◌++◌, length, Some, None}
+use Rattle.std.specs.Prelude.{◌≡◌, ◌≢◌, ℕ, ◌+◌, ◌%◌, ◌≤◌, List, [], ◌∷◌, ◌++◌, length, Option, Some, None}
 use Rattle.atomic_table.specs.Table.{Me, Step}
 use Rattle.tac_base.specs.declared.calls.Board.{Board}
 use Rattle.turn_lock.specs.declared.view.View.{View}
 use Rattle.turn_lock.specs.declared.view.Returned.{Returned}
 use Rattle.turn_lock.specs.Part.{part}
 use Rattle.turn_lock.specs.BoardWord.{unpacked}
-use Rattle.turn_lock.specs.TurnRule.{own_at_first}
+use Rattle.turn_lock.specs.TurnRule.{spent}
 
-module _ {G E : Type 0} where
+module _ {S G E : Type 0} where
   -- the view with a ticket that is not used up
-  abbrev pub ticketed : View G E → ℕ → View G E
+  abbrev pub ticketed : View S G E → ℕ → View S G E
   ticketed v ticket = record v { waits = 1; ticket = ticket }
 
   -- the view with the turn, at a setup and a history
-  abbrev pub holding : View G E → G → List E → View G E
+  abbrev pub holding : View S G E → G → List E → View S G E
   holding v g h = record v { held = Some (g, h) }
 
   -- the view after its turn, which left this history
-  abbrev pub turned : (E → ℕ) → View G E → List E → View G E
+  abbrev pub turned : (E → ℕ) → View S G E → List E → View S G E
   turned caller_of v h = record v { waits = 0; seen = length h; mine = part caller_of h v.caller; held = None }
 
   -- the view with one board more
-  abbrev pub noted : View G E → Board → View G E
+  abbrev pub noted : View S G E → Board → View S G E
   noted v b = record v { seen = b.count; notes = v.notes ++ (b.count, b) ∷ [] }
 
   -- a pass that made no step
-  abbrev pub fresh_pass : ℕ → View G E
-  fresh_pass caller = record own_at_first { live = 1; caller = caller }
+  abbrev pub fresh_pass : Option S → ℕ → View S G E
+  fresh_pass start caller = record spent { start = start; live = 1; caller = caller }
 
   -- the lock's own view after one more pass, and the view of that pass
-  abbrev pub with_pass : View G E → View G E
+  abbrev pub with_pass : View S G E → View S G E
   with_pass v = record v { passes = v.passes + 1 }
 
-  abbrev pub next_pass : View G E → View G E
-  next_pass v = fresh_pass v.passes
+  abbrev pub next_pass : View S G E → View S G E
+  next_pass v = fresh_pass v.start v.passes
 
   -- what a pass leaves
-  abbrev pub left_by : View G E → Returned E
+  abbrev pub left_by : View S G E → Returned E
   left_by v = record { caller = v.caller; mine = v.mine; notes = v.notes }
 
   -- the lock's own view after a pass was taken back
-  abbrev pub with_returned : View G E → View G E → View G E
+  abbrev pub with_returned : View S G E → View S G E → View S G E
   with_returned v pass = record v { returned = v.returned ++ left_by pass ∷ [] }
 
 module _ {S G E : Type 0} where
   -- a ticket was drawn: the number that was found
-  abbrev pub drew : Step S → Me S (View G E) → ℕ → Me S (View G E) → Type 0
+  abbrev pub drew : Step S → Me S (View S G E) → ℕ → Me S (View S G E) → Type 0
   drew step before found after = after ≡ (ticketed before.0 found, before.1)
 
-  -- the state came into hand. It has as many entries as the ticket says, and of the seat's caller those that it made
-  pub record Took (setup : S → G) (history : S → List E) (caller_of : E → ℕ) (before after : Me S (View G E)) : Type 0 where
+  -- the state came into hand. It has the setup of the lock's first state, as many entries as the ticket says, and of the seat's caller
+  -- those that it made
+  pub record Took (setup : S → G) (history : S → List E) (caller_of : E → ℕ) (before after : Me S (View S G E)) : Type 0 where
     pub state : S
     pub is : after ≡ (holding before.0 (setup state) (history state), (0, state) ∷ [])
+    pub kept : (start : S) → before.0.start ≡ Some start → setup state ≡ setup start
     pub count : length (history state) ≡ before.0.ticket
     pub mine : part caller_of (history state) before.0.caller ≡ before.0.mine
     pub seen : before.0.seen ≤ length (history state)
 
   -- the state was taken where the count of the board was the ticket, and else nothing changed
-  abbrev pub looked : (S → G) → (S → List E) → (E → ℕ) → Step S → Me S (View G E) → ℕ → Me S (View G E) → Type 0
+  abbrev pub looked : (S → G) → (S → List E) → (E → ℕ) → Step S → Me S (View S G E) → ℕ → Me S (View S G E) → Type 0
   looked setup history caller_of step before found after =
       (found % 16777216 ≡ before.0.ticket → Took setup history caller_of before after) × (found % 16777216 ≢ before.0.ticket → after ≡ before)
 
   -- the state in hand was given back, with its board
-  abbrev pub published : (S → List E) → (E → ℕ) → Step S → Me S (View G E) → ℕ → Me S (View G E) → Type 0
+  abbrev pub published : (S → List E) → (E → ℕ) → Step S → Me S (View S G E) → ℕ → Me S (View S G E) → Type 0
   published history caller_of step before found after = (x : S) → before.1 ≡ (0, x) ∷ [] → after ≡ (turned caller_of before.0 (history x), [])
 
   -- the board was seen, and its count is not below what was seen before
-  abbrev pub peeked : Step S → Me S (View G E) → ℕ → Me S (View G E) → Type 0
+  abbrev pub peeked : Step S → Me S (View S G E) → ℕ → Me S (View S G E) → Type 0
   peeked step before found after = (after ≡ (noted before.0 (unpacked found), before.1)) × (before.0.seen ≤ found % 16777216)

@@ -21,23 +21,25 @@ module _ {E : Type 0} where
   AreKnown board caller_of history returned = (k : ℕ) (r : Returned E) → get_elem? returned k ≡ some r →
       (r.mine ≡ part caller_of history r.caller) × AreNotes board history (length history) r.notes
 
-module _ {G E : Type 0} where
+module _ {S G E : Type 0} where
+  -- the view of a pass that was taken back
+  abbrev pub spent : View S G E
+  spent = record { start = None; live = 0; caller = 0; waits = 0; ticket = 0; seen = 0; mine = []; notes = []; held = None; passes = 0; returned = [] }
+
   -- the lock's own view, before any pass is made
-  abbrev pub own_at_first : View G E
-  own_at_first = record { live = 0; caller = 0; waits = 0; ticket = 0; seen = 0; mine = []; notes = []; held = None; passes = 0; returned = [] }
+  abbrev pub own_at_first : S → View S G E
+  own_at_first start = record spent { start = Some start }
 
   -- the one view of the lock's own seat
-  abbrev pub own_view : List (View G E) → View G E
-  own_view [] = own_at_first
+  abbrev pub own_view : List (View S G E) → View S G E
+  own_view [] = spent
   own_view (v ∷ vs) = v
 
-  -- the view of a pass that was taken back
-  abbrev pub spent : View G E
-  spent = own_at_first
-
   -- what the pass at the seat i knows
-  pub record KnowsPass (board : List E → Board) (caller_of : E → ℕ) (setup : G) (history : List E) (drawn i : ℕ) (v : View G E) : Type 0 where
+  pub record KnowsPass (board : List E → Board) (caller_of : E → ℕ) (start : S) (setup : G) (history : List E) (drawn i : ℕ) (v : View S G E) : Type 0 where
     pub seat : v.caller + 1 ≡ i
+    -- the state that the lock was made with
+    pub origin : v.start ≡ Some start
     -- its own entries are its caller's part of the history, below what it has seen
     pub mine : v.mine ≡ part caller_of history v.caller
     pub past : (k : ℕ) (p : ℕ × E) → get_elem? v.mine k ≡ some p → p.0 < v.seen
@@ -49,46 +51,47 @@ module _ {G E : Type 0} where
     pub held : (g : G) (h : List E) → v.held ≡ Some (g, h) → (v.waits ≡ 1) × (v.ticket ≡ length history) × (g ≡ setup) × (h ≡ history)
 
   -- what a seat knows, where only the seat of a live pass knows something
-  pub record Knows (board : List E → Board) (caller_of : E → ℕ) (setup : G) (history : List E) (drawn i : ℕ) (v : View G E) : Type 0 where
+  pub record Knows (board : List E → Board) (caller_of : E → ℕ) (start : S) (setup : G) (history : List E) (drawn i : ℕ) (v : View S G E) : Type 0 where
     pub flags : (v.live ≤ 1) × (v.waits ≤ v.live)
     pub idle : v.live ≡ 0 → v.held ≡ None
-    pub pass : v.live ≡ 1 → KnowsPass board caller_of setup history drawn i v
+    pub pass : v.live ≡ 1 → KnowsPass board caller_of start setup history drawn i v
 
   -- what a returned pass left is so of the history, and its seat is spent
-  pub record IsReturned (board : List E → Board) (caller_of : E → ℕ) (history : List E) (views : List (View G E)) (r : Returned E) : Type 0 where
+  pub record IsReturned (board : List E → Board) (caller_of : E → ℕ) (history : List E) (views : List (View S G E)) (r : Returned E) : Type 0 where
     pub made : r.caller + 1 < length views
-    pub spent : (v : View G E) → get_elem? views (r.caller + 1) ≡ some v → v.live ≡ 0
+    pub spent : (v : View S G E) → get_elem? views (r.caller + 1) ≡ some v → v.live ≡ 0
     pub mine : r.mine ≡ part caller_of history r.caller
     pub notes : AreNotes board history (length history) r.notes
 
-module _ {S G E : Type 0} (setup : S → G) (history : S → List E) (legal : G → List E → Type 0) (board : G → List E → Board) (caller_of : E → ℕ) (g : G) where
+module _ {S G E : Type 0} (setup : S → G) (history : S → List E) (legal : G → List E → Type 0) (board : G → List E → Board) (caller_of : E → ℕ) (start : S) where
   -- the state is at home and stands for the history, and no pass holds it; or the slot is out, and a pass holds that history
-  abbrev pub IsShelved : List (Option_ S) → List E → List (View G E) → Type 0
+  abbrev pub IsShelved : List (Option_ S) → List E → List (View S G E) → Type 0
   IsShelved homes h views =
-      ((x : S) × (homes ≡ some x ∷ []) × (setup x ≡ g) × (history x ≡ h) × ((i : ℕ) (v : View G E) → get_elem? views i ≡ some v → v.held ≡ None))
-      ⊎ ((homes ≡ none ∷ []) × ((i : ℕ) × (v : View G E) × (get_elem? views i ≡ some v) × (v.live ≡ 1) × (v.held ≡ Some (g, h))))
+      ((x : S) × (homes ≡ some x ∷ []) × (setup x ≡ setup start) × (history x ≡ h) × ((i : ℕ) (v : View S G E) → get_elem? views i ≡ some v → v.held ≡ None))
+      ⊎ ((homes ≡ none ∷ []) × ((i : ℕ) × (v : View S G E) × (get_elem? views i ≡ some v) × (v.live ≡ 1) × (v.held ≡ Some (setup start, h))))
 
-  -- the rule, for a lock whose setup is g
-  pub record Turning (s : State S (View G E)) : Type 0 where
+  -- the rule, for a lock that was made with the state `start`
+  pub record Turning (s : State S (View S G E)) : Type 0 where
     -- the history, how many tickets were drawn, and the lock's own view
     pub log : List E
     pub drawn : ℕ
-    pub own : View G E
-    pub words : s.words ≡ drawn ∷ packed (board g log) ∷ []
-    pub lawful : legal g log
-    pub counted : (board g log).count ≡ length log
-    pub small : IsSmall (board g log)
+    pub own : View S G E
+    pub words : s.words ≡ drawn ∷ packed (board (setup start) log) ∷ []
+    pub lawful : legal (setup start) log
+    pub counted : (board (setup start) log).count ≡ length log
+    pub small : IsSmall (board (setup start) log)
     -- one ticket for each entry, and one for each pass that waits; and no two of these are the same
     pub tickets : drawn ≡ length log + sum_by (λ v. v.waits) s.views
-    pub apart : (i j : ℕ) (v w : View G E) → get_elem? s.views i ≡ some v → get_elem? s.views j ≡ some w → v.waits ≡ 1 → w.waits ≡ 1 → v.ticket ≡ w.ticket → i ≡ j
+    pub apart : (i j : ℕ) (v w : View S G E) → get_elem? s.views i ≡ some v → get_elem? s.views j ≡ some w → v.waits ≡ 1 → w.waits ≡ 1 → v.ticket ≡ w.ticket → i ≡ j
     -- the lock's own seat comes first, and each of at most 9 passes has one
     pub first : get_elem? s.views 0 ≡ some own
     pub quiet : own.live ≡ 0
+    pub origin : own.start ≡ Some start
     pub seats : length s.views ≡ own.passes + 1
     pub few : own.passes ≤ 9
     -- each pass is live or returned, and who has no pass has no entry
     pub lives : sum_by (λ v. v.live) s.views + length own.returned ≡ own.passes
     pub nobody_else : (c : ℕ) → own.passes ≤ c → part caller_of log c ≡ []
-    pub each : (i : ℕ) (v : View G E) → get_elem? s.views i ≡ some v → Knows (board g) caller_of g log drawn i v
-    pub returned : (k : ℕ) (r : Returned E) → get_elem? own.returned k ≡ some r → IsReturned (board g) caller_of log s.views r
+    pub each : (i : ℕ) (v : View S G E) → get_elem? s.views i ≡ some v → Knows (board (setup start)) caller_of start (setup start) log drawn i v
+    pub returned : (k : ℕ) (r : Returned E) → get_elem? own.returned k ≡ some r → IsReturned (board (setup start)) caller_of log s.views r
     pub shelf : IsShelved s.homes log s.views

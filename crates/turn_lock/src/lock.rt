@@ -24,15 +24,15 @@ const LOOKS: u32 = 64;
 /// A state at which callers take turns. Word 0 of its table gives tickets, word 1 is the board, and the one slot has the state.
 #[derive(Drop)]
 pub struct TurnLock<S: Kept> {
-    table: Table<S, View<S::Setup, S::Entry>, Snapshot<S>, TurnRule<S>, Global>,
-    own: OwnSeat<View<S::Setup, S::Entry>>,
+    table: Table<S, View<S, S::Setup, S::Entry>, Snapshot<S>, TurnRule<S>, Global>,
+    own: OwnSeat<View<S, S::Setup, S::Entry>>,
     ghost sizes: { (table.shared.table_id.words ≡ 2) × (table.shared.table_id.slots ≡ 1) },
     ghost its_own: { (own.badge.table_id ≡ table.shared.table_id) × (own.badge.id ≡ 0) × (length own.badge.views ≡ 1) },
 }
 
 impl<S: Kept> TurnLock<S> {
     /// Draws a ticket.
-    fn draw(&self, seat: &mut Seat<S, View<S::Setup, S::Entry>>) -> u64
+    fn draw(&self, seat: &mut Seat<S, View<S, S::Setup, S::Entry>>) -> u64
         requires own { seat.old.table_id ≡ self.now.table.shared.table_id }
         requires rests { (seat.old.me.0.live ≡ 1) × (seat.old.me.0.waits ≡ 0) × (seat.old.me.1 ≡ []) }
         ensures own { (seat.new.table_id ≡ seat.old.table_id) × (seat.new.id ≡ seat.old.id) }
@@ -45,7 +45,7 @@ impl<S: Kept> TurnLock<S> {
     fn wait<R: Wait + Clock>(
         &self,
         rt: &R,
-        seat: &mut Seat<S, View<S::Setup, S::Entry>>,
+        seat: &mut Seat<S, View<S, S::Setup, S::Entry>>,
         ticket: u64,
     )
         requires own { seat.old.table_id ≡ self.now.table.shared.table_id }
@@ -53,7 +53,8 @@ impl<S: Kept> TurnLock<S> {
             × (seat.old.me.0.held ≡ None) × (seat.old.me.1 ≡ []) }
         ensures own { (seat.new.table_id ≡ seat.old.table_id) × (seat.new.id ≡ seat.old.id) }
         ensures took { (x : S) × (seat.new.me ≡ (holding seat.old.me.0 (S.setup x) (S.history x), (0, x) ∷ [])) × (length (S.history x) ≡ ticket)
-            × (part S.caller_of (S.history x) seat.old.me.0.caller ≡ seat.old.me.0.mine) × (seat.old.me.0.seen ≤ ticket) }
+            × (part S.caller_of (S.history x) seat.old.me.0.caller ≡ seat.old.me.0.mine) × (seat.old.me.0.seen ≤ ticket)
+            × ((start : S) → seat.old.me.0.start ≡ Some start → S.setup x ≡ S.setup start) }
     {
         let backoff = Backoff::new();
         let mut looks = 0;
@@ -74,7 +75,7 @@ impl<S: Kept> TurnLock<S> {
     /// Acts on the state in hand, and gives it back with the swap that shows the new board.
     fn act(
         &self,
-        seat: &mut Seat<S, View<S::Setup, S::Entry>>,
+        seat: &mut Seat<S, View<S, S::Setup, S::Entry>>,
         caller: Caller,
         call: &S::Call,
     ) -> (u32, S::Reply)
@@ -122,6 +123,7 @@ impl<S: Kept> TurnLock<S> {
     ghost use lib.ListN.{get_elem?};
     ghost use Rattle.turn_lock.specs.Part.{part};
     ghost use Rattle.turn_lock.specs.TurnRule.{AreKnown};
+    ghost use Rattle.turn_lock.specs.Turn.{GoesOn};
     ghost use Rattle.turn_lock.specs.Passes.{lock_of, caller_of, left_of, made_by, noted_by, seen_by, returned_by, lock_id, start_of, passes_of, returned_to};
 
     /// A lock at a state with no history, and one pass for each of 1 to 9 limits: pass `i` is that of caller `i`, and may call as often
@@ -162,7 +164,7 @@ impl<S: Kept> TurnLock<S> {
     }
 
     /// Takes a turn: it may wait for it, acts on the state by the call, and answers the position of its entry and the reply. The position
-    /// is not below what the pass had seen, and some entries with its own after them are a legal history.
+    /// is not below what the pass had seen. The entry goes on from as many entries as its position says, and with it they are legal.
     pub fn call<R: Wait + Clock>(
         &self,
         rt: &R,
@@ -176,7 +178,7 @@ impl<S: Kept> TurnLock<S> {
             × (left_of pass.new + 1 ≡ left_of pass.old) × (noted_by pass.new ≡ noted_by pass.old) }
         ensures entry { (e : S.Entry) × (S.caller_of e ≡ caller_of pass.old) × (S.call_of e ≡ call.now) × (S.answer e ≡ result.1)
             × (made_by pass.new ≡ made_by pass.old ++ (result.0, e) ∷ [])
-            × (setup : S.Setup) × (before : List S.Entry) × (length before ≡ result.0) × S.legal setup (before ++ e ∷ []) }
+            × GoesOn S.legal S.caller_of (S.setup (start_of self.now)) (caller_of pass.old) (made_by pass.old) result.0 e }
         ensures seen { (seen_by pass.old ≤ result.0) × (seen_by pass.new ≡ result.0 + 1) }
     {
         let ticket = self.draw(&mut pass.seat);

@@ -8,7 +8,7 @@ use tac_base::Caller;
 /// The right of one caller to take turns at a lock, as often as its limit says. It knows its own calls so far and the boards that it saw.
 #[derive(Drop)]
 pub struct Pass<S: Kept> {
-    pub(crate) seat: Seat<S, View<S::Setup, S::Entry>>,
+    pub(crate) seat: Seat<S, View<S, S::Setup, S::Entry>>,
     pub(crate) caller: Caller,
     pub(crate) left: u32,
     ghost live: { (seat.me.0.live ≡ 1) × (seat.me.0.caller ≡ caller) },

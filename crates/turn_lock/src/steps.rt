@@ -10,7 +10,7 @@ use std::marker::PhantomData;
 /// Draws a ticket from word 0.
 pub(crate) struct Draw;
 
-impl<S, G, E> Play<S, View<G, E>> for Draw {
+impl<S, G, E> Play<S, View<S, G, E>> for Draw {
     ghost then = { drew };
 }
 
@@ -19,7 +19,7 @@ pub(crate) struct Look<S> {
     state: PhantomData<S>,
 }
 
-impl<S: Kept> Play<S, View<S::Setup, S::Entry>> for Look<S> {
+impl<S: Kept> Play<S, View<S, S::Setup, S::Entry>> for Look<S> {
     ghost then = { looked S.setup S.history S.caller_of };
 }
 
@@ -28,21 +28,21 @@ pub(crate) struct Publish<S> {
     state: PhantomData<S>,
 }
 
-impl<S: Kept> Play<S, View<S::Setup, S::Entry>> for Publish<S> {
+impl<S: Kept> Play<S, View<S, S::Setup, S::Entry>> for Publish<S> {
     ghost then = { published S.history S.caller_of };
 }
 
 /// Looks at the board.
 pub(crate) struct Peek;
 
-impl<S, G, E> Play<S, View<G, E>> for Peek {
+impl<S, G, E> Play<S, View<S, G, E>> for Peek {
     ghost then = { peeked };
 }
 
 /// Splits off the seat of the next pass.
 pub(crate) struct SplitOff;
 
-impl<G, E> Split<View<G, E>> for SplitOff {
+impl<S, G, E> Split<View<S, G, E>> for SplitOff {
     ghost left = { with_pass };
 
     ghost right = { next_pass };
@@ -51,7 +51,7 @@ impl<G, E> Split<View<G, E>> for SplitOff {
 /// Joins the seat of a pass.
 pub(crate) struct JoinPass;
 
-impl<G, E> Join<View<G, E>> for JoinPass {
+impl<S, G, E> Join<View<S, G, E>> for JoinPass {
     ghost both = { with_returned };
 
     ghost spent = { spent };

@@ -15,7 +15,9 @@ pub struct Returned<E> {
 }
 
 /// What a seat at the lock's table knows. No value of it is made.
-pub struct View<G, E> {
+pub struct View<S, G, E> {
+    /// The state that the lock was made with. The seat of a pass that was taken back has none.
+    pub start: Option<S>,
     /// 1 for the seat of a pass that is not taken back, else 0.
     pub live: u64,
     pub caller: u64,
@@ -41,10 +43,10 @@ pub struct TurnRule<S> {
     state: PhantomData<S>,
 }
 
-impl<S: Kept> TableRule<S, View<S::Setup, S::Entry>, Snapshot<S>> for TurnRule<S> {
+impl<S: Kept> TableRule<S, View<S, S::Setup, S::Entry>, Snapshot<S>> for TurnRule<S> {
     ghost use Rattle.turn_lock.specs.TurnRule.{Turning, own_at_first};
 
-    ghost holds = { λ key. Turning S.setup S.history S.legal S.board S.caller_of (S.setup key.value) };
+    ghost holds = { λ key. Turning S.setup S.history S.legal S.board S.caller_of key.value };
 
-    ghost first = { λ _. own_at_first };
+    ghost first = { λ key. own_at_first key.value };
 }

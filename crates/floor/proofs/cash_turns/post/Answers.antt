@@ -21,7 +21,7 @@ returns-clause-posted g c e is mine =
     let post : CashEntry = record { caller = e.caller; call = Post c.args.good c.args.position (record { dollars = nets e.trades }); reply = Done } in
     let one = one_post e.trades post (λ none. c.if-struck-eq0.false (sym (ap (λ s. s.trades) is) ∙ none)) in
     let asked : call.0.call ≡ post.call = call.2 ∙ ap (λ s. Post c.args.good c.args.position s.nets) (sym is) in
-    let same : call.0 ≡ post = λ k. record { caller = (call.1 ∙ sym mine) k; call = asked k; reply = post_is_done call.6 call.0 _ _ _ call.8 asked k } in (
+    let same : call.0 ≡ post = λ k. record { caller = (call.1 ∙ sym mine) k; call = asked k; reply = post_is_done call.5.before call.0 _ _ _ call.5.lawful asked k } in (
       (c.call.result.0, call.4 ∙ ap (λ (l : List CashEntry). made ++ map (λ x. (c.call.result.0, x)) l) (ap (λ (x : CashEntry). x ∷ []) same ∙ sym one)),
       let long : length (due_post c.args.good c.args.position e) ≡ 1 = ap length one in let left = c.call.ensures.own.2 in omega arith,
     )

@@ -11,11 +11,9 @@ invariant_of-desk c =
     let v = c.loop-cash.invariant in let desks = c.loop-cash.desks.items in let hand = c.unwrap-hand.result in let cash = c.in-Some.cash in
     let hands_are = v.dealt ∙ ap (λ l. map (λ d. d.passes) desks ++ l) (c.next-in-loop-cash.ensures.items ∙ ap (λ o. option_to_list o ++ into_iter_items c.next-in-loop-cash.new.self) c.unwrap-hand.ensures) in
     let passes_are = v.rest ∙ ap (λ l. map (λ d. d.cash) desks ++ l) c.in-Some.ensures.steps.0 in
-    record {
-      kept = c.requires.fit (length desks) hand cash
-          (ap (λ (k : ℕ). get_elem? c.args.hands.items k) (sym (length-map desks (λ d. d.passes))) ∙ at_next _ _ _ _ hands_are)
-          (ap (λ (k : ℕ). get_elem? c.args.passes.items k) (sym (length-map desks (λ d. d.cash))) ∙ at_next _ _ _ _ passes_are);
-    }
+    let fit = c.requires.fit (length desks) hand cash
+    (ap (λ (k : ℕ). get_elem? c.args.hands.items k) (sym (length-map desks (λ d. d.passes))) ∙ at_next _ _ _ _ hands_are)
+    (ap (λ (k : ℕ). get_elem? c.args.passes.items k) (sym (length-map desks (λ d. d.cash))) ∙ at_next _ _ _ _ passes_are) in record { kept = fit.0; in_order = fit.1 }
 
 pub loop-cash-preserved : goal.loop-cash-preserved
 loop-cash-preserved c =

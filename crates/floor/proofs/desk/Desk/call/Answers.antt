@@ -1,9 +1,16 @@
-use Rattle.std.proofs.Common.{◌≡◌, ◌++◌, ℕ, ◌+◌, ◌<◌, ◌≤◌, List, [], ◌∷◌, map, length, get_or, set, sym, ap, ◌∙◌, subst, refl, arith}
+use Rattle.std.proofs.Common.{◌≡◌, ◌++◌, ℕ, ◌+◌, ◌<◌, ◌≤◌, List, [], ◌∷◌, map, length, reverse, slice_get, get_or, set, sym, ap, ◌∙◌, subst, refl, arith}
 use Rattle.std.proofs.lemmas.List.{length-map, get_or-replicate}
+use Rattle.std.specs.Prelude.{option_and_then}
+use Rattle.std.specs.Option.{option_map}
+use Rattle.auction_core.specs.Auctions.{AuctionHistory}
 use Rattle.auction_rules.specs.History.{Entry}
-use Rattle.turn_lock.specs.Passes.{lock_of, lock_id, caller_of, left_of, made_by, noted_by, seen_by}
-use Rattle.floor.proofs.Rows.{map_get, map_set, map_set_same, same_at}
+use Rattle.auction_rules.specs.Legal.{entry_of}
+use Rattle.turn_lock.specs.Part.{part}
+use Rattle.turn_lock.specs.Passes.{LockId, lock_of, lock_id, start_of, caller_of, left_of, made_by, noted_by, seen_by}
+use Rattle.floor.proofs.Rows.{map_get, map_at, map_set, map_set_same, same_at}
 use Rattle.floor.proofs.Desks.{kept_more, kept_as}
+use Rattle.floor.proofs.Orders.{orders_entry, order_as}
+use Rattle.floor.proofs.BornOut.{last_is_ruled}
 use Rattle.floor.proofs.desk.Desk.call.Goals as goal
 
 pub call-position-requires-clause-own : goal.call-position-requires-clause-own
@@ -32,6 +39,13 @@ invariant_of-self g c =
           refl
           posted.0.1
           refl;
+      in_order = order_as
+          (orders_entry (map (λ q. made_by q) ps) (map (λ q. noted_by q) ps) (map (λ q. seen_by q) ps) (length-map ps (λ q. seen_by q) ∙ long) good (omega (arith, c.place-place.ensures.range)) d.in_order position e
+          (subst (λ (n : ℕ). n ≤ position) (sym (map_get (λ q. seen_by q) ps k p 0 inside at) ∙ ap (λ (j : ℕ). get_or (map (λ q. seen_by q) ps) j 0) is) c.call-position.ensures.seen.0))
+          (map_set (λ q. made_by q) ps k p' _ (entry.4 ∙ ap (λ (l : List (ℕ × Entry)). l ++ (position, e) ∷ []) (sym (map_get (λ q. made_by q) ps k p [] inside at)))
+          ∙ ap (λ (j : ℕ). set (map (λ q. made_by q) ps) j (get_or (map (λ q. made_by q) ps) j [] ++ (position, e) ∷ [])) is)
+          (map_set_same (λ q. noted_by q) ps k p p' inside at own.3)
+          (map_set (λ q. seen_by q) ps k p' (position + 1) c.call-position.ensures.seen.1 ∙ ap (λ (j : ℕ). set (map (λ q. seen_by q) ps) j (position + 1)) is);
     }
 
 pub returns : goal.returns
@@ -42,6 +56,8 @@ returns g c =
     let long : length ps ≡ 28 = sym (length-map ps (λ q. made_by q)) ∙ d.kept.goods in let inside : k < length ps = omega (arith, c.place-place.ensures.range) in
     let caller : caller_of p ≡ caller_of d.cash = sym (map_get (λ q. caller_of q) ps k p 0 inside at) ∙ (ap (λ (l : List ℕ). get_or l k 0) d.kept.own ∙ get_or-replicate 28 k (caller_of d.cash) 0 (omega (arith, c.place-place.ensures.range))) in
     let posted = c.post.ensures.posted e entry.3 (entry.1 ∙ caller) in
+    let turn = entry.5 in let locks = c.args.floor.now.auctions.items in let lock = c.index-lock.result.now in let start : AuctionHistory = start_of lock in
+    let wide : k < length locks = omega (arith, length-map locks (λ l. lock_id l), length-map ps (λ q. lock_of q), ap length (ap (λ t. t.0) c.requires.own), inside) in
     record {
       answered = record {
         entry = e;
@@ -55,5 +71,13 @@ returns g c =
         seen = map_set (λ q. seen_by q) ps k p' (position + 1) c.call-position.ensures.seen.1 ∙ ap (λ (j : ℕ). set (map (λ q. seen_by q) ps) j (position + 1)) is;
         boards = map_set_same (λ q. noted_by q) ps k p p' inside at own.3;
         same = ((λ i. (map_set_same (λ q. lock_of q) ps k p p' inside at own.0 i, c.post.ensures.own.0 i)), c.post.ensures.own.1);
+        setup = start.setup;
+        setup_is = ap (λ l. option_and_then (λ id. option_map (λ s. s.setup) id.start) (slice_get l good)) (ap (λ t. t.0) c.requires.own)
+            ∙ ap (option_and_then (λ (id : LockId AuctionHistory). option_map (λ s. s.setup) id.start)) (ap (slice_get (map (λ l. lock_id l) locks)) (sym is) ∙ map_at (λ l. lock_id l) locks k lock wide c.index-lock.ensures);
+        earlier = turn.before;
+        count = turn.count;
+        own = ap (part (λ (x : Entry). x.caller) turn.before) (sym caller) ∙ (turn.own ∙ (sym (map_get (λ q. made_by q) ps k p [] inside at) ∙ ap (λ (j : ℕ). get_or (map (λ q. made_by q) ps) j []) is));
+        legal = turn.lawful;
+        ruled = last_is_ruled start.setup turn.before e turn.lawful ∙ (λ i. entry_of start.setup (reverse turn.before) ((entry.1 ∙ caller) i) (entry.2 i));
       };
     }

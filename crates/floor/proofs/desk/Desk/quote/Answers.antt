@@ -1,9 +1,10 @@
-use Rattle.std.proofs.Common.{◌++◌, ℕ, ◌<◌, ◌≤◌, List, [], ◌∷◌, map, length, get_or, set, refl, sym, ap, ◌∙◌, subst, arith}
+use Rattle.std.proofs.Common.{◌≡◌, ◌++◌, ℕ, ◌<◌, ◌≤◌, List, [], ◌∷◌, map, length, get_or, set, refl, sym, ap, ◌∙◌, subst, arith}
 use Rattle.std.proofs.lemmas.List.{length-map}
 use Rattle.tac_base.specs.declared.calls.Board.{Board}
 use Rattle.turn_lock.specs.Passes.{lock_of, lock_id, caller_of, left_of, made_by, noted_by, seen_by}
 use Rattle.floor.proofs.Rows.{map_get, map_set, map_set_same, same_at}
 use Rattle.floor.proofs.Desks.{kept_as}
+use Rattle.floor.proofs.Orders.{orders_board, order_as}
 use Rattle.floor.proofs.desk.Desk.quote.Goals as goal
 
 pub peek-requires-clause-own : goal.peek-requires-clause-own
@@ -15,8 +16,15 @@ peek-requires-clause-own c κs =
 pub invariant_of-self : goal.invariant_of-self
 invariant_of-self c =
     let d = c.args.self.now in let ps = d.passes.items in let k : ℕ = c.place-place.result in let p = c.index_mut.result.now in let p' = c.peek.new.pass in let at = c.index_mut.ensures.value in let own = c.peek.ensures.own in
-    let inside : k < length ps = omega (arith, length-map ps (λ q. made_by q), d.kept.goods, c.place-place.ensures.range) in record {
+    let board = c.peek.result in let long : length ps ≡ 28 = sym (length-map ps (λ q. made_by q)) ∙ d.kept.goods in let inside' : k < 28 = omega (arith, c.place-place.ensures.range) in
+    let inside : k < length ps = omega arith in record {
       kept = kept_as d.kept refl (map_set_same (λ q. caller_of q) ps k p p' inside at own.1) (map_set_same (λ q. left_of q) ps k p p' inside at own.2) (map_set_same (λ q. made_by q) ps k p p' inside at own.3) refl refl refl;
+      in_order = order_as
+          (orders_board (map (λ q. made_by q) ps) (map (λ q. noted_by q) ps) (map (λ q. seen_by q) ps) (length-map ps (λ q. seen_by q) ∙ long) k inside' d.in_order (length-map ps (λ q. noted_by q) ∙ long) board.count board
+          (subst (λ (n : ℕ). n ≤ board.count) (sym (map_get (λ q. seen_by q) ps k p 0 inside at)) c.peek.ensures.seen.0))
+          (map_set_same (λ q. made_by q) ps k p p' inside at own.3)
+          (map_set (λ q. noted_by q) ps k p' _ (c.peek.ensures.note ∙ ap (λ (l : List (ℕ × Board)). l ++ (board.count, board) ∷ []) (sym (map_get (λ q. noted_by q) ps k p [] inside at))))
+          (map_set (λ q. seen_by q) ps k p' board.count c.peek.ensures.seen.1);
     }
 
 pub returns-clause-seen : goal.returns-clause-seen

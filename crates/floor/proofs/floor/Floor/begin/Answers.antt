@@ -1,18 +1,21 @@
-use Rattle.std.proofs.Common.{◌≡◌, ℕ, [], ◌∷◌, ◌++◌, map, length, replicate, sym, ap, ◌∙◌, subst, arith}
-use Rattle.std.specs.Prelude.{IfOk}
+use Rattle.std.proofs.Common.{◌≡◌, ℕ, ◌<◌, [], ◌∷◌, ◌++◌, map, length, replicate, refl, sym, ap, ◌∙◌, subst, arith, Option, Some, slice_get}
+use Rattle.std.specs.Prelude.{IfOk, option_and_then}
+use Rattle.std.specs.Option.{option_map}
 use Rattle.std.specs.List.{range_with_len}
 use Rattle.std.proofs.lemmas.List.{length-map, length-replicate, map_push, replicate_more}
 use Rattle.std.proofs.lemmas.List.FromFn.{map-range_with_len_more}
 use lib.ListN.{get_elem?}
 use Rattle.atomic_table.proofs.Lists.{at_map}
+use Rattle.auction_rules.specs.Setup.{Setup}
 use Rattle.auction_rules.specs.Legal.{cap}
 use Rattle.auction_core.specs.Auctions.{AuctionHistory}
 use Rattle.auction_core.specs.Setups.{setup_of}
-use Rattle.turn_lock.specs.Passes.{lock_id, start_of, passes_of, returned_to}
+use Rattle.turn_lock.specs.Passes.{LockId, lock_id, start_of, passes_of, returned_to}
 use Rattle.floor.specs.declared.desk.Desk.{Desk}
 use Rattle.floor.specs.Keeping.{goods_of}
-use Rattle.floor.specs.Desks.{desk_ids, desk_caller}
-use Rattle.floor.proofs.BornOut.{all_same, all_numbered}
+use Rattle.floor.specs.Desks.{desk_ids, desk_caller, setup_at}
+use Rattle.floor.proofs.BornOut.{all_same, all_numbered, all_by_place}
+use Rattle.floor.proofs.Rows.{read_twice, at_numbered}
 use Rattle.floor.specs.Dealing.{AreFresh}
 use Rattle.floor.proofs.FreshPasses.{fresh_first, make_desk, new_desk}
 use Rattle.floor.proofs.floor.Floor.begin.Goals as goal
@@ -86,3 +89,17 @@ returns-clause-desks c =
     let desks = c.in_ok-desks.desks.items in let seated = c.in_ok-desks.ensures in let each = returns-clause-new_desks c in
     let nine : length desks ≡ 9 = sym (length-map desks (λ (d : Desk). d.cash)) ∙ (ap length seated.passes ∙ c.in_ok-cash.ensures.passes.0) in
     (all_same (λ d. desk_ids d) _ 9 desks nine (λ i d at. (each i d at).ids), all_numbered (λ d. desk_caller d) 0 9 desks nine (λ i d at. (each i d at).caller ∙ omega arith))
+
+-- each desk's passes are of the locks of the floor, which were made with the setups of the game
+pub returns-clause-setups : goal.returns-clause-setups
+returns-clause-setups c =
+    let v = c.loop-number.invariant in let locks = c.loop-number.auctions.items in let f : ℕ → AuctionHistory = λ good. record { setup = setup_of good c.args.game.now; history = [] } in
+    let is : c.loop-number.number ≡ 28 = omega (arith, v.bound, c.loop-number-test.false) in
+    let starts = v.starts ∙ ap (λ (n : ℕ). map f (range_with_len 0 n)) is in
+    let setup_by : LockId AuctionHistory → Option Setup = λ id. option_map (λ s. s.setup) id.start in
+    all_by_place (λ (d : Desk). (good : ℕ) → good < 28 → setup_at d good ≡ Some (setup_of good c.args.game.now)) c.in_ok-desks.desks.items
+    (λ i d at good inside.
+    ap (λ l. option_and_then setup_by (slice_get l good)) (ap (λ t. t.0) (returns-clause-new_desks c i d at).ids)
+    ∙ (read_twice (λ l. lock_id l) (λ l. start_of l) setup_by (λ (s : AuctionHistory). s.setup) (λ l. refl) locks good
+    ∙ (ap (λ l. option_map (λ (s : AuctionHistory). s.setup) (slice_get l good)) starts
+    ∙ (ap (option_map (λ (s : AuctionHistory). s.setup)) (at_numbered f 0 28 good inside) ∙ ap (λ (n : ℕ). Some (setup_of n c.args.game.now)) (omega arith)))))

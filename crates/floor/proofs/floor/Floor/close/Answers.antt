@@ -3,6 +3,7 @@ use Rattle.std.specs.Vec.Iter.{into_iter_items}
 use Rattle.std.specs.List.{AllByRecursion}
 use Rattle.std.proofs.lemmas.List.{length-map, append_assoc, nil_from_length, map_push}
 use Rattle.std.proofs.lemmas.List.Sums.{fold_push}
+use Rattle.std.proofs.lemmas.List.Elements.{All-from_recursion}
 use mathlib.Core.Option.{some}
 use lib.ListN.{get_elem?}
 use Rattle.atomic_table.proofs.Lists.{at_map}
@@ -106,6 +107,7 @@ returns c =
           ∙ (sym (map_of (λ (a : AuctionHistory). a.setup) (λ l. start_of l) locks) ∙ ap (λ l. map (λ (a : AuctionHistory). a.setup) l) v.starts);
       legal = all_by_place _ auctions (λ k a at. (given k a at).2.legal);
       cash = c.close.ensures.legal;
+      callers = All-from_recursion (λ (e : CashEntry). e.caller ≤ 8) cash called;
       borne_out = all_by_place _ desks (λ k d at. borne_out desks auctions cash long known cash_known k d at);
       matched = matched;
       totals = λ party low. matched_totals (map (λ a. a.history) auctions) cash party low matched;

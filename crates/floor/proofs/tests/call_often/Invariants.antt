@@ -1,6 +1,6 @@
 use Rattle.std.proofs.Common.{◌≡◌}
 use Rattle.floor.specs.Desks.{desk_ids, desk_caller}
-use Rattle.floor.proofs.tests.own_often.Given as goal
+use Rattle.floor.proofs.tests.call_often.Given as goal
 
 abbrev pub invariant-loop : goal.invariant-loop
 invariant-loop g l = record {
