@@ -1,5 +1,5 @@
 -- A game that is printed is read as that game.
-use Rattle.std.proofs.Common.{◌≡◌, ℕ, ◌*◌, ◌≤◌, ◌<◌, true, false, ltb, List, [], ◌∷◌, ◌++◌, Ok, length, refl, ap, ◌∙◌, arith}
+use Rattle.std.proofs.Common.{◌≡◌, ℕ, ◌*◌, ◌≤◌, ◌<◌, true, false, ltb, List, [], ◌∷◌, ◌++◌, Ok, length, refl, ap, ◌∙◌, arith, lit≤}
 use Rattle.std.specs.Prelude.{codes}
 use Rattle.std.specs.List.{AllByRecursion}
 use Rattle.std.proofs.lemmas.Bool.{le-ltb}
@@ -26,11 +26,11 @@ use Rattle.game_text.proofs.GameLaws.{game_in_again}
 -- ---- each line of a game is a line
 
 clients_are_lines : (agent : ℕ) (clients : List Preferences) → agent < 8 → AreClients clients → AllByRecursion (IsLine 678) (client_lines agent clients)
-clients_are_lines agent clients lt are = parts_lines (one_line (client_text agent)) IsClient 678 8 (λ i wants less is. (client_line agent i wants (omega (arith, lt)) (omega (arith, less)) is, tt)) clients 0 (omega (arith, are.count)) are.each
+clients_are_lines agent clients lt are = parts_lines (one_line (client_text agent)) IsClient 678 8 (λ i wants less is. (client_line 678 agent i wants (lit≤ tt) (omega (arith, lt)) (omega (arith, less)) is, tt)) clients 0 (omega (arith, are.count)) are.each
 
 agents_are_lines : (agents : Agents) → AreAgents agents → AllByRecursion (IsLine 678) (agents_lines agents)
 agents_are_lines agents are =
-    lines_append 678 (lines_of_parts (one_line endow_text) 0 agents.endow) (lines_of_parts client_lines 0 agents.clients) (parts_lines (one_line endow_text) IsEndowment 678 8 (λ i endow less is. (endow_line i endow (omega (arith, less)) is, tt)) agents.endow 0 (omega (arith, are.endow_count)) are.endow)
+    lines_append 678 (lines_of_parts (one_line endow_text) 0 agents.endow) (lines_of_parts client_lines 0 agents.clients) (parts_lines (one_line endow_text) IsEndowment 678 8 (λ i endow less is. (endow_line 678 i endow (lit≤ tt) (omega (arith, less)) is, tt)) agents.endow 0 (omega (arith, are.endow_count)) are.endow)
     (parts_lines client_lines AreClients 678 8 clients_are_lines agents.clients 0 (omega (arith, are.client_count)) are.clients)
 
 pub game_is_lines : (game : GameFile) → IsGame game → AllByRecursion (IsLine 678) (game_lines game)

@@ -11,3 +11,4 @@ pub mod GameLaws
 pub mod GameTexts
 pub mod PrintedGames
 pub mod Worked
+mod AgentLineLaws

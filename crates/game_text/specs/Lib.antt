@@ -9,3 +9,4 @@ pub mod Headers
 pub mod AgentLines
 pub mod Accounts
 pub mod Games
+pub mod OneAgent

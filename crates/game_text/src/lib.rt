@@ -2,6 +2,7 @@
 #![tactic(auto)]
 
 mod accounts;
+mod agent_lines;
 mod agents;
 mod client_lines;
 mod closing_orders;
@@ -17,6 +18,7 @@ mod seat_words;
 mod tests;
 
 pub use accounts::{Account, read_account};
+pub use agent_lines::print_agent_line;
 pub use fault::GameFault;
 pub use flights::FlightLine;
 pub use games::{Game, read_game};

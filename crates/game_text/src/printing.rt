@@ -74,7 +74,7 @@ fn order_numbers(order: &[Good; 8]) -> [i64; 8]
 }
 
 /// The numbers of an endowment's line.
-fn endow_numbers(agent: u8, endow: &[u8; 12]) -> [i64; 13]
+pub(crate) fn endow_numbers(agent: u8, endow: &[u8; 12]) -> [i64; 13]
     ensures { result ≡ pos agent ∷ map pos endow.now }
 {
     let mut numbers = [0; 13];
@@ -100,7 +100,7 @@ impl PrintedPart for Endowments {
 }
 
 /// The numbers of a client's line.
-fn client_numbers(agent: u8, client: u8, wants: &Client) -> [i64; 8]
+pub(crate) fn client_numbers(agent: u8, client: u8, wants: &Client) -> [i64; 8]
     ensures { result ≡ clients.client_numbers agent client wants.now }
 {
     [

@@ -1,6 +1,9 @@
-use crate::{GameFault, SeatWord, print_game, read_account, read_game};
+ghost use Rattle.std.specs.Prelude.{◌≤◌};
+
+use crate::{Game, GameFault, SeatWord, print_agent_line, print_game, read_account, read_game};
 use std::alloc::{AllocError, Global};
 use std::test::Fail;
+use tac_base::{Agent, Text};
 
 /// A game in which each flight stays at 300 dollars, nobody has a ticket and all clients want the same,
 /// with one line of its clients given.
@@ -76,6 +79,37 @@ fn fields_are_those_of_the_lines(rt: HostRuntime) -> Result<(), Fail> {
     assert_eq!(rt; client.depart, 5);
     assert_eq!(rt; client.premium, 150);
     assert_eq!(rt; client.values, [10, 20, 200]);
+    Ok(())
+}
+
+/// A line of an agent.
+fn agent_line(game: &Game, agent: Agent, n: u8) -> Text
+    requires { n ≤ 8 }
+{
+    let mut out = Text::new();
+    print_agent_line(game, agent, n, &mut out);
+    out
+}
+
+#[test]
+fn lines_of_an_agent_are_those_of_the_game(rt: HostRuntime) -> Result<(), Fail> {
+    let text = quiet_game(rt.alloc(), b"client 0 0 2 5 150 10 20 200\n")?;
+    let game = read_game(text.as_slice())?;
+    let [first, .., last] = Agent::all();
+    let endowment = agent_line(&game, first, 0);
+    assert_eq!(rt;
+        endowment.as_slice(),
+        b"endow 0 0 0 0 0 0 0 0 0 0 0 0 0".as_slice()
+    );
+    let client = agent_line(&game, first, 1);
+    assert_eq!(rt;
+        client.as_slice(),
+        b"client 0 0 2 5 150 10 20 200".as_slice()
+    );
+    let client = agent_line(&game, first, 2);
+    assert_eq!(rt; client.as_slice(), b"client 0 1 1 2 100 0 0 100".as_slice());
+    let client = agent_line(&game, last, 8);
+    assert_eq!(rt; client.as_slice(), b"client 7 7 1 2 100 0 0 100".as_slice());
     Ok(())
 }
 

@@ -1,13 +1,13 @@
 -- Texts without a line end.
-use Rattle.std.proofs.Common.{◌≡◌, ◌≢◌, ℕ, ◌^◌, ◌<◌, true, false, not, eqb, List, [], ◌∷◌, ◌++◌, None, refl, sym, ◌∙◌, arith, ℤ, decimal, lit<}
+use Rattle.std.proofs.Common.{◌≡◌, ◌≢◌, ℕ, ◌^◌, ◌<◌, true, not, eqb, List, [], ◌∷◌, ◌++◌, None, refl, arith, ℤ, decimal, lit<}
 use Rattle.std.specs.Prelude.{unsigned_abs, codes}
 use Rattle.std.specs.Fmt.{signed_decimal}
 use Rattle.std.specs.List.{AllByRecursion, list_all, flat_map, join_with_byte}
-use Rattle.std.proofs.lemmas.Bool.{eq-eqb}
-use Rattle.std.proofs.lemmas.List.Elements.{All-from_recursion, All-append}
+use Rattle.std.proofs.lemmas.List.Elements.{All-append}
 use Rattle.tac_base.specs.declared.bids.Point.{Point}
 use Rattle.tac_base.specs.Bids.{left_fault}
 use Rattle.tac_base.proofs.Signed.{Lacks, decimal_lacks, signed_lacks}
+use Rattle.text_forms.proofs.PrintedLines.{none_is}
 use Rattle.bid_strings.specs.Spelling.{spelling, point_words}
 use Rattle.bid_strings.proofs.Laws.{points_lack, lawful_points}
 use Rattle.tac_base.specs.declared.calls.Reply.{Reply}
@@ -19,15 +19,8 @@ use Rattle.line_protocol.specs.declared.saying.Said.TheVariants.{At}
 use Rattle.line_protocol.specs.Replies.{place, reply_text, said_text, fault_number, fault_words, IsOneLine}
 use Rattle.line_protocol.proofs.JoinedWords.{lacks}
 
-other_byte : (byte : ℕ) → eqb byte 10 ≡ false → byte ≢ 10
-other_byte byte h e = absurd (let same : eqb byte 10 ≡ true = eq-eqb byte 10 e in let clash : true ≡ false = sym same ∙ h in cc)
-
-other_bytes : (word : List ℕ) → Lacks 10 word → AllByRecursion (λ byte. byte ≢ 10) word
-other_bytes [] h = tt
-other_bytes (first ∷ rest) h = (other_byte first h.0, other_bytes rest h.1)
-
 pub plain_line : (word : List ℕ) → Lacks 10 word → IsOneLine word
-plain_line word h = All-from_recursion (λ byte. byte ≢ 10) word (other_bytes word h)
+plain_line word h = none_is 10 word h
 
 -- a word that is tested byte for byte
 pub known_line : (word : List ℕ) → list_all (λ b. not (eqb b 10)) word ≡ true → IsOneLine word

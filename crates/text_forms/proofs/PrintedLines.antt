@@ -1,12 +1,13 @@
 -- Lines that are printed are cut again, and none of them is taken for a comment.
-use Rattle.std.proofs.Common.{◌≡◌, ℕ, suc, ◌+◌, ◌*◌, ◌^◌, ◌<◌, ◌≤◌, Bool, true, false, not, ◌&&◌, eqb, List, [], ◌∷◌, ◌++◌, length, map, drop, refl, ap, ◌∙◌, append_assoc, arith, ℤ, pos, negsuc, lit<}
+use Rattle.std.proofs.Common.{◌≡◌, ◌≢◌, ℕ, suc, ◌+◌, ◌*◌, ◌^◌, ◌<◌, ◌≤◌, Bool, true, false, not, ◌&&◌, eqb, List, [], ◌∷◌, ◌++◌, length, map, drop, refl, ap, ◌∙◌, append_assoc, arith, ℤ, pos, negsuc, lit<}
 use Rattle.std.specs.Prelude.{slice_index, unsigned_abs}
 use Rattle.std.specs.Fmt.{signed_decimal}
 use Rattle.std.specs.List.{list_all, join_with_byte, All, AllByRecursion}
+use Rattle.std.proofs.lemmas.Bool.{eq-eqb}
 use Rattle.std.proofs.lemmas.Fmt.{length-decimal-le}
 use Rattle.std.proofs.lemmas.List.{length-map, length-append}
 use Rattle.std.proofs.lemmas.List.Concat.{flat_map-cons}
-use Rattle.std.proofs.lemmas.List.Elements.{All-head, All-tail}
+use Rattle.std.proofs.lemmas.List.Elements.{All-from_recursion, All-head, All-tail}
 use Rattle.tac_base.proofs.NumeralLaws.{both_true}
 use Rattle.tac_base.proofs.Signed.{Lacks}
 use Rattle.text_forms.specs.declared.rows.Column.{Column}
@@ -31,6 +32,17 @@ lacks_at false byte b word e h more = (e, more h)
 pub lacks_from : (byte : ℕ) (word : List ℕ) → list_all (λ b. not (eqb b byte)) word ≡ true → Lacks byte word
 lacks_from byte [] h = tt
 lacks_from byte (b ∷ word) h = lacks_at (eqb b byte) byte b word refl h (lacks_from byte word)
+
+other_byte : (byte b : ℕ) → eqb b byte ≡ false → b ≢ byte
+other_byte byte b h e = absurd (let same : eqb b byte ≡ true = eq-eqb b byte e in cc)
+
+other_bytes : (byte : ℕ) (word : List ℕ) → Lacks byte word → AllByRecursion (λ b. b ≢ byte) word
+other_bytes byte [] h = tt
+other_bytes byte (b ∷ word) h = (other_byte byte b h.0, other_bytes byte word h.1)
+
+-- no byte of such a word is that byte
+pub none_is : (byte : ℕ) (word : List ℕ) → Lacks byte word → All (λ b. b ≢ byte) word
+none_is byte word h = All-from_recursion (λ b. b ≢ byte) word (other_bytes byte word h)
 
 lacks_append : (byte : ℕ) (xs ys : List ℕ) → Lacks byte xs → Lacks byte ys → Lacks byte (xs ++ ys)
 lacks_append byte [] ys h k = k
