@@ -6,7 +6,7 @@ use game_text::Game;
 use tac_base::{Call, Good, Tick};
 
 /// The last tick, at which flights and tickets close.
-const LAST_TICK: u8 = 54;
+pub(crate) const LAST_TICK: u8 = 54;
 
 /// The good of a number.
 fn good(number: u8) -> Good

@@ -2,9 +2,11 @@
 #![tactic(auto)]
 
 mod calls;
+mod clock;
 mod laws;
 #[cfg(test)]
 mod tests;
 
 pub use calls::schedule;
+pub use clock::{ClockEnd, clock_tick, run_clock};
 pub use laws::schedule_law;

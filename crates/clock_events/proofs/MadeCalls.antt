@@ -1,0 +1,98 @@
+-- What a desk's entries show of a list of calls, each of a good.
+use Rattle.std.proofs.Common.{◌≡◌, ◌≢◌, ℕ, suc, ◌+◌, ◌==◌, ◌≤◌, ◌<◌, Bool, true, false, cond, List, [], ◌∷◌, ◌++◌, length, map, get_or, slice_index_or, slice_set, refl, sym, ap, ◌∙◌, arith, subst, append-nil}
+use Rattle.std.specs.Prelude.{filter, count_by, nat_le}
+use Rattle.std.specs.List.{sum_by}
+use Rattle.std.proofs.lemmas.List.{length-map, map-append, get_or-set_same, get_or-set_other}
+use Rattle.std.proofs.lemmas.List.Elements.{filter-append}
+use Rattle.std.proofs.lemmas.List.Sums.{sum_by-cons, length-filter, count_by-le-length}
+use Rattle.std.proofs.lemmas.Bool.Decides.{nat_tests}
+use Rattle.tac_base.specs.declared.calls.Call.{Call}
+use Rattle.auction_rules.specs.History.{Entry}
+use Rattle.clock_events.proofs.GoodCounts.{count-cons}
+
+abbrev of : ℕ → ℕ × Call → Bool
+of good call = call.0 == good
+
+-- the calls of a good among calls
+abbrev pub calls_of_good : List (ℕ × Call) → ℕ → List Call
+calls_of_good calls good = map (λ call. call.1) (filter (λ call. call.0 == good) calls)
+
+-- the entries of the goods are those of these calls, in order
+abbrev pub AreMade : List (ℕ × Call) → List (List (ℕ × Entry)) → Type 0
+AreMade calls entries = (good : ℕ) → good < 28 → map (λ p. p.1.call) (slice_index_or entries good []) ≡ calls_of_good calls good
+
+-- ---- one call more
+
+calls-more : (calls : List (ℕ × Call)) (good : ℕ) (call : Call) (other : ℕ) → calls_of_good (calls ++ (good, call) ∷ []) other ≡ calls_of_good calls other ++ cond (good == other) (call ∷ []) []
+calls-more calls good call other =
+    ap (map (λ c. c.1)) (filter-append (of other) calls ((good, call) ∷ []))
+    ∙ map-append (λ c. c.1) (filter (of other) calls) (filter (of other) ((good, call) ∷ []))
+    ∙ ap (λ more. calls_of_good calls other ++ more) (by_test (good == other))
+  where
+    by_test : (b : Bool) → map (λ (c : ℕ × Call). c.1) (cond b ((good, call) ∷ []) []) ≡ cond b (call ∷ []) []
+    by_test true = refl
+    by_test false = refl
+
+pub made_more : (calls : List (ℕ × Call)) (entries entries' : List (List (ℕ × Entry))) (good : ℕ) (call : Call) (position : ℕ) (entry : Entry) → AreMade calls entries → good < length entries → entry.call ≡ call
+    → entries' ≡ slice_set entries good (slice_index_or entries good [] ++ (position, entry) ∷ []) → AreMade (calls ++ (good, call) ∷ []) entries'
+made_more calls entries entries' good call position entry made within is e other low =
+    ap (λ rows. map (λ p. p.1.call) (slice_index_or rows other [])) e ∙ by_test (good == other) refl ∙ sym (calls-more calls good call other)
+  where
+    row : List (ℕ × Entry)
+    row = slice_index_or entries good [] ++ (position, entry) ∷ []
+
+    by_test : (b : Bool) → (good == other) ≡ b → map (λ p. p.1.call) (slice_index_or (slice_set entries good (slice_index_or entries good [] ++ (position, entry) ∷ [])) other []) ≡ calls_of_good calls other ++ cond b (call ∷ []) []
+    by_test true here =
+        let same : good ≡ other = grind (arith, nat_tests, here) in
+        subst (λ g. g < 28 → map (λ p. p.1.call) (slice_index_or (slice_set entries good (slice_index_or entries good [] ++ (position, entry) ∷ [])) g []) ≡ calls_of_good calls g ++ call ∷ []) same
+        (λ under. ap (map (λ p. p.1.call)) (get_or-set_same entries good (slice_index_or entries good [] ++ (position, entry) ∷ []) [] within)
+        ∙ map-append (λ p. p.1.call) (slice_index_or entries good []) ((position, entry) ∷ [])
+        ∙ ap (λ xs. xs ++ entry.call ∷ []) (made good under) ∙ ap (λ c. calls_of_good calls good ++ c ∷ []) is) low
+    by_test false here =
+        let apart : other ≢ good = grind (arith, nat_tests, here) in
+        ap (map (λ p. p.1.call)) (get_or-set_other entries good other (slice_index_or entries good [] ++ (position, entry) ∷ []) [] apart)
+        ∙ made other low ∙ sym (append-nil (calls_of_good calls other))
+
+-- ---- how many entries there are
+
+pub made_length : (calls : List (ℕ × Call)) (entries : List (List (ℕ × Entry))) → AreMade calls entries → (good : ℕ) → good < 28 → length (slice_index_or entries good []) ≡ count_by (of good) calls
+made_length calls entries made good low =
+    sym (length-map (slice_index_or entries good []) (λ p. p.1.call)) ∙ ap length (made good low)
+    ∙ length-map (filter (of good) calls) (λ call. call.1) ∙ length-filter (of good) calls
+
+abbrev from_on : ℕ → ℕ × Call → Bool
+from_on good call = nat_le good call.0
+
+one_good_less : (good : ℕ) (calls : List (ℕ × Call)) → count_by (of good) calls + count_by (from_on (good + 1)) calls ≤ count_by (from_on good) calls
+one_good_less good [] = omega arith
+one_good_less good (call ∷ calls) =
+    let rest = one_good_less good calls in
+    let here = count-cons (of good) call calls in
+    let above = count-cons (from_on (good + 1)) call calls in
+    let both = count-cons (from_on good) call calls in
+    let one : cond (call.0 == good) 1 0 + cond (nat_le (good + 1) call.0) 1 0 ≤ cond (nat_le good call.0) 1 0 = grind (arith, nat_tests) in
+    omega (arith, rest, here, above, both, one)
+
+rows_count : (rows : List (List (ℕ × Entry))) (good : ℕ) (calls : List (ℕ × Call)) → ((i : ℕ) → i < length rows → length (get_or rows i []) ≡ count_by (of (good + i)) calls)
+    → sum_by (λ row. length row) rows ≤ count_by (from_on good) calls
+rows_count [] good calls each = omega arith
+rows_count (row ∷ rows) good calls each =
+    let parts = sum_by-cons (λ (r : List (ℕ × Entry)). length r) row rows in
+    let zero_plus : good + 0 ≡ good = omega arith in
+    let first = each 0 (omega arith) ∙ ap (λ k. count_by (of k) calls) zero_plus in
+    let rest = rows_count rows (good + 1) calls (λ i within. each (suc i) (omega (arith, within)) ∙ ap (λ k. count_by (of k) calls) (next i)) in
+    let less = one_good_less good calls in
+    omega (arith, parts, first, rest, less)
+  where
+    next : (i : ℕ) → good + suc i ≡ good + 1 + i
+    next i = omega arith
+
+-- a desk has no more entries than the calls that it made
+pub made_count : (calls : List (ℕ × Call)) (entries : List (List (ℕ × Entry))) → AreMade calls entries → length entries ≡ 28 → sum_by (λ row. length row) entries ≤ length calls
+made_count calls entries made goods =
+    let counted = rows_count entries 0 calls (λ i within. made_length calls entries made i (omega (arith, within, goods)) ∙ ap (λ k. count_by (of k) calls) (plus_zero i)) in
+    let few = count_by-le-length (from_on 0) calls in
+    omega (arith, counted, few)
+  where
+    plus_zero : (i : ℕ) → i ≡ 0 + i
+    plus_zero i = omega arith

@@ -1,0 +1,17 @@
+use Rattle.std.proofs.Common.{◌≡◌, ◌-◌, ◌<◌}
+use Rattle.floor.specs.Answers.{IsSameDesk}
+use Rattle.floor.specs.Desks.{boards_of}
+use Rattle.clock_events.specs.Clocking.{HasMade, HasMissedCause}
+use Rattle.clock_events.proofs.Waits.{WaitsFor}
+use Rattle.clock_events.proofs.clock.run_clock.Given as goal
+
+abbrev pub invariant-loop-number : goal.invariant-loop-number
+invariant-loop-number g l = record {
+  made : HasMade l.game (l.number - 1) l.desk;
+  boards : boards_of l.desk ≡ boards_of l.initial.desk;
+  same : IsSameDesk l.initial.desk l.desk;
+  few : l.missed < l.number;
+  waited : WaitsFor (g.T.Ticker.waited l.fn.ticker) (g.T.Ticker.waited l.ticker) (l.number - 1) l.missed;
+  paced : g.T.Ticker.paced l.ticker ≡ g.T.Ticker.paced l.fn.ticker;
+  cause : HasMissedCause (g.T.Ticker.faults l.fn.ticker) (g.T.Ticker.faults l.ticker) l.missed;
+}

@@ -1,0 +1,100 @@
+// The clock of a game, over a ticker.
+ghost use Rattle.std.specs.Prelude.{◌≡◌, ◌<◌, [], ◌∷◌, ◌-◌, ℕ, length, map, replicate, IfSome, MatchBool};
+ghost use Rattle.floor.specs.Answers.{IsSameDesk};
+ghost use Rattle.floor.specs.Desks.{boards_of, cash_of, desk_caller, desk_ids, entries_at, entries_of};
+ghost use Rattle.floor.specs.Floors.{floor_ids};
+ghost use Rattle.tac_io.specs.Counts.{Rose};
+ghost use Rattle.tac_io.specs.Told.{and_then_told};
+ghost use Rattle.clock_events.specs.Clocking.{HasMade, HasMissedCause, WaitsForAll};
+ghost use Rattle.clock_events.specs.Schedule.{clock_calls};
+
+use crate::calls::LAST_TICK;
+use crate::{schedule, schedule_law};
+use floor::{Desk, Floor};
+use game_text::Game;
+use std::sync::Wait;
+use std::time::Clock;
+use tac_base::Tick;
+use tac_io::Ticker;
+
+/// What the clock leaves.
+#[derive(Drop)]
+pub struct ClockEnd {
+    /// The clock's desk, which made its calls.
+    pub desk: Desk,
+    /// How many of the 54 ticks lapsed.
+    pub missed: u8,
+}
+
+/// Makes the clock's calls of a tick, whose due it takes. It may wait for turns.
+pub fn clock_tick<R: Wait + Clock, T: Ticker>(
+    rt: &R,
+    floor: &Floor,
+    desk: &mut Desk,
+    game: &Game,
+    tick: Tick,
+    due: T::Due,
+)
+    requires due { T.due_tick due ≡ tick }
+    requires own { desk_ids desk.old ≡ floor_ids floor.now }
+    requires clock { desk_caller desk.old ≡ 8 }
+    requires before { HasMade game.now (tick - 1) desk.old }
+    ensures made { HasMade game.now tick desk.new }
+    ensures boards { boards_of desk.new ≡ boards_of desk.old }
+    ensures same { IsSameDesk desk.old desk.new }
+{
+    drop(due);
+    // The conditions of the calls rest on the tick's range and on the laws of the schedule.
+    let _number = tick.get();
+    schedule_law(game);
+    let mut n = 0;
+    while let Some((good, call)) = &schedule(game, tick, n) {
+        desk.clock_call(rt, floor, *good, call);
+        n += 1;
+    }
+}
+
+/// Waits for a tick, and says whether it lapsed. A lapse is taken as due.
+fn wait_for<R: Wait + Clock, T: Ticker>(rt: &R, ticker: &mut T, tick: Tick) -> (T::Due, bool)
+    requires { IfSome (T.waited ticker.old) (λ ticks. length ticks < 54) }
+    ensures due { T.due_tick result.0 ≡ tick }
+    ensures waited { T.waited ticker.new ≡ and_then_told (T.waited ticker.old) ((tick, result.1) ∷ []) }
+    ensures paced { T.paced ticker.new ≡ T.paced ticker.old }
+    ensures cause { MatchBool result.1 (Rose (T.faults ticker.old) (T.faults ticker.new)) (T.faults ticker.new ≡ T.faults ticker.old) }
+{
+    match ticker.wait(rt, tick) {
+        Ok(due) => (due, false),
+        Err(lapse) => (ticker.late(lapse), true),
+    }
+}
+
+/// Waits for each of the 54 ticks in turn, and makes its calls. The calls of a tick that lapsed are made at once, and the next one is
+/// waited for again. That a tick's calls are made before the next wait, no clause says. It takes no memory.
+pub fn run_clock<R: Wait + Clock, T: Ticker>(
+    rt: &R,
+    floor: &Floor,
+    mut desk: Desk,
+    game: &Game,
+    ticker: &mut T,
+) -> ClockEnd
+    requires own { desk_ids desk ≡ floor_ids floor.now }
+    requires clock { desk_caller desk ≡ 8 }
+    requires no_calls { (entries_of desk ≡ replicate 28 []) × (cash_of desk ≡ []) }
+    requires ticks { IfSome (T.waited ticker.old) (λ ticks. ticks ≡ []) }
+    ensures made { HasMade game.now 54 result.desk }
+    ensures whole { (good : ℕ) → good < 28 → map (λ p. p.1.call) (entries_at result.desk good) ≡ clock_calls game.now good }
+    ensures boards { boards_of result.desk ≡ boards_of desk }
+    ensures same { IsSameDesk desk result.desk }
+    ensures waited { WaitsForAll (T.waited ticker.old) (T.waited ticker.new) result.missed }
+    ensures paced { T.paced ticker.new ≡ T.paced ticker.old }
+    ensures cause { HasMissedCause (T.faults ticker.old) (T.faults ticker.new) result.missed }
+{
+    let mut missed = 0;
+    for number in 1..LAST_TICK + 1 {
+        let tick = Tick::new(number).unwrap();
+        let (due, lapsed) = wait_for(rt, ticker, tick);
+        clock_tick::<R, T>(rt, floor, &mut desk, game, tick, due);
+        missed += u8::from(lapsed);
+    }
+    ClockEnd { desk, missed }
+}
