@@ -4,7 +4,7 @@ use Rattle.std.specs.Prelude.{codes}
 use Rattle.std.specs.Fmt.{signed_decimal}
 use Rattle.std.specs.List.{AllByRecursion, flat_map, join_with_byte}
 use Rattle.std.proofs.lemmas.Fmt.{decimal_injective}
-use Rattle.std.proofs.lemmas.List.{append-nil, append_cancel_left}
+use Rattle.std.proofs.lemmas.List.{append-nil}
 use Rattle.std.proofs.lemmas.List.Concat.{flat_map-cons}
 use Rattle.trade_ledger.specs.declared.cash_calls.CashCall.{CashCall}
 use Rattle.trade_ledger.specs.declared.cash_calls.CashCall.TheVariants.{Post, Read}
@@ -12,11 +12,11 @@ use Rattle.trade_ledger.specs.declared.cash_calls.CashReply.{CashReply}
 use Rattle.trade_ledger.specs.declared.cash_calls.CashReply.TheVariants.{Done, Cash}
 use Rattle.trade_ledger.specs.declared.cash_calls.CashEntry.{CashEntry}
 use Rattle.auction_core.specs.ClosedGame.{ClosedGame}
-use Rattle.game_log.specs.declared.head.LogHead.{LogHead}
-use Rattle.game_log.specs.declared.head.LogHead.TheVariants.{Play}
+use Rattle.game_log.specs.Heads.{Head}
 use Rattle.game_log.specs.LogText.{then_signed, cash_call_text, cash_reply_text, cash_entry_line, cash_line, cash_text, auction_text, first_lines, histories_text, play_part}
-use Rattle.game_log.specs.Logged.{IsNumber, IsSigned, AreCashNumbers, IsCashReply, FitsCall, IsCashEntry, IsPlayed, HaveOneHistory}
+use Rattle.game_log.specs.Logged.{IsNumber, IsSigned, AreCashNumbers, IsCashReply, FitsCall, IsCashEntry, IsHead, IsPlayed, HaveOneHistory}
 use Rattle.game_log.proofs.Cuts.{IsWord, row, row_same, number_word, signed_word, signed_same, pieces_cons}
+use Rattle.game_log.proofs.HeadsAgain.{head_same}
 use Rattle.game_log.proofs.Trades.{known_word, auctions_same}
 
 -- ---- cash entries
@@ -163,17 +163,13 @@ cash_same cash other rest more n m h k same =
     let count = decimal_injective (length cash) (length other) n m (ap (λ (ws : List (List ℕ)). get_or ws 1 []) cut.0) in
     cash_entries_same cash other rest more h k count cut.1
 
--- a head and what follows it
-head_same : (head other : LogHead) (us vs : List ℕ) → first_lines head ++ us ≡ first_lines other ++ vs → (head ≡ other) × (us ≡ vs)
-head_same Play Play us vs same = (refl, append_cancel_left (first_lines Play) us vs same)
-
-part_parts : (head : LogHead) (game : ClosedGame) (rest : List ℕ) → play_part head game ++ rest ≡ first_lines head ++ (flat_map auction_text game.auctions ++ (cash_text game.cash ++ rest))
+part_parts : (head : Head) (game : ClosedGame) (rest : List ℕ) → play_part head game ++ rest ≡ first_lines head ++ (flat_map auction_text game.auctions ++ (cash_text game.cash ++ rest))
 part_parts head game rest =
     append_assoc (first_lines head) (histories_text game) rest ∙ ap (λ (text : List ℕ). first_lines head ++ text) (append_assoc (flat_map auction_text game.auctions) (cash_text game.cash) rest)
 
-pub parts_same : (head other_head : LogHead) (game other : ClosedGame) (rest other_rest : List ℕ) → IsPlayed game → IsPlayed other → play_part head game ++ rest ≡ play_part other_head other ++ other_rest → (head ≡ other_head) × HaveOneHistory game other × (rest ≡ other_rest)
-parts_same head other_head game other rest other_rest h k same =
-    let heads = head_same head other_head _ _ (sym (part_parts head game rest) ∙ same ∙ part_parts other_head other other_rest) in
+pub parts_same : (head other_head : Head) (game other : ClosedGame) (rest other_rest : List ℕ) → IsHead head → IsHead other_head → IsPlayed game → IsPlayed other → play_part head game ++ rest ≡ play_part other_head other ++ other_rest → (head ≡ other_head) × HaveOneHistory game other × (rest ≡ other_rest)
+parts_same head other_head game other rest other_rest m n h k same =
+    let heads = head_same head other_head _ _ m n (sym (part_parts head game rest) ∙ same ∙ part_parts other_head other other_rest) in
     let goods = h.goods ∙ sym k.goods in
     let auctions = auctions_same game.auctions other.auctions (cash_text game.cash ++ rest) (cash_text other.cash ++ other_rest) h.auctions k.auctions goods refl refl heads.1 in
     let cash = cash_same game.cash other.cash rest other_rest h.cash.count k.cash.count h.cash.entries k.cash.entries auctions.1 in

@@ -25,7 +25,7 @@ pub all_from : {A : Type 0} (P : A → Type 0) (xs : List A) → ((i : ℕ) (x :
 all_from P [] each = tt
 all_from P (x ∷ xs) each = (each 0 x refl, all_from P xs (λ i y found. each (suc i) y found))
 
-take_whole : {A : Type 0} (xs : List A) (i : ℕ) → length xs ≤ i → take i xs ≡ xs
+pub take_whole : {A : Type 0} (xs : List A) (i : ℕ) → length xs ≤ i → take i xs ≡ xs
 take_whole xs i past = sym (append-nil (take i xs)) ∙ ap (λ rest. take i xs ++ rest) (sym (drop_of_length-le xs past)) ∙ take-append-drop i xs
 
 -- the items up to a place past the end are all

@@ -11,8 +11,8 @@ use Rattle.bound_cert.specs.Texts.{tree_lines}
 use Rattle.bound_cert.specs.Trees.{Tree}
 use Rattle.auction_core.specs.ClosedGame.{ClosedGame}
 use Rattle.score_sheet.specs.Sheets.{Scored}
-use Rattle.game_log.specs.declared.head.LogHead.{LogHead}
-use Rattle.game_log.specs.Logged.{IsNumber, IsSigned, IsPlayed, HaveOneHistory}
+use Rattle.game_log.specs.Heads.{Head}
+use Rattle.game_log.specs.Logged.{IsNumber, IsSigned, IsHead, IsPlayed, HaveOneHistory}
 use Rattle.game_log.specs.LoggedSheet.{IsShownPackage, IsKnownScore, IsShownScore, IsShownSheet}
 use Rattle.game_log.specs.SheetText.{score_line, package_line, cert_line, agent_lines, sheet_lines, sheet_part, log_text}
 use Rattle.game_log.proofs.Cuts.{IsWord, row, row_same, number_word}
@@ -166,10 +166,10 @@ sheet_same sheet other rest other_rest h k e =
     let same = agents_same 0 sheet other (ended (codes "end") ++ rest) (ended (codes "end") ++ other_rest) (omega (arith, h.count)) (h.count ∙ sym k.count) h.scores k.scores agents in
     (same.0, append_cancel_left (ended (codes "end")) rest other_rest same.1)
 
-pub log_same : (head other_head : LogHead) (game other : ClosedGame) (sheet other_sheet : List Scored) → IsPlayed game → IsPlayed other → IsShownSheet sheet → IsShownSheet other_sheet →
+pub log_same : (head other_head : Head) (game other : ClosedGame) (sheet other_sheet : List Scored) → IsHead head → IsHead other_head → IsPlayed game → IsPlayed other → IsShownSheet sheet → IsShownSheet other_sheet →
     log_text head game sheet ≡ log_text other_head other other_sheet → (head ≡ other_head) × HaveOneHistory game other × (sheet ≡ other_sheet)
-log_same head other_head game other sheet other_sheet h k l m e =
-    let first = parts_same head other_head game other (sheet_part sheet) (sheet_part other_sheet) h k e in
+log_same head other_head game other sheet other_sheet n o h k l m e =
+    let first = parts_same head other_head game other (sheet_part sheet) (sheet_part other_sheet) n o h k e in
     let second = sheet_same sheet other_sheet [] [] l m (ap (λ (text : List ℕ). text ++ []) first.2) in
     (first.0, first.1, second.0)
 

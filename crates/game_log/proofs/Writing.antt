@@ -13,6 +13,7 @@ use Rattle.tac_io.specs.Told.{and_then_told, TakesSome}
 use Rattle.tac_io.specs.declared.failed.Failed.{Failed}
 use Rattle.tac_io.proofs.Tellings.{and_then_told-twice}
 use Rattle.game_log.specs.Written.{Writes}
+use Rattle.game_log.proofs.Items.{take_whole}
 
 pub wrote_both : (t0 t1 t2 : Option (List ℕ)) (p q : List ℕ) → t1 ≡ and_then_told t0 p → t2 ≡ and_then_told t1 q → t2 ≡ and_then_told t0 (p ++ q)
 wrote_both t0 t1 t2 p q e f = f ∙ ap (λ (t : Option (List ℕ)). and_then_told t q) e ∙ and_then_told-twice t0 p q
@@ -49,6 +50,17 @@ writes_both a b p q t0 t1 t2 f0 f1 f2 (Err failed) pa qb v w = (some_after t0 t1
 -- two pieces, of which the first was not written whole
 pub fails_both : (a p q : List ℕ) (t0 t1 : Option (List ℕ)) (f0 f1 : ℕ) → a ≡ p → TakesSome t0 t1 a × Rose f0 f1 → TakesSome t0 t1 (p ++ q) × Rose f0 f1
 fails_both a p q t0 t1 f0 f1 pa w = (some_before t0 t1 p q (subst (TakesSome t0 t1) pa w.0), w.1)
+
+pub then_whole : (p q : List ℕ) (t0 t1 t2 : Option (List ℕ)) (f0 f1 f2 : ℕ) → (t1 ≡ and_then_told t0 p) × (f1 ≡ f0) → (t2 ≡ and_then_told t1 q) × (f2 ≡ f1) → (t2 ≡ and_then_told t0 (p ++ q)) × (f2 ≡ f0)
+then_whole p q t0 t1 t2 f0 f1 f2 v w = (wrote_both t0 t1 t2 p q v.0 w.0, w.1 ∙ v.1)
+
+pub then_some : (p q : List ℕ) (t0 t1 t2 : Option (List ℕ)) (f0 f1 f2 : ℕ) → (t1 ≡ and_then_told t0 p) × (f1 ≡ f0) → TakesSome t1 t2 q × Rose f1 f2 → TakesSome t0 t2 (p ++ q) × Rose f0 f2
+then_some p q t0 t1 t2 f0 f1 f2 v w = (some_after t0 t1 t2 p q v.0 w.0, rose_from f0 f1 f2 v.1 w.1)
+
+-- an answer that is no success
+pub refused : (p : List ℕ) (t0 t1 : Option (List ℕ)) (f0 f1 : ℕ) (r : Result (Unit {0}) Failed) → TakesSome t0 t1 p × Rose f0 f1 → IsErr r → Writes p t0 t1 f0 f1 r
+refused p t0 t1 f0 f1 (Ok done) w h = absurd cc
+refused p t0 t1 f0 f1 (Err failed) w h = w
 
 pub failed_of : (p : List ℕ) (t0 t1 : Option (List ℕ)) (f0 f1 : ℕ) (r : Result (Unit {0}) Failed) → Writes p t0 t1 f0 f1 r → OnErr r (TakesSome t0 t1 p)
 failed_of p t0 t1 f0 f1 (Ok done) w = tt
@@ -101,6 +113,10 @@ pub failed_next : {A : Type 0} (piece : A → List ℕ) (xs : List A) (i : ℕ) 
 failed_next piece xs i x a t0 t1 t2 f0 f1 f2 (Ok done) lt is e before w h = absurd cc
 failed_next piece xs i x a t0 t1 t2 f0 f1 f2 (Err failed) lt is e before w h =
     (some_next piece xs i x t0 t1 t2 f0 f1 lt is before (subst (TakesSome t1 t2) e w.0), rose_from f0 f1 f2 before.quiet w.1)
+
+-- the pieces of all items were written whole
+pub wrote_all : {A : Type 0} (piece : A → List ℕ) (xs : List A) (i : ℕ) (t0 t1 : Option (List ℕ)) (f0 f1 : ℕ) → length xs ≤ i → WroteUpTo piece xs i t0 t1 f0 f1 → (t1 ≡ and_then_told t0 (flat_map piece xs)) × (f1 ≡ f0)
+wrote_all {A = A} piece xs i t0 t1 f0 f1 past w = (w.taken ∙ ap (λ (ys : List A). and_then_told t0 (flat_map piece ys)) (take_whole xs i past), w.quiet)
 
 -- the item of a list at a place
 pub item_at : {A : Type 0} (xs : List A) (i : ℕ) → i < length xs → (x : A) × (slice_get xs i ≡ Some x) × (get_or xs i x ≡ x)

@@ -1,3 +1,4 @@
+pub mod Heads
 pub mod LogText
 pub mod Written
 pub mod Logged

@@ -1,7 +1,7 @@
 -- The text of the log of a game. Each of its lines ends with the byte 10.
 use Rattle.std.specs.Prelude.{ℕ, ℤ, List, [], ◌∷◌, ◌++◌, length, decimal, codes}
 use Rattle.std.specs.Fmt.{signed_decimal}
-use Rattle.std.specs.List.{flat_map, join_with_byte}
+use Rattle.std.specs.List.{flat_map, join_with_byte, enumerate_from}
 use Rattle.tac_base.specs.declared.calls.Call.{Call}
 use Rattle.tac_base.specs.declared.calls.Call.TheVariants.{Bid, Withdraw, Own, Update, Publish, Close}
 use Rattle.tac_base.specs.declared.calls.Reply.{Reply}
@@ -16,8 +16,11 @@ use Rattle.trade_ledger.specs.declared.cash_calls.CashReply.TheVariants.{Done, C
 use Rattle.trade_ledger.specs.declared.cash_calls.CashEntry.{CashEntry}
 use Rattle.auction_core.specs.Auctions.{AuctionHistory}
 use Rattle.auction_core.specs.ClosedGame.{ClosedGame}
-use Rattle.game_log.specs.declared.head.LogHead.{LogHead}
-use Rattle.game_log.specs.declared.head.LogHead.TheVariants.{Play}
+use Rattle.line_protocol.specs.declared.admission.Verdict.{Verdict}
+use Rattle.line_protocol.specs.declared.admission.Verdict.TheVariants.{Seated, Syntax, WrongWord, Taken, Lost}
+use Rattle.line_protocol.specs.declared.admission.Cause.{Cause}
+use Rattle.line_protocol.specs.declared.admission.Cause.TheVariants.{Quit, End, ReadFault, WriteFault, Budget}
+use Rattle.game_log.specs.Heads.{Head, Play, Serve}
 
 -- a space and a number
 abbrev pub then_number : ℕ → List ℕ
@@ -81,13 +84,42 @@ cash_line count = codes "cash" ++ then_number count ++ codes "\n"
 abbrev pub cash_text : List CashEntry → List ℕ
 cash_text history = cash_line (length history) ++ flat_map cash_entry_line history
 
+-- ---- how the game was played
+
+abbrev pub verdict_text : Verdict → List ℕ
+verdict_text (Seated agent) = codes "seated" ++ then_number agent
+verdict_text Syntax = codes "syntax"
+verdict_text WrongWord = codes "wrongword"
+verdict_text Taken = codes "taken"
+verdict_text Lost = codes "lost"
+
+abbrev pub cause_text : Cause → List ℕ
+cause_text Quit = codes "quit"
+cause_text End = codes "end"
+cause_text ReadFault = codes "readfault"
+cause_text WriteFault = codes "writefault"
+cause_text Budget = codes "budget"
+
+-- what became of a link, after its place in order of arrival
+abbrev pub link_line : ℕ × Verdict → List ℕ
+link_line link = codes "link" ++ then_number link.0 ++ codes " " ++ verdict_text link.1 ++ codes "\n"
+
+-- why the session of an agent ended
+abbrev pub end_line : ℕ × Cause → List ℕ
+end_line end = codes "end" ++ then_number end.0 ++ codes " " ++ cause_text end.1 ++ codes "\n"
+
+-- how many ticks were missed
+abbrev pub missed_line : ℕ → List ℕ
+missed_line missed = codes "missed" ++ then_number missed ++ codes "\n"
+
+-- links in order of arrival from place 0, ends, and the ticks that were missed
+abbrev pub head_text : Head → List ℕ
+head_text Play = codes "play\n"
+head_text (Serve verdicts ends missed) = codes "serve\n" ++ flat_map link_line (enumerate_from 0 verdicts) ++ flat_map end_line ends ++ missed_line missed
+
 -- ---- the first part of a log
 
--- what the log says of how the game was played
-abbrev pub head_text : LogHead → List ℕ
-head_text Play = codes "play\n"
-
-abbrev pub first_lines : LogHead → List ℕ
+abbrev pub first_lines : Head → List ℕ
 first_lines head = codes "taclog 1\n" ++ head_text head
 
 -- the histories of the auctions in the order of their goods, and the cash history
@@ -95,5 +127,5 @@ abbrev pub histories_text : ClosedGame → List ℕ
 histories_text closed = flat_map auction_text closed.auctions ++ cash_text closed.cash
 
 -- the first part of a log
-abbrev pub play_part : LogHead → ClosedGame → List ℕ
+abbrev pub play_part : Head → ClosedGame → List ℕ
 play_part head closed = first_lines head ++ histories_text closed

@@ -13,8 +13,12 @@ use Rattle.trade_ledger.specs.declared.cash_calls.CashCall.TheVariants.{Post, Re
 use Rattle.trade_ledger.specs.declared.cash_calls.CashReply.{CashReply}
 use Rattle.trade_ledger.specs.declared.cash_calls.CashReply.TheVariants.{Done, Cash}
 use Rattle.trade_ledger.specs.declared.cash_calls.CashEntry.{CashEntry}
+use Rattle.line_protocol.specs.declared.admission.Verdict.{Verdict}
+use Rattle.line_protocol.specs.declared.admission.Verdict.TheVariants as verdicts
+use Rattle.line_protocol.specs.declared.admission.Cause.{Cause}
 use Rattle.auction_core.specs.Auctions.{AuctionHistory}
 use Rattle.auction_core.specs.ClosedGame.{ClosedGame, all_goods}
+use Rattle.game_log.specs.Heads.{Head, Play, Serve}
 
 -- numbers of 64 bits, which all that are shown are
 abbrev pub IsNumber : ℕ → Type 0
@@ -101,6 +105,21 @@ pub record IsPlayed (game : ClosedGame) : Type 0 where
   pub goods : map (λ auction. auction.setup.good) game.auctions ≡ all_goods
   pub auctions : AllByRecursion IsAuction game.auctions
   pub cash : IsCash game.cash
+
+abbrev pub IsVerdict : Verdict → Type 0
+IsVerdict (verdicts.Seated agent) = IsNumber agent
+IsVerdict verdicts.Syntax = ⊤
+IsVerdict verdicts.WrongWord = ⊤
+IsVerdict verdicts.Taken = ⊤
+IsVerdict verdicts.Lost = ⊤
+
+abbrev pub IsEnd : ℕ × Cause → Type 0
+IsEnd end = IsNumber end.0
+
+-- a head as the types of its parts keep it
+abbrev pub IsHead : Head → Type 0
+IsHead Play = ⊤
+IsHead (Serve links ends missed) = AllByRecursion IsVerdict links × AllByRecursion IsEnd ends × IsNumber missed
 
 -- two games have the same goods and histories, and the same cash history
 pub record HaveOneHistory (game other : ClosedGame) : Type 0 where

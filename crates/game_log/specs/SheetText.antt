@@ -8,7 +8,7 @@ use Rattle.packages.specs.declared.travel_packages.Package.TheVariants.{None, Tr
 use Rattle.bound_cert.specs.Texts.{tree_lines}
 use Rattle.score_sheet.specs.Sheets.{Scored}
 use Rattle.auction_core.specs.ClosedGame.{ClosedGame}
-use Rattle.game_log.specs.declared.head.LogHead.{LogHead}
+use Rattle.game_log.specs.Heads.{Head}
 use Rattle.game_log.specs.LogText.{then_number, play_part}
 
 -- score A BEST CASH SHORT SCORE
@@ -41,5 +41,5 @@ abbrev pub sheet_part : List Scored → List ℕ
 sheet_part sheet = text_of (sheet_lines sheet)
 
 -- the whole log of a game
-abbrev pub log_text : LogHead → ClosedGame → List Scored → List ℕ
+abbrev pub log_text : Head → ClosedGame → List Scored → List ℕ
 log_text head closed sheet = play_part head closed ++ sheet_part sheet

@@ -2,9 +2,12 @@
 ghost use Rattle.std.specs.Prelude.{◌≡◌, None};
 ghost use Rattle.std.specs.List.{AllByRecursion};
 ghost use Rattle.tac_base.specs.Bids.{fault_of, left_fault};
-ghost use Rattle.game_log.specs.Logged.{IsNumber, IsSigned, IsCall, IsReply, AreTradeNumbers, AreCashNumbers, IsCashReply, AreEntryNumbers};
+ghost use Rattle.game_log.specs.Logged.{IsNumber, IsSigned, IsCall, IsReply, AreTradeNumbers, AreCashNumbers, IsCashReply, AreEntryNumbers, IsVerdict, IsEnd, IsHead};
+ghost use Rattle.game_log.specs.Heads.{head_of};
 
-use tac_base::{Call, Entry, Left, Nets, Points, Reply, Trade};
+use crate::LogHead;
+use line_protocol::{Cause, Verdict};
+use tac_base::{Agent, Call, Entry, Left, Nets, Points, Reply, Trade};
 use trade_ledger::{CashCall, CashEntry, CashReply};
 
 /// Points are a bid.
@@ -136,4 +139,52 @@ pub(crate) fn cash_entry_known(entry: &CashEntry)
     let _number = entry.caller.get();
     cash_call_known(&entry.call);
     cash_reply_known(entry.reply);
+}
+
+/// The agent of a verdict is a number of at most 64 bits.
+fn verdict_known(verdict: Verdict)
+    ensures { IsVerdict verdict }
+{
+    match verdict {
+        Verdict::Seated(agent) => {
+            let _number = agent.get();
+        }
+        Verdict::Syntax | Verdict::WrongWord | Verdict::Taken | Verdict::Lost => {}
+    }
+}
+
+/// The same of each of several verdicts.
+fn verdicts_known(verdicts: &[Verdict])
+    ensures { AllByRecursion IsVerdict verdicts.now }
+{
+    for verdict in verdicts {
+        verdict_known(*verdict);
+    }
+}
+
+/// The same of the agents whose sessions ended.
+fn ends_known(ends: &[(Agent, Cause)])
+    ensures { AllByRecursion IsEnd ends.now }
+{
+    for end in ends {
+        let _number = end.0.get();
+    }
+}
+
+/// The numbers of a head have at most 64 bits.
+pub(crate) fn head_known(head: &LogHead)
+    ensures { IsHead (head_of head.now) }
+{
+    match head {
+        LogHead::Play => {}
+        LogHead::Serve {
+            verdicts,
+            ends,
+            missed,
+        } => {
+            verdicts_known(verdicts.as_slice());
+            ends_known(ends.as_slice());
+            let _number = *missed;
+        }
+    }
 }

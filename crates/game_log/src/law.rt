@@ -1,13 +1,13 @@
 ghost use Rattle.std.specs.Prelude.{◌≡◌, ◌++◌, ℕ, List};
 ghost use Rattle.auction_core.specs.ClosedGame.{ClosedGame};
-ghost use Rattle.game_log.specs.declared.head.LogHead.{LogHead};
+ghost use Rattle.game_log.specs.Heads.{Head};
 ghost use Rattle.game_log.specs.LogText.{play_part};
-ghost use Rattle.game_log.specs.Logged.{IsPlayed, HaveOneHistory};
+ghost use Rattle.game_log.specs.Logged.{IsHead, IsPlayed, HaveOneHistory};
 
 /// The law of logs, as this call's contract: where a text begins with the first part of a log, it does so with one alone. So games with
-/// different histories have different parts, whatever follows them.
+/// different heads or histories have different parts, whatever follows them.
 pub fn one_game()
-    ensures { (head other_head : LogHead) (game other : ClosedGame) (rest other_rest : List ℕ) → IsPlayed game → IsPlayed other →
+    ensures { (head other_head : Head) (game other : ClosedGame) (rest other_rest : List ℕ) → IsHead head → IsHead other_head → IsPlayed game → IsPlayed other →
         play_part head game ++ rest ≡ play_part other_head other ++ other_rest →
         (head ≡ other_head) × HaveOneHistory game other × (rest ≡ other_rest) }
 {}

@@ -3,9 +3,12 @@
 
 mod fault;
 mod head;
+mod head_lines;
+mod head_part;
 mod known;
 mod law;
 mod lines;
+mod piece;
 mod play_part;
 mod sheet_known;
 mod sheet_part;

@@ -4,20 +4,19 @@ ghost use Rattle.std.specs.List.{flat_map};
 ghost use Rattle.tac_base.specs.declared.calls.Call.TheVariants.{Bid};
 ghost use Rattle.game_log.specs.LogText as log;
 
-use crate::LogHead;
 use bid_strings::print_points;
 use line_protocol::print_answer;
 use tac_base::{Call, Caller, Good, Nets, Points, Reply, Text, Trade, print_numeral, print_signed};
 use trade_ledger::{CashCall, CashEntry, CashReply};
 
 /// Appends a space and a number.
-pub(crate) fn push_number(n: u32, out: &mut Text)
+pub(crate) fn push_number(n: u64, out: &mut Text)
     requires { length out.old + 21 ≤ 640 }
     ensures value { out.new ≡ out.old ++ log.then_number n }
     ensures len { length out.new ≤ length out.old + 21 }
 {
     out.push(b' ');
-    print_numeral(u64::from(n), out);
+    print_numeral(n, out);
 }
 
 /// Appends a space and a number that may have a sign.
@@ -61,8 +60,8 @@ fn push_call(call: &Call, out: &mut Text)
         Call::Own => out.push_bytes(b"own"),
         Call::Update { tick, draw } => {
             out.push_bytes(b"update");
-            push_number(u32::from(tick.get()), out);
-            push_number(*draw, out);
+            push_number(u64::from(tick.get()), out);
+            push_number(u64::from(*draw), out);
         }
         Call::Publish => out.push_bytes(b"publish"),
         Call::Close => out.push_bytes(b"close"),
@@ -89,10 +88,10 @@ pub fn trade_line(trade: &Trade) -> Text
 {
     let mut out = Text::new();
     out.push_bytes(b"trade");
-    push_number(u32::from(trade.buyer.get()), &mut out);
-    push_number(u32::from(trade.seller.get()), &mut out);
-    push_number(u32::from(trade.units), &mut out);
-    push_number(u32::from(trade.price), &mut out);
+    push_number(u64::from(trade.buyer.get()), &mut out);
+    push_number(u64::from(trade.seller.get()), &mut out);
+    push_number(u64::from(trade.units), &mut out);
+    push_number(u64::from(trade.price), &mut out);
     out.push(b'\n');
     out
 }
@@ -104,8 +103,8 @@ pub(crate) fn auction_line(good: Good, count: u32) -> Text
 {
     let mut out = Text::new();
     out.push_bytes(b"auction");
-    push_number(u32::from(good.get()), &mut out);
-    push_number(count, &mut out);
+    push_number(u64::from(good.get()), &mut out);
+    push_number(u64::from(count), &mut out);
     out.push(b'\n');
     out
 }
@@ -134,8 +133,8 @@ fn push_cash_call(call: &CashCall, out: &mut Text)
             nets,
         } => {
             out.push_bytes(b" post");
-            push_number(u32::from(good.get()), out);
-            push_number(*position, out);
+            push_number(u64::from(good.get()), out);
+            push_number(u64::from(*position), out);
             push_nets(nets, out);
         }
         CashCall::Read { .. } => out.push_bytes(b" read ="),
@@ -172,16 +171,7 @@ pub(crate) fn cash_line(count: u32) -> Text
 {
     let mut out = Text::new();
     out.push_bytes(b"cash");
-    push_number(count, &mut out);
+    push_number(u64::from(count), &mut out);
     out.push(b'\n');
     out
-}
-
-/// The lines of a head.
-pub(crate) fn head_text(head: &LogHead) -> &'static [u8]
-    ensures { result.now ≡ log.head_text head.now }
-{
-    match head {
-        LogHead::Play => b"play\n",
-    }
 }

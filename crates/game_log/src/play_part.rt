@@ -5,25 +5,21 @@ ghost use Rattle.tac_io.specs.Counts.{HasCause};
 ghost use Rattle.tac_io.specs.Told.{TakesSome, and_then_told};
 ghost use Rattle.auction_rules.specs.History.{Entry};
 ghost use Rattle.trade_ledger.specs.declared.cash_calls.CashEntry.{CashEntry};
+ghost use Rattle.game_log.specs.Heads.{head_of};
 ghost use Rattle.game_log.specs.LogText as log;
-ghost use Rattle.game_log.specs.Logged.{AreTradeNumbers, AreNumbers, IsEntry, IsAuction, AreEntryNumbers, IsCash, IsPlayed};
+ghost use Rattle.game_log.specs.Logged.{AreTradeNumbers, AreNumbers, IsEntry, IsAuction, AreEntryNumbers, IsCash, IsPlayed, IsHead};
 ghost use Rattle.game_log.specs.Written.{Writes};
 
 use crate::LogHead;
-use crate::known::{cash_entry_known, entry_known, trades_known};
-use crate::lines::{auction_line, cash_entry_line, cash_line, entry_line, head_text, trade_line};
+use crate::head_part::write_head;
+use crate::known::{cash_entry_known, entry_known, head_known, trades_known};
+use crate::lines::{auction_line, cash_entry_line, cash_line, entry_line, trade_line};
+use crate::piece::write_piece;
 use auction_core::{Auction, Closed};
 use tac_base::Trade;
-use tac_io::{Failed, Sink, write_all};
+use tac_io::{Failed, Sink};
 use trade_ledger::CashBook;
 use turn_lock::Kept;
-
-/// Writes a piece of the part.
-fn write_piece<K: Sink>(sink: &mut K, piece: &[u8]) -> Result<(), Failed>
-    ensures { Writes piece.now (K.taken sink.old) (K.taken sink.new) (K.faults sink.old) (K.faults sink.new) result }
-{
-    write_all(sink, piece)
-}
 
 /// Writes the lines of trades.
 fn write_trades<K: Sink>(sink: &mut K, trades: &[Trade]) -> Result<(), Failed>
@@ -127,16 +123,6 @@ fn write_cash<K: Sink>(sink: &mut K, cash: &CashBook) -> Result<(), Failed>
     }
 }
 
-/// Writes the head of a log.
-fn write_head<K: Sink>(sink: &mut K, head: &LogHead) -> Result<(), Failed>
-    ensures { Writes (log.first_lines head.now) (K.taken sink.old) (K.taken sink.new) (K.faults sink.old) (K.faults sink.new) result }
-{
-    match write_piece(sink, b"taclog 1\n") {
-        Ok(()) => write_piece(sink, head_text(head)),
-        Err(failed) => Err(failed),
-    }
-}
-
 /// Writes all histories.
 fn write_histories<K: Sink>(sink: &mut K, closed: &Closed) -> Result<(), Failed>
     ensures text { Writes (log.histories_text closed.now) (K.taken sink.old) (K.taken sink.new) (K.faults sink.old) (K.faults sink.new) result }
@@ -152,12 +138,14 @@ fn write_histories<K: Sink>(sink: &mut K, closed: &Closed) -> Result<(), Failed>
 /// memory. `Failed` comes exactly where the sink counted a fault in this call. Then some of the first bytes of the part were written, or
 /// none, but not all. The form of the log is our own.
 pub fn write_play_part<K: Sink>(sink: &mut K, head: &LogHead, closed: &Closed) -> Result<(), Failed>
-    ensures whole { OnOk result (K.taken sink.new ≡ and_then_told (K.taken sink.old) (log.play_part head.now closed.now)) }
-    ensures failed { OnErr result (TakesSome (K.taken sink.old) (K.taken sink.new) (log.play_part head.now closed.now)) }
+    ensures whole { OnOk result (K.taken sink.new ≡ and_then_told (K.taken sink.old) (log.play_part (head_of head.now) closed.now)) }
+    ensures failed { OnErr result (TakesSome (K.taken sink.old) (K.taken sink.new) (log.play_part (head_of head.now) closed.now)) }
     ensures cause { HasCause (K.faults sink.old) (K.faults sink.new) result }
-    // A game is written that the law of logs speaks of.
+    // A head and a game are written that the law of logs speaks of.
+    ensures known_head { IsHead (head_of head.now) }
     ensures known { OnOk result (IsPlayed closed.now) }
 {
+    head_known(head);
     match write_head(sink, head) {
         Ok(()) => write_histories(sink, closed),
         Err(failed) => Err(failed),

@@ -11,7 +11,7 @@ use bound_cert::{Cert, print_cert};
 use packages::Package;
 use score_sheet::{AgentScore, Sheet};
 use std::alloc::{AllocError, Global};
-use tac_base::{Memory, Text, print_numeral};
+use tac_base::{Memory, Text};
 use text_forms::{PrintedPart, count_parts, print_parts, print_row};
 
 /// Appends the line of a client that stays at home. After an error the text may end within it.
@@ -20,8 +20,8 @@ fn print_none(agent: u8, client: u8, out: &mut Vec<u8>) -> Result<(), AllocError
 {
     let mut line = Text::new();
     line.push_bytes(b"package");
-    push_number(u32::from(agent), &mut line);
-    push_number(u32::from(client), &mut line);
+    push_number(u64::from(agent), &mut line);
+    push_number(u64::from(client), &mut line);
     line.push_bytes(b" none\n");
     out.extend_from_slice(line.as_slice())?;
     Ok(())
@@ -83,9 +83,8 @@ fn print_count(agent: u8, count: usize, out: &mut Vec<u8>) -> Result<(), AllocEr
 {
     let mut line = Text::new();
     line.push_bytes(b"cert");
-    push_number(u32::from(agent), &mut line);
-    line.push(b' ');
-    print_numeral(count as u64, &mut line);
+    push_number(u64::from(agent), &mut line);
+    push_number(count as u64, &mut line);
     line.push(b'\n');
     out.extend_from_slice(line.as_slice())?;
     Ok(())

@@ -7,6 +7,7 @@ use crate::{LogHead, trade_line, write_play_part};
 use auction_core::{Auction, Closed};
 use draw_maker::make_game;
 use game_text::Game;
+use line_protocol::{Cause, Verdict};
 use std::alloc::Global;
 use std::process::Abort;
 use std::test::Fail;
@@ -115,6 +116,42 @@ fn closed_game(rt: &impl Abort, alloc: Global) -> Result<Closed, Fail> {
     })
 }
 
+/// A game over six links, two of which took a seat.
+fn served_head(alloc: Global) -> Result<LogHead, Fail> {
+    let (first, third) = (Agent::default(), Agent::new(3)?);
+    let verdicts = [
+        Verdict::Seated(third),
+        Verdict::Syntax,
+        Verdict::WrongWord,
+        Verdict::Taken,
+        Verdict::Lost,
+        Verdict::Seated(first),
+    ];
+    let ends = [(first, Cause::Quit), (third, Cause::WriteFault)];
+    Ok(LogHead::Serve {
+        verdicts: Vec::from_array(alloc, verdicts)?,
+        ends: Vec::from_array(alloc, ends)?,
+        missed: 1,
+    })
+}
+
+const PLAYED: &[u8] = b"taclog 1
+play
+";
+
+const SERVED: &[u8] = b"taclog 1
+serve
+link 0 seated 3
+link 1 syntax
+link 2 wrongword
+link 3 taken
+link 4 lost
+link 5 seated 0
+end 0 quit
+end 3 writefault
+missed 1
+";
+
 const PART: &[u8] = b"taclog 1
 play
 auction 0 3
@@ -165,13 +202,17 @@ cash 2
 0 read = -60
 ";
 
-/// The part is taken whole, also by a sink that takes few bytes at once.
+/// The part is taken whole, also by a sink that takes few bytes at once. That of a game over links differs in its head alone.
 #[test]
 fn part_is_written(rt: HostRuntime) -> Result<(), Fail> {
     let closed = closed_game(&rt, rt.alloc())?;
     let mut sink = MemSink::new(rt.alloc(), 2000, 7, Vec::new(rt.alloc()))?;
     assert!(rt; write_play_part(&mut sink, &LogHead::Play, &closed).is_ok());
     assert!(rt; sink.bytes() == PART);
+    let head = served_head(rt.alloc())?;
+    let mut served = MemSink::new(rt.alloc(), 2000, 7, Vec::new(rt.alloc()))?;
+    assert!(rt; write_play_part(&mut served, &head, &closed).is_ok());
+    assert!(rt; served.bytes().strip_prefix(SERVED) == PART.strip_prefix(PLAYED));
     Ok(())
 }
 

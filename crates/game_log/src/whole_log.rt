@@ -1,8 +1,8 @@
 ghost use Rattle.std.specs.Prelude.{◌≡◌, ◌++◌, ℕ, List};
 ghost use Rattle.auction_core.specs.ClosedGame.{ClosedGame};
 ghost use Rattle.score_sheet.specs.Sheets.{Scored};
-ghost use Rattle.game_log.specs.declared.head.LogHead.{LogHead};
-ghost use Rattle.game_log.specs.Logged.{IsPlayed, HaveOneHistory};
+ghost use Rattle.game_log.specs.Heads.{Head};
+ghost use Rattle.game_log.specs.Logged.{IsHead, IsPlayed, HaveOneHistory};
 ghost use Rattle.game_log.specs.LoggedSheet.{IsShownSheet};
 ghost use Rattle.game_log.specs.SheetText.{sheet_part, log_text};
 
@@ -14,7 +14,7 @@ pub fn one_sheet()
 
 /// The law of whole logs, as this call's contract: games with different heads, histories or sheets have different logs.
 pub fn one_log()
-    ensures { (head other_head : LogHead) (game other : ClosedGame) (sheet other_sheet : List Scored) → IsPlayed game → IsPlayed other →
-        IsShownSheet sheet → IsShownSheet other_sheet → log_text head game sheet ≡ log_text other_head other other_sheet →
+    ensures { (head other_head : Head) (game other : ClosedGame) (sheet other_sheet : List Scored) → IsHead head → IsHead other_head →
+        IsPlayed game → IsPlayed other → IsShownSheet sheet → IsShownSheet other_sheet → log_text head game sheet ≡ log_text other_head other other_sheet →
         (head ≡ other_head) × HaveOneHistory game other × (sheet ≡ other_sheet) }
 {}

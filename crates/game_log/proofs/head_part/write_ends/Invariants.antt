@@ -1,0 +1,6 @@
+use Rattle.game_log.specs.LogText.{end_line}
+use Rattle.game_log.proofs.Writing.{WroteUpTo}
+use Rattle.game_log.proofs.head_part.write_ends.Given as goal
+
+abbrev pub invariant-loop-end : goal.invariant-loop-end
+invariant-loop-end g l = WroteUpTo end_line l.ends l.end-index (g.K.Sink.taken l.fn.sink) (g.K.Sink.taken l.sink) (g.K.Sink.faults l.fn.sink) (g.K.Sink.faults l.sink)

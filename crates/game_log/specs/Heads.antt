@@ -1,0 +1,17 @@
+-- How a game was played, as its log says it.
+use Rattle.std.specs.Prelude.{ℕ, List}
+use Rattle.line_protocol.specs.declared.admission.Verdict.{Verdict}
+use Rattle.line_protocol.specs.declared.admission.Cause.{Cause}
+use Rattle.game_log.specs.declared.head.LogHead.{LogHead}
+use Rattle.game_log.specs.declared.head.LogHead.TheVariants as kept
+
+-- From a script; or over links, with what became of each link in order of arrival, why the session of each seated agent ended, and how
+-- many ticks were missed.
+pub data Head : Type 0 where
+  Play : Head
+  Serve : (verdicts : List Verdict) → (ends : List (ℕ × Cause)) → (missed : ℕ) → Head
+
+-- the head that a log's head holds, with plain lists
+abbrev pub head_of : LogHead → Head
+head_of kept.Play = Play
+head_of (kept.Serve verdicts ends missed) = Serve verdicts.items ends.items missed
