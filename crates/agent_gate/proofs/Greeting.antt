@@ -1,0 +1,66 @@
+-- The welcome, piece by piece.
+use Rattle.std.proofs.Common.{◌≡◌, ℕ, ◌+◌, ◌<◌, List, [], ◌∷◌, ◌++◌, length, take, drop, get_or, sym, ap, ◌∙◌, arith, length-append}
+use Rattle.std.specs.Prelude.{Option}
+use Rattle.std.proofs.Math.Seq.{take-append-add, take-length}
+use Rattle.std.proofs.lemmas.List.{append_assoc, append-nil, take-append-le, take-append-drop, take_more}
+use Rattle.std.proofs.lemmas.Grind.{flat_map-append}
+use Rattle.text_forms.specs.Lines.{text_of}
+use Rattle.tac_io.specs.Told.{and_then_told, TakesSome}
+use Rattle.tac_io.proofs.Tellings.{and_then_told-twice}
+use Rattle.agent_gate.specs.Welcome.{MovesOn}
+
+-- what was sent of a part, after all that stands before it, was sent of the whole
+takes_within : (told₀ told₁ told₂ : Option (List ℕ)) (done part after whole : List ℕ) → told₁ ≡ and_then_told told₀ done → whole ≡ (done ++ part) ++ after → TakesSome told₁ told₂ part → TakesSome told₀ told₂ whole
+takes_within told₀ told₁ told₂ done part after whole before is some =
+    let size : length whole ≡ length done + length part + length after = ap length is ∙ length-append (done ++ part) after ∙ ap (λ n. n + length after) (length-append done part) in
+    let front : take (length done + some.count) whole ≡ done ++ take some.count part =
+    ap (take (length done + some.count)) (is ∙ append_assoc done part after)
+    ∙ take-append-add done (part ++ after) some.count
+    ∙ ap (λ l. done ++ l) (take-append-le some.count part after (omega (arith, some.proper))) in
+    record {
+      count = length done + some.count;
+      proper = omega (arith, some.proper, size);
+      taken = some.taken ∙ ap (λ t. and_then_told t (take some.count part)) before ∙ and_then_told-twice told₀ done (take some.count part) ∙ ap (and_then_told told₀) (sym front);
+    }
+
+module _ (first : List ℕ) (lines : List (List ℕ)) where
+  -- a text has what was not sent yet of the first line and n more
+  pub record IsGreeting (n : ℕ) (text : List ℕ) (sent sent' : Option (List ℕ)) : Type 0 where
+    pub done : List ℕ
+    pub told : sent' ≡ and_then_told sent done
+    pub so_far : done ++ text ≡ (first ++ 10 ∷ []) ++ text_of (take n lines)
+
+  one_more : (n : ℕ) → n < length lines → text_of (take (n + 1) lines) ≡ text_of (take n lines) ++ (get_or lines n [] ++ 10 ∷ [])
+  one_more n lt =
+      ap text_of (take_more lines n [] lt)
+      ∙ flat_map-append (λ line. line ++ 10 ∷ []) (take n lines) (get_or lines n [] ∷ [])
+      ∙ ap (λ l. text_of (take n lines) ++ l) (append-nil (get_or lines n [] ++ 10 ∷ []))
+
+  pub greeting_more : (n : ℕ) (text text₂ text₃ text₄ : List ℕ) (sent sent' sent₂ : Option (List ℕ)) → IsGreeting n text sent sent' → MovesOn sent' sent₂ text text₂
+      → text₃ ≡ text₂ ++ get_or lines n [] → text₄ ≡ text₃ ++ 10 ∷ [] → n < length lines → IsGreeting (n + 1) text₄ sent sent₂
+  greeting_more n text text₂ text₃ text₄ sent sent' sent₂ going moves line end lt = let row = get_or lines n [] in record {
+    done = going.done ++ moves.first;
+    told = moves.told ∙ ap (λ t. and_then_told t moves.first) going.told ∙ and_then_told-twice sent going.done moves.first;
+    so_far =
+        ap (λ l. (going.done ++ moves.first) ++ l) (end ∙ ap (λ l. l ++ 10 ∷ []) line ∙ append_assoc text₂ row (10 ∷ []))
+        ∙ sym (append_assoc (going.done ++ moves.first) text₂ (row ++ 10 ∷ []))
+        ∙ ap (λ l. l ++ (row ++ 10 ∷ [])) (append_assoc going.done moves.first text₂ ∙ ap (λ l. going.done ++ l) (sym moves.whole) ∙ going.so_far)
+        ∙ append_assoc (first ++ 10 ∷ []) (text_of (take n lines)) (row ++ 10 ∷ [])
+        ∙ ap (λ l. (first ++ 10 ∷ []) ++ l) (sym (one_more n lt));
+  }
+
+  -- the text of all lines, after those so far
+  rest_of : (n : ℕ) (text : List ℕ) (sent sent' : Option (List ℕ)) (going : IsGreeting n text sent sent') → text_of (first ∷ lines) ≡ (going.done ++ text) ++ text_of (drop n lines)
+  rest_of n text sent sent' going =
+      ap (λ l. (first ++ 10 ∷ []) ++ text_of l) (sym (take-append-drop n lines))
+      ∙ ap (λ l. (first ++ 10 ∷ []) ++ l) (flat_map-append (λ line. line ++ 10 ∷ []) (take n lines) (drop n lines))
+      ∙ sym (append_assoc (first ++ 10 ∷ []) (text_of (take n lines)) (text_of (drop n lines)))
+      ∙ ap (λ l. l ++ text_of (drop n lines)) (sym going.so_far)
+
+  pub greeting_cut_off : (n : ℕ) (text : List ℕ) (sent sent' sent₂ : Option (List ℕ)) → IsGreeting n text sent sent' → TakesSome sent' sent₂ text → TakesSome sent sent₂ (text_of (first ∷ lines))
+  greeting_cut_off n text sent sent' sent₂ going some = takes_within sent sent' sent₂ going.done text (text_of (drop n lines)) (text_of (first ∷ lines)) going.told (rest_of n text sent sent' going) some
+
+  pub greeting_whole : (n : ℕ) (text : List ℕ) (sent sent' sent₂ : Option (List ℕ)) → IsGreeting n text sent sent' → n ≡ length lines → sent₂ ≡ and_then_told sent' text → sent₂ ≡ and_then_told sent (text_of (first ∷ lines))
+  greeting_whole n text sent sent' sent₂ going all is =
+      is ∙ ap (λ t. and_then_told t text) going.told ∙ and_then_told-twice sent going.done text
+      ∙ ap (and_then_told sent) (going.so_far ∙ ap (λ l. (first ++ 10 ∷ []) ++ text_of l) (ap (λ m. take m lines) all ∙ take-length lines))

@@ -1,0 +1,6 @@
+pub mod Making
+pub mod LawfulTurns
+pub mod TurnEnds
+pub mod DeskTurns
+pub mod UnderWay
+pub mod Greeting

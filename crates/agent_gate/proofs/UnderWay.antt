@@ -1,0 +1,318 @@
+-- A session under way, from turn to turn to its end.
+use Rattle.std.proofs.Common.{◌≡◌, ℕ, ◌+◌, ◌^◌, ◌<◌, ◌≤◌, ◌≢◌, List, [], ◌∷◌, ◌++◌, map, length, true, false, Some, None, Ok, Err, refl, sym, ap, ◌∙◌, subst, arith, inl, inr, length-append}
+use Rattle.std.specs.Prelude.{Option, Result}
+use Rattle.std.specs.List.{flat_map}
+use Rattle.std.proofs.lemmas.List.{append_assoc, append-nil}
+use Rattle.std.proofs.lemmas.Grind.{flat_map-append}
+use Rattle.tac_io.specs.AllAnswers.{answers_left}
+use Rattle.tac_io.specs.HeldBytes.{Held}
+use Rattle.tac_io.specs.LineAnswers.{Answers}
+use Rattle.tac_io.specs.Told.{and_then_told, before_told, IsAtEnd, TakesSome}
+use Rattle.tac_io.specs.declared.line_got.LineGot.{LineGot}
+use Rattle.tac_io.specs.declared.line_got.LineGot.TheVariants as gots
+use Rattle.tac_io.proofs.ByBytes.{in_turn}
+use Rattle.tac_io.proofs.Tellings.{and_then_told-nothing, and_then_told-twice, before_told-nothing, before_told-twice}
+use Rattle.line_protocol.specs.declared.asking.Request.{Request}
+use Rattle.line_protocol.specs.declared.asking.RequestFault.{RequestFault}
+use Rattle.line_protocol.specs.declared.saying.Said.{Said}
+use Rattle.line_protocol.specs.declared.saying.Said.TheVariants.{Bye}
+use Rattle.line_protocol.specs.declared.admission.Cause.{Cause}
+use Rattle.line_protocol.specs.declared.admission.Cause.TheVariants as causes
+use Rattle.floor.specs.declared.desk.Desk.{Desk}
+use Rattle.floor.specs.Answers.{IsSameDesk}
+use Rattle.floor.specs.Desks.{desk_caller}
+use Rattle.game_text.specs.Games.{GameFile}
+use Rattle.agent_gate.specs.Items.{Item, Asks, Overlong, IsItem, AreItems}
+use Rattle.agent_gate.specs.Turns.{Turn, Called, CallDenied, CashRead, CashDenied, Quoted, Refused, Skipped, Left, item_of, said_of, is_leaving, has_left, AreLawful}
+use Rattle.agent_gate.specs.Served.{reply_line, session_text, IsServed, EndsBy}
+use Rattle.agent_gate.specs.Sessions.{IsSession}
+use Rattle.agent_gate.specs.Welcome.{welcome_text}
+use Rattle.agent_gate.specs.Turning.{cause_of, Says, HasTurn, count_whole}
+use Rattle.agent_gate.proofs.LawfulTurns.{lawful_more, has_left-more, none_lawful, zip_more}
+use Rattle.agent_gate.proofs.DeskTurns.{HasMade, due_lawful, made_more, all_made}
+
+-- ---- the next answer, whatever comes after the bytes that were taken
+
+module _ (old new : Held) (taken taken' left left' : Option (List ℕ)) (count count' : ℕ) where
+  -- an item comes of a line, or of one that is too long
+  pub item_first : (may_answer : List ℕ → Result Request RequestFault → Type 0) (item : Item) (got : LineGot) (a : Answers old new taken taken' left left' count count' got) → count' ≤ 2 ^ 26 → IsItem may_answer (got, new.line) item
+      → (first : LineGot × List ℕ) × IsItem may_answer first item × ((after : List ℕ) → answers_left old (a.more ++ after) count ≡ first ∷ answers_left new after count')
+  item_first may_answer item gots.Line a le is = (
+    (gots.Line, new.line),
+    is,
+    λ after. in_turn old new None None (Some (a.more ++ after)) (Some after) count count' gots.Line (record { more = a.more; told = refl; gave = refl; counted = a.counted; next = a.next }) le,
+  )
+  item_first may_answer Overlong gots.TooLong a le is = (
+    (gots.TooLong, []),
+    tt,
+    λ after. in_turn old new None None (Some (a.more ++ after)) (Some after) count count' gots.TooLong (record { more = a.more; told = refl; gave = refl; counted = a.counted; next = a.next }) le,
+  )
+  item_first may_answer (Asks asked) gots.TooLong a le is = absurd is
+  item_first may_answer (Asks asked) gots.End a le is = absurd is
+  item_first may_answer Overlong gots.End a le is = absurd is
+  item_first may_answer (Asks asked) gots.Failed a le is = absurd is
+  item_first may_answer Overlong gots.Failed a le is = absurd is
+  item_first may_answer (Asks asked) gots.Budget a le is = absurd is
+  item_first may_answer Overlong gots.Budget a le is = absurd is
+
+  -- the link's bytes end without one more line
+  pub end_comes : (got : LineGot) (a : Answers old new taken taken' left left' count count' got) → count' ≤ 2 ^ 26 → cause_of got ≡ Some causes.End
+      → (answers_left old a.more count ≡ (gots.End, []) ∷ []) × IsAtEnd left'
+  end_comes gots.End a le is = (
+    in_turn old new None None (Some a.more) (Some []) count count' gots.End
+        (record { more = a.more; told = refl; gave = ap (λ l. Some l) (sym (append-nil a.more)); counted = a.counted; next = (a.next.0, a.next.1, refl) }) le,
+    a.next.2,
+  )
+  end_comes gots.Line a le is = absurd (cc)
+  end_comes gots.TooLong a le is = absurd (cc)
+  end_comes gots.Failed a le is = absurd (cc)
+  end_comes gots.Budget a le is = absurd (cc)
+
+  -- the bytes that came before a read failed end without one more line
+  pub fault_comes : (got : LineGot) (a : Answers old new taken taken' left left' count count' got) → count' ≤ 2 ^ 26 → cause_of got ≡ Some causes.ReadFault → answers_left old a.more count ≡ (gots.End, []) ∷ []
+  fault_comes gots.Failed a le is =
+      in_turn old new None None (Some a.more) (Some []) count count' gots.End
+      (record { more = a.more; told = refl; gave = ap (λ l. Some l) (sym (append-nil a.more)); counted = a.counted; next = (a.next.0, a.next.1, refl) }) le
+  fault_comes gots.Line a le is = absurd (cc)
+  fault_comes gots.TooLong a le is = absurd (cc)
+  fault_comes gots.End a le is = absurd (cc)
+  fault_comes gots.Budget a le is = absurd (cc)
+
+  -- all bytes were taken that a link may give
+  pub budget_comes : (got : LineGot) (a : Answers old new taken taken' left left' count count' got) → count' ≤ 2 ^ 26 → cause_of got ≡ Some causes.Budget → answers_left old a.more count ≡ (gots.Budget, []) ∷ []
+  budget_comes gots.Budget a le is =
+      in_turn old new None None (Some a.more) (Some []) count count' gots.Budget
+      (record { more = a.more; told = refl; gave = ap (λ l. Some l) (sym (append-nil a.more)); counted = a.counted; next = a.next }) le
+  budget_comes gots.Line a le is = absurd (cc)
+  budget_comes gots.TooLong a le is = absurd (cc)
+  budget_comes gots.End a le is = absurd (cc)
+  budget_comes gots.Failed a le is = absurd (cc)
+
+-- ---- who says `bye`
+
+leaves : (turn : Turn) → said_of turn ≡ Bye → is_leaving turn ≡ true
+leaves (Called request good position entry posted) is = absurd (cc)
+leaves (CallDenied request good) is = absurd (cc)
+leaves (CashRead position dollars) is = absurd (cc)
+leaves CashDenied is = absurd (cc)
+leaves (Quoted good board) is = absurd (cc)
+leaves (Refused fault) is = absurd (cc)
+leaves Skipped is = absurd (cc)
+leaves Left is = refl
+
+stays : (turn : Turn) → said_of turn ≢ Bye → is_leaving turn ≡ false
+stays (Called request good position entry posted) is = refl
+stays (CallDenied request good) is = refl
+stays (CashRead position dollars) is = refl
+stays CashDenied is = refl
+stays (Quoted good board) is = refl
+stays (Refused fault) is = refl
+stays Skipped is = refl
+stays Left is = absurd (is refl)
+
+text_more : (text : Said → List ℕ) (welcome : List ℕ) (turns : List Turn) (turn : Turn) → session_text text welcome turns ++ reply_line text turn ≡ session_text text welcome (turns ++ turn ∷ [])
+text_more text welcome turns turn =
+    append_assoc welcome (flat_map (reply_line text) turns) (reply_line text turn)
+    ∙ ap (λ l. welcome ++ (flat_map (reply_line text) turns ++ l)) (sym (append-nil (reply_line text turn)))
+    ∙ ap (λ l. welcome ++ l) (sym (flat_map-append (reply_line text) turns (turn ∷ [])))
+
+module _ (may_answer : List ℕ → Result Request RequestFault → Type 0) (text : Said → List ℕ) (game : GameFile) (old : Held) (count : ℕ) (taken left sent : Option (List ℕ)) (before : Desk) where
+  -- what is sent first
+  abbrev welcome : List ℕ
+  welcome = welcome_text game (desk_caller before)
+
+  -- the session, by what it left
+  abbrev HasSession : Option (List ℕ) → Option (List ℕ) → Option (List ℕ) → Desk → ℕ → Cause → Type 0
+  HasSession left' taken' sent' after lines cause = IsSession may_answer text game old count taken taken' left left' sent sent' before after lines cause
+
+  -- turns were taken, each with a line, and their replies were sent; the agent has not left
+  pub record IsUnderWay (now : Held) (count' : ℕ) (taken' left' sent' : Option (List ℕ)) (after : Desk) (answered : ℕ) : Type 0 where
+    pub more : List ℕ
+    pub read : List (LineGot × List ℕ)
+    pub turns : List Turn
+    pub told : taken' ≡ and_then_told taken more
+    pub gave : left ≡ before_told more left'
+    pub from : (next : List ℕ) → answers_left old (more ++ next) count ≡ read ++ answers_left now next count'
+    pub items : AreItems may_answer read (map item_of turns)
+    pub many : length turns ≡ answered
+    pub lawful : AreLawful turns
+    pub here : has_left turns ≡ false
+    pub made : HasMade turns before after
+    pub sent_is : sent' ≡ and_then_told sent (session_text text welcome turns)
+
+  -- the same with one more turn, of which nothing is said of what was sent or whether the agent left
+  record IsTurnOn (now : Held) (count' : ℕ) (taken' left' : Option (List ℕ)) (after : Desk) (turns : List Turn) (turn : Turn) : Type 0 where
+    pub more : List ℕ
+    pub read : List (LineGot × List ℕ)
+    pub told : taken' ≡ and_then_told taken more
+    pub gave : left ≡ before_told more left'
+    pub from : (next : List ℕ) → answers_left old (more ++ next) count ≡ read ++ answers_left now next count'
+    pub items : AreItems may_answer read (map item_of (turns ++ turn ∷ []))
+    pub lawful : AreLawful (turns ++ turn ∷ [])
+    pub made : HasMade (turns ++ turn ∷ []) before after
+
+  module _ (now : Held) (count' : ℕ) (taken' left' sent' : Option (List ℕ)) (after : Desk) (answered : ℕ) (u : IsUnderWay now count' taken' left' sent' after answered)
+      (new : Held) (count₂ : ℕ) (taken₂ left₂ sent₂ : Option (List ℕ)) (desk : Desk) where
+    told_on : (more : List ℕ) → taken₂ ≡ and_then_told taken' more → taken₂ ≡ and_then_told taken (u.more ++ more)
+    told_on more told = told ∙ ap (λ t. and_then_told t more) u.told ∙ and_then_told-twice taken u.more more
+
+    gave_on : (more : List ℕ) → left' ≡ before_told more left₂ → left ≡ before_told (u.more ++ more) left₂
+    gave_on more gave = u.gave ∙ ap (before_told u.more) gave ∙ before_told-twice left₂ u.more more
+
+    on : (got : LineGot) (said : Said) (a : Answers now new taken' taken₂ left' left₂ count' count₂ got) → count₂ ≤ 2 ^ 26 → (s : Says may_answer got new.line after desk said) → IsSameDesk after desk → IsTurnOn new count₂ taken₂ left₂ desk u.turns s.turn
+    on got said a le s same = let first = item_first now new taken' taken₂ left' left₂ count' count₂ may_answer (item_of s.turn) got a le s.asked in record {
+      more = u.more ++ a.more;
+      read = u.read ++ first.0 ∷ [];
+      told = told_on a.more a.told;
+      gave = gave_on a.more a.gave;
+      from = λ next.
+          ap (λ l. answers_left old l count) (append_assoc u.more a.more next)
+          ∙ u.from (a.more ++ next)
+          ∙ ap (λ l. u.read ++ l) (first.2 next)
+          ∙ sym (append_assoc u.read (first.0 ∷ []) (answers_left new next count₂));
+      items = zip_more (IsItem may_answer) item_of u.read u.turns first.0 s.turn u.items first.1;
+      lawful = lawful_more u.turns s.turn u.lawful (due_lawful u.turns s.turn before after u.made s.made.due) u.here;
+      made = made_more u.turns s.turn before after desk u.made s.made same;
+    }
+
+    sent_on : (said : Said) (turn : Turn) → said_of turn ≡ said → sent₂ ≡ and_then_told sent' (text said ++ 10 ∷ []) → sent₂ ≡ and_then_told sent (session_text text welcome (u.turns ++ turn ∷ []))
+    sent_on said turn is whole =
+        whole
+        ∙ ap (λ w. and_then_told w (text said ++ 10 ∷ [])) u.sent_is
+        ∙ ap (λ w. and_then_told (and_then_told sent (session_text text welcome u.turns)) (text w ++ 10 ∷ [])) (sym is)
+        ∙ and_then_told-twice sent (session_text text welcome u.turns) (reply_line text turn)
+        ∙ ap (and_then_told sent) (text_more text welcome u.turns turn)
+
+    pub goes_on : {T : Type 0} (value : T) (t : HasTurn may_answer text now new taken' taken₂ left' left₂ sent' sent₂ count' count₂ after desk (Ok value)) → IsSameDesk after desk → IsUnderWay new count₂ taken₂ left₂ sent₂ desk (answered + 1)
+    goes_on value t same = let s = t.turned.1 in let o = on t.got t.turned.0 t.answer t.within s same in record {
+      more = o.more;
+      read = o.read;
+      turns = u.turns ++ s.turn ∷ [];
+      told = o.told;
+      gave = o.gave;
+      from = o.from;
+      items = o.items;
+      many = omega (arith, length-append u.turns (s.turn ∷ []), u.many);
+      lawful = o.lawful;
+      here = has_left-more u.turns s.turn false u.here (stays s.turn (λ is. t.turned.2 (sym s.told ∙ is)));
+      made = o.made;
+      sent_is = sent_on t.turned.0 s.turn s.told t.turned.3;
+    }
+
+    few_on : (turn : Turn) → answered < 65536 → length (u.turns ++ turn ∷ []) ≤ 65536
+    few_on turn lt = omega (arith, length-append u.turns (turn ∷ []), u.many)
+
+    session_of : (more : List ℕ) → taken₂ ≡ and_then_told taken more → left ≡ before_told more left₂ → (turns : List Turn) (lines : ℕ) (cause : Cause)
+        → IsServed may_answer text welcome (answers_left old more count) (IsAtEnd left₂) sent sent₂ turns lines cause → HasMade turns before desk → HasSession left₂ taken₂ sent₂ desk lines cause
+    session_of more told gave turns lines cause served made = record { more = more; told = told; gave = gave; turns = turns; served = served; desk = all_made turns before desk made }
+
+    with_turn : (got : LineGot) (said : Said) (a : Answers now new taken' taken₂ left' left₂ count' count₂ got) → count₂ ≤ 2 ^ 26 → (s : Says may_answer got new.line after desk said) → IsSameDesk after desk → answered < 65536
+        → (lines : ℕ) (cause : Cause) → ((rest : List (LineGot × List ℕ)) → EndsBy cause text welcome (u.turns ++ s.turn ∷ []) rest (IsAtEnd left₂) sent sent₂ lines) → HasSession left₂ taken₂ sent₂ desk lines cause
+    with_turn got said a le s same lt lines cause end = let o = on got said a le s same in
+        session_of o.more o.told o.gave (u.turns ++ s.turn ∷ []) lines cause (record {
+          read = o.read;
+          rest = answers_left new [] count₂;
+          from = ap (λ l. answers_left old l count) (sym (append-nil o.more)) ∙ o.from [];
+          items = o.items;
+          few = few_on s.turn lt;
+          lawful = o.lawful;
+          end = end (answers_left new [] count₂);
+        }) o.made
+
+    without_turn : (got : LineGot) (a : Answers now new taken' taken₂ left' left₂ count' count₂ got) → desk ≡ after → answered < 65536 → (rest : List (LineGot × List ℕ)) → answers_left now a.more count' ≡ rest
+        → (cause : Cause) → EndsBy cause text welcome u.turns rest (IsAtEnd left₂) sent sent₂ answered → HasSession left₂ taken₂ sent₂ desk answered cause
+    without_turn got a same lt rest is cause end =
+        session_of (u.more ++ a.more) (told_on a.more a.told) (gave_on a.more a.gave) u.turns answered cause (record {
+          read = u.read;
+          rest = rest;
+          from = u.from a.more ∙ ap (λ l. u.read ++ l) is;
+          items = u.items;
+          few = omega (arith, u.many, lt);
+          lawful = u.lawful;
+          end = end;
+        }) (subst (HasMade u.turns before) (sym same) u.made)
+
+    still_whole : sent₂ ≡ sent' → (sent₂ ≡ and_then_told sent (session_text text welcome u.turns)) × (answered ≡ length u.turns)
+    still_whole quiet = (quiet ∙ u.sent_is, sym u.many)
+
+    few_turns : answered < 65536 → length u.turns < 65536
+    few_turns lt = omega (arith, u.many, lt)
+
+    pub ends : {T : Type 0} (cause : Cause) (t : HasTurn {T = T} may_answer text now new taken' taken₂ left' left₂ sent' sent₂ count' count₂ after desk (Err cause)) → IsSameDesk after desk → answered < 65536
+        → HasSession left₂ taken₂ sent₂ desk (count_whole answered cause) cause
+    ends causes.Quit t same lt = let s = t.turned.0 in
+        with_turn t.got Bye t.answer t.within s same lt (answered + 1) causes.Quit
+        (λ rest. (has_left-more u.turns s.turn true u.here (leaves s.turn s.told), (sent_on Bye s.turn s.told t.turned.1, omega (arith, length-append u.turns (s.turn ∷ []), u.many))))
+    ends causes.End t same lt = let e = end_comes now new taken' taken₂ left' left₂ count' count₂ t.got t.answer t.within t.turned.0 in
+        without_turn t.got t.answer t.turned.1 lt ((gots.End, []) ∷ []) e.0 causes.End (u.here, few_turns lt, refl, e.1, still_whole t.turned.2)
+    ends causes.ReadFault t same lt =
+        without_turn t.got t.answer t.turned.1 lt ((gots.End, []) ∷ []) (fault_comes now new taken' taken₂ left' left₂ count' count₂ t.got t.answer t.within t.turned.0) causes.ReadFault (u.here, few_turns lt, refl, still_whole t.turned.2)
+    ends causes.WriteFault t same lt = let s = t.turned.1 in
+        with_turn t.got t.turned.0 t.answer t.within s same lt answered causes.WriteFault
+        (λ rest. inr (u.turns, s.turn, refl, subst (λ (w : Option (List ℕ) × Said). TakesSome w.0 sent₂ (text w.1 ++ 10 ∷ [])) (λ i. (u.sent_is i, sym s.told i)) t.turned.2, sym u.many))
+    ends causes.Budget t same lt =
+        without_turn t.got t.answer t.turned.1 lt ((gots.Budget, []) ∷ []) (budget_comes now new taken' taken₂ left' left₂ count' count₂ t.got t.answer t.within t.turned.0) causes.Budget
+        (u.here, inr (few_turns lt, refl), still_whole t.turned.2)
+
+  -- all the lines of a session were answered
+  pub ends_full : (now : Held) (count' : ℕ) (taken' left' sent' : Option (List ℕ)) (after : Desk) (answered : ℕ) (u : IsUnderWay now count' taken' left' sent' after answered) → answered ≡ 65536
+      → HasSession left' taken' sent' after answered causes.Budget
+  ends_full now count' taken' left' sent' after answered u full = record {
+    more = u.more;
+    told = u.told;
+    gave = u.gave;
+    turns = u.turns;
+    served = record {
+      read = u.read;
+      rest = answers_left now [] count';
+      from = ap (λ l. answers_left old l count) (sym (append-nil u.more)) ∙ u.from [];
+      items = u.items;
+      few = omega (arith, u.many, full);
+      lawful = u.lawful;
+      end = (u.here, inl (u.many ∙ full), (u.sent_is, sym u.many));
+    };
+    desk = all_made u.turns before after u.made;
+  }
+
+  -- the welcome was not sent whole, so nothing was asked
+  pub ends_at_once : (sent' : Option (List ℕ)) → HasMade [] before before → TakesSome sent sent' welcome → HasSession left taken sent' before 0 causes.WriteFault
+  ends_at_once sent' made some = record {
+    more = [];
+    told = sym (and_then_told-nothing taken);
+    gave = sym (before_told-nothing left);
+    turns = [];
+    served = record {
+      read = [];
+      rest = answers_left old [] count;
+      from = refl;
+      items = tt;
+      few = omega arith;
+      lawful = none_lawful;
+      end = inl (refl, some, refl);
+    };
+    desk = all_made [] before before made;
+  }
+
+  pub under_way_at_first : (now : Held) (count' : ℕ) (taken' left' sent' : Option (List ℕ)) → now ≡ old → count' ≡ count → taken' ≡ taken → left' ≡ left → HasMade [] before before → sent' ≡ and_then_told sent welcome
+      → IsUnderWay now count' taken' left' sent' before 0
+  under_way_at_first now count' taken' left' sent' e₁ e₂ e₃ e₄ made whole =
+      subst (λ (w : Held × ℕ × Option (List ℕ) × Option (List ℕ)). IsUnderWay w.0 w.1 w.2 w.3 sent' before 0) (λ i. (sym e₁ i, sym e₂ i, sym e₃ i, sym e₄ i)) (record {
+        more = [];
+        read = [];
+        turns = [];
+        told = sym (and_then_told-nothing taken);
+        gave = sym (before_told-nothing left);
+        from = λ next. refl;
+        items = tt;
+        many = refl;
+        lawful = none_lawful;
+        here = refl;
+        made = made;
+        sent_is = whole ∙ ap (and_then_told sent) (sym (append-nil welcome));
+      })
+
+  -- the same session, where its values are known by other names
+  pub session_as : (left' taken' sent' left₂ taken₂ sent₂ : Option (List ℕ)) (after : Desk) (lines lines₂ : ℕ) (cause : Cause) → left₂ ≡ left' → taken₂ ≡ taken' → sent₂ ≡ sent' → lines₂ ≡ lines
+      → HasSession left' taken' sent' after lines cause → HasSession left₂ taken₂ sent₂ after lines₂ cause
+  session_as left' taken' sent' left₂ taken₂ sent₂ after lines lines₂ cause e₁ e₂ e₃ e₄ s =
+      subst (λ (w : Option (List ℕ) × Option (List ℕ) × Option (List ℕ) × ℕ). HasSession w.0 w.1 w.2 after w.3 cause) (λ i. (sym e₁ i, sym e₂ i, sym e₃ i, sym e₄ i)) s

@@ -1,0 +1,22 @@
+-- What a link asks: an item for each of its lines.
+use Rattle.std.specs.Prelude.{⊤, ℕ, List, Result}
+use Rattle.std.specs.List.{AllZip}
+use Rattle.line_protocol.specs.declared.asking.Request.{Request}
+use Rattle.line_protocol.specs.declared.asking.RequestFault.{RequestFault}
+use Rattle.tac_io.specs.declared.line_got.LineGot.{LineGot}
+use Rattle.tac_io.specs.declared.line_got.LineGot.TheVariants.{Line, TooLong}
+
+-- a request or its fault, or a line that is too long
+pub data Item : Type 0 where
+  Asks : (asked : Result Request RequestFault) → Item
+  Overlong : Item
+
+-- what a line that was read asks: one that is not too long asks what may be answered to it
+abbrev pub IsItem : (List ℕ → Result Request RequestFault → Type 0) → LineGot × List ℕ → Item → Type 0
+IsItem may_answer (Line, line) (Asks asked) = may_answer line asked
+IsItem may_answer (TooLong, line) Overlong = ⊤
+IsItem may_answer got item = ⊥
+
+-- what lines ask, in order
+abbrev pub AreItems : (List ℕ → Result Request RequestFault → Type 0) → List (LineGot × List ℕ) → List Item → Type 0
+AreItems may_answer lines items = AllZip (IsItem may_answer) lines items

@@ -1,0 +1,9 @@
+pub mod Gates
+pub mod Items
+pub mod Turns
+pub mod Served
+pub mod Sessions
+pub mod Transcript
+pub mod Welcome
+pub mod Answering
+pub mod Turning

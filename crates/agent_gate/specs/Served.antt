@@ -1,0 +1,64 @@
+-- How a link's lines are answered, and why its session ends.
+use Rattle.std.specs.Prelude.{◌≡◌, ℕ, ◌<◌, ◌≤◌, ◌⊎◌, List, [], ◌∷◌, ◌++◌, true, false, Result, Option, length, map}
+use Rattle.std.specs.List.{flat_map}
+use Rattle.tac_io.specs.Counts.{Rose}
+use Rattle.tac_io.specs.Told.{and_then_told, TakesSome}
+use Rattle.tac_io.specs.declared.line_got.LineGot.{LineGot}
+use Rattle.tac_io.specs.declared.line_got.LineGot.TheVariants as gots
+use Rattle.line_protocol.specs.declared.asking.Request.{Request}
+use Rattle.line_protocol.specs.declared.asking.RequestFault.{RequestFault}
+use Rattle.line_protocol.specs.declared.saying.Said.{Said}
+use Rattle.line_protocol.specs.declared.admission.Cause.{Cause}
+use Rattle.line_protocol.specs.declared.admission.Cause.TheVariants as causes
+use Rattle.agent_gate.specs.Items.{AreItems}
+use Rattle.agent_gate.specs.Turns.{Turn, item_of, said_of, has_left, AreLawful}
+
+-- the line that tells something
+abbrev pub reply_line : (Said → List ℕ) → Turn → List ℕ
+reply_line text turn = text (said_of turn) ++ 10 ∷ []
+
+-- what is sent in a session of these turns
+abbrev pub session_text : (Said → List ℕ) → List ℕ → List Turn → List ℕ
+session_text text welcome turns = welcome ++ flat_map (reply_line text) turns
+
+-- the session's text was sent whole, and each turn's line is counted
+abbrev pub IsWhole : (Said → List ℕ) → List ℕ → List Turn → Option (List ℕ) → Option (List ℕ) → ℕ → Type 0
+IsWhole text welcome turns sent sent' lines = (sent' ≡ and_then_told sent (session_text text welcome turns)) × (lines ≡ length turns)
+
+-- A write failed: in the welcome, and then nothing was asked; or in the line of the last turn.
+abbrev pub IsCutOff : (Said → List ℕ) → List ℕ → List Turn → Option (List ℕ) → Option (List ℕ) → ℕ → Type 0
+IsCutOff text welcome turns sent sent' lines =
+    ((turns ≡ []) × TakesSome sent sent' welcome × (lines ≡ 0))
+    ⊎ ((answered : List Turn) × (last : Turn) × (turns ≡ answered ++ last ∷ [])
+    × TakesSome (and_then_told sent (session_text text welcome answered)) sent' (reply_line text last) × (lines ≡ length answered))
+
+-- The causes of a session's end. `rest` is what comes next of the bytes that were taken, after the lines of the turns.
+abbrev pub EndsBy : Cause → (Said → List ℕ) → List ℕ → List Turn → List (LineGot × List ℕ) → Type 0 → Option (List ℕ) → Option (List ℕ) → ℕ → Type 0
+EndsBy causes.Quit text welcome turns rest at_end sent sent' lines = (has_left turns ≡ true) × IsWhole text welcome turns sent sent' lines
+EndsBy causes.End text welcome turns rest at_end sent sent' lines =
+    (has_left turns ≡ false) × (length turns < 65536) × (rest ≡ (gots.End, []) ∷ []) × at_end × IsWhole text welcome turns sent sent' lines
+EndsBy causes.ReadFault text welcome turns rest at_end sent sent' lines =
+    (has_left turns ≡ false) × (length turns < 65536) × (rest ≡ (gots.End, []) ∷ []) × IsWhole text welcome turns sent sent' lines
+EndsBy causes.WriteFault text welcome turns rest at_end sent sent' lines = IsCutOff text welcome turns sent sent' lines
+EndsBy causes.Budget text welcome turns rest at_end sent sent' lines =
+    (has_left turns ≡ false) × ((length turns ≡ 65536) ⊎ ((length turns < 65536) × (rest ≡ (gots.Budget, []) ∷ []))) × IsWhole text welcome turns sent sent' lines
+
+-- a fault of a read is why a session ends exactly where the count of the link's reads rose, and so of writes
+abbrev pub HasSessionCause : ℕ → ℕ → ℕ → ℕ → Cause → Type 0
+HasSessionCause reads reads' writes writes' causes.ReadFault = Rose reads reads' × (writes' ≡ writes)
+HasSessionCause reads reads' writes writes' causes.WriteFault = (reads' ≡ reads) × Rose writes writes'
+HasSessionCause reads reads' writes writes' causes.Quit = (reads' ≡ reads) × (writes' ≡ writes)
+HasSessionCause reads reads' writes writes' causes.End = (reads' ≡ reads) × (writes' ≡ writes)
+HasSessionCause reads reads' writes writes' causes.Budget = (reads' ≡ reads) × (writes' ≡ writes)
+
+-- The turns of a session are what its bytes ask, each answered. `answers` is what comes of the bytes that were taken, line by line, after
+-- the lines that were read before the session.
+pub record IsServed (may_answer : List ℕ → Result Request RequestFault → Type 0) (text : Said → List ℕ) (welcome : List ℕ)
+    (answers : List (LineGot × List ℕ)) (at_end : Type 0) (sent sent' : Option (List ℕ)) (turns : List Turn) (lines : ℕ) (cause : Cause) : Type 0 where
+  pub read : List (LineGot × List ℕ)
+  pub rest : List (LineGot × List ℕ)
+  pub from : answers ≡ read ++ rest
+  pub items : AreItems may_answer read (map item_of turns)
+  pub few : length turns ≤ 65536
+  pub lawful : AreLawful turns
+  pub end : EndsBy cause text welcome turns rest at_end sent sent' lines

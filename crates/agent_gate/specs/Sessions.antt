@@ -1,0 +1,36 @@
+-- What a session leaves of a link and of a desk.
+use Rattle.std.specs.Prelude.{◌≡◌, ℕ, ◌<◌, List, ◌++◌, Result, Option, map}
+use Rattle.game_text.specs.Games.{GameFile}
+use Rattle.auction_core.specs.ClosedGame.{all_goods}
+use Rattle.tac_io.specs.AllAnswers.{answers_left}
+use Rattle.tac_io.specs.HeldBytes.{Held}
+use Rattle.tac_io.specs.Told.{and_then_told, before_told, IsAtEnd}
+use Rattle.line_protocol.specs.declared.asking.Request.{Request}
+use Rattle.line_protocol.specs.declared.asking.RequestFault.{RequestFault}
+use Rattle.line_protocol.specs.declared.saying.Said.{Said}
+use Rattle.line_protocol.specs.declared.admission.Cause.{Cause}
+use Rattle.floor.specs.declared.desk.Desk.{Desk}
+use Rattle.floor.specs.Desks.{desk_caller, entries_of, cash_of, boards_at}
+use Rattle.floor.specs.Answers.{IsSameDesk}
+use Rattle.agent_gate.specs.Turns.{Turn, made_at, cash_made, boards_shown}
+use Rattle.agent_gate.specs.Welcome.{welcome_text}
+use Rattle.agent_gate.specs.Served.{IsServed}
+
+-- the entries of a desk that had made no call, and the boards that it saw besides, are those of the turns
+pub record AreMadeBy (turns : List Turn) (before after : Desk) : Type 0 where
+  pub entries : entries_of after ≡ map (λ good. made_at good turns) all_goods
+  pub cash : cash_of after ≡ cash_made (desk_caller before) turns
+  pub boards : (good : ℕ) → good < 28 → boards_at after good ≡ boards_at before good ++ boards_shown good turns
+  pub same : IsSameDesk before after
+
+-- A session, from the lines' state: what they held, and how many bytes of their link were taken. `more` are the bytes that were taken
+-- in the session.
+pub record IsSession (may_answer : List ℕ → Result Request RequestFault → Type 0) (text : Said → List ℕ) (game : GameFile)
+    (held : Held) (count : ℕ) (taken taken' left left' sent sent' : Option (List ℕ)) (before after : Desk) (lines : ℕ) (cause : Cause) : Type 0 where
+  pub more : List ℕ
+  pub told : taken' ≡ and_then_told taken more
+  pub gave : left ≡ before_told more left'
+  pub turns : List Turn
+  pub served : IsServed may_answer text (welcome_text game (desk_caller before))
+      (answers_left held more count) (IsAtEnd left') sent sent' turns lines cause
+  pub desk : AreMadeBy turns before after

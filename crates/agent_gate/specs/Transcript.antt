@@ -1,0 +1,17 @@
+-- The turns of an agent's session against the histories of a game whose calls are over.
+use Rattle.std.specs.Prelude.{◌≡◌, ℕ, List, length, map}
+use Rattle.std.specs.List.{AllZip}
+use Rattle.turn_lock.specs.Part.{part}
+use Rattle.turn_lock.specs.TurnRule.{AreNotes}
+use Rattle.auction_core.specs.ClosedGame.{ClosedGame, all_goods}
+use Rattle.floor.specs.Closing.{board_of}
+use Rattle.agent_gate.specs.Turns.{Turn, made_at, cash_made, boards_shown, AreLawful}
+
+-- At each good the agent's part of the history is what its turns made, by position, call and reply. Its part of the cash history is, in
+-- the order of the turns, a post for each that has trades and a reading for each that was answered. Each board that was shown is that of
+-- as many first entries as its count says.
+pub record IsTranscript (agent : ℕ) (closed : ClosedGame) (turns : List Turn) : Type 0 where
+  pub lawful : AreLawful turns
+  pub calls : map (λ auction. part (λ e. e.caller) auction.history agent) closed.auctions ≡ map (λ good. made_at good turns) all_goods
+  pub cash : part (λ e. e.caller) closed.cash agent ≡ cash_made agent turns
+  pub boards : AllZip (λ auction good. AreNotes (board_of auction) auction.history (length auction.history) (boards_shown good turns)) closed.auctions all_goods

@@ -1,0 +1,74 @@
+-- One turn of a session: a line is read, answered, and its reply is sent.
+use Rattle.std.specs.Prelude.{◌≡◌, ◌≢◌, ℕ, ◌+◌, ◌^◌, ◌≤◌, List, ◌∷◌, [], ◌++◌, Result, Ok, Err, Option, Some, None}
+use Rattle.tac_io.specs.HeldBytes.{Held}
+use Rattle.tac_io.specs.LineAnswers.{Answers}
+use Rattle.tac_io.specs.Told.{and_then_told, TakesSome}
+use Rattle.tac_io.specs.declared.line_got.LineGot.{LineGot}
+use Rattle.tac_io.specs.declared.line_got.LineGot.TheVariants as gots
+use Rattle.line_protocol.specs.declared.asking.Request.{Request}
+use Rattle.line_protocol.specs.declared.asking.RequestFault.{RequestFault}
+use Rattle.line_protocol.specs.declared.saying.Said.{Said}
+use Rattle.line_protocol.specs.declared.saying.Said.TheVariants.{Bye}
+use Rattle.line_protocol.specs.declared.admission.Cause.{Cause}
+use Rattle.line_protocol.specs.declared.admission.Cause.TheVariants as causes
+use Rattle.floor.specs.declared.desk.Desk.{Desk}
+use Rattle.agent_gate.specs.Items.{IsItem}
+use Rattle.agent_gate.specs.Answering.{TakesTurn}
+use Rattle.agent_gate.specs.Served.{HasSessionCause}
+
+-- why a session ends where no line comes
+abbrev pub cause_of : LineGot → Option Cause
+cause_of gots.Line = None
+cause_of gots.TooLong = None
+cause_of gots.End = Some causes.End
+cause_of gots.Failed = Some causes.ReadFault
+cause_of gots.Budget = Some causes.Budget
+
+-- the line that was read was answered so
+abbrev pub Says : (List ℕ → Result Request RequestFault → Type 0) → LineGot → List ℕ → Desk → Desk → Said → Type 0
+Says may_answer got line before after said = TakesTurn (IsItem may_answer (got, line)) before after said
+
+-- a line was read and answered so, or no line came
+abbrev pub IsAsked : (List ℕ → Result Request RequestFault → Type 0) → LineGot → List ℕ → Desk → Desk → Result Said Cause → Type 0
+IsAsked may_answer got line before after (Ok said) = Says may_answer got line before after said
+IsAsked may_answer got line before after (Err cause) = (cause_of got ≡ Some cause) × (after ≡ before)
+
+-- The next of the lines' answers was taken, and a line was answered.
+pub record TakesNext (may_answer : List ℕ → Result Request RequestFault → Type 0) (old new : Held)
+    (taken taken' left left' : Option (List ℕ)) (count count' : ℕ) (before after : Desk) (result : Result Said Cause) : Type 0 where
+  pub got : LineGot
+  pub answer : Answers old new taken taken' left left' count count' got
+  pub within : count' ≤ 2 ^ 26
+  pub asked : IsAsked may_answer got new.line before after result
+
+-- What came of a turn: its reply was sent whole, and it was `bye` where the agent left; or it was not sent whole; or no line came.
+abbrev pub IsTurned : {T : Type 0} → (List ℕ → Result Request RequestFault → Type 0) → (Said → List ℕ) → LineGot → List ℕ → Desk → Desk
+    → Option (List ℕ) → Option (List ℕ) → Result T Cause → Type 0
+IsTurned may_answer text got line before after sent sent' (Ok _) =
+    (said : Said) × Says may_answer got line before after said × (said ≢ Bye) × (sent' ≡ and_then_told sent (text said ++ 10 ∷ []))
+IsTurned may_answer text got line before after sent sent' (Err causes.Quit) =
+    Says may_answer got line before after Bye × (sent' ≡ and_then_told sent (text Bye ++ 10 ∷ []))
+IsTurned may_answer text got line before after sent sent' (Err causes.WriteFault) =
+    (said : Said) × Says may_answer got line before after said × TakesSome sent sent' (text said ++ 10 ∷ [])
+IsTurned may_answer text got line before after sent sent' (Err cause) = (cause_of got ≡ Some cause) × (after ≡ before) × (sent' ≡ sent)
+
+-- A turn was taken, from the next of the lines' answers to the sending of the reply.
+pub record HasTurn {T : Type 0} (may_answer : List ℕ → Result Request RequestFault → Type 0) (text : Said → List ℕ) (old new : Held)
+    (taken taken' left left' sent sent' : Option (List ℕ)) (count count' : ℕ) (before after : Desk) (result : Result T Cause) : Type 0 where
+  pub got : LineGot
+  pub answer : Answers old new taken taken' left left' count count' got
+  pub within : count' ≤ 2 ^ 26
+  pub turned : IsTurned may_answer text got new.line before after sent sent' result
+
+-- a turn changes a count of faults only where it ends the session for it
+abbrev pub HasTurnCause : {T : Type 0} → ℕ → ℕ → ℕ → ℕ → Result T Cause → Type 0
+HasTurnCause reads reads' writes writes' (Ok _) = (reads' ≡ reads) × (writes' ≡ writes)
+HasTurnCause reads reads' writes writes' (Err cause) = HasSessionCause reads reads' writes writes' cause
+
+-- how many replies were sent whole where a session ends so in the turn after so many
+abbrev pub count_whole : ℕ → Cause → ℕ
+count_whole before causes.Quit = before + 1
+count_whole before causes.End = before
+count_whole before causes.ReadFault = before
+count_whole before causes.WriteFault = before
+count_whole before causes.Budget = before

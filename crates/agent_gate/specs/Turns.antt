@@ -1,0 +1,140 @@
+-- The turns of a session: each is an item with its answer, and with what it left in the auctions and in the cash history.
+use Rattle.std.specs.Prelude.{⊤, ◌≡◌, ℕ, ◌+◌, ◌<◌, ◌≤◌, ◌==◌, if◌then◌else◌, List, [], ◌∷◌, Bool, true, false, ℤ, Option, Some, None, Ok, Err, All, length, map, take, slice_get}
+use Rattle.std.specs.List.{filter_map, flat_map, count_by, list_any}
+use Rattle.tac_base.specs.declared.calls.Board.{Board}
+use Rattle.tac_base.specs.declared.calls.Call.{Call}
+use Rattle.tac_base.specs.declared.calls.Call.TheVariants as calls
+use Rattle.auction_rules.specs.History.{Entry}
+use Rattle.trade_ledger.specs.declared.cash_calls.CashCall.TheVariants as cash_calls
+use Rattle.trade_ledger.specs.declared.cash_calls.CashReply.TheVariants as cash_replies
+use Rattle.trade_ledger.specs.declared.cash_calls.CashEntry.{CashEntry}
+use Rattle.trade_ledger.specs.Posts.{due_post}
+use Rattle.line_protocol.specs.declared.asking.Request.{Request}
+use Rattle.line_protocol.specs.declared.asking.Request.TheVariants as requests
+use Rattle.line_protocol.specs.declared.asking.RequestFault.{RequestFault}
+use Rattle.line_protocol.specs.declared.saying.Said.{Said}
+use Rattle.line_protocol.specs.declared.saying.Said.TheVariants as said
+use Rattle.agent_gate.specs.Items.{Item, Asks, Overlong}
+
+pub data Turn : Type 0 where
+  -- a call of a good was made: its entry has the position; the post that is due to the entry, if one is, has the position `posted`
+  Called : (request : Request) → (good : ℕ) → (position : ℕ) → (entry : Entry) → (posted : ℕ) → Turn
+  -- a call of a good was not made, since all that the agent may make there were made
+  CallDenied : (request : Request) → (good : ℕ) → Turn
+  -- the agent's cash was read, at the position of the cash history
+  CashRead : (position : ℕ) → (dollars : ℤ) → Turn
+  -- the cash was not read, since all readings that the agent may make were made
+  CashDenied : Turn
+  -- the board of a good was shown
+  Quoted : (good : ℕ) → (board : Board) → Turn
+  -- the line was no request
+  Refused : (fault : RequestFault) → Turn
+  -- the line was too long
+  Skipped : Turn
+  -- the agent left
+  Left : Turn
+
+-- ---- what is asked and said
+
+abbrev pub item_of : Turn → Item
+item_of (Called request good position entry posted) = Asks (Ok request)
+item_of (CallDenied request good) = Asks (Ok request)
+item_of (CashRead position dollars) = Asks (Ok requests.Cash)
+item_of CashDenied = Asks (Ok requests.Cash)
+item_of (Quoted good board) = Asks (Ok (requests.Quote good))
+item_of (Refused fault) = Asks (Err fault)
+item_of Skipped = Overlong
+item_of Left = Asks (Ok requests.Quit)
+
+abbrev pub said_of : Turn → Said
+said_of (Called request good position entry posted) = said.At position entry.reply
+said_of (CallDenied request good) = said.Spent
+said_of (CashRead position dollars) = said.Cash position dollars
+said_of CashDenied = said.Spent
+said_of (Quoted good board) = said.Quote board
+said_of (Refused fault) = said.Fault fault
+said_of Skipped = said.TooLong
+said_of Left = said.Bye
+
+-- the good and the call that a request makes, if it makes one
+abbrev pub call_of : Request → Option (ℕ × Call)
+call_of (requests.Bid good points) = Some (good, calls.Bid points)
+call_of (requests.Withdraw good) = Some (good, calls.Withdraw)
+call_of (requests.Own good) = Some (good, calls.Own)
+call_of (requests.Quote good) = None
+call_of requests.Cash = None
+call_of requests.Quit = None
+
+-- ---- what turns leave
+
+-- the entry of a turn at a good, if it made one
+abbrev pub made_by : ℕ → Turn → Option (ℕ × Entry)
+made_by good (Called request g position entry posted) = if g == good then Some (position, entry) else None
+made_by good turn = None
+
+-- the entries at a good, in order, each with its position
+abbrev pub made_at : ℕ → List Turn → List (ℕ × Entry)
+made_at good turns = filter_map (made_by good) turns
+
+-- an agent's reading
+abbrev pub reading : ℕ → ℤ → CashEntry
+reading agent dollars = record { caller = agent; call = cash_calls.Read agent; reply = cash_replies.Cash dollars }
+
+-- the entries of a turn in the cash history: a post where its entry has a trade, and a reading
+abbrev pub cash_by : ℕ → Turn → List (ℕ × CashEntry)
+cash_by agent (Called request good position entry posted) = map (λ post. (posted, post)) (due_post good position entry)
+cash_by agent (CashRead position dollars) = (position, reading agent dollars) ∷ []
+cash_by agent turn = []
+
+-- the entries in the cash history, in order, each with its position
+abbrev pub cash_made : ℕ → List Turn → List (ℕ × CashEntry)
+cash_made agent turns = flat_map (cash_by agent) turns
+
+-- the board of a good that a turn showed, with its count
+abbrev pub shown_by : ℕ → Turn → Option (ℕ × Board)
+shown_by good (Quoted g board) = if g == good then Some (board.count, board) else None
+shown_by good turn = None
+
+abbrev pub boards_shown : ℕ → List Turn → List (ℕ × Board)
+boards_shown good turns = filter_map (shown_by good) turns
+
+abbrev pub is_reading : Turn → Bool
+is_reading (CashRead position dollars) = true
+is_reading turn = false
+
+abbrev pub is_leaving : Turn → Bool
+is_leaving Left = true
+is_leaving turn = false
+
+-- the agent has left
+abbrev pub has_left : List Turn → Bool
+has_left turns = list_any is_leaving turns
+
+-- ---- the rule of turns
+
+-- how long a good's history is at least, by what a turn told
+abbrev pub told_length : ℕ → Turn → ℕ
+told_length good (Called request g position entry posted) = if g == good then position + 1 else 0
+told_length good (Quoted g board) = if g == good then board.count else 0
+told_length good turn = 0
+
+-- so long a history of a good goes on from all that was told of it
+abbrev pub GoesOn : ℕ → ℕ → List Turn → Type 0
+GoesOn good count past = All (λ turn. told_length good turn ≤ count) past
+
+-- What a turn may be after those before it. An agent has 1024 calls at each good and 1024 readings; a position or a count that is told
+-- goes on from all that was told before.
+abbrev pub IsLawful : List Turn → Turn → Type 0
+IsLawful past (Called request good position entry posted) =
+    (call_of request ≡ Some (good, entry.call)) × (good < 28) × (length (made_at good past) < 1024) × GoesOn good position past
+IsLawful past (CallDenied request good) = ((call : Call) × (call_of request ≡ Some (good, call))) × (good < 28) × (length (made_at good past) ≡ 1024)
+IsLawful past (CashRead position dollars) = count_by is_reading past < 1024
+IsLawful past CashDenied = count_by is_reading past ≡ 1024
+IsLawful past (Quoted good board) = (good < 28) × GoesOn good board.count past
+IsLawful past (Refused fault) = ⊤
+IsLawful past Skipped = ⊤
+IsLawful past Left = ⊤
+
+-- each turn is lawful after those before it, and after the agent left there is none
+abbrev pub AreLawful : List Turn → Type 0
+AreLawful turns = (n : ℕ) (turn : Turn) → slice_get turns n ≡ Some turn → IsLawful (take n turns) turn × (has_left (take n turns) ≡ false)

@@ -1,0 +1,127 @@
+// Who may play as which agent.
+ghost use Rattle.std.specs.Prelude.{◌≡◌, ◌≢◌, ◌<◌, IfSome, false, length, position, replicate};
+ghost use Rattle.std.specs.Str.{bytes_eq};
+ghost use Rattle.agent_gate.specs.Gates as gates;
+
+use game_text::{Game, SeatWord};
+use line_protocol::Verdict;
+use std::marker::Model;
+use tac_base::Agent;
+use text_forms::Words;
+
+/// The seats of a game, each with its word, and which of them are taken.
+#[derive(Drop)]
+pub struct Gate {
+    words: [SeatWord; 8],
+    taken: [bool; 8],
+}
+
+impl Model for Gate {
+    ghost use Rattle.agent_gate.specs.Gates.{Seats};
+
+    ghost Value = { Seats };
+
+    ghost view = { λ gate. record { words = gate.words; taken = gate.taken } };
+}
+
+/// The seat word of a line `hello WORD`.
+fn greeting_of(line: &[u8]) -> Option<SeatWord>
+    ensures { result ≡ gates.greeting_of line.now }
+{
+    let mut words = Words::new(line);
+    let first = words.next()?;
+    let word = words.next()?;
+    if first == b"hello".as_slice() && words.count() == 0 {
+        SeatWord::new(word).ok()
+    } else {
+        None
+    }
+}
+
+/// The place of a word among the words.
+fn place_of(words: &[SeatWord], word: &[u8]) -> Option<usize>
+    ensures value { result ≡ position (bytes_eq word.now) words.now }
+    ensures bound { IfSome result (λ place. place < length words.now) }
+{
+    words.iter().position(|other| word == other.as_slice())
+}
+
+/// The agent whose seat has the word.
+fn seat_of(words: &[SeatWord; 8], word: &[u8]) -> Option<Agent>
+    ensures { result ≡ position (bytes_eq word.now) words.now }
+{
+    match place_of(words, word) {
+        None => None,
+        Some(place) => Agent::new(place as u8).ok(),
+    }
+}
+
+impl Gate {
+    /// No seat is taken.
+    pub fn new(game: &Game) -> Gate
+        ensures { result ≡ record { words = game.now.words; taken = replicate 8 false } }
+    {
+        Gate {
+            words: game.words,
+            taken: [false; 8],
+        }
+    }
+
+    /// What becomes of a link with this first line, given without its line end. The verdicts and their order are our own.
+    pub fn admit(&mut self, line: &[u8]) -> Verdict
+        ensures verdict { result ≡ gates.verdict_of self.old line.now }
+        // Only a link that is seated changes something: its seat is taken.
+        ensures seats { self.new ≡ gates.seats_after self.old result }
+        ensures never_lost { result ≢ Verdict.Lost }
+    {
+        let Some(word) = greeting_of(line) else {
+            return Verdict::Syntax;
+        };
+        let Some(agent) = seat_of(&self.words, word.as_slice()) else {
+            return Verdict::WrongWord;
+        };
+        let seat = agent.get() as usize;
+        if self.taken[seat] {
+            return Verdict::Taken;
+        }
+        self.taken[seat] = true;
+        Verdict::Seated(agent)
+    }
+}
+
+#[cfg(test)]
+mod tests {
+    use super::Gate;
+    use crate::quiet_game::quiet_game;
+    use line_protocol::Verdict;
+    use std::test::Fail;
+    use tac_base::Agent;
+
+    #[test]
+    fn verdicts_of_one_gate_in_turn(rt: HostRuntime) -> Result<(), Fail> {
+        let mut gate = Gate::new(&quiet_game(rt.alloc())?);
+        let [first, .., last] = Agent::all();
+        for (line, verdict) in [
+            (b"".as_slice(), Verdict::Syntax),
+            (b"hi", Verdict::Syntax),
+            (b"hello", Verdict::Syntax),
+            (b"hello ", Verdict::Syntax),
+            (b"hello  seat0", Verdict::Syntax),
+            (b"hello seat0 ", Verdict::Syntax),
+            (b" hello seat0", Verdict::Syntax),
+            (b"hello SEAT0", Verdict::Syntax),
+            (b"hellos seat0", Verdict::Syntax),
+            (b"hello seat0 seat1", Verdict::Syntax),
+            (b"hello 0123456789abcdefg", Verdict::Syntax),
+            (b"hello 0123456789abcdef", Verdict::WrongWord),
+            (b"hello seat8", Verdict::WrongWord),
+            (b"hello seat0", Verdict::Seated(first)),
+            (b"hello seat0", Verdict::Taken),
+            (b"hello seat7", Verdict::Seated(last)),
+            (b"hello seat0", Verdict::Taken),
+        ] {
+            assert_eq!(rt; gate.admit(line), verdict);
+        }
+        Ok(())
+    }
+}

@@ -1,0 +1,16 @@
+//! The gate, at which links ask for seats, and the sessions in which agents are answered line by line.
+#![tactic(auto)]
+
+mod answering;
+mod dialect;
+mod gate;
+#[cfg(test)]
+mod quiet_game;
+mod session;
+mod turns;
+mod welcome;
+
+pub use dialect::{Dialect, LineDialect};
+pub use gate::Gate;
+pub use line_protocol::{Cause, Verdict};
+pub use session::{SessionEnd, run_session};

@@ -1,0 +1,93 @@
+// The session of a seated link.
+ghost use Rattle.std.specs.Prelude.{◌≡◌, ◌<◌, [], true, replicate};
+ghost use Rattle.floor.specs.Desks.{desk_ids, desk_caller, entries_of, cash_of};
+ghost use Rattle.floor.specs.Floors.{floor_ids};
+ghost use Rattle.tac_io.specs.LineAnswers.{goes_on};
+ghost use Rattle.tac_io.specs.Lines.{count_of, held_of, last_of, link_of};
+ghost use Rattle.agent_gate.specs.Served.{HasSessionCause};
+ghost use Rattle.agent_gate.specs.Sessions.{IsSession};
+ghost use Rattle.agent_gate.specs.Turning.{count_whole};
+
+use crate::dialect::Dialect;
+use crate::turns::turn;
+use crate::welcome::welcome;
+use floor::{Desk, Floor};
+use game_text::Game;
+use line_protocol::Cause;
+use std::sync::Wait;
+use std::time::Clock;
+use tac_base::Agent;
+use tac_io::{Lines, Link};
+
+/// How many lines a session answers, at most.
+const MOST_LINES: u32 = 65_536;
+
+/// What a session leaves.
+#[derive(Drop)]
+pub struct SessionEnd<L> {
+    pub desk: Desk,
+    pub link: L,
+    /// How many of the link's lines were answered by a line that was sent whole, `quit` included.
+    pub lines: u32,
+    pub cause: Cause,
+}
+
+/// How many replies were sent whole, where the session ends so in the turn after so many.
+fn whole(before: u32, cause: Cause) -> u32
+    requires { before < MOST_LINES }
+    ensures { result ≡ count_whole before cause }
+{
+    match cause {
+        Cause::Quit => before + 1,
+        Cause::End | Cause::ReadFault | Cause::WriteFault | Cause::Budget => before,
+    }
+}
+
+/// Welcomes the link of an agent, and answers each of its lines with one, until it leaves, ends, fails or comes to a limit. The limits and
+/// the causes are our own. It may wait for the link and for turns, and takes no memory.
+pub fn run_session<R: Wait + Clock, L: Link, D: Dialect>(
+    rt: &R,
+    floor: &Floor,
+    game: &Game,
+    dialect: &D,
+    mut desk: Desk,
+    mut lines: Lines<L>,
+) -> SessionEnd<L>
+    requires own { desk_ids desk ≡ floor_ids floor.now }
+    requires agent { desk_caller desk < 8 }
+    requires no_calls { (entries_of desk ≡ replicate 28 []) × (cash_of desk ≡ []) }
+    requires goes_on { goes_on (last_of lines) ≡ true }
+    ensures session { IsSession (D.may_answer dialect.now) (D.text dialect.now) game.now (held_of lines) (count_of lines)
+        (L.taken (link_of lines)) (L.taken result.link) (L.left (link_of lines)) (L.left result.link) (L.sent (link_of lines)) (L.sent result.link)
+        desk result.desk result.lines result.cause }
+    ensures cause { HasSessionCause (L.faults (link_of lines)) (L.faults result.link) (L.write_faults (link_of lines)) (L.write_faults result.link) result.cause }
+{
+    let agent = Agent::new(desk.caller().get()).unwrap();
+    let Ok(()) = welcome(&mut lines, game, agent) else {
+        return SessionEnd {
+            desk,
+            link: lines.into_link(),
+            lines: 0,
+            cause: Cause::WriteFault,
+        };
+    };
+    for answered in 0..MOST_LINES {
+        if let Err(cause) = turn(rt, floor, dialect, &mut desk, &mut lines) {
+            return SessionEnd {
+                desk,
+                link: lines.into_link(),
+                lines: whole(answered, cause),
+                cause,
+            };
+        }
+    }
+    SessionEnd {
+        desk,
+        link: lines.into_link(),
+        lines: MOST_LINES,
+        cause: Cause::Budget,
+    }
+}
+
+#[cfg(test)]
+mod tests;
