@@ -1,0 +1,229 @@
+-- What the first line of a link says of it.
+use Rattle.std.proofs.Common.{suc, ◌≡◌, ◌≢◌, ℕ, ◌+◌, ◌-◌, ◌^◌, ◌<◌, ◌≤◌, List, [], ◌∷◌, ◌++◌, length, refl, ap, sym, ◌∙◌, subst, true, false, Bool, Some, None, arith, append_assoc, append-nil, length-append, inl, inr}
+use Rattle.std.specs.Prelude.{position, if◌then◌else◌, slice_index_or}
+use Rattle.std.specs.declared.option.Option.{Option}
+use Rattle.std.specs.Str.{bytes_eq}
+use Rattle.tac_io.specs.AllAnswers.{all_answers, ended_line}
+use Rattle.tac_io.specs.Counts.{Rose}
+use Rattle.tac_io.specs.HeldBytes.{Held}
+use Rattle.tac_io.specs.LineAnswers.{Answers, HasLineCause, goes_on}
+use Rattle.tac_io.specs.LineText.{has_end, Begins}
+use Rattle.tac_io.specs.Lines.{count_of, held_of, last_of, link_of}
+use Rattle.std.specs.Prelude.{◌⊎◌}
+use Rattle.tac_io.specs.Told.{and_then_told, before_told, IsAtEnd, TakesSome}
+use Rattle.tac_io.specs.declared.line_got.LineGot.{LineGot}
+use Rattle.tac_io.specs.declared.line_got.LineGot.TheVariants as gots
+use Rattle.tac_io.specs.declared.lines.Lines.{Lines}
+use Rattle.tac_io.proofs.ByBytes.{all_answers-line, all_answers-end, all_answers-budget}
+use Rattle.tac_io.proofs.Tellings.{and_then_told-nothing}
+use Rattle.std.proofs.lemmas.Bool.Decides.{nat_tests}
+use Rattle.line_protocol.specs.declared.admission.Verdict.{Verdict}
+use Rattle.line_protocol.specs.declared.admission.Verdict.TheVariants.{Seated, Syntax, WrongWord, Taken, Lost}
+use Rattle.agent_gate.specs.Gates.{Seats, verdict_of, word_verdict, seat_verdict, greeting_of, seats_after}
+use Rattle.game_run.specs.Admission.{BeginsWith, refusal_line, IsSentOrCut, IsRefused, IsLost}
+use Rattle.game_run.specs.Arriving.{seat_of, IsUnseated, IsAnswered, IsTurnedAway, IsFirstRead}
+use Rattle.game_run.specs.LinkStates.{LinkState}
+
+-- ---- the first answer by the bytes
+
+short_line : (line : List ℕ) → length line ≤ 512 → ended_line line ≡ (gots.Line, line)
+short_line line le = grind (arith, nat_tests)
+
+long_line : (line : List ℕ) → 512 < length line → ended_line line ≡ (gots.TooLong, [])
+long_line line lt = grind (arith, nat_tests)
+
+-- after the first line come the answers of what stands behind it
+pub after_line : (bytes line rest more : List ℕ) → Begins bytes line rest → length bytes ≤ 2 ^ 26
+    → all_answers [] (2 ^ 26) (bytes ++ more) ≡ ended_line line ∷ all_answers [] (2 ^ 26 - length bytes + length rest) (rest ++ more)
+after_line bytes line rest more b le =
+    let size : length bytes ≡ length line + suc (length rest) = ap length b.whole ∙ length-append line (10 ∷ rest) in
+    let whole : bytes ++ more ≡ line ++ 10 ∷ (rest ++ more) = ap (λ l. l ++ more) b.whole ∙ append_assoc line (10 ∷ rest) more in
+    ap (all_answers [] (2 ^ 26)) whole ∙ all_answers-line [] line (rest ++ more) (2 ^ 26) (2 ^ 26 - length bytes + length rest) b.first (omega (arith, size, le))
+
+pub first_line : (bytes line rest more : List ℕ) → Begins bytes line rest → length bytes ≤ 2 ^ 26 → length line ≤ 512
+    → all_answers [] (2 ^ 26) (bytes ++ more) ≡ (gots.Line, line) ∷ all_answers [] (2 ^ 26 - length bytes + length rest) (rest ++ more)
+first_line bytes line rest more b le short =
+    after_line bytes line rest more b le ∙ ap (λ l. l ∷ all_answers [] (2 ^ 26 - length bytes + length rest) (rest ++ more)) (short_line line short)
+
+pub begins_with : (bytes line rest : List ℕ) → Begins bytes line rest → length bytes ≤ 2 ^ 26 → length line ≤ 512 → BeginsWith bytes gots.Line line
+begins_with bytes line rest b le short = (_, ap (all_answers [] (2 ^ 26)) (sym (append-nil bytes)) ∙ first_line bytes line rest [] b le short)
+
+begins_long : (bytes line rest : List ℕ) → Begins bytes line rest → length bytes ≤ 2 ^ 26 → 512 < length line → BeginsWith bytes gots.TooLong []
+begins_long bytes line rest b le long = (
+  _,
+  ap (all_answers [] (2 ^ 26)) (sym (append-nil bytes)) ∙ after_line bytes line rest [] b le
+      ∙ ap (λ l. l ∷ all_answers [] (2 ^ 26 - length bytes + length rest) (rest ++ [])) (long_line line long),
+)
+
+-- ---- the gate never answers `Lost`
+
+unless_taken : (b : Bool) (seat : ℕ) → (if b then Taken else Seated seat) ≢ Lost
+unless_taken true seat e = cc
+unless_taken false seat e = cc
+
+no_seat_lost : (taken : List Bool) (seat : Option ℕ) → seat_verdict taken seat ≢ Lost
+no_seat_lost taken None e = cc
+no_seat_lost taken (Some seat) e = unless_taken (slice_index_or taken seat false) seat e
+
+no_word_lost : (seats : Seats) (word : Option (List ℕ)) → word_verdict seats word ≢ Lost
+no_word_lost seats None e = cc
+no_word_lost seats (Some word) e = no_seat_lost seats.taken (position (bytes_eq word) seats.words) e
+
+-- ---- what was read
+
+module _ {L : Type 0} (state : L → LinkState) (seats : Seats) (before : LinkState) (lines : Lines L) (old : Held) (none : old.unread ≡ []) (count : ℕ) (zero_count : count ≡ 0)
+    (few : count_of lines ≤ 2 ^ 26) (sent : (state (link_of lines)).sent ≡ before.sent) (writes : (state (link_of lines)).writes ≡ before.writes) where
+  module _ (got : LineGot) (a : Answers old (held_of lines) before.taken (state (link_of lines)).taken before.left (state (link_of lines)).left count (count_of lines) got) where
+    bytes_are : old.unread ++ a.more ≡ a.more
+    bytes_are = ap (λ l. l ++ a.more) none
+
+    counted : count_of lines ≡ length a.more
+    counted = omega (arith, a.counted, zero_count)
+
+  pub line_read : (verdict : Verdict) → Answers old (held_of lines) before.taken (state (link_of lines)).taken before.left (state (link_of lines)).left count (count_of lines) gots.Line
+      → (state (link_of lines)).reads ≡ before.reads → goes_on (last_of lines) ≡ true → verdict ≡ verdict_of seats (held_of lines).line → IsFirstRead state seats verdict before lines
+  line_read verdict a reads more due = by verdict due
+    where
+      whole : Begins a.more (held_of lines).line (held_of lines).unread
+      whole = subst (λ bytes. Begins bytes (held_of lines).line (held_of lines).unread) (bytes_are gots.Line a) a.next.0
+
+      within : length a.more ≤ 2 ^ 26
+      within = omega (arith, counted gots.Line a, few)
+
+      unseated : (verdict : Verdict) → verdict ≡ verdict_of seats (held_of lines).line → IsUnseated seats verdict before (state (link_of lines))
+      unseated verdict due = record {
+        bytes = a.more;
+        told = a.told;
+        gave = a.gave;
+        got = gots.Line;
+        line = (held_of lines).line;
+        first = begins_with a.more (held_of lines).line (held_of lines).unread whole within a.next.1;
+        due = due;
+        sent = sent;
+        reads = reads;
+        writes = writes;
+      }
+
+      by : (verdict : Verdict) → verdict ≡ verdict_of seats (held_of lines).line → IsFirstRead state seats verdict before lines
+      by (Seated agent) due = record {
+        bytes = a.more;
+        told = a.told;
+        gave = a.gave;
+        line = (held_of lines).line;
+        first = whole;
+        short = a.next.1;
+        counted = counted gots.Line a;
+        few = few;
+        seat = sym due;
+        sent = sent;
+        reads = reads;
+        writes = writes;
+        more = more;
+      }
+      by Syntax due = unseated Syntax due
+      by WrongWord due = unseated WrongWord due
+      by Taken due = unseated Taken due
+      by Lost due = absurd (no_word_lost seats (greeting_of (held_of lines).line) (sym due))
+
+  pub long_read : Answers old (held_of lines) before.taken (state (link_of lines)).taken before.left (state (link_of lines)).left count (count_of lines) gots.TooLong
+      → (state (link_of lines)).reads ≡ before.reads → IsUnseated seats Syntax before (state (link_of lines))
+  long_read a reads =
+      let whole : Begins a.more a.next.0 (held_of lines).unread = subst (λ bytes. Begins bytes a.next.0 (held_of lines).unread) (bytes_are gots.TooLong a) a.next.1 in
+      record {
+        bytes = a.more;
+        told = a.told;
+        gave = a.gave;
+        got = gots.TooLong;
+        line = [];
+        first = begins_long a.more a.next.0 (held_of lines).unread whole (omega (arith, counted gots.TooLong a, few)) a.next.2;
+        due = refl;
+        sent = sent;
+        reads = reads;
+        writes = writes;
+      }
+
+  pub none_read : (got : LineGot) → Answers old (held_of lines) before.taken (state (link_of lines)).taken before.left (state (link_of lines)).left count (count_of lines) got
+      → HasLineCause before.reads (state (link_of lines)).reads got → got ≢ gots.Line → got ≢ gots.TooLong → IsLost before (state (link_of lines))
+  none_read gots.Line a cause not_line not_long = absurd (not_line refl)
+  none_read gots.TooLong a cause not_line not_long = absurd (not_long refl)
+  none_read gots.End a cause not_line not_long = record {
+    bytes = a.more;
+    told = a.told;
+    gave = a.gave;
+    sent = sent;
+    writes = writes;
+    why = inl (all_answers-end [] a.more (2 ^ 26) (ap has_end (sym (bytes_are gots.End a)) ∙ a.next.0) (omega (arith, counted gots.End a, a.next.1)), a.next.2, cause);
+  }
+  none_read gots.Failed a cause not_line not_long = record {
+    bytes = a.more;
+    told = a.told;
+    gave = a.gave;
+    sent = sent;
+    writes = writes;
+    why = inr (inr (all_answers-end [] a.more (2 ^ 26) (ap has_end (sym (bytes_are gots.Failed a)) ∙ a.next.0) (omega (arith, counted gots.Failed a, a.next.1)), cause));
+  }
+  none_read gots.Budget a cause not_line not_long = record {
+    bytes = a.more;
+    told = a.told;
+    gave = a.gave;
+    sent = sent;
+    writes = writes;
+    why = inr (inl (
+      ap (all_answers [] (2 ^ 26)) (sym (append-nil a.more))
+          ∙ all_answers-budget [] a.more [] (2 ^ 26) (ap has_end (sym (bytes_are gots.Budget a)) ∙ a.next.0) (sym (counted gots.Budget a) ∙ a.next.1),
+      cause,
+    ));
+  }
+
+-- ---- what was sent to a link without a seat
+
+sent_nothing : (before after : LinkState) → IsSentOrCut [] before after → (after.sent ≡ before.sent) × (after.writes ≡ before.writes)
+sent_nothing before after (inl h) = (h.0 ∙ and_then_told-nothing before.sent, h.1)
+sent_nothing before after (inr h) = absurd (omega (arith, h.0.proper))
+
+refused : (seats : Seats) (verdict : Verdict) (before between after : LinkState) → IsUnseated seats verdict before between → IsAnswered (refusal_line verdict) between after → IsRefused seats verdict before after
+refused seats verdict before between after u a = record {
+  bytes = u.bytes;
+  told = a.taken ∙ u.told;
+  gave = u.gave ∙ ap (before_told u.bytes) (sym a.left);
+  got = u.got;
+  line = u.line;
+  first = u.first;
+  due = u.due;
+  sent = subst (λ writes. ((after.sent ≡ and_then_told before.sent (refusal_line verdict)) × (after.writes ≡ writes)) ⊎ (TakesSome before.sent after.sent (refusal_line verdict) × Rose writes after.writes)) u.writes
+      (subst (λ sent. ((after.sent ≡ and_then_told sent (refusal_line verdict)) × (after.writes ≡ between.writes)) ⊎ (TakesSome sent after.sent (refusal_line verdict) × Rose between.writes after.writes)) u.sent a.sent);
+  reads = a.reads ∙ u.reads;
+}
+
+-- what is so of a link still is after nothing was sent to it
+lost : (before between after : LinkState) → IsLost before between → IsAnswered [] between after → IsLost before after
+lost before between after l a =
+    let none = sent_nothing between after a.sent in
+    record {
+      bytes = l.bytes;
+      told = a.taken ∙ l.told;
+      gave = l.gave ∙ ap (before_told l.bytes) (sym a.left);
+      why = subst (λ reads. ((all_answers [] (2 ^ 26) l.bytes ≡ (gots.End, []) ∷ []) × IsAtEnd after.left × (reads ≡ before.reads))
+          ⊎ ((all_answers [] (2 ^ 26) l.bytes ≡ (gots.Budget, []) ∷ []) × (reads ≡ before.reads))
+          ⊎ ((all_answers [] (2 ^ 26) l.bytes ≡ (gots.End, []) ∷ []) × Rose before.reads reads)) (sym a.reads)
+          (subst (λ left. ((all_answers [] (2 ^ 26) l.bytes ≡ (gots.End, []) ∷ []) × IsAtEnd left × (between.reads ≡ before.reads))
+          ⊎ ((all_answers [] (2 ^ 26) l.bytes ≡ (gots.Budget, []) ∷ []) × (between.reads ≡ before.reads))
+          ⊎ ((all_answers [] (2 ^ 26) l.bytes ≡ (gots.End, []) ∷ []) × Rose before.reads between.reads)) (sym a.left) l.why);
+      sent = none.0 ∙ l.sent;
+      writes = none.1 ∙ l.writes;
+    }
+
+pub turned_away : {L : Type 0} (state : L → LinkState) (seats : Seats) (verdict : Verdict) (before : LinkState) (lines : Lines L) (after : LinkState) → seat_of verdict ≡ None
+    → IsFirstRead state seats verdict before lines → IsAnswered (refusal_line verdict) (state (link_of lines)) after → IsTurnedAway seats verdict before after
+turned_away state seats (Seated agent) before lines after none read answered = absurd (cc)
+turned_away state seats Syntax before lines after none read answered = refused seats Syntax before (state (link_of lines)) after read answered
+turned_away state seats WrongWord before lines after none read answered = refused seats WrongWord before (state (link_of lines)) after read answered
+turned_away state seats Taken before lines after none read answered = refused seats Taken before (state (link_of lines)) after read answered
+turned_away state seats Lost before lines after none read answered = lost before (state (link_of lines)) after read answered
+
+pub no_seat_changed : (seats : Seats) (verdict : Verdict) → seat_of verdict ≡ None → seats_after seats verdict ≡ seats
+no_seat_changed seats (Seated agent) none = absurd (cc)
+no_seat_changed seats Syntax none = refl
+no_seat_changed seats WrongWord none = refl
+no_seat_changed seats Taken none = refl
+no_seat_changed seats Lost none = refl

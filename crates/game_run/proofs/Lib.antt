@@ -1,0 +1,9 @@
+pub mod FirstLines
+pub mod Admitting
+pub mod SeatPlaces
+pub mod TakenLinks
+pub mod Transcripts
+pub mod AgentParts
+pub mod LinksBack
+pub mod PlayedPlaces
+pub mod WholeGames

@@ -1,0 +1,88 @@
+-- What a desk knew of a closed game is its caller's transcript.
+use Rattle.std.proofs.Common.{zero, suc, ◌≡◌, ℕ, ◌<◌, ◌+◌, List, [], ◌∷◌, ◌++◌, map, length, refl, ap, sym, ◌∙◌, subst, arith, add-zero}
+use Rattle.std.specs.Prelude.{slice_index_or}
+use Rattle.std.specs.List.{AllZip, range_with_len}
+use Rattle.std.proofs.lemmas.List.{get_or-replicate, length-map}
+use Rattle.std.proofs.lemmas.Slice.Zip.{AllZip-long}
+use Rattle.game_text.specs.Games.{GameFile}
+use Rattle.auction_rules.specs.History.{Entry}
+use Rattle.turn_lock.specs.Part.{part}
+use Rattle.turn_lock.specs.TurnRule.{AreNotes}
+use Rattle.auction_core.specs.ClosedGame.{ClosedGame, all_goods}
+use Rattle.floor.specs.declared.desk.Desk.{Desk}
+use Rattle.floor.specs.Desks.{desk_caller, entries_of, cash_of, boards_of, IsNewDesk}
+use Rattle.floor.specs.Closing.{board_of, IsBorneOut}
+use Rattle.clock_events.specs.Schedule.{clock_calls}
+use Rattle.agent_gate.specs.Sessions.{AreMadeBy}
+use Rattle.agent_gate.specs.Transcript.{IsTranscript}
+use Rattle.agent_gate.specs.Turns.{Turn, cash_made, boards_shown, AreLawful}
+use Rattle.game_run.specs.PlayedGame.{parts_of, IsAbsent}
+use Rattle.game_run.specs.Seatings.{FloorIds, HasMadeAll}
+
+-- ---- lists by place
+
+pub by_places : {X : Type 0} (xs : List X) (f : ℕ → X) (d : X) (from : ℕ) → ((k : ℕ) → k < length xs → slice_index_or xs k d ≡ f (from + k)) → xs ≡ map f (range_with_len from (length xs))
+by_places [] f d from each = refl
+by_places (x ∷ xs) f d from each =
+    let first : x ≡ f from = each 0 (omega arith) ∙ ap f (add-zero from) in
+    ap (λ y. y ∷ xs) first ∙ ap (λ l. f from ∷ l) (by_places xs f d (from + 1) (λ k lt. each (suc k) (omega (arith, lt)) ∙ ap f (shift from k)))
+  where
+    shift : (a k : ℕ) → a + suc k ≡ (a + 1) + k
+    shift a k = omega arith
+
+by_goods : {X : Type 0} (xs : List X) (f : ℕ → X) (d : X) → length xs ≡ 28 → ((good : ℕ) → good < 28 → slice_index_or xs good d ≡ f good) → xs ≡ map f all_goods
+by_goods xs f d long each =
+    by_places xs f d 0 (λ k lt. each k (omega (arith, lt, long)) ∙ ap f (sym (none_before k))) ∙ ap (λ n. map f (range_with_len 0 n)) long
+  where
+    none_before : (k : ℕ) → 0 + k ≡ k
+    none_before k = omega arith
+
+pub map_at : {X Y : Type 0} (f : X → Y) (xs : List X) (k : ℕ) (d : X) → slice_index_or (map f xs) k (f d) ≡ f (slice_index_or xs k d)
+map_at f [] k d = refl
+map_at f (x ∷ xs) zero d = refl
+map_at f (x ∷ xs) (suc k) d = map_at f xs k d
+
+each_mapped : {A B C : Type 0} (R : A → C → Type 0) (f : B → C) (xs : List A) (ys : List B) → AllZip R xs (map f ys) → AllZip (λ x y. R x (f y)) xs ys
+each_mapped R f [] [] all = tt
+each_mapped R f [] (y ∷ ys) all = all
+each_mapped R f (x ∷ xs) [] all = all
+each_mapped R f (x ∷ xs) (y ∷ ys) all = (all.0, each_mapped R f xs ys all.1)
+
+-- ---- the transcript of an agent
+
+module _ (closed : ClosedGame) (long : length closed.auctions ≡ 28) (ids : FloorIds) (number : ℕ) (before after : Desk) (new : IsNewDesk ids number before) (borne : IsBorneOut closed after) where
+  of_caller : desk_caller after ≡ number → entries_of after ≡ parts_of closed number
+  of_caller is = borne.entries ∙ ap (parts_of closed) is
+
+  boards_are : (turns : List Turn) → AreMadeBy turns before after → boards_of after ≡ map (λ good. boards_shown good turns) all_goods
+  boards_are turns made =
+      by_goods (boards_of after) (λ good. boards_shown good turns) [] (AllZip-long _ closed.auctions (boards_of after) borne.boards ∙ long)
+      (λ good lt. made.boards good lt ∙ ap (λ l. l ++ boards_shown good turns) (ap (λ l. slice_index_or l good []) new.boards ∙ get_or-replicate 28 good [] [] lt))
+
+  pub transcript_of : (turns : List Turn) → AreMadeBy turns before after → AreLawful turns → IsTranscript number closed turns
+  transcript_of turns made lawful =
+      let is : desk_caller after ≡ number = made.same.1 ∙ new.caller in
+      record {
+        lawful = lawful;
+        calls = sym (of_caller is) ∙ made.entries;
+        cash = ap (λ n. part (λ e. e.caller) closed.cash n) (sym is) ∙ (sym borne.cash ∙ (made.cash ∙ ap (λ n. cash_made n turns) new.caller));
+        boards = each_mapped (λ auction seen. AreNotes (board_of auction) auction.history (length auction.history) seen) (λ good. boards_shown good turns) closed.auctions all_goods
+            (subst (λ l. AllZip (λ auction seen. AreNotes (board_of auction) auction.history (length auction.history) seen) closed.auctions l) (boards_are turns made) borne.boards);
+      }
+
+  pub absent_of : after ≡ before → IsAbsent closed number
+  absent_of same =
+      let is : desk_caller after ≡ number = ap desk_caller same ∙ new.caller in
+      record {
+        calls = sym (of_caller is) ∙ (ap entries_of same ∙ new.entries);
+        cash = ap (λ n. part (λ e. e.caller) closed.cash n) (sym is) ∙ (sym borne.cash ∙ (ap cash_of same ∙ new.cash));
+      }
+
+-- the calls of the clock are those of the schedule
+pub scheduled_of : (game : GameFile) (closed : ClosedGame) → length closed.auctions ≡ 28 → (desk : Desk) → IsBorneOut closed desk → desk_caller desk ≡ 8 → HasMadeAll game desk
+    → map (λ calls. map (λ p. p.1.call) calls) (parts_of closed 8) ≡ map (clock_calls game) all_goods
+scheduled_of game closed long desk borne is made =
+    let own : entries_of desk ≡ parts_of closed 8 = borne.entries ∙ ap (parts_of closed) is in
+    let call_list = λ (calls : List (ℕ × Entry)). map (λ p. p.1.call) calls in
+    by_goods (map call_list (parts_of closed 8)) (clock_calls game) [] (length-map (parts_of closed 8) call_list ∙ (length-map closed.auctions (λ auction. part (λ e. e.caller) auction.history 8) ∙ long))
+    (λ good lt. map_at call_list (parts_of closed 8) good [] ∙ (ap (λ l. call_list (slice_index_or l good [])) (sym own) ∙ made.each good lt))

@@ -1,0 +1,213 @@
+-- From the links that were admitted to those that played, and to those that were left.
+use Rattle.std.proofs.Common.{suc, ◌≡◌, ℕ, ◌<◌, ◌+◌, ◌-◌, ◌^◌, List, [], ◌∷◌, ◌++◌, map, length, refl, ap, sym, ◌∙◌, subst, true, false, Bool, Some, None, arith, filter}
+use Rattle.std.specs.Prelude.{Contains, Result, Ok, Err, OnOk, OnErr, is_err, is_some, slice_index_or}
+use Rattle.std.proofs.lemmas.List.{length-map}
+use Rattle.tac_io.specs.Counts.{HasCause, Rose}
+use Rattle.std.specs.declared.option.Option.{Option}
+use Rattle.std.specs.Option.{option_map}
+use Rattle.std.proofs.lemmas.Option.{slice_get_within, slice_get-get_or, get_or_from_slice_get}
+use Rattle.game_text.specs.Games.{GameFile}
+use Rattle.auction_rules.specs.Goods.{agents}
+use Rattle.auction_core.specs.ClosedGame.{ClosedGame}
+use Rattle.tac_io.specs.AllAnswers.{all_answers}
+use Rattle.tac_io.specs.Lines.{count_of, held_of, link_of}
+use Rattle.tac_io.specs.Told.{and_then_told, before_told, IsAtEnd}
+use Rattle.tac_io.specs.declared.line_got.LineGot.TheVariants as gots
+use Rattle.tac_io.specs.declared.lines.Lines.{Lines}
+use Rattle.tac_io.proofs.Tellings.{and_then_told-twice, before_told-twice}
+use Rattle.line_protocol.specs.declared.asking.Request.{Request}
+use Rattle.line_protocol.specs.declared.asking.RequestFault.{RequestFault}
+use Rattle.line_protocol.specs.declared.saying.Said.{Said}
+use Rattle.line_protocol.specs.declared.admission.Cause.{Cause}
+use Rattle.line_protocol.specs.declared.admission.Verdict.{Verdict}
+use Rattle.line_protocol.specs.declared.admission.Verdict.TheVariants.{Seated, Syntax, WrongWord, Taken, Lost}
+use Rattle.agent_gate.specs.Gates.{Seats}
+use Rattle.agent_gate.specs.Served.{IsServed, HasSessionCause}
+use Rattle.agent_gate.specs.Welcome.{welcome_text}
+use Rattle.game_run.specs.declared.arrivals.Arrivals.{Arrivals}
+use Rattle.game_run.specs.declared.arrivals.Spot.{Spot}
+use Rattle.game_run.specs.declared.arrivals.Spot.TheVariants.{Seat, Apart}
+use Rattle.game_run.specs.Admission.{free_seats, seats_given, MayGoOn}
+use Rattle.game_run.specs.Arriving.{IsGreeted, IsTurnedAway, Keeps, AreKept, AreTaken}
+use Rattle.game_run.specs.LinkRuns.{IsSeated, RunsLink, IsLeft, LeavesLink}
+use Rattle.game_run.specs.LinkStates.{LinkState}
+use Rattle.game_run.specs.Outcomes.{IsPlayed, IsNotPlayed}
+use Rattle.game_run.specs.Places.{AreFilled, AreLinksOf}
+use Rattle.game_run.specs.PlayedGame.{IsAbsent}
+use Rattle.game_run.specs.Staging.{IsServedAs, IsAgentsPart, IsPlayedThrough}
+use Rattle.game_run.proofs.Admitting.{follows}
+use Rattle.game_run.proofs.FirstLines.{first_line, begins_with}
+use Rattle.game_run.proofs.LinksBack.{filled_alike}
+use Rattle.game_run.proofs.SeatPlaces.{seat_was_free, filled, links_hold, get_map}
+use Rattle.game_run.proofs.Transcripts.{map_at}
+
+-- ---- every kept spot can be given its link
+
+module _ {L : Type 0} (state : L → LinkState) (game : GameFile) (given : List LinkState) (arrivals : Arrivals L) (kept : AreKept state game given arrivals) where
+  pub all_filled : AreFilled arrivals.lines.items arrivals.spots.items
+  all_filled = filled state (IsGreeted state) (λ seats agent before ls g. seat_was_free seats g.line agent g.seat) arrivals.lines.items (free_seats game) given arrivals.verdicts.items arrivals.spots.items
+      (sym kept.wide) kept.links
+
+-- ---- a game that was not played
+
+leaves : (seats : Seats) (v : Verdict) (before after : LinkState) → IsTurnedAway seats v before after → LeavesLink seats v before after
+leaves seats (Seated agent) before after h = absurd h
+leaves seats Syntax before after h = h
+leaves seats WrongWord before after h = h
+leaves seats Taken before after h = h
+leaves seats Lost before after h = h
+
+module _ {L : Type 0} (state : L → LinkState) where
+  left_so : (seats : Seats) (agent : ℕ) (before : LinkState) (lines : Lines L) → IsGreeted state seats agent before lines → IsLeft seats agent before (state (link_of lines))
+  left_so seats agent before lines g = record {
+    bytes = g.bytes;
+    told = g.told;
+    gave = g.gave;
+    line = g.line;
+    first = begins_with g.bytes g.line (held_of lines).unread g.first (omega (arith, g.counted, g.few)) g.short;
+    seat = g.seat;
+    sent = g.sent;
+    reads = g.reads;
+    writes = g.writes;
+  }
+
+  left_at : (lines : List (Option (Lines L))) (seats : Seats) (v : Verdict) (before : LinkState) (spot : Spot L) → Keeps state (IsGreeted state) lines seats v before spot
+      → Keeps state (λ s agent b link. IsLeft s agent b (state link)) (map (λ o. option_map (λ l. link_of l) o) lines) seats v before spot
+  left_at lines seats v before (Apart link) k = k
+  left_at lines seats v before (Seat agent) k = (link_of k.0, k.1, get_map (λ o. option_map (λ l. link_of l) o) lines agent (Some k.0) k.2, left_so seats agent before k.0 k.3)
+
+  pub not_played : (game : GameFile) (pending pending' : Option (List L)) (arrivals : Arrivals L) (links : List L) → AreTaken state game pending pending' arrivals → MayGoOn arrivals.verdicts.items
+      → AreLinksOf (map (λ o. option_map (λ l. link_of l) o) arrivals.lines.items) arrivals.spots.items links → IsNotPlayed state game pending pending' links
+  not_played game pending pending' arrivals links taken may back =
+      let places = map (λ o. option_map (λ l. link_of l) o) arrivals.lines.items in
+      record {
+        given = taken.given;
+        from = taken.from;
+        verdicts = arrivals.verdicts.items;
+        more = may;
+        admitted = links_hold state (λ s agent b link. IsLeft s agent b (state link)) LeavesLink (λ s agent b link h. h) leaves places (free_seats game) (map state taken.given) arrivals.verdicts.items arrivals.spots.items links
+            (follows (Keeps state (IsGreeted state) arrivals.lines.items) (Keeps state (λ s agent b link. IsLeft s agent b (state link)) places) (λ s. Unit {0}) (λ s v x y u h. tt)
+            (λ s v x spot u h. left_at arrivals.lines.items s v x spot h) (free_seats game) (map state taken.given) arrivals.verdicts.items arrivals.spots.items tt taken.kept.links) back;
+      }
+
+-- ---- a game that was played
+
+module _ {L : Type 0} (state : L → LinkState) (may_answer : List ℕ → Result Request RequestFault → Type 0) (text : Said → List ℕ) (game : GameFile) (closed : ClosedGame) (ends : List (ℕ × Cause)) where
+  runs : (seats : Seats) (v : Verdict) (before after : LinkState) → IsTurnedAway seats v before after → RunsLink may_answer text game closed ends seats v before after
+  runs seats (Seated agent) before after h = absurd h
+  runs seats Syntax before after h = h
+  runs seats WrongWord before after h = h
+  runs seats Taken before after h = h
+  runs seats Lost before after h = h
+
+  seated_so : (seats : Seats) (agent : ℕ) (before : LinkState) (lines : Lines L) (link : L) (cause : Cause) → IsGreeted state seats agent before lines
+      → IsServedAs state may_answer text game closed agent lines link cause → IsSeated may_answer text game closed seats agent cause before (state link)
+  seated_so seats agent before lines link cause g s = record {
+    bytes = g.bytes ++ s.more;
+    told = s.told ∙ (ap (λ t. and_then_told t s.more) g.told ∙ and_then_told-twice before.taken g.bytes s.more);
+    gave = g.gave ∙ (ap (before_told g.bytes) s.gave ∙ before_told-twice (state link).left g.bytes s.more);
+    line = g.line;
+    answers = all_answers [] (2 ^ 26 - count_of lines + length (held_of lines).unread) ((held_of lines).unread ++ s.more);
+    first = first_line g.bytes g.line (held_of lines).unread s.more g.first (omega (arith, g.counted, g.few)) g.short
+        ∙ ap (λ n. (gots.Line, g.line) ∷ all_answers [] (2 ^ 26 - n + length (held_of lines).unread) ((held_of lines).unread ++ s.more)) (sym g.counted);
+    seat = g.seat;
+    turns = s.turns;
+    lines = s.count;
+    served = subst (λ sent. IsServed may_answer text (welcome_text game agent) (all_answers [] (2 ^ 26 - count_of lines + length (held_of lines).unread) ((held_of lines).unread ++ s.more))
+        (IsAtEnd (state link).left) sent (state link).sent s.turns s.count cause) g.sent s.served;
+    transcript = s.transcript;
+    faults = subst (λ reads. HasSessionCause reads (state link).reads before.writes (state link).writes cause) g.reads
+        (subst (λ writes. HasSessionCause (state (link_of lines)).reads (state link).reads writes (state link).writes cause) g.writes s.faults);
+  }
+
+  served_link : (seats : Seats) (agent : ℕ) (before : LinkState) (lines : Lines L) (o : Option L) → IsGreeted state seats agent before lines → IsAgentsPart state may_answer text game closed ends agent (Some lines) o
+      → (link : L) × (o ≡ Some link) × ((cause : Cause) × Contains ends (agent, cause) × IsSeated may_answer text game closed seats agent cause before (state link))
+  served_link seats agent before lines None g part = absurd part
+  served_link seats agent before lines (Some link) g part = (link, refl, (part.0, part.1, seated_so seats agent before lines link part.0 g part.2))
+
+  absent_part : (agent : ℕ) (o : Option (Lines L)) (l : Option L) → is_some o ≡ false → IsAgentsPart state may_answer text game closed ends agent o l → IsAbsent closed agent
+  absent_part agent None None no_lines part = part
+  absent_part agent None (Some link) no_lines part = absurd part
+  absent_part agent (Some lines) l no_lines part = absurd (cc)
+
+  module _ (lines : List (Option (Lines L))) (places : List (Option L)) (wide : length lines ≡ 8) (through : IsPlayedThrough state may_answer text game closed lines places ends) where
+    runs_at : (seats : Seats) (v : Verdict) (before : LinkState) (spot : Spot L) → Keeps state (IsGreeted state) lines seats v before spot
+        → Keeps state (λ s agent b link. (cause : Cause) × Contains ends (agent, cause) × IsSeated may_answer text game closed s agent cause b (state link)) places seats v before spot
+    runs_at seats v before (Apart link) k = k
+    runs_at seats v before (Seat agent) k =
+        let lt : agent < 8 = let within = slice_get_within lines agent (Some k.0) k.2 in omega (arith, within, wide) in
+        let part = subst (λ o. IsAgentsPart state may_answer text game closed ends agent o (slice_index_or places agent None)) (get_or_from_slice_get lines agent (Some k.0) None k.2) (through.each_agent agent lt) in
+        let served = served_link seats agent before k.0 (slice_index_or places agent None) k.3 part in
+        (served.0, k.1, slice_get-get_or places agent None (omega (arith, lt, through.wide)) ∙ ap (λ o. Some o) served.1, served.2)
+
+    absent : (taken : List Bool) → map (λ ls. is_some ls) lines ≡ taken → (agent : ℕ) → agent < 8 → slice_index_or taken agent false ≡ false → IsAbsent closed agent
+    absent taken same agent lt free =
+        absent_part agent (slice_index_or lines agent None) (slice_index_or places agent None)
+        (sym (map_at (λ (ls : Option (Lines L)). is_some ls) lines agent None) ∙ (ap (λ l. slice_index_or l agent false) same ∙ free)) (through.each_agent agent lt)
+
+  pub was_played : (pending pending' : Option (List L)) (arrivals : Arrivals L) (places : List (Option L)) (links : List L) → AreTaken state game pending pending' arrivals
+      → (MayGoOn arrivals.verdicts.items → IsAtEnd pending') → IsPlayedThrough state may_answer text game closed arrivals.lines.items places ends
+      → AreLinksOf places arrivals.spots.items links → IsPlayed state may_answer text game pending pending' arrivals.verdicts.items ends closed links
+  was_played pending pending' arrivals places links taken no_fewer through back =
+      let lines = arrivals.lines.items in let kept = taken.kept in
+      let Sits = λ (s : Seats) (agent : ℕ) (b : LinkState) (link : L). (cause : Cause) × Contains ends (agent, cause) × IsSeated may_answer text game closed s agent cause b (state link) in
+      record {
+        given = taken.given;
+        from = taken.from;
+        all = record { no_more = kept.no_more; no_fewer = no_fewer };
+        admitted = links_hold state Sits (RunsLink may_answer text game closed ends) (λ s agent b link h. h) runs places (free_seats game) (map state taken.given) arrivals.verdicts.items arrivals.spots.items links
+            (follows (Keeps state (IsGreeted state) lines) (Keeps state Sits places) (λ s. Unit {0}) (λ s v x y u h. tt)
+            (λ s v x spot u h. runs_at lines places kept.wide through s v x spot h) (free_seats game) (map state taken.given) arrivals.verdicts.items arrivals.spots.items tt kept.links) back;
+        played = record {
+          legal_game = through.legal_game;
+          each_end = through.ended ∙ ap (λ taken. filter (λ agent. slice_index_or taken agent false) agents) kept.seats;
+          absent = absent lines places kept.wide through (seats_given game arrivals.verdicts.items).taken kept.seats;
+          scheduled = through.scheduled;
+        };
+      }
+
+-- ---- where links sit
+
+same_lists : (xs ys : List Bool) → length xs ≡ length ys → ((k : ℕ) → k < length xs → slice_index_or xs k false ≡ slice_index_or ys k false) → xs ≡ ys
+same_lists [] [] long each = refl
+same_lists [] (y ∷ ys) long each = absurd (omega (arith, long))
+same_lists (x ∷ xs) [] long each = absurd (omega (arith, long))
+same_lists (x ∷ xs) (y ∷ ys) long each =
+    let first : x ≡ y = each 0 (omega arith) in
+    ap (λ z. z ∷ xs) first ∙ ap (λ l. y ∷ l) (same_lists xs ys (omega (arith, long)) (λ k lt. each (suc k) (omega (arith, lt))))
+
+module _ {L : Type 0} (state : L → LinkState) (may_answer : List ℕ → Result Request RequestFault → Type 0) (text : Said → List ℕ) (game : GameFile) (closed : ClosedGame) (ends : List (ℕ × Cause)) where
+  same_part : (agent : ℕ) (o : Option (Lines L)) (l : Option L) → IsAgentsPart state may_answer text game closed ends agent o l → is_some o ≡ is_some l
+  same_part agent None None part = refl
+  same_part agent None (Some link) part = absurd part
+  same_part agent (Some lines) None part = absurd part
+  same_part agent (Some lines) (Some link) part = refl
+
+  -- the links of a game that was played can be given to their spots
+  pub filled_after : (lines : List (Option (Lines L))) (links : List (Option L)) (spots : List (Spot L)) → length lines ≡ 8 → IsPlayedThrough state may_answer text game closed lines links ends
+      → AreFilled lines spots → AreFilled links spots
+  filled_after lines links spots wide through filled =
+      filled_alike lines links spots
+      (same_lists (map (λ o. is_some o) lines) (map (λ o. is_some o) links)
+      (length-map lines (λ o. is_some o) ∙ (wide ∙ (sym through.wide ∙ sym (length-map links (λ o. is_some o)))))
+      (λ k lt. map_at (λ o. is_some o) lines k None
+      ∙ (same_part k (slice_index_or lines k None) (slice_index_or links k None) (through.each_agent k (omega (arith, lt, length-map lines (λ o. is_some o), wide)))
+      ∙ sym (map_at (λ o. is_some o) links k None)))) filled
+
+-- ---- what an answer says
+
+pub at_err : {T E : Type 0} (r : Result T E) (P : Type 0) → is_err r ≡ true → OnErr r P → P
+at_err (Ok x) P is h = absurd (cc)
+at_err (Err e) P is h = h
+
+pub at_ok : {T E : Type 0} (r : Result T E) (P : Type 0) → is_err r ≡ false → OnOk r P → P
+at_ok (Ok x) P is h = h
+at_ok (Err e) P is h = absurd (cc)
+
+pub rose_at_err : {T E : Type 0} (before now : ℕ) (r : Result T E) → is_err r ≡ true → HasCause before now r → Rose before now
+rose_at_err before now (Ok x) is h = absurd (cc)
+rose_at_err before now (Err e) is h = h
+
+pub same_at_ok : {T E : Type 0} (before now : ℕ) (r : Result T E) → is_err r ≡ false → HasCause before now r → now ≡ before
+same_at_ok before now (Ok x) is h = h
+same_at_ok before now (Err e) is h = absurd (cc)

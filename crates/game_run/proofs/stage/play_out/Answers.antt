@@ -1,0 +1,67 @@
+use Rattle.std.proofs.Common.{◌≡◌, ◌∷◌, ◌++◌, ◌∙◌, [], All, ap, sym, subst, arith, length, map, length-append}
+use Rattle.std.specs.Prelude.{option_to_list}
+use Rattle.std.specs.List.{filter_map}
+use Rattle.std.proofs.lemmas.List.{length-map}
+use Rattle.floor.specs.Closing.{IsBorneOut}
+use Rattle.floor.specs.Desks.{desk_ids, desk_caller}
+use Rattle.floor.specs.Floors.{floor_ids}
+use Rattle.game_run.specs.Seatings.{eight_of, played_end, played_link, AreEightPlayed, AreTakenPlayed}
+use Rattle.game_run.proofs.AgentParts.{new_desk, eight_ready, clock_ready}
+use Rattle.game_run.proofs.PlayedPlaces.{eight_agents, all_back, played_through}
+use Rattle.game_run.proofs.stage.play_out.Goals as goal
+
+pub places-places-requires-clause-desks : goal.places-places-requires-clause-desks
+places-places-requires-clause-desks g c =
+    let nine : length c.args.stage.desks.items ≡ 9 = sym (length-map c.args.stage.desks.items (λ d. desk_caller d)) ∙ ap length c.requires.stage.floor.own.1 in
+    let popped : c.args.stage.desks.items ≡ c.pop.new.self.items ++ c.unwrap-clock.result ∷ [] = c.pop.ensures.items ∙ ap (λ o. c.pop.new.self.items ++ option_to_list o) c.unwrap-clock.ensures in
+    omega (arith, nine, ap length popped ∙ length-append c.pop.new.self.items (c.unwrap-clock.result ∷ []), c.pop.new.self.ok.0)
+
+pub run_all-played-requires-clause-ready : goal.run_all-played-requires-clause-ready
+run_all-played-requires-clause-ready g c κs within =
+    let clock = c.unwrap-clock.result in let e = c.places-places.result in let ids = floor_ids c.args.stage.floor in
+    let desks_are : c.args.stage.desks.items ≡ map (λ p. p.desk) (eight_of e) ++ clock ∷ [] = c.pop.ensures.items ∙ ap (λ o. c.pop.new.self.items ++ option_to_list o) c.unwrap-clock.ensures ∙ ap (λ l. l ++ clock ∷ []) c.places-places.ensures.desks in
+    eight_ready ids e clock c.args.stage.desks.items c.args.lines.items desks_are c.places-places.ensures.lines c.requires.stage.floor.fresh c.requires.readable
+
+pub run_all-played-requires-clause-clock : goal.run_all-played-requires-clause-clock
+run_all-played-requires-clause-clock g c κs within =
+    let clock = c.unwrap-clock.result in let e = c.places-places.result in let ids = floor_ids c.args.stage.floor in
+    let desks_are : c.args.stage.desks.items ≡ map (λ p. p.desk) (eight_of e) ++ clock ∷ [] = c.pop.ensures.items ∙ ap (λ o. c.pop.new.self.items ++ option_to_list o) c.unwrap-clock.ensures ∙ ap (λ l. l ++ clock ∷ []) c.places-places.ensures.desks in
+    clock_ready ids e clock c.args.stage.desks.items c.args.lines.items desks_are c.places-places.ensures.lines c.requires.stage.floor.fresh c.requires.readable
+
+pub add_eight-requires-clause-agents : goal.add_eight-requires-clause-agents
+unfolding AreTakenPlayed AreEightPlayed
+add_eight-requires-clause-agents g c =
+    let clock = c.unwrap-clock.result in let e = c.places-places.result in let ids = floor_ids c.args.stage.floor in
+    let desks_are : c.args.stage.desks.items ≡ map (λ p. p.desk) (eight_of e) ++ clock ∷ [] = c.pop.ensures.items ∙ ap (λ o. c.pop.new.self.items ++ option_to_list o) c.unwrap-clock.ensures ∙ ap (λ l. l ++ clock ∷ []) c.places-places.ensures.desks in
+    let p = c.run_all-played.result.0 in let clock' = c.run_all-played.result.1.desk in
+    let fresh = new_desk ids e clock c.args.stage.desks.items c.args.lines.items desks_are c.places-places.ensures.lines c.requires.stage.floor.fresh c.requires.readable in
+    eight_agents (λ l. record { taken = g.L.Link.taken l; left = g.L.Link.left l; sent = g.L.Link.sent l; reads = g.L.Link.faults l; writes = g.L.Link.write_faults l }) (g.D.Dialect.may_answer c.args.dialect.now) (g.D.Dialect.text c.args.dialect.now) c.args.game.now e p clock clock' ids fresh c.run_all-played.ensures.played
+
+pub close-requires : goal.close-requires
+unfolding AreTakenPlayed AreEightPlayed
+close-requires g c =
+    let clock = c.unwrap-clock.result in let e = c.places-places.result in let ids = floor_ids c.args.stage.floor in
+    let desks_are : c.args.stage.desks.items ≡ map (λ p. p.desk) (eight_of e) ++ clock ∷ [] = c.pop.ensures.items ∙ ap (λ o. c.pop.new.self.items ++ option_to_list o) c.unwrap-clock.ensures ∙ ap (λ l. l ++ clock ∷ []) c.places-places.ensures.desks in
+    let p = c.run_all-played.result.0 in let clock' = c.run_all-played.result.1.desk in
+    let fresh = new_desk ids e clock c.args.stage.desks.items c.args.lines.items desks_are c.places-places.ensures.lines c.requires.stage.floor.fresh c.requires.readable in
+    let desks_back : c.push_reserved.new.self.items ≡ map (λ q. q.desk) (eight_of p) ++ clock' ∷ [] =
+    c.push_reserved.ensures.items ∙ ap (λ l. l ++ clock' ∷ []) (c.add_eight.ensures.gathers.desks ∙ ap (λ l. l ++ map (λ q. q.desk) (eight_of p)) c.requires.stage.ending.desks.0) in
+    let back = all_back (λ l. record { taken = g.L.Link.taken l; left = g.L.Link.left l; sent = g.L.Link.sent l; reads = g.L.Link.faults l; writes = g.L.Link.write_faults l }) (g.D.Dialect.may_answer c.args.dialect.now) (g.D.Dialect.text c.args.dialect.now) c.args.game.now e p clock clock' ids fresh c.run_all-played.ensures.played c.run_all-played.ensures.same in
+    (ap (map (λ d. desk_ids d)) desks_back ∙ back.0, ap (map (λ d. desk_caller d)) desks_back ∙ back.1)
+
+pub returns-clause-through : goal.returns-clause-through
+unfolding AreTakenPlayed AreEightPlayed
+returns-clause-through g c =
+    let clock = c.unwrap-clock.result in let e = c.places-places.result in let ids = floor_ids c.args.stage.floor in
+    let desks_are : c.args.stage.desks.items ≡ map (λ p. p.desk) (eight_of e) ++ clock ∷ [] = c.pop.ensures.items ∙ ap (λ o. c.pop.new.self.items ++ option_to_list o) c.unwrap-clock.ensures ∙ ap (λ l. l ++ clock ∷ []) c.places-places.ensures.desks in
+    let p = c.run_all-played.result.0 in let clock' = c.run_all-played.result.1.desk in
+    let fresh = new_desk ids e clock c.args.stage.desks.items c.args.lines.items desks_are c.places-places.ensures.lines c.requires.stage.floor.fresh c.requires.readable in
+    let desks_back : c.push_reserved.new.self.items ≡ map (λ q. q.desk) (eight_of p) ++ clock' ∷ [] =
+    c.push_reserved.ensures.items ∙ ap (λ l. l ++ clock' ∷ []) (c.add_eight.ensures.gathers.desks ∙ ap (λ l. l ++ map (λ q. q.desk) (eight_of p)) c.requires.stage.ending.desks.0) in
+    let setups = c.close.ensures.setups ∙ ap (map (λ s. s.setup)) c.requires.stage.floor.starts in
+    played_through (λ l. record { taken = g.L.Link.taken l; left = g.L.Link.left l; sent = g.L.Link.sent l; reads = g.L.Link.faults l; writes = g.L.Link.write_faults l }) (g.D.Dialect.may_answer c.args.dialect.now) (g.D.Dialect.text c.args.dialect.now) c.args.game.now e p clock clock' ids fresh c.run_all-played.ensures.played c.close.result setups
+    (subst (All (IsBorneOut c.close.result)) desks_back c.close.ensures.borne_out) c.args.lines.items c.add_eight.new.self.links.items c.add_eight.new.self.ends.items c.places-places.ensures.lines
+    (c.add_eight.ensures.gathers.links ∙ ap (λ l. l ++ map played_link (eight_of p)) c.requires.stage.ending.links.0)
+    (c.add_eight.ensures.gathers.ends ∙ ap (λ l. l ++ filter_map played_end (eight_of p)) c.requires.stage.ending.ends.0)
+    (record { setups = setups; legal = c.close.ensures.legal; cash = c.close.ensures.cash; matched = c.close.ensures.matched; totals = c.close.ensures.totals })
+    c.run_all-played.ensures.same c.run_all-played.ensures.made

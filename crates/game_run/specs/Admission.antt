@@ -1,0 +1,96 @@
+-- How links are admitted, in the order in which they come. The rule is our own.
+use Rattle.std.specs.Prelude.{⊤, ◌≡◌, ℕ, ◌^◌, ◌<◌, ◌⊎◌, List, [], ◌∷◌, Bool, true, false, Option, codes, length, take, replicate}
+use Rattle.std.specs.List.{count_by, fold}
+use Rattle.game_text.specs.Games.{GameFile}
+use Rattle.tac_io.specs.AllAnswers.{all_answers}
+use Rattle.tac_io.specs.Counts.{Rose}
+use Rattle.tac_io.specs.Told.{and_then_told, before_told, IsAtEnd, TakesSome}
+use Rattle.tac_io.specs.declared.line_got.LineGot.{LineGot}
+use Rattle.tac_io.specs.declared.line_got.LineGot.TheVariants as gots
+use Rattle.line_protocol.specs.declared.admission.Verdict.{Verdict}
+use Rattle.line_protocol.specs.declared.admission.Verdict.TheVariants.{Seated, Syntax, WrongWord, Taken, Lost}
+use Rattle.agent_gate.specs.Gates.{Seats, verdict_of, seats_after}
+use Rattle.game_run.specs.LinkStates.{LinkState}
+
+-- the seats of a game before any link came
+abbrev pub free_seats : GameFile → Seats
+free_seats game = record { words = game.words; taken = replicate 8 false }
+
+-- the seats after verdicts
+abbrev pub seats_given : GameFile → List Verdict → Seats
+seats_given game verdicts = fold seats_after (free_seats game) verdicts
+
+abbrev pub is_seated : Verdict → Bool
+is_seated (Seated agent) = true
+is_seated verdict = false
+
+-- ---- one link
+
+-- the verdict on what was read first of a link; a line that is too long is no greeting
+abbrev pub first_verdict : Seats → LineGot → List ℕ → Verdict
+first_verdict seats gots.Line line = verdict_of seats line
+first_verdict seats gots.TooLong line = Syntax
+first_verdict seats gots.End line = Lost
+first_verdict seats gots.Failed line = Lost
+first_verdict seats gots.Budget line = Lost
+
+-- the first line of a link: the bytes that were taken begin with it
+abbrev pub BeginsWith : List ℕ → LineGot → List ℕ → Type 0
+BeginsWith bytes got line = (others : List (LineGot × List ℕ)) × (all_answers [] (2 ^ 26) bytes ≡ (got, line) ∷ others)
+
+-- what a link is sent that gets no seat
+abbrev pub refusal_line : Verdict → List ℕ
+refusal_line Syntax = codes "refused syntax\n"
+refusal_line WrongWord = codes "refused wrongword\n"
+refusal_line Taken = codes "refused taken\n"
+refusal_line (Seated agent) = []
+refusal_line Lost = []
+
+-- the line was sent, or a fault of a write was counted and only its first bytes were
+abbrev pub IsSentOrCut : List ℕ → LinkState → LinkState → Type 0
+IsSentOrCut line before after =
+    ((after.sent ≡ and_then_told before.sent line) × (after.writes ≡ before.writes))
+    ⊎ (TakesSome before.sent after.sent line × Rose before.writes after.writes)
+
+-- a link was refused by its first line
+pub record IsRefused (seats : Seats) (verdict : Verdict) (before after : LinkState) : Type 0 where
+  pub bytes : List ℕ
+  pub told : after.taken ≡ and_then_told before.taken bytes
+  pub gave : before.left ≡ before_told bytes after.left
+  pub got : LineGot
+  pub line : List ℕ
+  pub first : BeginsWith bytes got line
+  pub due : verdict ≡ first_verdict seats got line
+  pub sent : IsSentOrCut (refusal_line verdict) before after
+  pub reads : after.reads ≡ before.reads
+
+-- A link is lost: its first line has no end within the first 67,108,864 bytes that it had to give, or a read failed before that end was
+-- taken. It was sent nothing.
+pub record IsLost (before after : LinkState) : Type 0 where
+  pub bytes : List ℕ
+  pub told : after.taken ≡ and_then_told before.taken bytes
+  pub gave : before.left ≡ before_told bytes after.left
+  pub why :
+      ((all_answers [] (2 ^ 26) bytes ≡ (gots.End, []) ∷ []) × IsAtEnd after.left × (after.reads ≡ before.reads))
+      ⊎ ((all_answers [] (2 ^ 26) bytes ≡ (gots.Budget, []) ∷ []) × (after.reads ≡ before.reads))
+      ⊎ ((all_answers [] (2 ^ 26) bytes ≡ (gots.End, []) ∷ []) × Rose before.reads after.reads)
+  pub sent : after.sent ≡ before.sent
+  pub writes : after.writes ≡ before.writes
+
+-- ---- all links
+
+-- each link has its verdict by the seats that were free when it came, and what is said of it holds
+abbrev pub AreAdmitted : {A B : Type 0} → (Seats → Verdict → A → B → Type 0) → Seats → List A → List Verdict → List B → Type 0
+AreAdmitted Holds seats [] [] [] = ⊤
+AreAdmitted Holds seats (before ∷ befores) (verdict ∷ verdicts) (after ∷ afters) =
+    Holds seats verdict before after × AreAdmitted Holds (seats_after seats verdict) befores verdicts afters
+AreAdmitted Holds seats befores verdicts afters = ⊥
+
+-- another link may be taken: fewer than 64 came, and fewer than eight have a seat
+abbrev pub MayGoOn : List Verdict → Type 0
+MayGoOn verdicts = (length verdicts < 64) × (count_by is_seated verdicts < 8)
+
+-- links were taken as long as another might be, and one was there
+pub record AreAllTaken {A : Type 0} (verdicts : List Verdict) (pending : Option (List A)) : Type 0 where
+  pub no_more : (n : ℕ) → n < length verdicts → MayGoOn (take n verdicts)
+  pub no_fewer : MayGoOn verdicts → IsAtEnd pending

@@ -1,0 +1,113 @@
+-- Links after their first line, as admission keeps them.
+use Rattle.std.specs.Prelude.{◌≡◌, ℕ, ◌^◌, ◌<◌, ◌≤◌, List, [], ◌∷◌, ◌++◌, Bool, true, false, Option, Some, None, length, map, take, is_some, slice_get, slice_set}
+use Rattle.game_text.specs.Games.{GameFile}
+use Rattle.tac_io.specs.LineAnswers.{goes_on}
+use Rattle.tac_io.specs.LineText.{Begins}
+use Rattle.tac_io.specs.Lines.{count_of, held_of, last_of, link_of}
+use Rattle.tac_io.specs.Told.{and_then_told, before_told}
+use Rattle.tac_io.specs.declared.line_got.LineGot.{LineGot}
+use Rattle.tac_io.specs.declared.lines.Lines.{Lines}
+use Rattle.line_protocol.specs.declared.admission.Verdict.{Verdict}
+use Rattle.line_protocol.specs.declared.admission.Verdict.TheVariants.{Seated, Lost}
+use Rattle.agent_gate.specs.Gates.{Seats, verdict_of, seats_after}
+use Rattle.game_run.specs.declared.arrivals.Arrivals.{Arrivals}
+use Rattle.game_run.specs.declared.arrivals.Greeting.{Greeting}
+use Rattle.game_run.specs.declared.arrivals.Greeting.TheVariants as greetings
+use Rattle.game_run.specs.declared.arrivals.Spot.{Spot}
+use Rattle.game_run.specs.declared.arrivals.Spot.TheVariants.{Seat, Apart}
+use Rattle.game_run.specs.Admission.{free_seats, seats_given, first_verdict, BeginsWith, IsSentOrCut, IsRefused, IsLost, AreAdmitted, MayGoOn}
+use Rattle.game_run.specs.LinkStates.{LinkState}
+
+-- the agent that a verdict seats
+abbrev pub seat_of : Verdict → Option ℕ
+seat_of (Seated agent) = Some agent
+seat_of verdict = None
+
+-- a first line was read that gives the link no seat, and nothing was sent yet
+pub record IsUnseated (seats : Seats) (verdict : Verdict) (before after : LinkState) : Type 0 where
+  pub bytes : List ℕ
+  pub told : after.taken ≡ and_then_told before.taken bytes
+  pub gave : before.left ≡ before_told bytes after.left
+  pub got : LineGot
+  pub line : List ℕ
+  pub first : BeginsWith bytes got line
+  pub due : verdict ≡ first_verdict seats got line
+  pub sent : after.sent ≡ before.sent
+  pub reads : after.reads ≡ before.reads
+  pub writes : after.writes ≡ before.writes
+
+-- a line was sent, or its first bytes were, and nothing was read
+pub record IsAnswered (line : List ℕ) (before after : LinkState) : Type 0 where
+  pub taken : after.taken ≡ before.taken
+  pub left : after.left ≡ before.left
+  pub sent : IsSentOrCut line before after
+  pub reads : after.reads ≡ before.reads
+
+-- what is so of a link without a seat
+abbrev pub IsTurnedAway : Seats → Verdict → LinkState → LinkState → Type 0
+IsTurnedAway seats (Seated agent) before after = ⊥
+IsTurnedAway seats Lost before after = IsLost before after
+IsTurnedAway seats verdict before after = IsRefused seats verdict before after
+
+module _ {L : Type 0} (state : L → LinkState) where
+  -- A link was seated by its first line. Its lines hold what was taken after that line, and it was sent nothing.
+  pub record IsGreeted (seats : Seats) (agent : ℕ) (before : LinkState) (lines : Lines L) : Type 0 where
+    pub bytes : List ℕ
+    pub told : (state (link_of lines)).taken ≡ and_then_told before.taken bytes
+    pub gave : before.left ≡ before_told bytes (state (link_of lines)).left
+    pub line : List ℕ
+    pub first : Begins bytes line (held_of lines).unread
+    pub short : length line ≤ 512
+    pub counted : count_of lines ≡ length bytes
+    pub few : count_of lines ≤ 2 ^ 26
+    pub seat : verdict_of seats line ≡ Seated agent
+    pub sent : (state (link_of lines)).sent ≡ before.sent
+    pub reads : (state (link_of lines)).reads ≡ before.reads
+    pub writes : (state (link_of lines)).writes ≡ before.writes
+    pub more : goes_on (last_of lines) ≡ true
+
+  -- what is so of the lines of a link after its first line, before anything is sent
+  abbrev pub IsFirstRead : Seats → Verdict → LinkState → Lines L → Type 0
+  IsFirstRead seats (Seated agent) before lines = IsGreeted seats agent before lines
+  IsFirstRead seats Lost before lines = IsLost before (state (link_of lines))
+  IsFirstRead seats verdict before lines = IsUnseated seats verdict before (state (link_of lines))
+
+  -- what became of a link, and of the gate
+  abbrev pub IsGreeting : Seats → Seats → LinkState → Greeting L → Type 0
+  IsGreeting seats seats' before (greetings.Seated agent lines) = (seats' ≡ seats_after seats (Seated agent)) × IsGreeted seats agent before lines
+  IsGreeting seats seats' before (greetings.Apart verdict link) = (seats' ≡ seats) × IsTurnedAway seats verdict before (state link)
+
+-- the arrivals after one more
+abbrev pub Adds : {L : Type 0} → Greeting L → Arrivals L → Arrivals L → Bool → Type 0
+Adds (greetings.Seated agent lines) before after seated =
+    (after.verdicts.items ≡ before.verdicts.items ++ Seated agent ∷ []) × (after.spots.items ≡ before.spots.items ++ Seat agent ∷ [])
+    × (after.lines.items ≡ slice_set before.lines.items agent (Some lines)) × (agent ≤ 7) × (seated ≡ true)
+Adds (greetings.Apart verdict link) before after seated =
+    (after.verdicts.items ≡ before.verdicts.items ++ verdict ∷ []) × (after.spots.items ≡ before.spots.items ++ Apart link ∷ [])
+    × (after.lines.items ≡ before.lines.items) × (seated ≡ false)
+
+module _ {L : Type 0} (state : L → LinkState) where
+  -- a link was taken in
+  pub record IsTakenIn (seats seats' : Seats) (before : LinkState) (old new : Arrivals L) (seated : Bool) : Type 0 where
+    pub greeting : Greeting L
+    pub greets : IsGreeting state seats seats' before greeting
+    pub adds : Adds greeting old new seated
+
+  -- What is kept of a link at its spot: its seat, in which something of it sits, or itself.
+  abbrev pub Keeps : {X : Type 0} → (Seats → ℕ → LinkState → X → Type 0) → List (Option X) → Seats → Verdict → LinkState → Spot L → Type 0
+  Keeps {X} Sits places seats verdict before (Seat agent) = (x : X) × (verdict ≡ Seated agent) × (slice_get places agent ≡ Some (Some x)) × Sits seats agent before x
+  Keeps Sits places seats verdict before (Apart link) = IsTurnedAway seats verdict before (state link)
+
+  -- Links were taken and read as long as another might be: each is kept at its spot, and a seat is taken where lines sit in it.
+  pub record AreKept (game : GameFile) (given : List LinkState) (arrivals : Arrivals L) : Type 0 where
+    pub links : AreAdmitted (Keeps (IsGreeted state) arrivals.lines.items) (free_seats game) given arrivals.verdicts.items arrivals.spots.items
+    pub seats : map (λ lines. is_some lines) arrivals.lines.items ≡ (seats_given game arrivals.verdicts.items).taken
+    pub readable : (agent : ℕ) (lines : Lines L) → slice_get arrivals.lines.items agent ≡ Some (Some lines) → goes_on (last_of lines) ≡ true
+    pub wide : length arrivals.lines.items ≡ 8
+    pub no_more : (n : ℕ) → n < length arrivals.verdicts.items → MayGoOn (take n arrivals.verdicts.items)
+
+  -- the same of the links that were still to be given
+  pub record AreTaken (game : GameFile) (pending pending' : Option (List L)) (arrivals : Arrivals L) : Type 0 where
+    pub given : List L
+    pub from : pending ≡ before_told given pending'
+    pub kept : AreKept game (map state given) arrivals

@@ -1,0 +1,11 @@
+pub mod LinkStates
+pub mod Admission
+pub mod LinkRuns
+pub mod PlayedGame
+pub mod Outcomes
+pub mod Places
+pub mod Arriving
+pub mod Seatings
+pub mod Gathering
+pub mod Staging
+pub mod Rooms

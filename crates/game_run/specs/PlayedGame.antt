@@ -1,0 +1,46 @@
+-- A game that was played over links.
+use Rattle.std.specs.Prelude.{◌≡◌, ℕ, ◌<◌, ◌≤◌, List, [], false, All, filter, map, replicate, slice_index_or}
+use Rattle.game_text.specs.Games.{GameFile}
+use Rattle.auction_rules.specs.Goods.{agents, clock}
+use Rattle.auction_rules.specs.Effects.{dollars}
+use Rattle.auction_rules.specs.History.{Entry}
+use Rattle.auction_rules.specs.Legal.{Legal}
+use Rattle.turn_lock.specs.Part.{part}
+use Rattle.trade_ledger.specs.CashHistory.{IsLegalCash, total_of}
+use Rattle.trade_ledger.specs.Posts.{Matched, trades_of_all}
+use Rattle.auction_core.specs.ClosedGame.{ClosedGame, all_goods}
+use Rattle.auction_core.specs.Setups.{setup_of}
+use Rattle.clock_events.specs.Schedule.{clock_calls}
+use Rattle.line_protocol.specs.declared.admission.Cause.{Cause}
+use Rattle.line_protocol.specs.declared.admission.Verdict.{Verdict}
+use Rattle.game_run.specs.Admission.{seats_given}
+
+-- the parts of a caller of all histories
+abbrev pub parts_of : ClosedGame → ℕ → List (List (ℕ × Entry))
+parts_of closed caller = map (λ auction. part (λ e. e.caller) auction.history caller) closed.auctions
+
+-- the histories of the 28 auctions are legal by the rules of the game, and so is the cash history; it has exactly one post for each entry
+-- with trades, and a party's total is the sum of its dollars over all trades
+pub record IsLegalGame (game : GameFile) (closed : ClosedGame) : Type 0 where
+  pub setups : map (λ auction. auction.setup) closed.auctions ≡ map (λ good. setup_of good game) all_goods
+  pub legal : All (λ auction. Legal auction.setup auction.history) closed.auctions
+  pub cash : IsLegalCash closed.cash
+  pub matched : Matched (map (λ auction. auction.history) closed.auctions) closed.cash
+  pub totals : (party : ℕ) → party ≤ 8 → total_of closed.cash party ≡ dollars (trades_of_all (map (λ auction. auction.history) closed.auctions)) party
+
+-- which agents have a seat, in order
+abbrev pub seated_agents : GameFile → List Verdict → List ℕ
+seated_agents game verdicts = filter (λ agent. slice_index_or (seats_given game verdicts).taken agent false) agents
+
+-- a caller made no call
+pub record IsAbsent (closed : ClosedGame) (caller : ℕ) : Type 0 where
+  pub calls : parts_of closed caller ≡ replicate 28 []
+  pub cash : part (λ e. e.caller) closed.cash caller ≡ []
+
+-- Each seated agent has one end, in rising order; an agent without a seat made no call; and the clock's calls of each good are those of
+-- the schedule.
+pub record IsPlayedBy (game : GameFile) (verdicts : List Verdict) (ends : List (ℕ × Cause)) (closed : ClosedGame) : Type 0 where
+  pub legal_game : IsLegalGame game closed
+  pub each_end : map (λ end. end.0) ends ≡ seated_agents game verdicts
+  pub absent : (agent : ℕ) → agent < 8 → slice_index_or (seats_given game verdicts).taken agent false ≡ false → IsAbsent closed agent
+  pub scheduled : map (λ calls. map (λ p. p.1.call) calls) (parts_of closed clock) ≡ map (clock_calls game) all_goods

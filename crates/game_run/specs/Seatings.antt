@@ -1,0 +1,112 @@
+-- Eight places, and what sits in them before and after the sessions.
+use Rattle.std.specs.Prelude.{◌≡◌, ℕ, ◌<◌, List, [], ◌∷◌, ◌++◌, Option, Some, None, Result, true, map, replicate, IfSome}
+use Rattle.std.specs.Option.{option_map}
+use Rattle.trade_ledger.specs.declared.cash_calls.CashEntry.{CashEntry}
+use Rattle.turn_lock.specs.Passes.{LockId}
+use Rattle.auction_core.specs.Auctions.{AuctionHistory}
+use Rattle.game_text.specs.Games.{GameFile}
+use Rattle.tac_io.specs.LineAnswers.{goes_on}
+use Rattle.tac_io.specs.Lines.{count_of, held_of, last_of, link_of}
+use Rattle.tac_io.specs.declared.lines.Lines.{Lines}
+use Rattle.line_protocol.specs.declared.asking.Request.{Request}
+use Rattle.line_protocol.specs.declared.asking.RequestFault.{RequestFault}
+use Rattle.line_protocol.specs.declared.saying.Said.{Said}
+use Rattle.line_protocol.specs.declared.admission.Cause.{Cause}
+use Rattle.floor.specs.declared.desk.Desk.{Desk}
+use Rattle.floor.specs.Desks.{desk_ids, desk_caller, entries_at, entries_of, cash_of}
+use Rattle.clock_events.specs.Schedule.{clock_calls}
+use Rattle.agent_gate.specs.Served.{HasSessionCause}
+use Rattle.agent_gate.specs.Sessions.{IsSession}
+use Rattle.game_run.specs.declared.crew.Two.{Two}
+use Rattle.game_run.specs.declared.crew.Place.{Place}
+use Rattle.game_run.specs.declared.crew.Played.{Played}
+use Rattle.game_run.specs.LinkStates.{LinkState}
+
+-- ---- two, four and eight in order
+
+abbrev pub two_of : {X : Type 0} → Two X → List X
+two_of two = two.first ∷ two.second ∷ []
+
+abbrev pub four_of : {X : Type 0} → Two (Two X) → List X
+four_of four = two_of four.first ++ two_of four.second
+
+abbrev pub eight_of : {X : Type 0} → Two (Two (Two X)) → List X
+eight_of eight = four_of eight.first ++ four_of eight.second
+
+-- ---- before the sessions
+
+-- which locks a floor has: those of the auctions, in the order of goods, and that of the cash book
+abbrev pub FloorIds : Type 0
+FloorIds = List (LockId AuctionHistory) × LockId (List CashEntry)
+
+-- an agent's desk of these locks that made no call, and lines that may be read on, if there are lines
+pub record IsReady {L : Type 0} (ids : FloorIds) (place : Place L) : Type 0 where
+  pub own : desk_ids place.desk ≡ ids
+  pub agent : desk_caller place.desk < 8
+  pub no_calls : (entries_of place.desk ≡ replicate 28 []) × (cash_of place.desk ≡ [])
+  pub more : IfSome place.lines (λ lines. goes_on (last_of lines) ≡ true)
+
+-- the clock's desk of these locks that made no call
+pub record IsReadyClock (ids : FloorIds) (desk : Desk) : Type 0 where
+  pub own : desk_ids desk ≡ ids
+  pub caller : desk_caller desk ≡ 8
+  pub no_calls : (entries_of desk ≡ replicate 28 []) × (cash_of desk ≡ [])
+
+pub record AreTwoReady {L : Type 0} (ids : FloorIds) (two : Two (Place L)) : Type 0 where
+  pub one : IsReady ids two.first
+  pub other : IsReady ids two.second
+
+pub record AreFourReady {L : Type 0} (ids : FloorIds) (four : Two (Two (Place L))) : Type 0 where
+  pub one : AreTwoReady ids four.first
+  pub other : AreTwoReady ids four.second
+
+pub record AreEightReady {L : Type 0} (ids : FloorIds) (eight : Two (Two (Two (Place L)))) : Type 0 where
+  pub one : AreFourReady ids eight.first
+  pub other : AreFourReady ids eight.second
+
+-- ---- after the sessions
+
+-- the clock's desk made all calls of the schedule, of each good in order
+pub record HasMadeAll (game : GameFile) (desk : Desk) : Type 0 where
+  pub each : (good : ℕ) → good < 28 → map (λ p. p.1.call) (entries_at desk good) ≡ clock_calls game good
+
+module _ {L : Type 0} (state : L → LinkState) (may_answer : List ℕ → Result Request RequestFault → Type 0) (text : Said → List ℕ) (game : GameFile) where
+  -- a session of these lines at this desk left the link and the desk, and ended so
+  pub record IsServedBy (before : Desk) (lines : Lines L) (after : Desk) (link : L) (cause : Cause) : Type 0 where
+    pub count : ℕ
+    pub session : IsSession may_answer text game (held_of lines) (count_of lines) (state (link_of lines)).taken (state link).taken
+        (state (link_of lines)).left (state link).left (state (link_of lines)).sent (state link).sent before after count cause
+    pub faults : HasSessionCause (state (link_of lines)).reads (state link).reads (state (link_of lines)).writes (state link).writes cause
+
+  -- a place without lines was left as it was; a place with lines had its session
+  abbrev pub IsPlayedOut : Desk → Option (Lines L) → Desk → Option (L × Cause) → Type 0
+  IsPlayedOut before None after None = after ≡ before
+  IsPlayedOut before (Some lines) after (Some (link, cause)) = IsServedBy before lines after link cause
+  IsPlayedOut before lines after end = ⊥
+
+  abbrev pub IsPlayedPlace : Place L → Played L → Type 0
+  IsPlayedPlace place played = IsPlayedOut place.desk place.lines played.desk played.end
+
+  pub record AreTwoPlayed (places : Two (Place L)) (played : Two (Played L)) : Type 0 where
+    pub one : IsPlayedPlace places.first played.first
+    pub other : IsPlayedPlace places.second played.second
+
+  pub record AreFourPlayed (places : Two (Two (Place L))) (played : Two (Two (Played L))) : Type 0 where
+    pub one : AreTwoPlayed places.first played.first
+    pub other : AreTwoPlayed places.second played.second
+
+  unfoldable pub AreEightPlayed : Two (Two (Two (Place L))) → Two (Two (Two (Played L))) → Type 0
+  AreEightPlayed places played = AreFourPlayed places.first played.first × AreFourPlayed places.second played.second
+
+  -- the same of places that were handed over
+  unfoldable pub AreTakenPlayed : Option (Two (Two (Two (Place L)))) → Two (Two (Two (Played L))) → Type 0
+  AreTakenPlayed places played = IfSome places (λ p. AreEightPlayed p played)
+
+-- ---- how they are gathered
+
+-- the link of a place, and the end of its agent, if it had a session
+abbrev pub played_link : {L : Type 0} → Played L → Option L
+played_link played = option_map (λ end. end.0) played.end
+
+abbrev pub played_end : {L : Type 0} → Played L → Option (ℕ × Cause)
+played_end played = option_map (λ end. (desk_caller played.desk, end.1)) played.end

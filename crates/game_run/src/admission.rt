@@ -1,0 +1,144 @@
+// Who is admitted. The rule is our own.
+ghost use Rattle.std.specs.Prelude.{◌≡◌, ◌<◌, ◌≤◌, ◌+◌, [], ◌∷◌, None, IfOk, OnOk, OnErr, IfSome, length, vec_len, vec_capacity, replicate};
+ghost use Rattle.tac_io.specs.Counts.{HasCause};
+ghost use Rattle.tac_io.specs.Lines.{count_of, held_of, last_of, link_of};
+ghost use Rattle.tac_io.specs.Told.{IsAtEnd, and_then_told};
+ghost use Rattle.agent_gate.specs.Gates.{seats_after};
+ghost use Rattle.game_run.specs.Admission.{MayGoOn, refusal_line};
+ghost use Rattle.game_run.specs.Arriving.{AreTaken, IsAnswered, IsFirstRead, IsGreeting, IsTakenIn, seat_of};
+
+use crate::arrivals::{Arrivals, Greeting, Spot};
+use agent_gate::Gate;
+use game_text::Game;
+use line_protocol::Verdict;
+use tac_base::Agent;
+use tac_io::{Failed, LineGot, Lines, Link, Links};
+
+/// How many links are taken, at most.
+const MOST_LINKS: usize = 64;
+
+/// How many seats there are.
+const SEATS: usize = 8;
+
+/// What a link is sent that gets no seat.
+fn refusal(verdict: &Verdict) -> &'static [u8]
+    ensures { result.now ≡ refusal_line verdict.now }
+{
+    match verdict {
+        Verdict::Syntax => b"refused syntax\n",
+        Verdict::WrongWord => b"refused wrongword\n",
+        Verdict::Taken => b"refused taken\n",
+        Verdict::Seated(_) | Verdict::Lost => b"",
+    }
+}
+
+/// The agent that a verdict seats.
+fn seat(verdict: &Verdict) -> Option<Agent>
+    ensures { result ≡ seat_of verdict.now }
+{
+    match verdict {
+        Verdict::Seated(agent) => Some(*agent),
+        _ => None,
+    }
+}
+
+/// Reads the first line of a link, and says what becomes of it.
+fn first_verdict<L: Link>(gate: &mut Gate, lines: &mut Lines<L>) -> Verdict
+    requires unread { (held_of lines.old).unread ≡ [] }
+    requires count { count_of lines.old ≡ 0 }
+    requires last { last_of lines.old ≡ None }
+    ensures read { IsFirstRead (λ l. record { taken = L.taken l; left = L.left l; sent = L.sent l; reads = L.faults l; writes = L.write_faults l })
+        gate.old result (record { taken = L.taken (link_of lines.old); left = L.left (link_of lines.old); sent = L.sent (link_of lines.old); reads = L.faults (link_of lines.old); writes = L.write_faults (link_of lines.old) }) lines.new }
+    ensures seats { gate.new ≡ seats_after gate.old result }
+{
+    match lines.next() {
+        LineGot::Line => gate.admit(lines.line()),
+        LineGot::TooLong => Verdict::Syntax,
+        LineGot::End | LineGot::Failed | LineGot::Budget => Verdict::Lost,
+    }
+}
+
+/// Tells a link that it gets no seat, and why.
+fn turn_away<L: Link>(verdict: &Verdict, mut lines: Lines<L>) -> L
+    ensures { IsAnswered (refusal_line verdict.now)
+        (record { taken = L.taken (link_of lines); left = L.left (link_of lines); sent = L.sent (link_of lines); reads = L.faults (link_of lines); writes = L.write_faults (link_of lines) })
+        (record { taken = L.taken result; left = L.left result; sent = L.sent result; reads = L.faults result; writes = L.write_faults result }) }
+{
+    let _ = lines.send(refusal(verdict));
+    lines.into_link()
+}
+
+/// Reads the first line of a link, and turns it away if it gets no seat.
+fn greet<L: Link>(gate: &mut Gate, link: L) -> Greeting<L>
+    ensures { IsGreeting (λ l. record { taken = L.taken l; left = L.left l; sent = L.sent l; reads = L.faults l; writes = L.write_faults l })
+        gate.old gate.new (record { taken = L.taken link; left = L.left link; sent = L.sent link; reads = L.faults link; writes = L.write_faults link }) result }
+{
+    let mut lines = Lines::new(link);
+    let verdict = first_verdict(gate, &mut lines);
+    match seat(&verdict) {
+        Some(agent) => Greeting::Seated(agent, lines),
+        None => {
+            let link = turn_away(&verdict, lines);
+            Greeting::Apart(verdict, link)
+        }
+    }
+}
+
+/// Takes a link in, and says whether it has a seat.
+fn take_in<L: Link + Drop>(gate: &mut Gate, arrivals: &mut Arrivals<L>, link: L) -> bool
+    requires verdicts { vec_len arrivals.old.verdicts < vec_capacity arrivals.old.verdicts }
+    requires spots { vec_len arrivals.old.spots < vec_capacity arrivals.old.spots }
+    requires seats { vec_len arrivals.old.lines ≡ 8 }
+    ensures taken { IsTakenIn (λ l. record { taken = L.taken l; left = L.left l; sent = L.sent l; reads = L.faults l; writes = L.write_faults l })
+        gate.old gate.new (record { taken = L.taken link; left = L.left link; sent = L.sent link; reads = L.faults link; writes = L.write_faults link }) arrivals.old arrivals.new result }
+    ensures verdicts { (vec_len arrivals.new.verdicts ≡ vec_len arrivals.old.verdicts + 1) × (vec_capacity arrivals.new.verdicts ≡ vec_capacity arrivals.old.verdicts) }
+    ensures spots { (vec_len arrivals.new.spots ≡ vec_len arrivals.old.spots + 1) × (vec_capacity arrivals.new.spots ≡ vec_capacity arrivals.old.spots) }
+    ensures seats { vec_len arrivals.new.lines ≡ 8 }
+{
+    match greet(gate, link) {
+        Greeting::Seated(agent, lines) => {
+            arrivals.verdicts.push_reserved(Verdict::Seated(agent));
+            arrivals.spots.push_reserved(Spot::Seat(agent));
+            arrivals.lines[usize::from(agent.get())] = Some(lines);
+            true
+        }
+        Greeting::Apart(verdict, link) => {
+            arrivals.verdicts.push_reserved(verdict);
+            arrivals.spots.push_reserved(Spot::Apart(link));
+            false
+        }
+    }
+}
+
+/// Listens, and takes links in until eight seats are taken, 64 links came or none is left.
+pub(crate) fn admit<N: Links>(
+    game: &Game,
+    port: u16,
+    links: &mut N,
+    arrivals: &mut Arrivals<N::Link>,
+) -> Result<(), Failed>
+    requires ports { IfSome (N.ports links.old) (λ ports. ports ≡ []) }
+    requires none { (arrivals.old.verdicts.items ≡ []) × (arrivals.old.spots.items ≡ []) }
+    requires free { arrivals.old.lines.items ≡ replicate 8 None }
+    requires room { (vec_capacity arrivals.old.verdicts ≡ 64) × (vec_capacity arrivals.old.spots ≡ 64) }
+    ensures taken { AreTaken (λ l. record { taken = N.Link.taken l; left = N.Link.left l; sent = N.Link.sent l; reads = N.Link.faults l; writes = N.Link.write_faults l })
+        game.now (N.pending links.old) (N.pending links.new) arrivals.new }
+    ensures no_fewer { OnOk result (MayGoOn arrivals.new.verdicts.items → IsAtEnd (N.pending links.new)) }
+    ensures more { OnErr result (MayGoOn arrivals.new.verdicts.items) }
+    ensures few { vec_len arrivals.new.spots ≤ 64 }
+    ensures ports { N.ports links.new ≡ and_then_told (N.ports links.old) (port ∷ []) }
+    ensures cause { HasCause (N.faults links.old) (N.faults links.new) result }
+{
+    links.listen(port)?;
+    let mut gate = Gate::new(game);
+    let mut seated = 0;
+    while seated < SEATS && arrivals.verdicts.len() < MOST_LINKS {
+        let Some(link) = links.next()? else {
+            return Ok(());
+        };
+        if take_in(&mut gate, arrivals, link) {
+            seated += 1;
+        }
+    }
+    Ok(())
+}

@@ -1,0 +1,15 @@
+//! A game over links: who is admitted, and the sessions beside the clock.
+#![tactic(auto)]
+
+mod admission;
+mod arrivals;
+mod crew;
+mod ending;
+mod run;
+mod seating;
+mod stage;
+
+pub use run::{GameEnd, RunFault, run_game};
+
+#[cfg(test)]
+mod tests;

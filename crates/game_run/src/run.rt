@@ -1,0 +1,178 @@
+// A game over links.
+ghost use Rattle.std.specs.Prelude.{◌≡◌, ◌≤◌, [], None, IfOk, IfErr, IfSome, map, replicate, vec_capacity, vec_len};
+ghost use Rattle.std.specs.Option.{option_map};
+ghost use Rattle.tac_io.specs.Lines.{link_of};
+ghost use Rattle.game_run.specs.Places.{AreFilled, AreLinksOf};
+ghost use Rattle.game_run.specs.Rooms.{IsEmptyHall, IsRoom};
+ghost use Rattle.game_run.specs.Outcomes.{HasRunCause, IsEnd, IsRunFault};
+
+use crate::admission::admit;
+use crate::arrivals::Arrivals;
+use crate::ending::{Ending, in_order, without_sessions};
+use crate::stage::{Over, Stage, make_stage, play_out};
+use agent_gate::Dialect;
+use auction_core::Closed;
+use game_log::LogHead;
+use game_text::Game;
+use std::alloc::Global;
+use std::sync::Wait;
+use std::thread::Threads;
+use std::time::Clock;
+use tac_base::Memory;
+use tac_io::{Lines, Link, Links, Ticker};
+
+/// A game that was played.
+#[derive(Drop)]
+pub struct GameEnd<L> {
+    pub closed: Closed,
+    pub head: LogHead,
+    /// The links that were taken, in the order in which they came.
+    pub links: Vec<L>,
+}
+
+/// Why no game was played.
+#[derive(Drop)]
+pub enum RunFault<L> {
+    /// The links failed. Those that were taken, in the order in which they came.
+    Links(Vec<L>),
+    /// There was no memory for the game. The links were not touched.
+    Memory,
+}
+
+// All memory of a game.
+#[derive(Drop)]
+pub(crate) struct Room<L> {
+    pub(crate) stage: Stage<L>,
+    pub(crate) arrivals: Arrivals<L>,
+    /// Where the links are put at the end.
+    pub(crate) links: Vec<L>,
+}
+
+/// How many links are taken, at most.
+const MOST_LINKS: usize = 64;
+
+/// How many agents there are.
+const AGENTS: usize = 8;
+
+// No agent has lines.
+fn no_lines<L: Drop>(alloc: Global) -> Result<Vec<Option<Lines<L>>>, Memory>
+    ensures { IfOk result (λ lines. lines.items ≡ replicate 8 None) }
+{
+    let mut lines = Vec::with_capacity(alloc, AGENTS)?;
+    for _ in 0..AGENTS {
+        lines.push_reserved(None);
+    }
+    Ok(lines)
+}
+
+// Room for the links that come.
+fn make_hall<L: Drop>(alloc: Global) -> Result<Arrivals<L>, Memory>
+    ensures { IfOk result IsEmptyHall }
+{
+    let verdicts = Vec::with_capacity(alloc, MOST_LINKS)?;
+    let spots = Vec::with_capacity(alloc, MOST_LINKS)?;
+    let lines = no_lines(alloc)?;
+    Ok(Arrivals {
+        verdicts,
+        spots,
+        lines,
+    })
+}
+
+// Takes all memory of a game.
+fn make_room<L: Drop>(alloc: Global, game: &Game) -> Result<Room<L>, Memory>
+    ensures { IfOk result (IsRoom game.now) }
+{
+    let stage = make_stage(alloc, game)?;
+    let arrivals = make_hall(alloc)?;
+    let links = Vec::with_capacity(alloc, MOST_LINKS)?;
+    Ok(Room {
+        stage,
+        arrivals,
+        links,
+    })
+}
+
+// The links that were taken, none of which played.
+fn leave<L: Link + Drop>(arrivals: Arrivals<L>, stage: Stage<L>, given: Vec<L>) -> Vec<L>
+    requires filled { AreFilled arrivals.lines.items arrivals.spots.items }
+    requires wide { vec_len arrivals.lines ≡ 8 }
+    requires places { (stage.ending.links.items ≡ []) × (vec_capacity stage.ending.links ≡ 8) }
+    requires room { (given.items ≡ []) × (vec_len arrivals.spots ≤ vec_capacity given) }
+    ensures { AreLinksOf (map (option_map link_of) arrivals.lines.items) arrivals.spots.items result.items }
+{
+    let Arrivals {
+        verdicts: _,
+        spots,
+        lines,
+    } = arrivals;
+    let Stage {
+        floor: _,
+        desks: _,
+        ending,
+    } = stage;
+    let Ending {
+        desks: _,
+        ends: _,
+        links,
+    } = ending;
+    let places = without_sessions(lines, links);
+    in_order(spots, places, given)
+}
+
+/// Plays a game over links. First it takes all the memory of the game. Then it listens at the port, takes links and reads a line of
+/// each, until eight agents have a seat, 64 links were taken or none is left. A link that gets no seat is told so. The sessions of the
+/// seated links and the clock run beside one another. It waits for peers and for ticks. The forms of lines are those of the dialect; who
+/// gets which seat is our own rule.
+pub fn run_game<R: Threads + Sync + Wait + Clock, D: Dialect + Sync, N: Links, T: Ticker + Send>(
+    rt: &R,
+    alloc: Global,
+    game: &Game,
+    port: u16,
+    dialect: &D,
+    links: &mut N,
+    ticker: &mut T,
+) -> Result<GameEnd<N::Link>, RunFault<N::Link>>
+    requires ports { IfSome (N.ports links.old) (λ ports. ports ≡ []) }
+    requires ticks { IfSome (T.waited ticker.old) (λ ticks. ticks ≡ []) }
+    ensures played { IfOk result (IsEnd (λ l. record { taken = N.Link.taken l; left = N.Link.left l; sent = N.Link.sent l; reads = N.Link.faults l; writes = N.Link.write_faults l })
+        (D.may_answer dialect.now) (D.text dialect.now) game.now (N.pending links.old) (N.pending links.new)
+        (T.waited ticker.old) (T.waited ticker.new) (T.faults ticker.old) (T.faults ticker.new)) }
+    ensures not_played { IfErr result (IsRunFault (λ l. record { taken = N.Link.taken l; left = N.Link.left l; sent = N.Link.sent l; reads = N.Link.faults l; writes = N.Link.write_faults l })
+        game.now (N.pending links.old) (N.pending links.new)) }
+    ensures untouched { IfErr result (λ _. ticker.new ≡ ticker.old) }
+    ensures cause { HasRunCause (N.ports links.old) (N.ports links.new) port (N.faults links.old) (N.faults links.new) result }
+    ensures paced { T.paced ticker.new ≡ T.paced ticker.old }
+{
+    let Ok(room) = make_room(alloc, game) else {
+        return Err(RunFault::Memory);
+    };
+    let Room {
+        stage,
+        mut arrivals,
+        links: given,
+    } = room;
+    if admit(game, port, links, &mut arrivals).is_err() {
+        return Err(RunFault::Links(leave(arrivals, stage, given)));
+    }
+    let Arrivals {
+        verdicts,
+        spots,
+        lines,
+    } = arrivals;
+    let Over {
+        closed,
+        ends,
+        links: places,
+        missed,
+    } = play_out(rt, game, dialect, stage, lines, ticker);
+    Ok(GameEnd {
+        closed,
+        head: LogHead::Serve {
+            verdicts,
+            ends,
+            missed,
+        },
+        links: in_order(spots, places, given),
+    })
+}

@@ -1,0 +1,65 @@
+// Each agent's desk, with the lines of its link.
+ghost use Rattle.std.specs.Prelude.{◌≡◌, ◌∷◌, ◌++◌, [], ◌≤◌, ◌+◌, map, vec_len};
+ghost use Rattle.game_run.specs.Seatings.{eight_of, four_of, two_of};
+
+use crate::crew::{Eight, Four, Place, Two};
+use floor::Desk;
+use tac_io::Lines;
+
+// The last place.
+fn last_place<L>(desks: &mut Vec<Desk>, lines: &mut Vec<Option<Lines<L>>>) -> Place<L>
+    requires desks { 1 ≤ vec_len desks.old }
+    requires lines { 1 ≤ vec_len lines.old }
+    ensures desks { desks.old.items ≡ desks.new.items ++ result.desk ∷ [] }
+    ensures lines { lines.old.items ≡ lines.new.items ++ result.lines ∷ [] }
+    ensures desks_left { vec_len desks.new + 1 ≡ vec_len desks.old }
+    ensures lines_left { vec_len lines.new + 1 ≡ vec_len lines.old }
+{
+    Place {
+        desk: desks.pop().unwrap(),
+        lines: lines.pop().unwrap(),
+    }
+}
+
+// The last two places, in order.
+fn last_two<L>(desks: &mut Vec<Desk>, lines: &mut Vec<Option<Lines<L>>>) -> Two<Place<L>>
+    requires desks { 2 ≤ vec_len desks.old }
+    requires lines { 2 ≤ vec_len lines.old }
+    ensures desks { desks.old.items ≡ desks.new.items ++ map (λ p. p.desk) (two_of result) }
+    ensures lines { lines.old.items ≡ lines.new.items ++ map (λ p. p.lines) (two_of result) }
+    ensures desks_left { vec_len desks.new + 2 ≡ vec_len desks.old }
+    ensures lines_left { vec_len lines.new + 2 ≡ vec_len lines.old }
+{
+    let second = last_place(desks, lines);
+    let first = last_place(desks, lines);
+    Two { first, second }
+}
+
+// The last four places, in order.
+fn last_four<L>(desks: &mut Vec<Desk>, lines: &mut Vec<Option<Lines<L>>>) -> Four<Place<L>>
+    requires desks { 4 ≤ vec_len desks.old }
+    requires lines { 4 ≤ vec_len lines.old }
+    ensures desks { desks.old.items ≡ desks.new.items ++ map (λ p. p.desk) (four_of result) }
+    ensures lines { lines.old.items ≡ lines.new.items ++ map (λ p. p.lines) (four_of result) }
+    ensures desks_left { vec_len desks.new + 4 ≡ vec_len desks.old }
+    ensures lines_left { vec_len lines.new + 4 ≡ vec_len lines.old }
+{
+    let second = last_two(desks, lines);
+    let first = last_two(desks, lines);
+    Two { first, second }
+}
+
+/// The places of the eight agents, in order.
+pub(crate) fn places<L: Drop>(
+    mut desks: Vec<Desk>,
+    mut lines: Vec<Option<Lines<L>>>,
+) -> Eight<Place<L>>
+    requires desks { vec_len desks ≡ 8 }
+    requires lines { vec_len lines ≡ 8 }
+    ensures desks { desks.items ≡ map (λ p. p.desk) (eight_of result) }
+    ensures lines { lines.items ≡ map (λ p. p.lines) (eight_of result) }
+{
+    let second = last_four(&mut desks, &mut lines);
+    let first = last_four(&mut desks, &mut lines);
+    Two { first, second }
+}
