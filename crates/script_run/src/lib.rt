@@ -22,7 +22,7 @@ pub use game_lines::GameLine;
 pub use hotel_lines::HotelLine;
 pub use hotel_script::run_hotel_script;
 pub use play_count::PlayCount;
-pub use playing::{play, play_quiet};
+pub use playing::{play, play_quiet, write_scores};
 
 #[cfg(test)]
 mod game_tests;

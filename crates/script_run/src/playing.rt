@@ -93,8 +93,9 @@ fn write_first<K: Sink>(sink: &mut K, played: &Played) -> Result<(), Failed>
     }
 }
 
-/// Scores a game whose calls are over, and writes the second part of its log.
-fn write_second<R: Threads + Sync, K: Sink>(
+/// Scores a game whose calls are over, and writes the second part of its log. After `Failed` its first bytes were written, but not all, and
+/// after `Memory` nothing.
+pub fn write_scores<R: Threads + Sync, K: Sink>(
     rt: &R,
     alloc: Global,
     game: &Game,
@@ -120,7 +121,7 @@ fn write_played<R: Threads + Sync, K: Sink>(
     ensures { WritesPlayed game.now played.now (K.taken sink.old) (K.taken sink.new) (K.faults sink.old) (K.faults sink.new) result }
 {
     match write_first(sink, played) {
-        Ok(()) => match write_second(rt, alloc, game, &played.closed, sink) {
+        Ok(()) => match write_scores(rt, alloc, game, &played.closed, sink) {
             Ok(()) => Ok(()),
             Err(LogWriteFault::Failed) => Err(ScriptFault::Failed),
             Err(LogWriteFault::Memory) => Err(ScriptFault::Memory),

@@ -5,7 +5,7 @@ use Rattle.tac_io.specs.Counts.{Rose}
 use Rattle.tac_io.specs.Told.{and_then_told, TakesSome}
 use Rattle.game_log.proofs.Writing.{wrote_both, some_before, some_after}
 use Rattle.script_run.specs.HotelOuts.{IsUntouched}
-use Rattle.tacd.specs.declared.refusals.Refusal.TheVariants.{Usage, GameLine, GameTooLong, ReadFault, Memory, TextLine, TextTooLong}
+use Rattle.tacd.specs.declared.refusals.Refusal.TheVariants.{Usage, GameLine, GameTooLong, ReadFault, LinkFault, Memory, TextLine, TextTooLong}
 use Rattle.tacd.specs.declared.ends.End.{End}
 use Rattle.tacd.specs.declared.ends.End.TheVariants as ends
 use Rattle.tacd.specs.Outcomes.{Outcome, Done, Cut, Refused, refusal_text}
@@ -56,6 +56,7 @@ tells_cut text taken taken' taken'' a b c (ends.Refused Usage) code cut finished
 tells_cut text taken taken' taken'' a b c (ends.Refused (GameLine line reason)) code cut finished = absurd cut
 tells_cut text taken taken' taken'' a b c (ends.Refused GameTooLong) code cut finished = absurd cut
 tells_cut text taken taken' taken'' a b c (ends.Refused ReadFault) code cut finished = absurd cut
+tells_cut text taken taken' taken'' a b c (ends.Refused LinkFault) code cut finished = absurd cut
 tells_cut text taken taken' taken'' a b c (ends.Refused (TextLine line reason)) code cut finished = absurd cut
 tells_cut text taken taken' taken'' a b c (ends.Refused TextTooLong) code cut finished = absurd cut
 

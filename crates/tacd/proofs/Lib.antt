@@ -9,3 +9,7 @@ pub mod Selecting
 pub mod PlayEnds
 pub mod ReadFaults
 pub mod MadeScripts
+pub mod ServiceEnds
+pub mod WrittenLogs
+pub mod LapsedGames
+pub mod ServiceCauses

@@ -6,14 +6,15 @@ use Rattle.game_text.specs.declared.fault.GameFault.{GameFault}
 use Rattle.game_text.specs.declared.fault.GameFault.TheVariants.{Line, TooLong}
 use Rattle.game_text.specs.Games.{GameFile, game_of}
 use Rattle.tacd.specs.declared.refusals.Refusal.{Refusal}
-use Rattle.tacd.specs.declared.refusals.Refusal.TheVariants.{Usage, GameLine, GameTooLong, ReadFault, Memory, TextLine, TextTooLong}
-use Rattle.tacd.specs.Commands.{Command, Hotel, Show, Make, Solve, Play, Trial}
-use Rattle.tacd.specs.Outcomes.{Outcome, Done, Cut, Refused, refusal_code, code_of}
+use Rattle.tacd.specs.declared.refusals.Refusal.TheVariants.{Usage, GameLine, GameTooLong, ReadFault, LinkFault, Memory, TextLine, TextTooLong}
+use Rattle.tacd.specs.Commands.{Command, Hotel, Show, Make, Solve, Play, Trial, Serve}
+use Rattle.tacd.specs.Outcomes.{Outcome, Done, Lapsed, Cut, Refused, refusal_code, code_of}
 use Rattle.tacd.specs.Allowed.{Content, Allows, GameAllows, IsGameFile, RefusesGame, RefusesScript, ScriptAllows, longest_game}
 use Rattle.tacd.specs.Ends.{Tells}
 use Rattle.tacd.specs.Causes.{IsQuiet, HasGame, HasBadGame, HasRefusedGame, GameRefusedExactly}
 use Rattle.tacd.proofs.LongFiles.{long_game}
 use Rattle.tacd.proofs.CodedOutcomes.{coded, told_only, told_always}
+use Rattle.tacd.proofs.ServiceEnds.{no_file_code}
 use Rattle.tacd.proofs.Unambiguous.{not_both, same_file}
 
 -- a game file that was refused, where files are told or not
@@ -31,6 +32,7 @@ told_bad content name before now Usage refuses is = absurd refuses
 told_bad content name before now (GameLine line reason) refuses is = bad_game content name refuses.0 (Line line reason) refuses.1 refuses.2
 told_bad content name before now GameTooLong refuses is = too_long content name refuses.0
 told_bad content name before now ReadFault refuses is = absurd (omega (arith, is))
+told_bad content name before now LinkFault refuses is = absurd refuses
 told_bad content name before now Memory refuses is = absurd (omega (arith, is))
 told_bad content name before now (TextLine line reason) refuses is = absurd refuses
 told_bad content name before now TextTooLong refuses is = absurd refuses
@@ -38,11 +40,13 @@ told_bad content name before now TextTooLong refuses is = absurd refuses
 -- a game that was read is no such thing
 not_two : (game : GameFile) (script : List ℕ) (outcome : Outcome) → GameAllows game script outcome → code_of outcome ≡ 2 → ⊥
 not_two game script (Done text) allowed is = absurd (omega (arith, is))
+not_two game script (Lapsed text) allowed is = absurd (omega (arith, is))
 not_two game script (Cut text) allowed is = absurd (omega (arith, is))
 not_two game script (Refused Usage) allowed is = allowed
 not_two game script (Refused (GameLine line reason)) allowed is = allowed
 not_two game script (Refused GameTooLong) allowed is = allowed
 not_two game script (Refused ReadFault) allowed is = allowed
+not_two game script (Refused LinkFault) allowed is = allowed
 not_two game script (Refused Memory) allowed is = absurd (omega (arith, is))
 not_two game script (Refused (TextLine line reason)) allowed is = absurd (omega (arith, is))
 not_two game script (Refused TextTooLong) allowed is = absurd (omega (arith, is))
@@ -52,6 +56,7 @@ unread_not_two content name before now Usage refuses is = refuses
 unread_not_two content name before now (GameLine line reason) refuses is = refuses
 unread_not_two content name before now GameTooLong refuses is = refuses
 unread_not_two content name before now ReadFault refuses is = absurd (omega (arith, is))
+unread_not_two content name before now LinkFault refuses is = refuses
 unread_not_two content name before now Memory refuses is = absurd (omega (arith, is))
 unread_not_two content name before now (TextLine line reason) refuses is = refuses
 unread_not_two content name before now TextTooLong refuses is = absurd (omega (arith, is))
@@ -63,55 +68,69 @@ script_not_two content game name before now outcome (inr unread) is =
 
 only : (content : Content) (command : Option Command) (before now : ℕ) (outcome : Outcome) → Allows content command before now outcome → code_of outcome ≡ 2 → IfSome content (λ _. HasRefusedGame content command)
 only content None before now (Done text) allowed is = absurd (omega (arith, is))
+only content None before now (Lapsed text) allowed is = absurd (omega (arith, is))
 only content None before now (Cut text) allowed is = absurd (omega (arith, is))
 only content None before now (Refused Usage) allowed is = absurd (omega (arith, is))
 only content None before now (Refused (GameLine line reason)) allowed is = absurd allowed
 only content None before now (Refused GameTooLong) allowed is = absurd allowed
 only content None before now (Refused ReadFault) allowed is = absurd (omega (arith, is))
+only content None before now (Refused LinkFault) allowed is = absurd (omega (arith, is))
 only content None before now (Refused Memory) allowed is = absurd (omega (arith, is))
 only content None before now (Refused (TextLine line reason)) allowed is = absurd (omega (arith, is))
 only content None before now (Refused TextTooLong) allowed is = absurd (omega (arith, is))
 only content (Some (Hotel name)) before now (Done text) allowed is = absurd (omega (arith, is))
+only content (Some (Hotel name)) before now (Lapsed text) allowed is = absurd (omega (arith, is))
 only content (Some (Hotel name)) before now (Cut text) allowed is = absurd (omega (arith, is))
 only content (Some (Hotel name)) before now (Refused Usage) allowed is = absurd (omega (arith, is))
 only content (Some (Hotel name)) before now (Refused (GameLine line reason)) allowed is = absurd allowed
 only content (Some (Hotel name)) before now (Refused GameTooLong) allowed is = absurd allowed
 only content (Some (Hotel name)) before now (Refused ReadFault) allowed is = absurd (omega (arith, is))
+only content (Some (Hotel name)) before now (Refused LinkFault) allowed is = absurd (omega (arith, is))
 only content (Some (Hotel name)) before now (Refused Memory) allowed is = absurd (omega (arith, is))
 only content (Some (Hotel name)) before now (Refused (TextLine line reason)) allowed is = absurd (omega (arith, is))
 only content (Some (Hotel name)) before now (Refused TextTooLong) allowed is = absurd (omega (arith, is))
 only content (Some (Show name)) before now (Done text) allowed is = absurd (omega (arith, is))
+only content (Some (Show name)) before now (Lapsed text) allowed is = absurd allowed
 only content (Some (Show name)) before now (Cut text) allowed is = absurd allowed
 only content (Some (Show name)) before now (Refused refusal) allowed is = told_bad content name before now refusal allowed is
 only content (Some (Make seed)) before now (Done text) allowed is = absurd (omega (arith, is))
+only content (Some (Make seed)) before now (Lapsed text) allowed is = absurd (omega (arith, is))
 only content (Some (Make seed)) before now (Cut text) allowed is = absurd (omega (arith, is))
 only content (Some (Make seed)) before now (Refused Usage) allowed is = absurd (omega (arith, is))
 only content (Some (Make seed)) before now (Refused (GameLine line reason)) allowed is = absurd allowed
 only content (Some (Make seed)) before now (Refused GameTooLong) allowed is = absurd allowed
 only content (Some (Make seed)) before now (Refused ReadFault) allowed is = absurd (omega (arith, is))
+only content (Some (Make seed)) before now (Refused LinkFault) allowed is = absurd (omega (arith, is))
 only content (Some (Make seed)) before now (Refused Memory) allowed is = absurd (omega (arith, is))
 only content (Some (Make seed)) before now (Refused (TextLine line reason)) allowed is = absurd (omega (arith, is))
 only content (Some (Make seed)) before now (Refused TextTooLong) allowed is = absurd (omega (arith, is))
 only content (Some (Solve name)) before now (Done text) allowed is = absurd (omega (arith, is))
+only content (Some (Solve name)) before now (Lapsed text) allowed is = absurd (omega (arith, is))
 only content (Some (Solve name)) before now (Cut text) allowed is = absurd (omega (arith, is))
 only content (Some (Solve name)) before now (Refused Usage) allowed is = absurd (omega (arith, is))
 only content (Some (Solve name)) before now (Refused (GameLine line reason)) allowed is = absurd allowed
 only content (Some (Solve name)) before now (Refused GameTooLong) allowed is = absurd allowed
 only content (Some (Solve name)) before now (Refused ReadFault) allowed is = absurd (omega (arith, is))
+only content (Some (Solve name)) before now (Refused LinkFault) allowed is = absurd (omega (arith, is))
 only content (Some (Solve name)) before now (Refused Memory) allowed is = absurd (omega (arith, is))
 only content (Some (Solve name)) before now (Refused (TextLine line reason)) allowed is = absurd (omega (arith, is))
 only content (Some (Solve name)) before now (Refused TextTooLong) allowed is = absurd (omega (arith, is))
 only content (Some (Trial seed count)) before now (Done text) allowed is = absurd (omega (arith, is))
+only content (Some (Trial seed count)) before now (Lapsed text) allowed is = absurd (omega (arith, is))
 only content (Some (Trial seed count)) before now (Cut text) allowed is = absurd (omega (arith, is))
 only content (Some (Trial seed count)) before now (Refused Usage) allowed is = absurd (omega (arith, is))
 only content (Some (Trial seed count)) before now (Refused (GameLine line reason)) allowed is = absurd allowed
 only content (Some (Trial seed count)) before now (Refused GameTooLong) allowed is = absurd allowed
 only content (Some (Trial seed count)) before now (Refused ReadFault) allowed is = absurd (omega (arith, is))
+only content (Some (Trial seed count)) before now (Refused LinkFault) allowed is = absurd (omega (arith, is))
 only content (Some (Trial seed count)) before now (Refused Memory) allowed is = absurd (omega (arith, is))
 only content (Some (Trial seed count)) before now (Refused (TextLine line reason)) allowed is = absurd (omega (arith, is))
 only content (Some (Trial seed count)) before now (Refused TextTooLong) allowed is = absurd (omega (arith, is))
 only content (Some (Play name script)) before now outcome (inl read) is = absurd (script_not_two content read.0 script before now outcome read.2 is)
 only content (Some (Play name script)) before now outcome (inr refused) is =
+    told_bad content name before now refused.0 refused.2 (subst (λ (o : Outcome). code_of o ≡ 2) refused.1 is)
+only content (Some (Serve name port pace)) before now outcome (inl read) is = absurd ((no_file_code outcome read.2).0 is)
+only content (Some (Serve name port pace)) before now outcome (inr refused) is =
     told_bad content name before now refused.0 refused.2 (subst (λ (o : Outcome). code_of o ≡ 2) refused.1 is)
 
 -- a game that is refused was not read
@@ -126,6 +145,7 @@ told_due content name before now Usage refuses quiet = absurd refuses
 told_due content name before now (GameLine line reason) refuses quiet = inl refl
 told_due content name before now GameTooLong refuses quiet = inl refl
 told_due content name before now ReadFault refuses quiet = absurd (omega (arith, quiet.same, quiet.below, refuses.rises))
+told_due content name before now LinkFault refuses quiet = absurd refuses
 told_due content name before now Memory refuses quiet = inr refl
 told_due content name before now (TextLine line reason) refuses quiet = absurd refuses
 told_due content name before now TextTooLong refuses quiet = absurd refuses
@@ -141,6 +161,7 @@ good_due content name before now Usage refuses has quiet = absurd refuses
 good_due content name before now (GameLine line reason) refuses has quiet = absurd (good_not_bad content name has (bad_game content name refuses.0 (Line line reason) refuses.1 refuses.2))
 good_due content name before now GameTooLong refuses has quiet = absurd (good_not_bad content name has (too_long content name refuses.0))
 good_due content name before now ReadFault refuses has quiet = absurd (omega (arith, quiet.same, quiet.below, refuses.rises))
+good_due content name before now LinkFault refuses has quiet = absurd refuses
 good_due content name before now Memory refuses has quiet = refl
 good_due content name before now (TextLine line reason) refuses has quiet = absurd refuses
 good_due content name before now TextTooLong refuses has quiet = absurd refuses
@@ -150,6 +171,7 @@ due : (content : Content) (command : Option Command) (before now : ℕ) (outcome
 due content None before now outcome allowed bad quiet = absurd bad
 due content (Some (Hotel name)) before now outcome allowed bad quiet = absurd bad
 due content (Some (Show name)) before now (Done text) allowed bad quiet = absurd (no_game content name allowed.0 allowed.1 bad)
+due content (Some (Show name)) before now (Lapsed text) allowed bad quiet = absurd allowed
 due content (Some (Show name)) before now (Cut text) allowed bad quiet = absurd allowed
 due content (Some (Show name)) before now (Refused refusal) allowed bad quiet = told_due content name before now refusal allowed quiet
 due content (Some (Make seed)) before now outcome allowed bad quiet = absurd bad
@@ -157,6 +179,9 @@ due content (Some (Solve name)) before now outcome allowed bad quiet = absurd ba
 due content (Some (Trial seed count)) before now outcome allowed bad quiet = absurd bad
 due content (Some (Play name script)) before now outcome (inl read) bad quiet = absurd (no_game content name read.0 read.1 bad)
 due content (Some (Play name script)) before now outcome (inr refused) bad quiet =
+    subst (λ (o : Outcome). (code_of o ≡ 2) ⊎ (code_of o ≡ 7)) (sym refused.1) (told_due content name before now refused.0 refused.2 quiet)
+due content (Some (Serve name port pace)) before now outcome (inl read) bad quiet = absurd (no_game content name read.0 read.1 bad)
+due content (Some (Serve name port pace)) before now outcome (inr refused) bad quiet =
     subst (λ (o : Outcome). (code_of o ≡ 2) ⊎ (code_of o ≡ 7)) (sym refused.1) (told_due content name before now refused.0 refused.2 quiet)
 
 pub game_refused : (content : Content) (command : Option Command) (before now out_before out_now code : ℕ) (taken taken' : Option (List ℕ)) (outcome : Outcome) →

@@ -12,14 +12,15 @@ use Rattle.script_run.specs.GameOuts.{IsGoodScript}
 use Rattle.script_run.specs.HotelScripts.{script_of}
 use Rattle.script_run.specs.HotelOuts.{IsOut, longest_script}
 use Rattle.tacd.specs.declared.refusals.Refusal.{Refusal}
-use Rattle.tacd.specs.declared.refusals.Refusal.TheVariants.{Usage, GameLine, GameTooLong, ReadFault, Memory, TextLine, TextTooLong}
-use Rattle.tacd.specs.Commands.{Command, Hotel, Show, Make, Solve, Play, Trial}
-use Rattle.tacd.specs.Outcomes.{Outcome, Done, Cut, Refused, refusal_code, code_of}
+use Rattle.tacd.specs.declared.refusals.Refusal.TheVariants.{Usage, GameLine, GameTooLong, ReadFault, LinkFault, Memory, TextLine, TextTooLong}
+use Rattle.tacd.specs.Commands.{Command, Hotel, Show, Make, Solve, Play, Trial, Serve}
+use Rattle.tacd.specs.Outcomes.{Outcome, Done, Lapsed, Cut, Refused, refusal_code, code_of}
 use Rattle.tacd.specs.Allowed.{Content, Allows, GameAllows, IsGameFile, RefusesGame, RefusesScript, ScriptAllows, longest_account}
 use Rattle.tacd.specs.Ends.{Tells}
 use Rattle.tacd.specs.Causes.{IsQuiet, told_file, IsRefusedScript, IsRefusedGameScript, HasGame, HasRefusedText, TextRefusedExactly}
 use Rattle.tacd.proofs.LongFiles.{long_account}
 use Rattle.tacd.proofs.CodedOutcomes.{coded, told_only, told_always}
+use Rattle.tacd.proofs.ServiceEnds.{no_file_code}
 use Rattle.tacd.proofs.Unambiguous.{not_both, same_file}
 use Rattle.tacd.proofs.RefusedGames.{good_due}
 
@@ -58,11 +59,13 @@ long_game_script (Some files) game_name name game read long = (has_game files ga
 -- what is told of a game script with code 8
 script_bad : (game : GameFile) (script : List ℕ) (outcome : Outcome) → GameAllows game script outcome → code_of outcome ≡ 8 → IsRefusedGameScript script
 script_bad game script (Done text) allowed is = absurd (omega (arith, is))
+script_bad game script (Lapsed text) allowed is = absurd (omega (arith, is))
 script_bad game script (Cut text) allowed is = absurd (omega (arith, is))
 script_bad game script (Refused Usage) allowed is = absurd allowed
 script_bad game script (Refused (GameLine line reason)) allowed is = absurd allowed
 script_bad game script (Refused GameTooLong) allowed is = absurd allowed
 script_bad game script (Refused ReadFault) allowed is = absurd allowed
+script_bad game script (Refused LinkFault) allowed is = absurd allowed
 script_bad game script (Refused Memory) allowed is = absurd (omega (arith, is))
 script_bad game script (Refused (TextLine line reason)) allowed is = inr (line, reason, allowed)
 script_bad game script (Refused TextTooLong) allowed is = inl allowed
@@ -72,6 +75,7 @@ script_long content name before now Usage refuses is = absurd refuses
 script_long content name before now (GameLine line reason) refuses is = absurd refuses
 script_long content name before now GameTooLong refuses is = absurd refuses
 script_long content name before now ReadFault refuses is = absurd (omega (arith, is))
+script_long content name before now LinkFault refuses is = absurd refuses
 script_long content name before now Memory refuses is = absurd (omega (arith, is))
 script_long content name before now (TextLine line reason) refuses is = absurd refuses
 script_long content name before now TextTooLong refuses is = refuses.0
@@ -88,62 +92,77 @@ game_not_eight content name before now Usage refuses is = refuses
 game_not_eight content name before now (GameLine line reason) refuses is = absurd (omega (arith, is))
 game_not_eight content name before now GameTooLong refuses is = absurd (omega (arith, is))
 game_not_eight content name before now ReadFault refuses is = absurd (omega (arith, is))
+game_not_eight content name before now LinkFault refuses is = refuses
 game_not_eight content name before now Memory refuses is = absurd (omega (arith, is))
 game_not_eight content name before now (TextLine line reason) refuses is = refuses
 game_not_eight content name before now TextTooLong refuses is = refuses
 
 only : (content : Content) (command : Option Command) (before now : ℕ) (outcome : Outcome) → Allows content command before now outcome → code_of outcome ≡ 8 → IfSome content (λ _. HasRefusedText content command)
 only content None before now (Done text) allowed is = absurd (omega (arith, is))
+only content None before now (Lapsed text) allowed is = absurd (omega (arith, is))
 only content None before now (Cut text) allowed is = absurd (omega (arith, is))
 only content None before now (Refused Usage) allowed is = absurd (omega (arith, is))
 only content None before now (Refused (GameLine line reason)) allowed is = absurd (omega (arith, is))
 only content None before now (Refused GameTooLong) allowed is = absurd (omega (arith, is))
 only content None before now (Refused ReadFault) allowed is = absurd (omega (arith, is))
+only content None before now (Refused LinkFault) allowed is = absurd (omega (arith, is))
 only content None before now (Refused Memory) allowed is = absurd (omega (arith, is))
 only content None before now (Refused (TextLine line reason)) allowed is = absurd allowed
 only content None before now (Refused TextTooLong) allowed is = absurd allowed
 only content (Some (Hotel name)) before now (Done text) allowed is = absurd (omega (arith, is))
+only content (Some (Hotel name)) before now (Lapsed text) allowed is = absurd (omega (arith, is))
 only content (Some (Hotel name)) before now (Cut text) allowed is = absurd (omega (arith, is))
 only content (Some (Hotel name)) before now (Refused Usage) allowed is = absurd (omega (arith, is))
 only content (Some (Hotel name)) before now (Refused (GameLine line reason)) allowed is = absurd (omega (arith, is))
 only content (Some (Hotel name)) before now (Refused GameTooLong) allowed is = absurd (omega (arith, is))
 only content (Some (Hotel name)) before now (Refused ReadFault) allowed is = absurd (omega (arith, is))
+only content (Some (Hotel name)) before now (Refused LinkFault) allowed is = absurd (omega (arith, is))
 only content (Some (Hotel name)) before now (Refused Memory) allowed is = absurd (omega (arith, is))
 only content (Some (Hotel name)) before now (Refused (TextLine line reason)) allowed is = bad_script content name allowed.0 allowed.1 (inr (line, reason, allowed.2))
 only content (Some (Hotel name)) before now (Refused TextTooLong) allowed is = long_script content name allowed.0
 only content (Some (Show name)) before now (Done text) allowed is = absurd (omega (arith, is))
+only content (Some (Show name)) before now (Lapsed text) allowed is = absurd allowed
 only content (Some (Show name)) before now (Cut text) allowed is = absurd allowed
 only content (Some (Show name)) before now (Refused refusal) allowed is = absurd (game_not_eight content name before now refusal allowed is)
 only content (Some (Make seed)) before now (Done text) allowed is = absurd (omega (arith, is))
+only content (Some (Make seed)) before now (Lapsed text) allowed is = absurd (omega (arith, is))
 only content (Some (Make seed)) before now (Cut text) allowed is = absurd (omega (arith, is))
 only content (Some (Make seed)) before now (Refused Usage) allowed is = absurd (omega (arith, is))
 only content (Some (Make seed)) before now (Refused (GameLine line reason)) allowed is = absurd (omega (arith, is))
 only content (Some (Make seed)) before now (Refused GameTooLong) allowed is = absurd (omega (arith, is))
 only content (Some (Make seed)) before now (Refused ReadFault) allowed is = absurd (omega (arith, is))
+only content (Some (Make seed)) before now (Refused LinkFault) allowed is = absurd (omega (arith, is))
 only content (Some (Make seed)) before now (Refused Memory) allowed is = absurd (omega (arith, is))
 only content (Some (Make seed)) before now (Refused (TextLine line reason)) allowed is = absurd allowed
 only content (Some (Make seed)) before now (Refused TextTooLong) allowed is = absurd allowed
 only content (Some (Solve name)) before now (Done text) allowed is = absurd (omega (arith, is))
+only content (Some (Solve name)) before now (Lapsed text) allowed is = absurd (omega (arith, is))
 only content (Some (Solve name)) before now (Cut text) allowed is = absurd (omega (arith, is))
 only content (Some (Solve name)) before now (Refused Usage) allowed is = absurd (omega (arith, is))
 only content (Some (Solve name)) before now (Refused (GameLine line reason)) allowed is = absurd (omega (arith, is))
 only content (Some (Solve name)) before now (Refused GameTooLong) allowed is = absurd (omega (arith, is))
 only content (Some (Solve name)) before now (Refused ReadFault) allowed is = absurd (omega (arith, is))
+only content (Some (Solve name)) before now (Refused LinkFault) allowed is = absurd (omega (arith, is))
 only content (Some (Solve name)) before now (Refused Memory) allowed is = absurd (omega (arith, is))
 only content (Some (Solve name)) before now (Refused (TextLine line reason)) allowed is = bad_account content name allowed.0 (Line line reason) allowed.1 allowed.2
 only content (Some (Solve name)) before now (Refused TextTooLong) allowed is = too_long content name allowed.0
 only content (Some (Trial seed count)) before now (Done text) allowed is = absurd (omega (arith, is))
+only content (Some (Trial seed count)) before now (Lapsed text) allowed is = absurd (omega (arith, is))
 only content (Some (Trial seed count)) before now (Cut text) allowed is = absurd (omega (arith, is))
 only content (Some (Trial seed count)) before now (Refused Usage) allowed is = absurd (omega (arith, is))
 only content (Some (Trial seed count)) before now (Refused (GameLine line reason)) allowed is = absurd (omega (arith, is))
 only content (Some (Trial seed count)) before now (Refused GameTooLong) allowed is = absurd (omega (arith, is))
 only content (Some (Trial seed count)) before now (Refused ReadFault) allowed is = absurd (omega (arith, is))
+only content (Some (Trial seed count)) before now (Refused LinkFault) allowed is = absurd (omega (arith, is))
 only content (Some (Trial seed count)) before now (Refused Memory) allowed is = absurd (omega (arith, is))
 only content (Some (Trial seed count)) before now (Refused (TextLine line reason)) allowed is = absurd allowed
 only content (Some (Trial seed count)) before now (Refused TextTooLong) allowed is = absurd allowed
 only content (Some (Play game name)) before now outcome (inl read) is = play_cause content game name read.0 before now outcome read.1 read.2 is
 only content (Some (Play game name)) before now outcome (inr refused) is =
     absurd (game_not_eight content game before now refused.0 refused.2 (subst (λ (o : Outcome). code_of o ≡ 8) refused.1 is))
+only content (Some (Serve name port pace)) before now outcome (inl read) is = absurd ((no_file_code outcome read.2).2 is)
+only content (Some (Serve name port pace)) before now outcome (inr refused) is =
+    absurd (game_not_eight content name before now refused.0 refused.2 (subst (λ (o : Outcome). code_of o ≡ 8) refused.1 is))
 
 -- a script whose text was written is not refused
 not_refused : (script text : List ℕ) → IsOut script text → IsRefusedScript script → ⊥
@@ -160,11 +179,13 @@ hotel_due : (content : Content) (name : List ℕ) (before now : ℕ) (outcome : 
 hotel_due None name before now outcome file allowed is bad quiet = absurd (cc)
 hotel_due (Some files) name before now (Done text) file allowed is bad quiet =
     absurd (not_refused file text (subst (λ (f : List ℕ). IsOut f text) (same_file (files name) allowed.0 file allowed.1 is) allowed.2) bad)
+hotel_due (Some files) name before now (Lapsed text) file allowed is bad quiet = absurd allowed
 hotel_due (Some files) name before now (Cut text) file allowed is bad quiet = absurd allowed
 hotel_due (Some files) name before now (Refused Usage) file allowed is bad quiet = absurd allowed
 hotel_due (Some files) name before now (Refused (GameLine line reason)) file allowed is bad quiet = absurd allowed
 hotel_due (Some files) name before now (Refused GameTooLong) file allowed is bad quiet = absurd allowed
 hotel_due (Some files) name before now (Refused ReadFault) file allowed is bad quiet = absurd (omega (arith, quiet.same, quiet.below, allowed.rises))
+hotel_due (Some files) name before now (Refused LinkFault) file allowed is bad quiet = absurd allowed
 hotel_due (Some files) name before now (Refused Memory) file allowed is bad quiet = inr refl
 hotel_due (Some files) name before now (Refused (TextLine line reason)) file allowed is bad quiet = inl refl
 hotel_due (Some files) name before now (Refused TextTooLong) file allowed is bad quiet = inl refl
@@ -175,11 +196,13 @@ solve_due : (content : Content) (name : List ℕ) (before now : ℕ) (outcome : 
 solve_due None name before now outcome file fault allowed is bad quiet = absurd (cc)
 solve_due (Some files) name before now (Done text) file fault allowed is bad quiet =
     absurd (not_both (account_of file) allowed.1 fault (subst (λ (f : List ℕ). account_of f ≡ Ok allowed.1) (same_file (files name) allowed.0 file allowed.2 is) allowed.3) bad)
+solve_due (Some files) name before now (Lapsed text) file fault allowed is bad quiet = absurd allowed
 solve_due (Some files) name before now (Cut text) file fault allowed is bad quiet = absurd allowed
 solve_due (Some files) name before now (Refused Usage) file fault allowed is bad quiet = absurd allowed
 solve_due (Some files) name before now (Refused (GameLine line reason)) file fault allowed is bad quiet = absurd allowed
 solve_due (Some files) name before now (Refused GameTooLong) file fault allowed is bad quiet = absurd allowed
 solve_due (Some files) name before now (Refused ReadFault) file fault allowed is bad quiet = absurd (omega (arith, quiet.same, quiet.below, allowed.rises))
+solve_due (Some files) name before now (Refused LinkFault) file fault allowed is bad quiet = absurd allowed
 solve_due (Some files) name before now (Refused Memory) file fault allowed is bad quiet = inr refl
 solve_due (Some files) name before now (Refused (TextLine line reason)) file fault allowed is bad quiet = inl refl
 solve_due (Some files) name before now (Refused TextTooLong) file fault allowed is bad quiet = inl refl
@@ -187,11 +210,13 @@ solve_due (Some files) name before now (Refused TextTooLong) file fault allowed 
 -- the same of a game script
 run_due : (game : GameFile) (script : List ℕ) (outcome : Outcome) → GameAllows game script outcome → IsRefusedGameScript script → (code_of outcome ≡ 8) ⊎ (code_of outcome ≡ 7)
 run_due game script (Done text) allowed bad = absurd (good_not_refused script allowed.lines allowed.good bad)
+run_due game script (Lapsed text) allowed bad = absurd allowed
 run_due game script (Cut text) allowed bad = absurd (good_not_refused script allowed.lines allowed.good bad)
 run_due game script (Refused Usage) allowed bad = absurd allowed
 run_due game script (Refused (GameLine line reason)) allowed bad = absurd allowed
 run_due game script (Refused GameTooLong) allowed bad = absurd allowed
 run_due game script (Refused ReadFault) allowed bad = absurd allowed
+run_due game script (Refused LinkFault) allowed bad = absurd allowed
 run_due game script (Refused Memory) allowed bad = inr refl
 run_due game script (Refused (TextLine line reason)) allowed bad = inl refl
 run_due game script (Refused TextTooLong) allowed bad = inl refl
@@ -201,6 +226,7 @@ unread_due content name before now Usage refuses quiet = absurd refuses
 unread_due content name before now (GameLine line reason) refuses quiet = absurd refuses
 unread_due content name before now GameTooLong refuses quiet = absurd refuses
 unread_due content name before now ReadFault refuses quiet = absurd (omega (arith, quiet.same, quiet.below, refuses.rises))
+unread_due content name before now LinkFault refuses quiet = absurd refuses
 unread_due content name before now Memory refuses quiet = inr refl
 unread_due content name before now (TextLine line reason) refuses quiet = absurd refuses
 unread_due content name before now TextTooLong refuses quiet = inl refl
@@ -228,6 +254,7 @@ due content (Some (Make seed)) before now outcome allowed bad quiet = absurd bad
 due content (Some (Solve name)) before now outcome allowed bad quiet = solve_due content name before now outcome bad.0 bad.1 allowed bad.2 bad.3 quiet
 due content (Some (Trial seed count)) before now outcome allowed bad quiet = absurd bad
 due content (Some (Play game name)) before now outcome allowed bad quiet = play_due content game name before now outcome allowed bad.0 bad.1.0 bad.1.1 bad.1.2 quiet
+due content (Some (Serve name port pace)) before now outcome allowed bad quiet = absurd bad
 
 pub text_refused : (content : Content) (command : Option Command) (before now out_before out_now code : ℕ) (taken taken' : Option (List ℕ)) (outcome : Outcome) →
     Allows content command before now outcome → Tells outcome taken taken' out_before out_now code → TextRefusedExactly content command before now code

@@ -3,7 +3,7 @@ use Rattle.std.proofs.Common.{◌≡◌, ◌≢◌, ℕ, List, sym, ◌∙◌, i
 use Rattle.std.specs.Prelude.{◌⊎◌}
 use Rattle.tac_io.specs.Counts.{Rose}
 use Rattle.tacd.specs.declared.refusals.Refusal.{Refusal}
-use Rattle.tacd.specs.declared.refusals.Refusal.TheVariants.{Usage, GameLine, GameTooLong, ReadFault, Memory, TextLine, TextTooLong}
+use Rattle.tacd.specs.declared.refusals.Refusal.TheVariants.{Usage, GameLine, GameTooLong, ReadFault, LinkFault, Memory, TextLine, TextTooLong}
 use Rattle.tacd.specs.declared.ends.End.{End}
 use Rattle.tacd.specs.declared.ends.End.TheVariants as ends
 use Rattle.tacd.specs.Commands.{Play}
@@ -38,6 +38,7 @@ early (ends.Refused GameTooLong) taken taken' before now code is finished =
 early (ends.Refused ReadFault) taken taken' before now code is finished =
     let told = code_told ReadFault taken taken' before now code finished in
     (is_not code 3 0 told (omega arith) (omega arith), is_not code 3 8 told (omega arith) (omega arith))
+early (ends.Refused LinkFault) taken taken' before now code is finished = absurd is
 early (ends.Refused Memory) taken taken' before now code is finished =
     let told = code_told Memory taken taken' before now code finished in
     (is_not code 7 0 told (omega arith) (omega arith), is_not code 7 8 told (omega arith) (omega arith))
@@ -51,6 +52,7 @@ late (ends.Refused Usage) taken taken' before now code is finished = is_not code
 late (ends.Refused (GameLine line reason)) taken taken' before now code is finished = absurd is
 late (ends.Refused GameTooLong) taken taken' before now code is finished = absurd is
 late (ends.Refused ReadFault) taken taken' before now code is finished = is_not code 3 2 (code_told ReadFault taken taken' before now code finished) (omega arith) (omega arith)
+late (ends.Refused LinkFault) taken taken' before now code is finished = is_not code 5 2 (code_told LinkFault taken taken' before now code finished) (omega arith) (omega arith)
 late (ends.Refused Memory) taken taken' before now code is finished = is_not code 7 2 (code_told Memory taken taken' before now code finished) (omega arith) (omega arith)
 late (ends.Refused (TextLine line reason)) taken taken' before now code is finished =
     is_not code 8 2 (code_told (TextLine line reason) taken taken' before now code finished) (omega arith) (omega arith)

@@ -13,12 +13,12 @@ use Rattle.script_run.specs.declared.play_count.PlayCount.{PlayCount}
 use Rattle.script_run.specs.QuietGames.{IsSummary}
 use Rattle.script_run.specs.GameOuts.{IsPlayOut, IsFirstOut, IsBadScript}
 use Rattle.tacd.specs.declared.refusals.Refusal.{Refusal}
-use Rattle.tacd.specs.declared.refusals.Refusal.TheVariants.{Usage, GameLine, GameTooLong, ReadFault, Memory, TextLine, TextTooLong}
+use Rattle.tacd.specs.declared.refusals.Refusal.TheVariants.{Usage, GameLine, GameTooLong, ReadFault, LinkFault, Memory, TextLine, TextTooLong}
 use Rattle.draw_maker.specs.Games.{made_game}
 use Rattle.draw_maker.specs.Scripts.{made_script}
-use Rattle.tacd.specs.Commands.{Command, Hotel, Show, Make, Solve, Play, Trial}
+use Rattle.tacd.specs.Commands.{Command, Hotel, Show, Make, Solve, Play, Trial, Serve}
 use Rattle.tacd.specs.Trials.{trial_text}
-use Rattle.tacd.specs.Outcomes.{Outcome, Done, Cut, Refused}
+use Rattle.tacd.specs.Outcomes.{Outcome, Done, Lapsed, Cut, Refused}
 
 -- the bytes of each name, where they are told
 abbrev pub Content : Type 0
@@ -27,6 +27,7 @@ Content = Option (List ℕ → Option (List ℕ))
 -- the script of that name is run, or refused
 abbrev pub HotelAllows : Content → List ℕ → ℕ → ℕ → Outcome → Type 0
 HotelAllows content name before now (Done text) = (script : List ℕ) × IsFile content name script × IsOut script text × (now ≡ before)
+HotelAllows content name before now (Lapsed text) = ⊥
 HotelAllows content name before now (Cut text) = ⊥
 HotelAllows content name before now (Refused ReadFault) = Rose before now
 HotelAllows content name before now (Refused Memory) = now ≡ before
@@ -55,12 +56,14 @@ RefusesGame content name before now refusal = ⊥
 -- the game of that name is shown, or refused
 abbrev pub ShowAllows : Content → List ℕ → ℕ → ℕ → Outcome → Type 0
 ShowAllows content name before now (Done text) = (game : GameFile) × IsGameFile content name game × (text ≡ spelling game) × (now ≡ before)
+ShowAllows content name before now (Lapsed text) = ⊥
 ShowAllows content name before now (Cut text) = ⊥
 ShowAllows content name before now (Refused refusal) = RefusesGame content name before now refusal
 
 -- the game that is made of the seed is shown
 abbrev pub MakeAllows : ℕ → ℕ → ℕ → Outcome → Type 0
 MakeAllows seed before now (Done text) = (text ≡ spelling (made_game seed)) × (now ≡ before)
+MakeAllows seed before now (Lapsed text) = ⊥
 MakeAllows seed before now (Cut text) = ⊥
 MakeAllows seed before now (Refused Memory) = now ≡ before
 MakeAllows seed before now (Refused refusal) = ⊥
@@ -72,6 +75,7 @@ longest_account = 67108864
 -- an account is told with some solution
 abbrev pub AccountAllows : AccountFile → Outcome → Type 0
 AccountAllows account (Done text) = IsSolvedText account text
+AccountAllows account (Lapsed text) = ⊥
 AccountAllows account (Cut text) = ⊥
 AccountAllows account (Refused Memory) = ⊤
 AccountAllows account (Refused refusal) = ⊥
@@ -80,6 +84,7 @@ AccountAllows account (Refused refusal) = ⊥
 abbrev pub SolveAllows : Content → List ℕ → ℕ → ℕ → Outcome → Type 0
 SolveAllows content name before now (Done text) =
     (file : List ℕ) × (account : AccountFile) × IsFile content name file × (account_of file ≡ Ok account) × IsSolvedText account text × (now ≡ before)
+SolveAllows content name before now (Lapsed text) = ⊥
 SolveAllows content name before now (Cut text) = ⊥
 SolveAllows content name before now (Refused ReadFault) = Rose before now
 SolveAllows content name before now (Refused Memory) = now ≡ before
@@ -92,6 +97,7 @@ SolveAllows content name before now (Refused refusal) = ⊥
 -- script is refused
 abbrev pub GameAllows : GameFile → List ℕ → Outcome → Type 0
 GameAllows game script (Done text) = IsPlayOut game script text
+GameAllows game script (Lapsed text) = ⊥
 GameAllows game script (Cut text) = IsFirstOut game script text
 GameAllows game script (Refused Memory) = ⊤
 GameAllows game script (Refused (TextLine line reason)) = IsBadScript script line reason
@@ -121,9 +127,26 @@ PlayAllows content game_name script_name before now outcome =
 abbrev pub TrialAllows : ℕ → ℕ → ℕ → ℕ → Outcome → Type 0
 TrialAllows seed count before now (Done text) =
     (played : PlayCount) × (sheet : List Scored) × IsSummary (made_game seed) (made_script seed count) played sheet × (text ≡ trial_text seed count played sheet) × (now ≡ before)
+TrialAllows seed count before now (Lapsed text) = ⊥
 TrialAllows seed count before now (Cut text) = ⊥
 TrialAllows seed count before now (Refused Memory) = now ≡ before
 TrialAllows seed count before now (Refused refusal) = ⊥
+
+-- how the service of a game may end whose file is good: its log is told, whole or without its sheet; or the links failed, or there was no
+-- memory for the game. What the log tells, and what became of the links, is said by `Service`.
+abbrev pub IsServiceEnd : Outcome → Type 0
+IsServiceEnd (Done text) = ⊤
+IsServiceEnd (Lapsed text) = ⊤
+IsServiceEnd (Cut text) = ⊤
+IsServiceEnd (Refused LinkFault) = ⊤
+IsServiceEnd (Refused Memory) = ⊤
+IsServiceEnd (Refused refusal) = ⊥
+
+-- the game of that name is served, or refused
+abbrev pub ServiceAllows : Content → List ℕ → ℕ → ℕ → Outcome → Type 0
+ServiceAllows content name before now outcome =
+    ((game : GameFile) × IsGameFile content name game × IsServiceEnd outcome × (now ≡ before))
+    ⊎ ((refusal : Refusal) × (outcome ≡ Refused refusal) × RefusesGame content name before now refusal)
 
 -- without a command the usage is told
 abbrev pub UsageAllows : ℕ → ℕ → Outcome → Type 0
@@ -139,3 +162,4 @@ Allows content (Some (Make seed)) before now outcome = MakeAllows seed before no
 Allows content (Some (Solve account)) before now outcome = SolveAllows content account before now outcome
 Allows content (Some (Play game script)) before now outcome = PlayAllows content game script before now outcome
 Allows content (Some (Trial seed count)) before now outcome = TrialAllows seed count before now outcome
+Allows content (Some (Serve game port pace)) before now outcome = ServiceAllows content game before now outcome

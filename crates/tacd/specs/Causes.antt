@@ -8,7 +8,7 @@ use Rattle.game_text.specs.Accounts.{AccountFile, account_of}
 use Rattle.script_run.specs.declared.game_lines.GameLine.{GameLine}
 use Rattle.script_run.specs.HotelOuts.{IsBad, IsOut, longest_script}
 use Rattle.script_run.specs.GameOuts.{IsGoodScript, IsBadScript}
-use Rattle.tacd.specs.Commands.{Command, Hotel, Show, Make, Solve, Play, Trial}
+use Rattle.tacd.specs.Commands.{Command, Hotel, Show, Make, Solve, Play, Trial, Serve}
 use Rattle.tacd.specs.Allowed.{Content}
 
 -- no call failed: the count is as before, and below its last value
@@ -68,6 +68,7 @@ HasRefusedText content command = ⊥
 abbrev pub HasRefusedGame : Content → Option Command → Type 0
 HasRefusedGame content (Some (Show name)) = HasBadGame content name
 HasRefusedGame content (Some (Play name script)) = HasBadGame content name
+HasRefusedGame content (Some (Serve name port pace)) = HasBadGame content name
 HasRefusedGame content command = ⊥
 
 -- 8 comes exactly where a script or an account is read and refused
@@ -90,7 +91,19 @@ IsReady content (Some (Solve name)) = (file : List ℕ) × (account : AccountFil
 IsReady content (Some (Play game name)) =
     HasGame content game × ((script : List ℕ) × (lines : List GameLine) × (told_file content name ≡ Some script) × IsGoodScript script lines)
 IsReady content (Some (Trial seed count)) = ⊤
+IsReady content (Some (Serve name port pace)) = HasGame content name
 
--- where the words are a command, its files are good and no count rose, the code is 0, or 7
-pub record IsComplete (content : Content) (command : Option Command) (before now out_before out_now code : ℕ) : Type 0 where
-  pub good : IsReady content command → IsQuiet before now → IsQuiet out_before out_now → (code ≡ 0) ⊎ (code ≡ 7)
+-- where the words are a command, its files are good and no count of the files, the sink, the links or the ticker rose, the code is 0, or 7
+pub record IsComplete (content : Content) (command : Option Command) (before now out_before out_now links_before links_now ticks_before ticks_now code : ℕ) : Type 0 where
+  pub good : IsReady content command → IsQuiet before now → IsQuiet out_before out_now → IsQuiet links_before links_now → IsQuiet ticks_before ticks_now → (code ≡ 0) ⊎ (code ≡ 7)
+
+-- 5 comes exactly where the count of faults of the links rose
+pub record LinkFaultExactly (before now code : ℕ) : Type 0 where
+  pub only : code ≡ 5 → Rose before now
+  pub always : before < now → (code ≡ 5) ⊎ (code ≡ 4)
+
+-- 6 comes exactly where the count of faults of the ticker rose and no other code applies: the game was played, and memory sufficed for
+-- its scores
+pub record ClockFaultExactly (before now code : ℕ) : Type 0 where
+  pub only : code ≡ 6 → Rose before now
+  pub always : before < now → (code ≡ 6) ⊎ (code ≡ 4) ⊎ (code ≡ 7)

@@ -7,3 +7,4 @@ pub mod Ends
 pub mod Causes
 pub mod Selected
 pub mod Trials
+pub mod Service

@@ -11,3 +11,4 @@ HasShortNames (asked.Make seed) = ⊤
 HasShortNames (asked.Solve account) = length account.now ≤ 1024
 HasShortNames (asked.Play game script) = (length game.now ≤ 1024) × (length script.now ≤ 1024)
 HasShortNames (asked.Trial seed count) = count ≤ 50000
+HasShortNames (asked.Serve game port pace) = length game.now ≤ 1024

@@ -1,13 +1,19 @@
 //! The program `tac`: its commands over the files and the output of the system.
 #![tactic(auto)]
 
+mod answer;
 mod commands;
 mod ends;
 mod host_files;
 mod play_command;
 mod reading;
 mod refusals;
+mod serve_command;
+#[cfg(test)]
+mod serve_tests;
+mod sleep_ticker;
 mod std_sink;
+mod tcp_links;
 #[cfg(test)]
 mod tests;
 mod top;
@@ -19,12 +25,13 @@ ghost use Rattle.std.specs.Prelude.{◌≤◌, ◌↔◌, All, IfOk, IsTrue, str
 use ends::{End, finish};
 use host_files::HostFiles;
 use refusals::Refusal;
+use sleep_ticker::SleepTicker;
 use std::env::Env;
 use std::io::ErrorKind;
 use std::process::ExitCode;
 use std::{env, io};
 use std_sink::StdSink;
-use tac_io::{MemLink, MemLinks, MemTicker};
+use tcp_links::TcpLinks;
 use top::tac;
 
 /// The words of the command line after the program's name. One that is no UTF-8, or longer than
@@ -61,11 +68,9 @@ fn main(rt: HostRuntime) -> ExitCode {
         Ok(words) => words,
         Err(refusal) => return ExitCode::from(finish(&mut out, End::Refused(refusal))),
     };
-    let Ok(mut ticker) = MemTicker::new(rt.alloc(), Vec::new(rt.alloc())) else {
-        return ExitCode::from(finish(&mut out, End::Refused(Refusal::Memory)));
-    };
     let mut files = HostFiles::new(&rt);
-    let mut links = MemLinks::<MemLink>::new(Vec::new(rt.alloc()), Vec::new(rt.alloc()));
+    let mut links = TcpLinks::new(&rt);
+    let mut ticker = SleepTicker::new();
     let answer = tac(
         &rt,
         rt.alloc(),

@@ -37,7 +37,7 @@ const NO_FAULT: Faults = Faults {
 };
 
 // The file of that name.
-fn file(alloc: Global, name: &str, bytes: &[u8]) -> Result<MemFile, Fail> {
+pub(crate) fn file(alloc: Global, name: &str, bytes: &[u8]) -> Result<MemFile, Fail> {
     Ok(MemFile {
         name: String::from_str(alloc, name)?,
         bytes: bytes.to_vec(alloc)?,
@@ -201,6 +201,11 @@ fn other_words_are_no_command(rt: HostRuntime) -> Result<(), Fail> {
         "trial 7 50001",
         "trial 7 01",
         "trial -7 0",
+        "serve script 0 5",
+        "serve script 65536 5",
+        "serve script 7411 60001",
+        "serve script 07411 5",
+        "serve script 7411",
     ] {
         let ran = run(&rt, alloc, line, b"", NO_FAULT)?;
         assert_eq!(rt; ran.text.as_slice(), b"usage\n".as_slice(), "{line}");
@@ -251,7 +256,7 @@ fn each_fault_has_its_code(rt: HostRuntime) -> Result<(), Fail> {
 
 // The game in which all flights stay at 300, nobody has a ticket, and all clients are alike; line
 // 20 is the given one.
-fn plain_game(alloc: Global, line_20: &str) -> Result<String, Fail> {
+pub(crate) fn plain_game(alloc: Global, line_20: &str) -> Result<String, Fail> {
     let mut text = String::from_str(
         alloc,
         "tac 1\nwords seat0 seat1 seat2 seat3 seat4 seat5 seat6 seat7\n",

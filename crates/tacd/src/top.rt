@@ -1,26 +1,23 @@
 // The top call.
-ghost use Rattle.std.specs.Prelude.{◌≡◌, ◌≤◌, [], map, string_bytes, string_len, All, IfSome};
-ghost use Rattle.tacd.specs.Causes.{GameRefusedExactly, IsComplete, ReadFaultExactly, TextRefusedExactly, UsageExactly, WriteFaultExactly};
+ghost use Rattle.std.specs.Prelude.{◌≡◌, ◌≤◌, [], None, map, string_bytes, string_len, All, IfSome};
+ghost use Rattle.game_run.specs.LinkStates.{link_state};
+ghost use Rattle.line_protocol.specs.Requests.{request_of};
+ghost use Rattle.line_protocol.specs.Replies.{said_text};
+ghost use Rattle.tacd.specs.Causes.{ClockFaultExactly, GameRefusedExactly, IsComplete, LinkFaultExactly, ReadFaultExactly, TextRefusedExactly, UsageExactly, WriteFaultExactly};
 ghost use Rattle.tacd.specs.Commands.{command_of};
 ghost use Rattle.tacd.specs.Allowed.{Allows};
 ghost use Rattle.tacd.specs.Ends.{Tells};
 ghost use Rattle.tacd.specs.Outcomes.{Outcome};
 ghost use Rattle.tacd.specs.Selected.{Selects};
+ghost use Rattle.tacd.specs.Service.{OffService, OnService, ServeAllows, links_state, ticker_state};
 
+use crate::answer::Answer;
 use crate::commands::run;
 use std::alloc::Global;
 use std::rt::Clock;
 use std::sync::Wait;
 use std::thread::Threads;
 use tac_io::{Files, Links, Sink, Ticker};
-
-/// What a command leaves: the code that the process ends with, and the links that it took, in
-/// order of arrival.
-#[derive(Drop)]
-pub struct Answer<L> {
-    pub code: u8,
-    pub ended: Vec<L>,
-}
 
 /// Runs the command of the words of a command line after the program's name, over the files, the
 /// sink, the links and the ticker of the outside.
@@ -40,20 +37,24 @@ pub fn tac<R: Threads + Sync + Wait + Clock, F: Files, K: Sink, N: Links, T: Tic
     ensures outcome { (outcome : Outcome)
         × Allows (F.content files.old) (command_of (map (λ word. string_bytes word) words.now)) (F.faults files.old) (F.faults files.new) outcome
         × Tells outcome (K.taken out.old) (K.taken out.new) (K.faults out.old) (K.faults out.new) result.code }
+    // A game over links: what its log tells is what was played, and what each link asked and was sent.
+    ensures service { OnService (command_of (map (λ word. string_bytes word) words.now)) (λ name port pace. (outcome : Outcome)
+        × ServeAllows (link_state N.Link.taken N.Link.left N.Link.sent N.Link.faults N.Link.write_faults) (λ line answer. answer ≡ request_of line) said_text
+        (F.content files.old) name port pace (F.faults files.old) (F.faults files.new)
+        (links_state N.ports N.pending N.faults links.old) (links_state N.ports N.pending N.faults links.new)
+        (ticker_state T.paced T.waited T.faults ticker.old) (ticker_state T.paced T.waited T.faults ticker.new) result.played result.ended outcome
+        × Tells outcome (K.taken out.old) (K.taken out.new) (K.faults out.old) (K.faults out.new) result.code) }
+    ensures others { OffService (command_of (map (λ word. string_bytes word) words.now)) ((links.new ≡ links.old) × (ticker.new ≡ ticker.old) × (result.ended.items ≡ []) × (result.played ≡ None)) }
     ensures usage { UsageExactly (command_of (map (λ word. string_bytes word) words.now)) result.code }
     ensures read_fault { ReadFaultExactly (F.faults files.old) (F.faults files.new) result.code }
     ensures write_fault { WriteFaultExactly (K.faults out.old) (K.faults out.new) result.code }
+    ensures link_fault { LinkFaultExactly (N.faults links.old) (N.faults links.new) result.code }
+    ensures clock_fault { ClockFaultExactly (T.faults ticker.old) (T.faults ticker.new) result.code }
     ensures game_refused { GameRefusedExactly (F.content files.old) (command_of (map (λ word. string_bytes word) words.now)) (F.faults files.old) (F.faults files.new) result.code }
     ensures text_refused { TextRefusedExactly (F.content files.old) (command_of (map (λ word. string_bytes word) words.now)) (F.faults files.old) (F.faults files.new) result.code }
-    ensures complete { IsComplete (F.content files.old) (command_of (map (λ word. string_bytes word) words.now)) (F.faults files.old) (F.faults files.new) (K.faults out.old) (K.faults out.new) result.code }
+    ensures complete { IsComplete (F.content files.old) (command_of (map (λ word. string_bytes word) words.now)) (F.faults files.old) (F.faults files.new) (K.faults out.old) (K.faults out.new)
+        (N.faults links.old) (N.faults links.new) (T.faults ticker.old) (T.faults ticker.new) result.code }
     ensures names { Selects (command_of (map (λ word. string_bytes word) words.now)) (F.names files.old) (F.names files.new) result.code }
-    ensures links { links.new ≡ links.old }
-    ensures ticker { ticker.new ≡ ticker.old }
-    ensures ended { result.ended.items ≡ [] }
 {
-    let code = run(rt, alloc, words, files, out);
-    Answer {
-        code,
-        ended: Vec::new(alloc),
-    }
+    run(rt, alloc, words, files, out, links, ticker)
 }

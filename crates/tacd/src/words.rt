@@ -19,6 +19,8 @@ pub(crate) enum Asked<'a> {
     Solve { account: &'a str },
     Play { game: &'a str, script: &'a str },
     Trial { seed: u64, count: u32 },
+    /// The port, and the pace in milliseconds.
+    Serve { game: &'a str, port: u16, pace: u16 },
 }
 
 /// The command of a word and one more.
@@ -94,6 +96,51 @@ fn command_with_two<'a>(word: &str, first: &'a str, second: &'a str) -> Option<A
     }
 }
 
+/// The number of a word, at least 1 and below a limit.
+fn number_of(word: &str, limit: u64) -> Option<u16>
+    requires { limit ≤ 65536 }
+    ensures { result ≡ commands.positive_below limit word.now }
+{
+    match read_numeral(word.as_bytes(), 10) {
+        Some(number) if 1 <= number && number < limit => Some(number as u16),
+        _ => None,
+    }
+}
+
+/// The service of a game at a port with a pace.
+fn service_of<'a>(game: &'a str, port: Option<u16>, pace: Option<u16>) -> Option<Asked<'a>>
+    requires { length game.now ≤ 1024 }
+    ensures command { MatchOption result (commands.service_of game.now port pace ≡ None) (λ asked. commands.service_of game.now port pace ≡ Some (seen asked)) }
+    ensures short { IfSome result HasShortNames }
+{
+    let Some(port) = port else {
+        return None;
+    };
+    let Some(pace) = pace else {
+        return None;
+    };
+    Some(Asked::Serve { game, port, pace })
+}
+
+/// The command of a word and three more.
+fn command_with_three<'a>(
+    word: &str,
+    first: &'a str,
+    second: &str,
+    third: &str,
+) -> Option<Asked<'a>>
+    requires { length first.now ≤ 1024 }
+    ensures command { MatchOption result (commands.command_with_three word.now first.now second.now third.now ≡ None)
+        (λ asked. commands.command_with_three word.now first.now second.now third.now ≡ Some (seen asked)) }
+    ensures short { IfSome result HasShortNames }
+{
+    if word == "serve" {
+        service_of(first, number_of(second, 65536), number_of(third, 60001))
+    } else {
+        None
+    }
+}
+
 /// The command of the words, if they are one of the list.
 pub(crate) fn command_asked(words: &[String]) -> Option<Asked<'_>>
     requires { All (λ word. string_len word ≤ 1024) words.now }
@@ -104,6 +151,12 @@ pub(crate) fn command_asked(words: &[String]) -> Option<Asked<'_>>
     match words {
         [word, argument] => command_with(word.as_str(), argument.as_str()),
         [word, first, second] => command_with_two(word.as_str(), first.as_str(), second.as_str()),
+        [word, first, second, third] => command_with_three(
+            word.as_str(),
+            first.as_str(),
+            second.as_str(),
+            third.as_str(),
+        ),
         _ => None,
     }
 }

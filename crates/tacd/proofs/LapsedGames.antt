@@ -1,0 +1,45 @@
+-- The code of a game that was told by its log.
+use Rattle.std.proofs.Common.{◌≡◌, ℕ, ◌<◌, Bool, true, false, List, zero, suc, refl, sym, subst, arith, Option}
+use Rattle.std.specs.Prelude.{◌==◌, MatchBool}
+use Rattle.tac_io.specs.Counts.{Rose}
+use Rattle.tac_io.specs.Told.{and_then_told, TakesSome}
+use Rattle.game_text.specs.Games.{GameFile}
+use Rattle.game_log.specs.Heads.{head_of}
+use Rattle.tacd.specs.declared.answer.Played.{Played}
+use Rattle.tacd.specs.Outcomes.{Outcome, Done, Lapsed, Cut, Refused}
+use Rattle.tacd.specs.Ends.{Tells}
+use Rattle.tacd.specs.Service.{IsLogOf, LogAllows, PlayedAllows, missed_of}
+
+abbrev missed : Played → ℕ
+missed played = missed_of (head_of played.head)
+
+-- the game's log was not written whole: whether ticks lapsed or not
+cut_off : (game : GameFile) (played : Played) (text : List ℕ) (taken taken' : Option (List ℕ)) (before now code count : ℕ) → IsLogOf game played text → missed played ≡ count →
+    (code == 4) ≡ true → TakesSome taken taken' text × Rose before now → (o : Outcome) × PlayedAllows game played o × Tells o taken taken' before now code
+cut_off game played text taken taken' before now code zero log is four told =
+    (Done text, (log, is), subst (λ b. MatchBool b (TakesSome taken taken' text × Rose before now) ((code ≡ 0) × (taken' ≡ and_then_told taken text) × (now ≡ before))) (sym four) told)
+cut_off game played text taken taken' before now code (suc n) log is four told =
+    (Lapsed text, (log, omega (arith, is)), subst (λ b. MatchBool b (TakesSome taken taken' text × Rose before now) ((code ≡ 6) × (taken' ≡ and_then_told taken text) × (now ≡ before))) (sym four) told)
+
+kept_by : (b : Bool) (game : GameFile) (played : Played) (text : List ℕ) (taken taken' : Option (List ℕ)) (before now code : ℕ) → IsLogOf game played text → (code ≡ 0 → missed played ≡ 0) →
+    (code == 4) ≡ b → MatchBool b (TakesSome taken taken' text × Rose before now) ((code ≡ 0) × (taken' ≡ and_then_told taken text) × (now ≡ before)) →
+    (o : Outcome) × PlayedAllows game played o × Tells o taken taken' before now code
+kept_by true game played text taken taken' before now code log none four told = cut_off game played text taken taken' before now code (missed played) log refl four told
+kept_by false game played text taken taken' before now code log none four told =
+    (Done text, (log, none told.0), subst (λ b. MatchBool b (TakesSome taken taken' text × Rose before now) ((code ≡ 0) × (taken' ≡ and_then_told taken text) × (now ≡ before))) (sym four) told)
+
+-- the code stays where it is not 0, or no tick lapsed
+pub kept : (game : GameFile) (played : Played) (taken taken' : Option (List ℕ)) (before now code : ℕ) (outcome : Outcome) → LogAllows game played outcome → Tells outcome taken taken' before now code →
+    (code ≡ 0 → missed played ≡ 0) → (o : Outcome) × PlayedAllows game played o × Tells o taken taken' before now code
+kept game played taken taken' before now code (Done text) log told none = kept_by (code == 4) game played text taken taken' before now code log none refl told
+kept game played taken taken' before now code (Lapsed text) log told none = absurd log
+kept game played taken taken' before now code (Cut text) first told none = (Cut text, first, told)
+kept game played taken taken' before now code (Refused refusal) log told none = absurd log
+
+-- code 6 stands in the place of 0 where a tick lapsed
+pub lapsed : (game : GameFile) (played : Played) (taken taken' : Option (List ℕ)) (before now : ℕ) (outcome : Outcome) → LogAllows game played outcome → Tells outcome taken taken' before now 0 →
+    0 < missed played → (o : Outcome) × PlayedAllows game played o × Tells o taken taken' before now 6
+lapsed game played taken taken' before now (Done text) log told some = (Lapsed text, (log, some), (refl, told.1, told.2))
+lapsed game played taken taken' before now (Lapsed text) log told some = absurd log
+lapsed game played taken taken' before now (Cut text) first told some = let is = told.0 in absurd (omega (arith, is))
+lapsed game played taken taken' before now (Refused refusal) log told some = absurd log

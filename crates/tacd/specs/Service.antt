@@ -1,0 +1,133 @@
+-- What `serve` leaves: the game that was played, its log, the links and the ticker.
+use Rattle.std.specs.Prelude.{⊤, ◌≡◌, ℕ, ◌<◌, ◌⊎◌, List, [], ◌∷◌, Bool, Result, Option, Some, None}
+use Rattle.std.specs.Global.{Vec}
+use Rattle.std.specs.Option.{option_map}
+use Rattle.tac_io.specs.Counts.{Rose}
+use Rattle.tac_io.specs.Told.{and_then_told}
+use Rattle.game_text.specs.Games.{GameFile}
+use Rattle.line_protocol.specs.declared.asking.Request.{Request}
+use Rattle.line_protocol.specs.declared.asking.RequestFault.{RequestFault}
+use Rattle.line_protocol.specs.declared.saying.Said.{Said}
+use Rattle.score_sheet.specs.Sheets.{Scored}
+use Rattle.game_log.specs.Heads.{Head, Play, Serve, head_of}
+use Rattle.game_log.specs.LogText.{play_part}
+use Rattle.game_log.specs.SheetText.{log_text}
+use Rattle.script_run.specs.GameOuts.{IsSheetOf}
+use Rattle.game_run.specs.LinkStates.{LinkState}
+use Rattle.game_run.specs.Outcomes.{IsEnd, IsNotPlayed}
+use Rattle.tacd.specs.declared.answer.Played.{Played}
+use Rattle.tacd.specs.Allowed.{Content, IsGameFile, RefusesGame}
+use Rattle.tacd.specs.Commands.{Command}
+use Rattle.tacd.specs.Commands as commands
+use Rattle.tacd.specs.Outcomes.{Outcome, Done, Lapsed, Cut, Refused}
+use Rattle.tacd.specs.declared.refusals.Refusal.{Refusal}
+use Rattle.tacd.specs.declared.refusals.Refusal.TheVariants.{LinkFault, Memory}
+
+-- ---- the text
+
+-- how many ticks lapsed in a game
+abbrev pub missed_of : Head → ℕ
+missed_of Play = 0
+missed_of (Serve verdicts ends missed) = missed
+
+-- the first part of the log of a game that was played
+abbrev pub first_part : Played → List ℕ
+first_part played = play_part (head_of played.head) played.closed
+
+-- the log of a game that was played, with some sheet of it: for each agent the greatest total utility over all feasible allocations, less
+-- what it cost and the penalties
+pub record IsLogOf (game : GameFile) (played : Played) (text : List ℕ) : Type 0 where
+  pub sheet : List Scored
+  pub scores : IsSheetOf game played.closed sheet
+  pub due : text ≡ log_text (head_of played.head) played.closed sheet
+
+-- the log of the game is written, or its first part alone
+abbrev pub LogAllows : GameFile → Played → Outcome → Type 0
+LogAllows game played (Done text) = IsLogOf game played text
+LogAllows game played (Cut text) = text ≡ first_part played
+LogAllows game played outcome = ⊥
+
+-- the log of the game that was played is written, with another code where ticks lapsed, or without its sheet where there was no memory for
+-- it
+abbrev pub PlayedAllows : GameFile → Played → Outcome → Type 0
+PlayedAllows game played (Done text) = IsLogOf game played text × (missed_of (head_of played.head) ≡ 0)
+PlayedAllows game played (Lapsed text) = IsLogOf game played text × (0 < missed_of (head_of played.head))
+PlayedAllows game played (Cut text) = text ≡ first_part played
+PlayedAllows game played (Refused refusal) = ⊥
+
+-- ---- the links and the ticker
+
+-- the ports that were asked for, the links that are still to be given, where they are told, and the count of faults
+pub record LinksState (L : Type 0) : Type 0 where
+  pub ports : Option (List ℕ)
+  pub pending : Option (List L)
+  pub faults : ℕ
+
+-- the state of links, by what is said of them
+abbrev pub links_state : {S L : Type 0} → (S → Option (List ℕ)) → (S → Option (List L)) → (S → ℕ) → S → LinksState L
+links_state ports pending faults links = record { ports = ports links; pending = pending links; faults = faults links }
+
+-- the pace and the ticks that were waited for, where they are told, and the count of faults
+pub record TickerState : Type 0 where
+  pub paced : Option (Option ℕ)
+  pub waited : Option (List (ℕ × Bool))
+  pub faults : ℕ
+
+abbrev pub ticker_state : {S : Type 0} → (S → Option (Option ℕ)) → (S → Option (List (ℕ × Bool))) → (S → ℕ) → S → TickerState
+ticker_state paced waited faults ticker = record { paced = paced ticker; waited = waited ticker; faults = faults ticker }
+
+module _ {L : Type 0} (state : L → LinkState) where
+  -- The game was played over the links, which were asked to listen at the port, by a ticker of this pace.
+  pub record IsPlayedOver (may_answer : List ℕ → Result Request RequestFault → Type 0) (text : Said → List ℕ) (game : GameFile) (port pace : ℕ)
+      (links links' : LinksState L) (ticker ticker' : TickerState) (played : Played) (ended : Vec L) : Type 0 where
+    pub end : IsEnd state may_answer text game links.pending links'.pending ticker.waited ticker'.waited ticker.faults ticker'.faults
+        (record { closed = played.closed; head = played.head; links = ended })
+    pub ports : links'.ports ≡ and_then_told links.ports (port ∷ [])
+    pub no_fault : links'.faults ≡ links.faults
+    pub paced : ticker'.paced ≡ option_map (λ _. Some pace) ticker.paced
+
+  -- The links failed, and no game was played.
+  pub record HasLinkFault (game : GameFile) (port pace : ℕ) (links links' : LinksState L) (ticker ticker' : TickerState) (ended : Vec L) : Type 0 where
+    pub left : IsNotPlayed state game links.pending links'.pending ended.items
+    pub ports : links'.ports ≡ and_then_told links.ports (port ∷ [])
+    pub fault : Rose links.faults links'.faults
+    pub waited : ticker'.waited ≡ ticker.waited
+    pub no_lapse : ticker'.faults ≡ ticker.faults
+    pub paced : ticker'.paced ≡ option_map (λ _. Some pace) ticker.paced
+
+  -- Nothing was asked of the links, and no tick was waited for.
+  pub record IsUnasked (links links' : LinksState L) (ticker ticker' : TickerState) (ended : Vec L) : Type 0 where
+    pub same : links' ≡ links
+    pub waited : ticker'.waited ≡ ticker.waited
+    pub no_lapse : ticker'.faults ≡ ticker.faults
+    pub none : ended.items ≡ []
+
+  -- The game was played and its log is told; or the links failed; or there was no memory for the game, and nothing was asked. So a game that
+  -- was played is there exactly where the links were asked to listen and did not fail.
+  abbrev pub ServesGame : (List ℕ → Result Request RequestFault → Type 0) → (Said → List ℕ) → GameFile → ℕ → ℕ → LinksState L → LinksState L
+      → TickerState → TickerState → Option Played → Vec L → Outcome → Type 0
+  ServesGame may_answer text game port pace links links' ticker ticker' (Some played) ended outcome =
+      IsPlayedOver may_answer text game port pace links links' ticker ticker' played ended × PlayedAllows game played outcome
+  ServesGame may_answer text game port pace links links' ticker ticker' None ended (Refused LinkFault) = HasLinkFault game port pace links links' ticker ticker' ended
+  ServesGame may_answer text game port pace links links' ticker ticker' None ended (Refused Memory) =
+      IsUnasked links links' ticker ticker' ended × (ticker'.paced ≡ option_map (λ _. Some pace) ticker.paced)
+  ServesGame may_answer text game port pace links links' ticker ticker' None ended outcome = ⊥
+
+  -- the game of that name is served; or the game file is refused, and nothing was asked
+  abbrev pub ServeAllows : (List ℕ → Result Request RequestFault → Type 0) → (Said → List ℕ) → Content → List ℕ → ℕ → ℕ → ℕ → ℕ
+      → LinksState L → LinksState L → TickerState → TickerState → Option Played → Vec L → Outcome → Type 0
+  ServeAllows may_answer text content name port pace before now links links' ticker ticker' played ended outcome =
+      ((game : GameFile) × IsGameFile content name game × ServesGame may_answer text game port pace links links' ticker ticker' played ended outcome × (now ≡ before))
+      ⊎ ((refusal : Refusal) × (outcome ≡ Refused refusal) × RefusesGame content name before now refusal × IsUnasked links links' ticker ticker' ended × (ticker'.paced ≡ ticker.paced) × (played ≡ None))
+
+-- ---- the service among the commands
+
+-- of the service of a game this holds
+abbrev pub OnService : Option Command → (List ℕ → ℕ → ℕ → Type 0) → Type 0
+OnService (Some (commands.Serve game port pace)) Holds = Holds game port pace
+OnService command Holds = ⊤
+
+-- of every other command this holds, and where there is none
+abbrev pub OffService : Option Command → Type 0 → Type 0
+OffService (Some (commands.Serve game port pace)) Holds = ⊤
+OffService command Holds = Holds

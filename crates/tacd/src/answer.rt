@@ -1,0 +1,35 @@
+// What a command leaves.
+ghost use Rattle.std.specs.Prelude.{◌≡◌, [], None};
+
+use auction_core::Closed;
+use game_log::LogHead;
+use std::alloc::Global;
+
+/// A game that was played over links: what its log says of the links, and its histories.
+#[derive(Drop)]
+pub struct Played {
+    pub head: LogHead,
+    pub closed: Closed,
+}
+
+/// What a command leaves: the code that the process ends with, the links that it took, in the order in which they came, and the game that
+/// was played over them.
+#[derive(Drop)]
+pub struct Answer<L> {
+    pub code: u8,
+    pub ended: Vec<L>,
+    pub played: Option<Played>,
+}
+
+/// The code alone.
+pub(crate) fn coded<L>(alloc: Global, code: u8) -> Answer<L>
+    ensures code { result.code ≡ code }
+    ensures ended { result.ended.items ≡ [] }
+    ensures played { result.played ≡ None }
+{
+    Answer {
+        code,
+        ended: Vec::new(alloc),
+        played: None,
+    }
+}

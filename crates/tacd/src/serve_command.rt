@@ -1,0 +1,172 @@
+// The command that serves a game over links.
+ghost use Rattle.std.specs.Prelude.{◌≡◌, ◌<◌, ◌≤◌, ◌∷◌, [], length, IfSome};
+ghost use Rattle.line_protocol.specs.Requests.{request_of};
+ghost use Rattle.line_protocol.specs.Replies.{said_text};
+ghost use Rattle.tac_io.specs.Told.{and_then_told};
+ghost use Rattle.tacd.specs.Ends.{EndsOrIsCut, Tells};
+ghost use Rattle.tacd.specs.Outcomes.{Outcome};
+ghost use Rattle.tacd.specs.Service.{LogAllows, first_part, PlayedAllows, ServeAllows, ServesGame, links_state, missed_of, ticker_state};
+ghost use Rattle.game_run.specs.LinkStates.{link_state};
+ghost use Rattle.game_log.specs.Heads.{head_of};
+ghost use Rattle.game_log.specs.Written.{Writes};
+
+use crate::answer::{Answer, Played, coded};
+use crate::ends::{End, finish};
+use crate::reading::game_file;
+use crate::refusals::Refusal;
+use agent_gate::LineDialect;
+use auction_core::Closed;
+use game_log::{LogHead, LogWriteFault, write_play_part};
+use game_run::{GameEnd, RunFault, run_game};
+use game_text::Game;
+use script_run::write_scores;
+use std::alloc::Global;
+use std::sync::Wait;
+use std::thread::Threads;
+use std::time::Clock;
+use tac_io::{Failed, Files, Links, Sink, Ticker};
+
+/// Writes the first part of the log of a game that was played.
+fn write_first<K: Sink>(out: &mut K, played: &Played) -> Result<(), Failed>
+    ensures { Writes (first_part played.now) (K.taken out.old) (K.taken out.new) (K.faults out.old) (K.faults out.new) result }
+{
+    write_play_part(out, &played.head, &played.closed)
+}
+
+/// Writes the log of a game that was played.
+fn write_log<R: Threads + Sync, K: Sink>(
+    rt: &R,
+    alloc: Global,
+    game: &Game,
+    played: &Played,
+    out: &mut K,
+) -> End
+    ensures { EndsOrIsCut (LogAllows game.now played.now) (K.taken out.old) (K.taken out.new) (K.faults out.old) (K.faults out.new) result }
+{
+    match write_first(out, played) {
+        Ok(()) => match write_scores(rt, alloc, game, &played.closed, out) {
+            Ok(()) => End::Done,
+            Err(LogWriteFault::Failed) => End::WriteFault,
+            Err(LogWriteFault::Memory) => End::Refused(Refusal::Memory),
+        },
+        Err(_) => End::WriteFault,
+    }
+}
+
+/// How many ticks lapsed in a game.
+fn missed(head: &LogHead) -> u8
+    ensures { result ≡ missed_of (head_of head.now) }
+{
+    match head {
+        LogHead::Play => 0,
+        LogHead::Serve { missed, .. } => *missed,
+    }
+}
+
+/// Tells a game that was played by its log, and gives the code.
+fn tell<R: Threads + Sync, K: Sink>(
+    rt: &R,
+    alloc: Global,
+    game: &Game,
+    played: &Played,
+    out: &mut K,
+) -> u8
+    ensures { (outcome : Outcome) × PlayedAllows game.now played.now outcome × Tells outcome (K.taken out.old) (K.taken out.new) (K.faults out.old) (K.faults out.new) result }
+{
+    let end = write_log(rt, alloc, game, played, out);
+    let code = finish(out, end);
+    if code == 0 && missed(&played.head) > 0 {
+        6
+    } else {
+        code
+    }
+}
+
+/// Plays the game over the links by the ticker, with a pace in milliseconds, and tells it.
+fn serve_game<R: Threads + Sync + Wait + Clock, K: Sink, N: Links, T: Ticker + Send>(
+    rt: &R,
+    alloc: Global,
+    game: &Game,
+    port: u16,
+    pace: u16,
+    out: &mut K,
+    links: &mut N,
+    ticker: &mut T,
+) -> Answer<N::Link>
+    requires ports { IfSome (N.ports links.old) (λ ports. ports ≡ []) }
+    requires ticks { IfSome (T.waited ticker.old) (λ ticks. ticks ≡ []) }
+    ensures { (outcome : Outcome)
+        × ServesGame (link_state N.Link.taken N.Link.left N.Link.sent N.Link.faults N.Link.write_faults) (λ line answer. answer ≡ request_of line) said_text
+        game.now port pace (links_state N.ports N.pending N.faults links.old) (links_state N.ports N.pending N.faults links.new)
+        (ticker_state T.paced T.waited T.faults ticker.old) (ticker_state T.paced T.waited T.faults ticker.new) result.played result.ended outcome
+        × Tells outcome (K.taken out.old) (K.taken out.new) (K.faults out.old) (K.faults out.new) result.code }
+{
+    ticker.pace(pace);
+    match run_game(rt, alloc, game, port, &LineDialect, links, ticker) {
+        Ok(
+            GameEnd {
+                closed,
+                head,
+                links: ended,
+            },
+        ) => {
+            let played = Played { head, closed };
+            let code = tell(rt, alloc, game, &played, out);
+            Answer {
+                code,
+                ended,
+                played: Some(played),
+            }
+        }
+        Err(RunFault::Links(ended)) => {
+            let code = finish(out, End::Refused(Refusal::LinkFault));
+            Answer {
+                code,
+                ended,
+                played: None,
+            }
+        }
+        Err(RunFault::Memory) => {
+            let code = finish(out, End::Refused(Refusal::Memory));
+            coded(alloc, code)
+        }
+    }
+}
+
+/// Serves the game of the file of that name over links, at a port, with a pace in milliseconds, and tells it.
+pub(crate) fn serve<
+    R: Threads + Sync + Wait + Clock,
+    F: Files,
+    K: Sink,
+    N: Links,
+    T: Ticker + Send,
+>(
+    rt: &R,
+    alloc: Global,
+    name: &str,
+    port: u16,
+    pace: u16,
+    files: &mut F,
+    out: &mut K,
+    links: &mut N,
+    ticker: &mut T,
+) -> Answer<N::Link>
+    requires names { IfSome (F.names files.old) (λ names. (length names < 128) × (length name.now ≤ 1024)) }
+    requires ports { IfSome (N.ports links.old) (λ ports. ports ≡ []) }
+    requires ticks { IfSome (T.waited ticker.old) (λ ticks. ticks ≡ []) }
+    ensures outcome { (outcome : Outcome)
+        × ServeAllows (link_state N.Link.taken N.Link.left N.Link.sent N.Link.faults N.Link.write_faults) (λ line answer. answer ≡ request_of line) said_text
+        (F.content files.old) name.now port pace (F.faults files.old) (F.faults files.new)
+        (links_state N.ports N.pending N.faults links.old) (links_state N.ports N.pending N.faults links.new)
+        (ticker_state T.paced T.waited T.faults ticker.old) (ticker_state T.paced T.waited T.faults ticker.new) result.played result.ended outcome
+        × Tells outcome (K.taken out.old) (K.taken out.new) (K.faults out.old) (K.faults out.new) result.code }
+    ensures names { F.names files.new ≡ and_then_told (F.names files.old) (name.now ∷ []) }
+{
+    match game_file(alloc, files, name) {
+        Ok(game) => serve_game(rt, alloc, &game, port, pace, out, links, ticker),
+        Err(refusal) => {
+            let code = finish(out, End::Refused(refusal));
+            coded(alloc, code)
+        }
+    }
+}

@@ -1,0 +1,96 @@
+// The ticker of the system: a clock.
+ghost use Rattle.std.specs.Prelude.{◌≡◌, None};
+
+use std::rt::Clock;
+use std::sync::Wait;
+use std::time::{Duration, Instant};
+use std::{io, thread};
+use tac_base::Tick;
+use tac_io::Ticker;
+
+/// A tick that was waited for.
+#[derive(Drop)]
+pub(crate) struct SleptDue {
+    tick: Tick,
+}
+
+/// A tick whose time was not known.
+#[derive(Drop)]
+pub(crate) struct SleptLapse {
+    tick: Tick,
+}
+
+/// A ticker that sleeps. The first tick comes one pace after the first wait began, and each later one a pace after the one before,
+/// whenever that was taken. It counts its faults, and tells nothing of its waits.
+#[derive(Drop)]
+pub(crate) struct SleepTicker {
+    pace: Duration,
+    start: Option<Instant>,
+    faults: u64,
+}
+
+impl SleepTicker {
+    /// No tick was waited for yet, and ticks come one after the other at once.
+    pub(crate) fn new() -> SleepTicker
+        ensures start { result.start ≡ None }
+        ensures faults { result.faults ≡ 0 }
+    {
+        SleepTicker {
+            pace: Duration::ZERO,
+            start: None,
+            faults: 0,
+        }
+    }
+
+    /// Sleeps until the time of a tick, if it is still to come.
+    fn sleep<R: Wait + Clock>(&mut self, rt: &R, tick: u8) -> io::Result<()>
+        ensures faults { self.new.faults ≡ self.old.faults }
+    {
+        let now = Instant::now(rt)?;
+        let start = *self.start.get_or_insert(now);
+        let due = self.pace.saturating_mul(u32::from(tick));
+        thread::sleep(rt, due.saturating_sub(now.saturating_duration_since(start)));
+        Ok(())
+    }
+}
+
+impl Ticker for SleepTicker {
+    ghost use Rattle.std.specs.Prelude.{None};
+
+    type Due = SleptDue;
+
+    type Lapse = SleptLapse;
+
+    ghost due_tick = { λ due. due.tick };
+
+    ghost lapse_tick = { λ lapse. lapse.tick };
+
+    ghost paced = { λ _. None };
+
+    ghost waited = { λ _. None };
+
+    ghost faults = { λ s. s.faults };
+
+    fn pace(&mut self, milliseconds: u16) {
+        self.pace = Duration::from_millis(u64::from(milliseconds));
+    }
+
+    fn wait<R: Wait + Clock>(&mut self, rt: &R, tick: Tick) -> Result<SleptDue, SleptLapse> {
+        match self.sleep(rt, tick.get()) {
+            Ok(()) => Ok(SleptDue { tick }),
+            Err(_) => {
+                self.faults = self.faults.saturating_add(1);
+                Err(SleptLapse { tick })
+            }
+        }
+    }
+
+    fn late(&mut self, lapse: SleptLapse) -> SleptDue {
+        let SleptLapse { tick } = lapse;
+        SleptDue { tick }
+    }
+
+    fn faults(&self) -> u64 {
+        self.faults
+    }
+}

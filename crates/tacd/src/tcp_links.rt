@@ -1,0 +1,136 @@
+// The links of the system: TCP connections.
+ghost use Rattle.std.specs.Prelude.{◌≡◌, None};
+
+use std::io::{ErrorKind, Read, Write};
+use std::net::{Net, TcpListener, TcpStream};
+use tac_io::{Failed, Link, Links};
+
+/// A TCP connection. It counts its faults, and tells nothing of what goes over it.
+#[derive(Drop)]
+pub(crate) struct TcpLink {
+    stream: TcpStream,
+    faults: u64,
+    write_faults: u64,
+}
+
+impl Link for TcpLink {
+    ghost use Rattle.std.specs.Prelude.{None};
+
+    ghost taken = { λ _. None };
+
+    ghost left = { λ _. None };
+
+    ghost sent = { λ _. None };
+
+    ghost faults = { λ s. s.faults };
+
+    ghost write_faults = { λ s. s.write_faults };
+
+    fn read(&mut self, into: &mut [u8]) -> Result<usize, Failed> {
+        match self.stream.read(into) {
+            Ok(count) => Ok(count),
+            Err(_) => {
+                self.faults = self.faults.saturating_add(1);
+                Err(Failed)
+            }
+        }
+    }
+
+    fn write(&mut self, piece: &[u8]) -> Result<usize, Failed> {
+        match self.stream.write(piece) {
+            Ok(count) if count > 0 => Ok(count),
+            _ => {
+                self.write_faults = self.write_faults.saturating_add(1);
+                Err(Failed)
+            }
+        }
+    }
+
+    fn faults(&self) -> u64 {
+        self.faults
+    }
+
+    fn write_faults(&self) -> u64 {
+        self.write_faults
+    }
+}
+
+/// The TCP connections that come to a port, on every address of the machine. They count their faults.
+#[derive(Drop)]
+pub(crate) struct TcpLinks<'a, R> {
+    rt: &'a R,
+    listener: Option<TcpListener>,
+    faults: u64,
+}
+
+impl<'a, R: Net<Listener = TcpListener, Stream = TcpStream>> TcpLinks<'a, R> {
+    /// No port is listened at yet.
+    pub(crate) fn new(rt: &'a R) -> TcpLinks<'a, R>
+        ensures listener { result.listener ≡ None }
+        ensures faults { result.faults ≡ 0 }
+    {
+        TcpLinks {
+            rt,
+            listener: None,
+            faults: 0,
+        }
+    }
+}
+
+impl<'a, R: Net<Listener = TcpListener, Stream = TcpStream>> Links for TcpLinks<'a, R> {
+    ghost use Rattle.std.specs.Prelude.{None, is_some};
+
+    type Link = TcpLink;
+
+    ghost listens = { λ s. is_some s.listener };
+
+    ghost ports = { λ _. None };
+
+    ghost pending = { λ _. None };
+
+    ghost faults = { λ s. s.faults };
+
+    fn listen(&mut self, port: u16) -> Result<(), Failed> {
+        // Where the machine has no addresses of version 6, those of version 4 alone are listened at.
+        let bound = match TcpListener::bind(self.rt, ("::", port)) {
+            Ok(listener) => Ok(listener),
+            Err(_) => TcpListener::bind(self.rt, ("0.0.0.0", port)),
+        };
+        match bound {
+            Ok(listener) => {
+                self.listener = Some(listener);
+                Ok(())
+            }
+            Err(_) => {
+                self.faults = self.faults.saturating_add(1);
+                Err(Failed)
+            }
+        }
+    }
+
+    fn next(&mut self) -> Result<Option<TcpLink>, Failed> {
+        let listener = self.listener.as_ref().unwrap();
+        for _ in 0..u64::MAX {
+            match listener.accept() {
+                Ok((stream, _)) => {
+                    // A reply is one short line: it is to be sent at once. Where that cannot be set, it is sent all the same.
+                    let _ = stream.set_nodelay(true);
+                    return Ok(Some(TcpLink {
+                        stream,
+                        faults: 0,
+                        write_faults: 0,
+                    }));
+                }
+                // A peer that went away before it was taken ends no game.
+                Err(error) if error.kind() == ErrorKind::ConnectionAborted => {}
+                Err(_) => break,
+            }
+        }
+        self.faults = self.faults.saturating_add(1);
+        Err(Failed)
+    }
+
+    fn faults(&self) -> u64 {
+        self.faults
+    }
+}
