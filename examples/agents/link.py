@@ -1,0 +1,131 @@
+"""A link to the server, as docs/PROTOCOL.md tells it: lines of words, one reply line for each request line."""
+
+import socket
+import sys
+import time
+from dataclasses import dataclass, field
+
+INBOUND = range(0, 4)  # seats in on days 1..4
+OUTBOUND = range(4, 8)  # seats out on days 2..5
+HOTELS = range(8, 16)  # Shoreline Shanties, nights 1..4, and then Tampa Towers
+TICKETS = range(16, 28)  # alligator wrestling, amusement park, museum, nights 1..4 of each
+
+
+def inbound(day):
+    """The seat in on a day, 1..4."""
+    return day - 1
+
+
+def outbound(day):
+    """The seat out on a day, 2..5."""
+    return day + 2
+
+
+def room(hotel, night):
+    """A night, 1..4, of a hotel: 0 is Shoreline Shanties, 1 is Tampa Towers."""
+    return 8 + 4 * hotel + night - 1
+
+
+def ticket(kind, night):
+    """A night, 1..4, of a ticket type: 0 alligator wrestling, 1 amusement park, 2 museum."""
+    return 16 + 4 * kind + night - 1
+
+
+def connect(host, port):
+    """A connection to the server, which may still be starting: it is tried for two minutes."""
+    deadline = time.monotonic() + 120
+    while True:
+        try:
+            return socket.create_connection((host, port))
+        except ConnectionRefusedError:
+            if time.monotonic() > deadline:
+                raise
+            time.sleep(0.2)
+
+
+@dataclass
+class Client:
+    """What a client wants: its days, its premium for Tampa Towers, and its values of the three ticket types, in dollars."""
+
+    arrive: int
+    depart: int
+    premium: int
+    values: list
+
+    def nights(self):
+        return range(self.arrive, self.depart)
+
+
+@dataclass
+class Quote:
+    """A board: how many entries it shows, the highest buy, the lowest sell or the price, and whether the auction is closed."""
+
+    count: int
+    bid: int
+    ask: int
+    closed: bool
+
+
+@dataclass
+class Link:
+    """A seated link. `endow` has the agent's tickets at first, good 16 first."""
+
+    stream: socket.socket
+    lines: object
+    agent: int = 0
+    endow: list = field(default_factory=list)
+    clients: list = field(default_factory=list)
+
+    @classmethod
+    def greet(cls, host, port, word):
+        """Takes a seat by its word, and waits until the game begins."""
+        stream = connect(host, port)
+        stream.setsockopt(socket.IPPROTO_TCP, socket.TCP_NODELAY, 1)
+        link = cls(stream, stream.makefile("r", encoding="ascii", newline="\n"))
+        first = link.ask(f"hello {word}").split()
+        if first[:1] != ["welcome"]:
+            sys.exit(f"no seat: {' '.join(first) or 'the link was closed'}")
+        link.agent = int(first[1])
+        link.endow = [int(units) for units in link.line().split()[2:]]
+        for _ in range(8):
+            numbers = [int(number) for number in link.line().split()[3:]]
+            link.clients.append(Client(numbers[0], numbers[1], numbers[2], numbers[3:]))
+        return link
+
+    def line(self):
+        """The next line that the server sends, or nothing at the end."""
+        return self.lines.readline().rstrip("\n")
+
+    def ask(self, request):
+        """Sends a request line, and gives its reply line."""
+        self.stream.sendall(request.encode("ascii") + b"\n")
+        return self.line()
+
+    def bid(self, good, *points):
+        """Bids points, each units and dollars, in place of the whole earlier bid there."""
+        return self.ask(f"bid {good} ({' '.join(f'({units} {price})' for units, price in points)})")
+
+    def quote(self, good):
+        words = self.ask(f"quote {good}").split()
+        return Quote(int(words[0][1:]), int(words[2]), int(words[3]), words[4] == "closed")
+
+    def own(self, good):
+        """How many units the agent holds."""
+        words = self.ask(f"own {good}").split()
+        return int(words[2]) if words[1:2] == ["own"] else 0
+
+    def cash(self):
+        """What the agent earned so far less what it paid, in dollars."""
+        words = self.ask("cash").split()
+        return int(words[2]) if words[1:2] == ["cash"] else 0
+
+    def quit(self):
+        self.ask("quit")
+        self.stream.close()
+
+
+def arguments(what):
+    """The host, the port and the seat word of the command line."""
+    if len(sys.argv) != 4:
+        sys.exit(f"usage: {sys.argv[0]} HOST PORT WORD\n\n{what}")
+    return sys.argv[1], int(sys.argv[2]), sys.argv[3]

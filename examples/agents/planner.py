@@ -1,0 +1,49 @@
+#!/usr/bin/env python3
+"""Buys a fixed plan: for each client the trip that it prefers, in the hotel that its premium pays for.
+
+It buys the flights at once, bids for the rooms until their auctions close, each minute a little above the quote, and keeps the tickets
+that it has.
+"""
+
+import time
+from collections import Counter
+
+from link import HOTELS, Link, arguments, inbound, outbound, room
+
+MOST_FOR_A_SEAT = 600  # dollars
+MOST_FOR_A_ROOM = 300  # dollars
+
+
+def plan(clients):
+    """How many units of each good the clients' trips need."""
+    needs = Counter()
+    for client in clients:
+        hotel = 1 if client.premium > 100 else 0
+        needs[inbound(client.arrive)] += 1
+        needs[outbound(client.depart)] += 1
+        needs.update(room(hotel, night) for night in client.nights())
+    return needs
+
+
+def main():
+    link = Link.greet(*arguments(__doc__))
+    needs = plan(link.clients)
+    for good, units in needs.items():
+        if good not in HOTELS:
+            link.bid(good, (units, MOST_FOR_A_SEAT))
+    standing = {}
+    while not link.quote(0).closed:
+        for good in HOTELS:
+            quote = link.quote(good)
+            price = min(quote.ask + 50, MOST_FOR_A_ROOM)
+            # A bid takes the place of the earlier one, so it is worth a call only where the quote came near to it.
+            if needs[good] and not quote.closed and quote.ask + 1 > standing.get(good, 0):
+                link.bid(good, (needs[good], price))
+                standing[good] = price
+        time.sleep(0.02)
+    bought = sum(link.own(good) for good in needs)
+    print(f"agent {link.agent} planned {sum(needs.values())} units, has {bought} of these goods, cash {link.cash()}")
+    link.quit()
+
+
+main()

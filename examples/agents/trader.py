@@ -1,0 +1,63 @@
+#!/usr/bin/env python3
+"""Trades tickets at its clients' values, and buys each client its trip.
+
+A ticket is worth to the agent what the keenest client without one of its type would pay for its night. It sells what it holds above
+that, and bids for what it lacks a little below. It goes through the ticket auctions until they close.
+"""
+
+import time
+from collections import Counter
+
+from link import HOTELS, Link, arguments, inbound, outbound, room, ticket
+
+MARGIN = 10  # dollars that it wants to gain by a trade
+
+
+def values_of(clients, kind, night):
+    """What clients whose stay has the night give for a ticket of the type, the keenest first."""
+    return sorted((client.values[kind] for client in clients if night in client.nights()), reverse=True)
+
+
+def offer(link, kind, night):
+    """Bids for one ticket more, and offers the last one that it holds."""
+    good = ticket(kind, night)
+    held = link.own(good)
+    values = values_of(link.clients, kind, night)
+    points = []
+    if 0 <= held < len(values) and values[held] > MARGIN:
+        points.append((1, values[held] - MARGIN))
+    if held > 0:
+        kept = values[held - 1] if held <= len(values) else 0
+        points.append((-1, kept + MARGIN))
+    if points:
+        link.bid(good, *points)
+
+
+def main():
+    link = Link.greet(*arguments(__doc__))
+    seats = Counter()
+    for client in link.clients:
+        seats[inbound(client.arrive)] += 1
+        seats[outbound(client.depart)] += 1
+    for good, units in seats.items():
+        link.bid(good, (units, 500))
+    rooms = Counter(room(0, night) for client in link.clients for night in client.nights())
+    for good, units in rooms.items():
+        link.bid(good, (units, 150))
+    rounds = 0
+    # An agent has 1024 calls in each auction; each round takes two of a ticket's.
+    while not link.quote(0).closed and rounds < 400:
+        for kind in range(3):
+            for night in range(1, 5):
+                offer(link, kind, night)
+        rounds += 1
+        time.sleep(0.05)
+    while not link.quote(0).closed:
+        time.sleep(0.05)
+    got = sum(link.own(good) for good in HOTELS)
+    tickets = [link.own(ticket(kind, night)) for kind in range(3) for night in range(1, 5)]
+    print(f"agent {link.agent} began with {sum(link.endow)} tickets, has {sum(tickets)} and {got} rooms, cash {link.cash()}")
+    link.quit()
+
+
+main()
