@@ -15,7 +15,7 @@ use tac_base::Agent;
 use tac_io::{Failed, LineGot, Lines, Link, Links};
 
 /// How many links are taken, at most.
-const MOST_LINKS: usize = 64;
+pub(crate) const MOST_LINKS: usize = 64;
 
 /// How many seats there are.
 const SEATS: usize = 8;

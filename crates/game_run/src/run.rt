@@ -6,7 +6,7 @@ ghost use Rattle.game_run.specs.Places.{AreFilled, AreLinksOf};
 ghost use Rattle.game_run.specs.Rooms.{IsEmptyHall, IsRoom};
 ghost use Rattle.game_run.specs.Outcomes.{HasRunCause, IsEnd, IsRunFault};
 
-use crate::admission::admit;
+use crate::admission::{MOST_LINKS, admit};
 use crate::arrivals::Arrivals;
 use crate::ending::{Ending, in_order, without_sessions};
 use crate::stage::{Over, Stage, make_stage, play_out};
@@ -47,9 +47,6 @@ pub(crate) struct Room<L> {
     /// Where the links are put at the end.
     pub(crate) links: Vec<L>,
 }
-
-/// How many links are taken, at most.
-const MOST_LINKS: usize = 64;
 
 /// How many agents there are.
 const AGENTS: usize = 8;
