@@ -1,7 +1,6 @@
 -- Where every feature is fixed, the scarcity prices leave no more than the packages' worth.
 use Rattle.std.proofs.Common.{◌≡◌, ℕ, zero, suc, ◌+◌, ◌*◌, ◌/◌, ◌%◌, ◌<◌, ◌≤◌, ◌⊎◌, ◌&&◌, ℤ, pos, ◌+ℤ◌, ◌-ℤ◌, ◌≤ℤ◌, Bool, true, false, cond, List, [], ◌∷◌, Option, Some, None, is_some, IfNone, map, length, get_or, leb, int_le, inl, inr, refl, sym, ap, subst, ◌∙◌, arith}
 use Rattle.std.specs.List.{filter, slice_get}
-use Rattle.std.specs.Int.{int_max}
 use Rattle.std.proofs.lemmas.Int.{ints}
 use Rattle.std.proofs.Math.Nat.{mul-le-mul_left}
 use Rattle.std.proofs.lemmas.Bool.{cases_lt, and_parts}
@@ -15,11 +14,12 @@ use Rattle.packages.specs.Packages.{is_package, utility_of}
 use Rattle.packages.specs.Listing.{packages}
 use Rattle.packages.specs.Features.{feature_of, rank_of}
 use Rattle.packages.specs.BestTotal.{total_of, used_by}
-use Rattle.packages.specs.Bounds.{Narrowing, sum_below, cost_of, stock_value, margin_of, greater, greatest, plus, best_margin, margins, leaf_bound}
+use Rattle.packages.specs.Bounds.{Narrowing, sum_below, cost_of, stock_value, margin_of, greatest, plus, best_margin, margins, leaf_bound}
 use Rattle.packages.proofs.Found.{package_lawful, ranges_of, three_of}
 use Rattle.bound_cert.specs.Certificate.{is_within}
 use Rattle.bound_cert.proofs.Duality.{all_cost, cost_together, sum_below_le}
 use Rattle.allocator.specs.Scarcity.{scarcity_price}
+use Rattle.dual_bound.proofs.Greatest.{greatest_at_most, parts_of}
 use Rattle.dual_bound.specs.Choices.{fits, fixed_at, has_fixed, chosen}
 use Rattle.allocator.specs.Searching.{IsFull, AreLeft, IsOut}
 
@@ -43,46 +43,12 @@ same_package (kinds.Trip hotel arrive depart nights) (kinds.Trip hotel' arrive' 
     let nights_are : nights ≡ nights' = cc in
     cc
 
-max_at_most : (a n x : ℤ) → a ≤ℤ x → n ≤ℤ x → int_max a n ≤ℤ x
-max_at_most a n x ha hn = grind (arith, ints)
-
-greater_at_most : (r : Option ℤ) (a x m : ℤ) → a ≤ℤ x → ((n : ℤ) → r ≡ Some n → n ≤ℤ x) → greater (Some a) r ≡ Some m → m ≤ℤ x
-greater_at_most None a x m le rest e =
-    let m_is : a ≡ m = cc in
-    omega (arith, ints, le, m_is)
-greater_at_most (Some n) a x m le rest e =
-    let m_is : int_max a n ≡ m = cc in
-    subst (λ j. j ≤ℤ x) m_is (max_at_most a n x le (rest n refl))
-
-by_test : (f : Package → ℤ) (test : Package → Bool) (y : Package) (ys : List Package) (x m : ℤ) (b : Bool) → test y ≡ b → (test y ≡ true → f y ≤ℤ x) → ((n : ℤ) → greatest (map f (filter test ys)) ≡ Some n → n ≤ℤ x)
-    → greatest (map f (cond b (y ∷ filter test ys) (filter test ys))) ≡ Some m → m ≤ℤ x
-by_test f test y ys x m true h here rest is = greater_at_most (greatest (map f (filter test ys))) (f y) x m (here h) rest is
-by_test f test y ys x m false h here rest is = rest m is
-
--- a greatest number is at most what bounds each
-pub greatest_at_most : (f : Package → ℤ) (test : Package → Bool) (xs : List Package) (x m : ℤ) → ((k : ℕ) (q : Package) → slice_get xs k ≡ Some q → test q ≡ true → f q ≤ℤ x) → greatest (map f (filter test xs)) ≡ Some m → m ≤ℤ x
-greatest_at_most f test [] x m each is = cc
-greatest_at_most f test (y ∷ ys) x m each is = by_test f test y ys x m (test y) refl (λ h. each 0 y refl h) (λ n e. greatest_at_most f test ys x n (λ k q. each (suc k) q) e) is
-
 same_at_most : (f : Package → ℤ) (q x : Package) → q ≡ x → f q ≤ℤ f x
 same_at_most f q x is = omega (arith, ints, ap f is)
 
 -- a greatest number is at most what f gives to the only element that passes
 greatest_only : (f : Package → ℤ) (test : Package → Bool) (xs : List Package) (x : Package) (m : ℤ) → ((k : ℕ) (q : Package) → slice_get xs k ≡ Some q → test q ≡ true → q ≡ x) → greatest (map f (filter test xs)) ≡ Some m → m ≤ℤ f x
 greatest_only f test xs x m only is = greatest_at_most f test xs (f x) m (λ k q at passes. same_at_most f q x (only k q at passes)) is
-
--- both parts of a sum that is there
-pub record Parts (a b : Option ℤ) (m : ℤ) : Type 0 where
-  pub left_part : ℤ
-  pub right_part : ℤ
-  pub left_is : a ≡ Some left_part
-  pub right_is : b ≡ Some right_part
-  pub sum_is : left_part +ℤ right_part ≡ m
-
-pub parts_of : (a b : Option ℤ) (m : ℤ) → plus a b ≡ Some m → Parts a b m
-parts_of None b m h = cc
-parts_of (Some x) None m h = cc
-parts_of (Some x) (Some y) m h = record { left_part = x; right_part = y; left_is = refl; right_is = refl; sum_is = cc }
 
 step_up : (u t c s : ℕ) (b m n : ℤ) → b ≤ℤ (pos u -ℤ pos c) → (m +ℤ pos s) ≤ℤ pos t → b +ℤ m ≡ n → (n +ℤ pos (c + s)) ≤ℤ pos (u + t)
 step_up u t c s b m n hb hm is = omega (arith, ints, hb, hm, is)

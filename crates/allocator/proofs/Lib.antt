@@ -1,5 +1,4 @@
 pub mod FullLeaves
-pub mod CeilingLaws
 pub mod Claims
 pub mod Growing
 pub mod AtHome

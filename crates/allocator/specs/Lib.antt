@@ -1,5 +1,4 @@
 pub mod Scarcity
-pub mod Ceilings
 pub mod Searching
 pub mod SolvedTexts
 pub mod Solutions

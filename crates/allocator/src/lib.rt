@@ -2,9 +2,7 @@
 #![tactic(auto)]
 
 mod candidates;
-mod ceilings;
 mod printing;
-mod quotes;
 mod scarcity;
 mod searching;
 mod solving;

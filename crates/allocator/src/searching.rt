@@ -10,17 +10,15 @@ ghost use Rattle.bound_cert.specs.Trees as trees;
 ghost use Rattle.bound_cert.specs.Trees.{is_tree};
 ghost use Rattle.bound_cert.specs.Views.{tree_of};
 ghost use Rattle.dual_bound.specs.Choices.{chosen, fixed_count};
+ghost use Rattle.dual_bound.specs.Tables.{IsCeiling};
 ghost use Rattle.bound_cert.specs.Certificate.{holds, is_within};
-ghost use Rattle.allocator.specs.Ceilings.{IsCeiling};
 ghost use Rattle.allocator.specs.Searching.{IsFull, IsReached};
 
 use crate::candidates::{better_choice, first_choice};
-use crate::ceilings::Ceilings;
-use crate::quotes::Quote;
 use crate::scarcity::scarcity_prices;
 use crate::splits::{Split, next_split};
 use bound_cert::CertNode;
-use dual_bound::{Choice, Relaxation, is_enough, worth};
+use dual_bound::{Choice, Quote, Relaxation, is_enough, worth};
 use game_text::Account;
 use packages::{Package, Prices, value_count};
 use std::alloc::{AllocError, Global};
@@ -59,18 +57,23 @@ fn offer(account: &Account, chosen: &[Package; 8], best: &mut Found)
     }
 }
 
-/// Offers the packages that the relaxation gives whole, and where it leaves some out, what the clients take better in turn.
-fn offer_left(account: &Account, relaxation: &Relaxation, best: &mut Found)
+/// Offers the packages that the relaxation gives whole, and where it leaves some out, what the clients take better in turn. Says whether
+/// the relaxation is still worth more than the best.
+pub(crate) fn offer_left(account: &Account, relaxation: &Relaxation, best: &mut Found) -> bool
     requires reached { IsReached account.now best.old.allocation best.old.total }
     ensures reached { IsReached account.now best.new.allocation best.new.total }
     ensures grows { best.old.total ≤ best.new.total }
 {
     let whole = relaxation.packages();
     offer(account, &whole, best);
+    if !relaxation.is_worth_more(best.total) {
+        return false;
+    }
     offer(account, &better_choice(account, relaxation, &whole), best);
+    relaxation.is_worth_more(best.total)
 }
 
-/// Offers what the relaxation gives as it is decided feature by feature, a bounded number of times.
+/// Offers what a relaxation gives as it is decided feature by feature, a bounded number of times, while it is worth more than the best.
 pub(crate) fn dive(account: &Account, relaxation: &Relaxation, best: &mut Found)
     requires reached { IsReached account.now best.old.allocation best.old.total }
     ensures reached { IsReached account.now best.new.allocation best.new.total }
@@ -78,23 +81,19 @@ pub(crate) fn dive(account: &Account, relaxation: &Relaxation, best: &mut Found)
 {
     let mut left = *relaxation;
     for _ in 0..MOST_DECIDED {
-        offer_left(account, &left, best);
-        match left.decided() {
-            Some(decided) => left = decided,
-            None => return,
+        if !left.decide(best.total) || !offer_left(account, &left, best) {
+            return;
         }
     }
 }
 
-/// Offers what the relaxation gives, on the first levels as far as a dive goes. Before the first split that was done already.
-fn offer_near(level: u8, account: &Account, relaxation: &Relaxation, best: &mut Found)
+/// Offers what the relaxation gives, on the first levels as far as a dive goes.
+pub(crate) fn offer_near(level: u8, account: &Account, relaxation: &Relaxation, best: &mut Found)
     requires reached { IsReached account.now best.old.allocation best.old.total }
     ensures reached { IsReached account.now best.new.allocation best.new.total }
     ensures grows { best.old.total ≤ best.new.total }
 {
-    if level >= DIVE_LEVELS {
-        offer_left(account, relaxation, best);
-    } else if level > 0 {
+    if offer_left(account, relaxation, best) && level < DIVE_LEVELS {
         dive(account, relaxation, best);
     }
 }
@@ -118,7 +117,7 @@ fn full_prices(account: &Account, choice: &Choice, best: &mut Found) -> Prices
 }
 
 /// The certificate of prices alone.
-fn leaf(prices: &Prices) -> CertNode
+pub(crate) fn leaf(prices: &Prices) -> CertNode
     ensures view { tree_of result ≡ trees.leaf prices.now }
     ensures fits { (depth : ℕ) → is_tree depth (trees.leaf prices.now) ≡ true }
 {
@@ -127,26 +126,18 @@ fn leaf(prices: &Prices) -> CertNode
     CertNode::Leaf(*prices)
 }
 
-/// What is known where less is fixed: a relaxation, and whole prices with what they say.
-#[derive(Drop)]
-pub(crate) struct Before {
-    pub(crate) relaxation: Relaxation,
-    pub(crate) quote: Quote,
-}
-
 /// Searches what a choice leaves, where so many features are fixed. After an error the best is a feasible allocation still.
+#[cycle(search)]
 pub(crate) fn explore(
     alloc: Global,
     account: &Account,
     level: u8,
     choice: &Choice,
-    left: &Ceilings,
-    before: &Before,
+    left: &Relaxation,
     best: &mut Found,
 ) -> Result<CertNode, AllocError>
     requires level { level ≡ fixed_count choice.now }
-    requires ceiling { IsCeiling account.now (chosen choice.now) left.now.dollars }
-    requires stock { before.now.quote.stock_value ≡ stock_value account.now.holdings before.now.quote.prices }
+    requires ceiling { IsCeiling account.now (chosen choice.now) left.now.worths.dollars }
     requires reached { IsReached account.now best.old.allocation best.old.total }
     ensures reached { IsReached account.now best.new.allocation best.new.total }
     ensures grows { best.old.total ≤ best.new.total }
@@ -155,25 +146,19 @@ pub(crate) fn explore(
 {
     // The proof rests on the account's ranges, which are known where it is read.
     let _holdings = &account.holdings;
-    if before.quote.holds(left, best.total) {
-        return Ok(leaf(&before.quote.prices));
-    }
-    let relaxation = before.relaxation.narrowed(choice, best.total);
-    offer_near(level, account, &relaxation, best);
-    let quote = Quote::new(account, &relaxation.prices_for(best.total));
-    if quote.holds(left, best.total) {
+    let quote = Quote::new(account, &left.prices_for(best.total));
+    if quote.holds(&left.worths, best.total) {
         return Ok(leaf(&quote.prices));
     }
-    let Some(Split { client, feature }) = next_split(choice, &relaxation, &quote.prices, best.total)
-    else {
+    let Some(Split { client, feature }) = next_split(choice, left, &quote.prices, best.total) else {
         return Ok(leaf(&full_prices(account, choice, best)));
     };
-    let here = Before { relaxation, quote };
     let mut children = Vec::new(alloc);
     for value in 0..value_count(feature) {
         let next = choice.with(client, feature, value);
-        let next_left = left.narrowed(client, feature, value);
-        let child = explore(alloc, account, level + 1, &next, &next_left, &here, best)?;
+        let mut part = *left;
+        part.narrow(client, feature, value);
+        let child = explore_part(alloc, account, level + 1, &next, &mut part, &quote, best)?;
         children.push(child)?;
     }
     Ok(CertNode::Split {
@@ -181,4 +166,35 @@ pub(crate) fn explore(
         feature,
         children,
     })
+}
+
+/// Searches a part that is not solved yet, where so many features are fixed, unless prices that are known bound it. After an error the
+/// best is a feasible allocation still.
+#[cycle(search)]
+fn explore_part(
+    alloc: Global,
+    account: &Account,
+    level: u8,
+    choice: &Choice,
+    part: &mut Relaxation,
+    known: &Quote,
+    best: &mut Found,
+) -> Result<CertNode, AllocError>
+    requires level { level ≡ fixed_count choice.now }
+    requires ceiling { IsCeiling account.now (chosen choice.now) part.old.worths.dollars }
+    requires stock { known.now.stock_value ≡ stock_value account.now.holdings known.now.prices }
+    requires reached { IsReached account.now best.old.allocation best.old.total }
+    ensures reached { IsReached account.now best.new.allocation best.new.total }
+    ensures grows { best.old.total ≤ best.new.total }
+    ensures holds { IfOk result (λ node. holds account.now best.new.total (chosen choice.now) (tree_of node) ≡ true) }
+    ensures fits { IfOk result (λ node. is_tree (32 - level) (tree_of node) ≡ true) }
+{
+    // The proof rests on the account's ranges, which are known where it is read.
+    let _holdings = &account.holdings;
+    if known.holds(&part.worths, best.total) {
+        return Ok(leaf(&known.prices));
+    }
+    part.repair(best.total);
+    offer_near(level, account, part, best);
+    explore(alloc, account, level, choice, part, best)
 }

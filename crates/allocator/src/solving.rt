@@ -1,17 +1,18 @@
 // The best allocation of an account.
-ghost use Rattle.std.specs.Prelude.{◌≡◌, IfOk, IsTrue};
+ghost use Rattle.std.specs.Prelude.{◌≡◌, true, IfOk, IsTrue};
 ghost use Rattle.packages.specs.BestTotal.{IsBest, IsFeasible, total_of};
+ghost use Rattle.bound_cert.specs.Trees.{is_tree};
 ghost use Rattle.bound_cert.specs.Views.{tree_of};
 ghost use Rattle.bound_cert.specs.Certificate.{holds, all_left};
+ghost use Rattle.dual_bound.specs.Tables.{IsCeiling};
+ghost use Rattle.allocator.specs.Searching.{IsReached};
 
-use crate::ceilings::Ceilings;
-use crate::quotes::Quote;
-use crate::searching::{Before, Found, dive, explore};
-use bound_cert::Cert;
-use dual_bound::{Choice, Relaxation, dual_prices};
+use crate::searching::{Found, explore, leaf, offer_near};
+use bound_cert::{Cert, CertNode};
+use dual_bound::{Choice, Relaxation};
 use game_text::Account;
-use packages::{Package, Prices};
-use std::alloc::Global;
+use packages::Package;
+use std::alloc::{AllocError, Global};
 use tac_base::Memory;
 
 /// A best allocation, and a certificate that no feasible allocation is worth more.
@@ -24,13 +25,29 @@ pub struct Solved {
     pub cert: Cert,
 }
 
-/// Prices that bound all by the total, as far as that may be.
-fn first_prices(account: &Account, relaxation: &Relaxation, total: u32) -> Prices {
-    if relaxation.is_worth_more(total) {
-        Prices { dollars: [0; 28] }
-    } else {
-        dual_prices(account, &Choice::none())
+/// Searches the whole, for which prices may be enough.
+fn explore_all(
+    alloc: Global,
+    account: &Account,
+    relaxation: &Relaxation,
+    best: &mut Found,
+) -> Result<CertNode, AllocError>
+    requires ceiling { IsCeiling account.now all_left relaxation.now.worths.dollars }
+    requires reached { IsReached account.now best.old.allocation best.old.total }
+    ensures reached { IsReached account.now best.new.allocation best.new.total }
+    ensures holds { IfOk result (λ root. holds account.now best.new.total all_left (tree_of root) ≡ true) }
+    ensures fits { IfOk result (λ root. is_tree 32 (tree_of root) ≡ true) }
+{
+    // The proof rests on the account's ranges, which are known where it is read.
+    let _holdings = &account.holdings;
+    let all = Choice::none();
+    if !relaxation.is_worth_more(best.total) {
+        let quote = relaxation.settled(account, &all);
+        if quote.holds(&relaxation.worths, best.total) {
+            return Ok(leaf(&quote.prices));
+        }
     }
+    explore(alloc, account, 0, &all, relaxation, best)
 }
 
 /// Finds a best allocation of an account's goods to its clients, by depth-first search. The one of several and the
@@ -48,21 +65,8 @@ pub fn solve(alloc: Global, account: &Account) -> Result<Solved, Memory>
         total: 0,
     };
     let relaxation = Relaxation::new(account);
-    dive(account, &relaxation, &mut best);
-    let prices = first_prices(account, &relaxation, best.total);
-    let before = Before {
-        relaxation,
-        quote: Quote::new(account, &prices),
-    };
-    let root = explore(
-        alloc,
-        account,
-        0,
-        &Choice::none(),
-        &Ceilings::new(account),
-        &before,
-        &mut best,
-    )?;
+    offer_near(0, account, &relaxation, &mut best);
+    let root = explore_all(alloc, account, &relaxation, &mut best)?;
     Ok(Solved {
         allocation: best.allocation,
         total: best.total,

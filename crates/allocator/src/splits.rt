@@ -9,6 +9,9 @@ use packages::Prices;
 /// What a split counts that tells nothing, more than any other.
 const LAST: f64 = 1.0e30;
 
+/// What a split counts that the relaxation does not call for, besides the parts that it leaves open.
+const UNCALLED: f64 = 1.0e15;
+
 /// A client, 0..7, and a feature of its package, 0..3.
 #[derive(Clone, Copy)]
 pub(crate) struct Split {
@@ -18,14 +21,16 @@ pub(crate) struct Split {
 
 /// How much a split leaves to search, as far as that is less than so much.
 fn left_by(relaxation: &Relaxation, prices: &Prices, total: u32, split: &Split, most: f64) -> f64
-    requires { split.now.client < 8 }
+    requires client { split.now.client < 8 }
+    requires feature { split.now.feature < 4 }
 {
     let client = usize::from(split.client);
     let feature = usize::from(split.feature);
-    if relaxation.call_for(client, feature) > 0.0 {
-        relaxation.after_split(client, feature, prices, f64::from(total), most)
+    let total_dollars = f64::from(total);
+    if relaxation.is_worth_more(total) && relaxation.call_for(client, feature) > 0.0 {
+        relaxation.after_split(client, feature, prices, total_dollars, most)
     } else {
-        LAST
+        UNCALLED + relaxation.open_parts(client, feature, prices, total_dollars)
     }
 }
 

@@ -136,3 +136,29 @@ fn two_trips_are_the_best_of_all_pairs(rt: HostRuntime) -> Result<(), Fail> {
     assert_eq!(rt; solved.total, most_of_two(&account));
     Ok(())
 }
+
+/// Accounts in which many packages gain the same, with their best totals, which an integer-program solver tells. The relaxation of the
+/// first has many steps that gain nothing; the prices of the second are halves of dollars.
+const TIES: [(&str, &str, u32); 2] = [
+    (
+        "5 4 1 1 3 4 2 5 1 5 5 3 4 4 5 3 2 1 1 2 2 2 1 0 2 1 0 2",
+        "client 0 1 5 55 112 155 170\nclient 1 3 5 140 104 90 79\nclient 2 1 5 55 145 80 83\nclient 3 3 4 112 35 161 161\nclient 4 2 4 147 26 150 180\nclient 5 4 5 108 101 186 72\nclient 6 4 5 122 61 65 163\nclient 7 1 4 95 83 135 7\n",
+        10177,
+    ),
+    (
+        "3 5 5 3 5 4 5 2 2 3 4 5 5 3 4 4 5 4 5 4 4 2 4 3 3 2 5 4",
+        "client 0 4 5 67 200 100 200\nclient 1 4 5 67 200 100 200\nclient 2 4 5 67 200 100 200\nclient 3 4 5 148 200 100 200\nclient 4 4 5 56 200 100 200\nclient 5 4 5 83 200 100 200\nclient 6 4 5 133 100 100 100\nclient 7 4 5 143 100 100 100\n",
+        9241,
+    ),
+];
+
+#[test]
+fn accounts_with_many_ties_have_their_best_totals(rt: HostRuntime) -> Result<(), Fail> {
+    for (hold, clients, total) in TIES {
+        let account = account(rt.alloc(), hold, clients)?;
+        let solved = solve(rt.alloc(), &account)?;
+        assert_eq!(rt; solved.total, total);
+        assert!(rt; check(&account, total, &solved.cert));
+    }
+    Ok(())
+}

@@ -104,3 +104,25 @@ count_free choice client feature h client_in feature_in free =
 pub none_of : (o : Option ℕ) → is_some o ≡ false → o ≡ None
 none_of None h = refl
 none_of (Some n) h = cc
+
+fits_is : (o : Option ℕ) (value x : ℕ) → o ≡ Some value → fits o x ≡ true → x ≡ value
+fits_is None value x is h = cc
+fits_is (Some fixed) value x is h =
+    let same : fixed ≡ value = cc in
+    grind (arith, nat_tests)
+
+all_four : (a b c d : Bool) → (a && (b && (c && d))) ≡ true → (a ≡ true) × (b ≡ true) × (c ≡ true) × (d ≡ true)
+all_four true true true true h = (refl, refl, refl, refl)
+all_four true true true false h = cc
+all_four true true false d h = cc
+all_four true false c d h = cc
+all_four false b c d h = cc
+
+-- a package that has a client's fixed values has each
+pub fixed_fits : (row : List (Option ℕ)) (feature value : ℕ) (p : Package) → feature < 4 → get_or row feature None ≡ Some value → has_fixed row p ≡ true → feature_of feature p ≡ value
+unfolding has_fixed
+fixed_fits row zero value p lt is h = fits_is (get_or row 0 None) value (feature_of 0 p) is (all_four (fits (get_or row 0 None) (feature_of 0 p)) (fits (get_or row 1 None) (feature_of 1 p)) (fits (get_or row 2 None) (feature_of 2 p)) (fits (get_or row 3 None) (feature_of 3 p)) h).0
+fixed_fits row (suc zero) value p lt is h = fits_is (get_or row 1 None) value (feature_of 1 p) is (all_four (fits (get_or row 0 None) (feature_of 0 p)) (fits (get_or row 1 None) (feature_of 1 p)) (fits (get_or row 2 None) (feature_of 2 p)) (fits (get_or row 3 None) (feature_of 3 p)) h).1
+fixed_fits row (suc (suc zero)) value p lt is h = fits_is (get_or row 2 None) value (feature_of 2 p) is (all_four (fits (get_or row 0 None) (feature_of 0 p)) (fits (get_or row 1 None) (feature_of 1 p)) (fits (get_or row 2 None) (feature_of 2 p)) (fits (get_or row 3 None) (feature_of 3 p)) h).2
+fixed_fits row (suc (suc (suc zero))) value p lt is h = fits_is (get_or row 3 None) value (feature_of 3 p) is (all_four (fits (get_or row 0 None) (feature_of 0 p)) (fits (get_or row 1 None) (feature_of 1 p)) (fits (get_or row 2 None) (feature_of 2 p)) (fits (get_or row 3 None) (feature_of 3 p)) h).3
+fixed_fits row (suc (suc (suc (suc n)))) value p lt is h = absurd (omega (arith, lt))

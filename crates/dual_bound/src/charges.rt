@@ -1,47 +1,7 @@
 // What the goods of packages cost at prices that may be fractions.
 ghost use Rattle.std.specs.Prelude.{◌<◌, ◌≤◌};
-ghost use Rattle.packages.specs.Packages.{IsPackage};
 
-use packages::{Package, feature_value, package};
-
-/// The features of all packages, by number 0..392.
-#[derive(Clone, Copy)]
-pub(crate) struct Features {
-    /// By package and feature 0..3.
-    values: [[u8; 4]; 393],
-}
-
-impl Features {
-    pub(crate) fn new() -> Features {
-        let mut values = [[0; 4]; 393];
-        for n in 0..393 {
-            if let Some(choice) = package(n) {
-                values[n as usize] = features_of(&choice);
-            }
-        }
-        Features { values }
-    }
-
-    /// The value of a feature, 0..3, of the package of a number; 0 past the last one.
-    pub(crate) fn value_of(&self, number: usize, feature: usize) -> usize {
-        match self.values.get(number) {
-            Some(values) => usize::from(values.get(feature).copied().unwrap_or(0)),
-            None => 0,
-        }
-    }
-}
-
-/// The four features of a package.
-fn features_of(package: &Package) -> [u8; 4]
-    requires { IsPackage «package».now }
-{
-    [
-        feature_value(package, 0),
-        feature_value(package, 1),
-        feature_value(package, 2),
-        feature_value(package, 3),
-    ]
-}
+use crate::features::Features;
 
 /// What the seats and the rooms of a trip cost.
 fn trip_charge(prices: &[f64; 37], hotel: usize, arrive: usize, depart: usize) -> f64
@@ -98,7 +58,7 @@ pub(crate) fn charges(features: &Features, prices: &[f64; 37]) -> [f64; 393] {
     let table = charge_table(prices);
     let mut charges = [0.0; 393];
     for number in 1..197 {
-        let values = &features.values[number];
+        let values = features.of(number);
         let tickets = charge_at(&table, 24 + values[1] % 8)
             + charge_at(&table, 32 + values[2] % 8)
             + charge_at(&table, 40 + values[3] % 8);

@@ -4,6 +4,9 @@
 mod allocations;
 mod charges;
 mod choices;
+mod driving;
+mod features;
+mod quotes;
 mod relaxing;
 mod rounding;
 mod settling;
@@ -15,5 +18,7 @@ mod worths;
 
 pub use allocations::{is_enough, is_used_up, worth};
 pub use choices::Choice;
+pub use quotes::Quote;
 pub use relaxing::Relaxation;
 pub use settling::dual_prices;
+pub use worths::Worths;

@@ -1,15 +1,16 @@
 // Whole prices near those of the relaxation.
-ghost use Rattle.std.specs.Prelude.{◌<◌, ◌≤◌};
+ghost use Rattle.std.specs.Prelude.{◌≡◌, ◌<◌, ◌≤◌, length, IfSome};
 ghost use Rattle.packages.specs.Prices.{ArePrices};
 
 use crate::charges::charges;
-use crate::relaxing::Relaxation;
-use crate::tableau::SMALL;
+use crate::relaxing::{Limits, Relaxation};
+use crate::tableau::{SMALL, Tableau};
+use crate::worths::Worths;
 use packages::Prices;
 use std::num::saturating_f64_to_u16;
 
-/// At most so many times all prices are tried.
-const MOST_ROUNDS: u32 = 8;
+/// At most so many prices are kept to whole dollars in turn.
+const MOST_KEPT: u32 = 56;
 
 /// The whole number below a price, at most the greatest price.
 fn whole(price: f64) -> u16
@@ -19,14 +20,17 @@ fn whole(price: f64) -> u16
 }
 
 /// The margin of the package of a number.
-fn margin_at(worths: &[i32; 393], charges: &[f64; 393], number: usize) -> f64
-    requires { number < 393 }
+fn margin_at(worths: &[i32], charges: &[f64; 393], number: usize) -> f64
+    requires all { length worths.now ≡ 393 }
+    requires number { number < 393 }
 {
     f64::from(worths[number]) - charges[number]
 }
 
 /// The greatest of the margins of a client's packages, by four at a time.
-pub(crate) fn best_margin(worths: &[i32; 393], charges: &[f64; 393]) -> f64 {
+pub(crate) fn best_margin(worths: &[i32], charges: &[f64; 393]) -> f64
+    requires { length worths.now ≡ 393 }
+{
     let mut most = [margin_at(worths, charges, 392); 4];
     for block in 0..98 {
         for lane in 0..4 {
@@ -52,121 +56,118 @@ impl Relaxation {
     /// What whole prices bound, in dollars, as far as each client has a package left.
     pub(crate) fn bound_at(&self, prices: &Prices) -> f64 {
         let row = row_of(prices);
-        let charges = charges(&self.features, &row);
+        let charges = charges(&self.worths.features, &row);
         let mut bound = 0.0;
         for good in 0..28 {
             bound += row[good] * self.stock[good];
         }
         for client in 0..8 {
-            bound += best_margin(&self.worths.dollars[client], &charges);
+            bound += best_margin(self.worths.row(client), &charges);
         }
         bound
     }
 
-    /// The relaxation's price of a good, 0..27, raised by a part of a dollar and then cut to whole dollars; the greatest price of
-    /// a good of which there is none.
-    fn shifted_price(&self, good: usize, shift: f64) -> u16
-        requires { good < 28 }
-        ensures { result ≤ 14001 }
-    {
-        if self.stock[good] < 0.5 {
-            14001
-        } else {
-            whole(self.tableau.rows[36][good] + shift)
-        }
-    }
-
-    /// The prices of the relaxation, each raised by a part of a dollar and then cut to whole dollars.
-    fn shifted(&self, shift: f64) -> Prices {
-        let mut dollars = [0; 28];
-        for good in 0..28 {
-            dollars[good] = self.shifted_price(good, shift);
-        }
-        Prices { dollars }
-    }
-
-    /// Whole prices near those of the relaxation. They are moved singly where the relaxation is worth no more than a total, so
-    /// that they may bound what is left by it.
+    /// Whole prices near those of the relaxation. Where it is worth no more than a total, others are sought too that may bound what is
+    /// left by the total.
     pub fn prices_for(&self, total: u32) -> Prices {
-        let best = self.rounded();
         if self.is_worth_more(total) {
-            best
+            self.rounded(0.0).0
         } else {
-            self.moved(best, f64::from(total) + 1.0)
+            self.prices_within(f64::from(total))
         }
     }
 
-    /// Whole prices near those of the relaxation, by which the bound is low.
+    /// Whole prices by which the bound is low.
     pub(crate) fn prices(&self) -> Prices {
-        self.moved(self.rounded(), self.value() + 1.0 - SMALL)
+        self.prices_within(f64::from(whole(self.tableau.value() + 1.0 - SMALL)))
     }
 
-    /// The prices of the relaxation, each cut or raised to a whole dollar, or the nearest, whichever bound is the lowest.
-    fn rounded(&self) -> Prices {
-        let mut best = self.shifted(0.5);
+    /// Whole prices by which the bound is no more than so much, if they are found, and else near those of the relaxation.
+    fn prices_within(&self, most: f64) -> Prices {
+        let (near, bound) = self.rounded(most);
+        if bound > most {
+            if let Some(tableau) = self.tableau.whole(&self.worths, most) {
+                return tableau.prices(SMALL);
+            }
+        }
+        near
+    }
+
+    /// The prices of the relaxation, each to the nearest whole dollar, cut or raised, whichever bound is the lowest or is no more than
+    /// so much, and that bound.
+    fn rounded(&self, most: f64) -> (Prices, f64) {
+        let mut best = self.tableau.prices(0.5);
         let mut bound = self.bound_at(&best);
         for shift in [SMALL, 1.0 - SMALL] {
-            let other = self.shifted(shift);
+            if bound <= most {
+                return (best, bound);
+            }
+            let other = self.tableau.prices(shift);
             let lower = self.bound_at(&other);
             if lower < bound {
                 best = other;
                 bound = lower;
             }
         }
-        best
+        (best, bound)
+    }
+}
+
+impl Tableau {
+    /// The price of a good, 0..27, raised by a part of a dollar and then cut to whole dollars.
+    fn price(&self, good: usize, shift: f64) -> u16
+        requires { good < 28 }
+        ensures { result ≤ 14001 }
+    {
+        whole(self.rows[36][good] + shift)
     }
 
-    /// Prices that are moved by a dollar, one by one, until the bound is below so much, a bounded number of times.
-    fn moved(&self, start: Prices, due: f64) -> Prices {
-        let mut best = start;
-        let mut least = self.bound_at(&best);
-        for _ in 0..MOST_ROUNDS {
-            let before = least;
-            for good in 0..28 {
-                if least < due {
-                    return best;
-                }
-                if self.is_between(good) {
-                    (best, least) = self.nearer(best, least, good);
-                }
-            }
-            if !(least < before) {
-                return best;
+    /// The prices, each raised by a part of a dollar and then cut to whole dollars.
+    fn prices(&self, shift: f64) -> Prices {
+        let mut dollars = [0; 28];
+        for good in 0..28 {
+            dollars[good] = self.price(good, shift);
+        }
+        Prices { dollars }
+    }
+
+    /// A good whose price is between whole dollars.
+    fn between(&self) -> Option<usize>
+        ensures { IfSome result (λ good. good < 28) }
+    {
+        for good in 0..28 {
+            if self.rows[36][good] - f64::from(self.price(good, SMALL)) > SMALL {
+                return Some(good);
             }
         }
-        best
+        None
     }
 
-    /// Whether the relaxation's price of a good, 0..27, is between whole dollars.
-    fn is_between(&self, good: usize) -> bool
-        requires { good < 28 }
-    {
-        let price = self.tableau.rows[36][good];
-        let over = price - f64::from(whole(price + SMALL));
-        over > SMALL
-    }
-
-    /// The better of prices and those in which one good's is a dollar higher or lower.
-    fn nearer(&self, best: Prices, least: f64, good: usize) -> (Prices, f64)
-        requires { good < 28 }
-    {
-        let price = best.dollars[good];
-        let (best, least) = self.better(best, least, good, price.saturating_sub(1));
-        self.better(best, least, good, (price + 1).min(14001))
-    }
-
-    /// The better of prices and those in which one good has another price.
-    fn better(&self, best: Prices, least: f64, good: usize, price: u16) -> (Prices, f64)
-        requires good { good < 28 }
-        requires price { price ≤ 14001 }
-    {
-        let mut other = best;
-        other.dollars[good] = price;
-        let bound = self.bound_at(&other);
-        if bound < least {
-            (other, bound)
-        } else {
-            (best, least)
+    /// The same with whole prices that are worth no more than so much, where they are found: one price after the other is kept to the
+    /// whole dollar above it or below it.
+    fn whole(&self, worths: &Worths, most: f64) -> Option<Tableau> {
+        let mut limits = Limits::none();
+        let mut found = *self;
+        for _ in 0..MOST_KEPT {
+            let Some(good) = found.between() else {
+                return Some(found);
+            };
+            let below = f64::from(found.price(good, SMALL));
+            let before = limits;
+            limits.low[good] = below + 1.0;
+            let mut other = found;
+            other.solve(worths, &limits);
+            if other.value() > most + SMALL {
+                limits = before;
+                limits.high[good] = below;
+                other = found;
+                other.solve(worths, &limits);
+                if other.value() > most + SMALL {
+                    return None;
+                }
+            }
+            found = other;
         }
+        None
     }
 }

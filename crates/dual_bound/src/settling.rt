@@ -3,15 +3,17 @@ ghost use Rattle.std.specs.Prelude.{◌≡◌, ℕ, ◌<◌, ◌≤◌, true, fa
 ghost use Rattle.std.specs.List.{All};
 ghost use Rattle.bound_cert.specs.Certificate.{IsLeft};
 ghost use Rattle.packages.specs.Packages.{IsPackage};
-ghost use Rattle.packages.specs.Bounds.{leaf_bound};
+ghost use Rattle.packages.specs.Bounds.{leaf_bound, stock_value};
 ghost use Rattle.packages.specs.Prices.{ArePrices};
 ghost use Rattle.dual_bound.specs.Choices.{chosen};
 ghost use Rattle.dual_bound.specs.Settled as settled;
+ghost use Rattle.dual_bound.specs.Tables.{IsCeiling};
 
 use crate::allocations::{is_enough, worth};
 use crate::choices::Choice;
+use crate::quotes::Quote;
 use crate::relaxing::Relaxation;
-use bound_cert::leaf_holds;
+use crate::worths::Worths;
 use game_text::Account;
 use packages::{Narrowing, Package, Prices, leaf_bound};
 
@@ -131,22 +133,26 @@ fn are_left(choice: &Choice, allocation: &[Package; 8]) -> bool
     true
 }
 
-/// Whether packages that are left reach what the prices bound, so that no prices bound what is left lower.
+/// Whether packages that are left reach what a quote's prices bound, as far as a table tells that is a ceiling of what is left, so that
+/// no prices bound it lower.
 fn is_reached(
     account: &Account,
     choice: &Choice,
-    prices: &Prices,
+    left: &Worths,
+    quote: &Quote,
     allocation: &[Package; 8],
 ) -> bool
+    requires ceiling { IsCeiling account.now (chosen choice.now) left.now.dollars }
+    requires stock { quote.now.stock_value ≡ stock_value account.now.holdings quote.now.prices }
     requires lawful { All IsPackage allocation.now }
     requires eight { length allocation.now ≡ 8 }
-    ensures { result ≡ true → settled.IsSettled account.now (chosen choice.now) prices.now }
+    ensures { result ≡ true → settled.IsSettled account.now (chosen choice.now) quote.now.prices }
 {
     // The law of prices rests on the account's ranges, which are known where it is read.
     let _holdings = &account.holdings;
     are_left(choice, allocation)
         && is_enough(account, allocation)
-        && leaf_holds(account, worth(account, allocation), choice, prices)
+        && quote.holds(left, worth(account, allocation))
 }
 
 /// Whole prices for what a choice leaves of an account's packages, by which the leaf bound is low. No single price is worth
@@ -155,12 +161,28 @@ pub fn dual_prices(account: &Account, choice: &Choice) -> Prices
     ensures range { ArePrices result }
     ensures settled { settled.IsSettled account.now (chosen choice.now) result }
 {
-    let relaxation = Relaxation::new(account).narrowed(choice, 0);
-    let prices = relaxation.prices();
-    if is_reached(account, choice, &prices, &relaxation.packages()) {
-        // The range of the prices is known where they are read.
-        let _dollars = &prices.dollars;
-        return prices;
+    // The proof rests on the account's ranges, which are known where it is read.
+    let _holdings = &account.holdings;
+    let mut left = Relaxation::new(account);
+    left.choose(choice);
+    left.repair(0);
+    let quote = left.settled(account, choice);
+    // The range of the prices is known where they are read.
+    let _dollars = &quote.prices.dollars;
+    quote.prices
+}
+
+impl Relaxation {
+    /// The prices of `dual_prices`, of a relaxation of what the choice leaves.
+    pub fn settled(&self, account: &Account, choice: &Choice) -> Quote
+        requires { IsCeiling account.now (chosen choice.now) self.now.worths.dollars }
+        ensures settled { settled.IsSettled account.now (chosen choice.now) result.prices }
+        ensures stock { result.stock_value ≡ stock_value account.now.holdings result.prices }
+    {
+        let quote = Quote::new(account, &self.prices());
+        if is_reached(account, choice, &self.worths, &quote, &self.packages()) {
+            return quote;
+        }
+        Quote::new(account, &settle(account, choice, quote.prices))
     }
-    settle(account, choice, prices)
 }

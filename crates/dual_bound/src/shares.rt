@@ -58,13 +58,15 @@ impl Relaxation {
         requires lawful { IsPackage has.now }
         ensures { IsPackage result }
     {
-        let charges = charges(&self.features, &row_of(prices));
-        let (number, most) = best_package(&self.worths.dollars[client], &charges);
+        let charges = charges(&self.worths.features, &row_of(prices));
+        let (number, most) = best_package(self.worths.row(client), &charges);
         if most < 0.0 { *has } else { numbered(number) }
     }
 
     /// How much of a client's packages have each value of a feature, 0..3.
-    fn shares(&self, client: usize, feature: usize) -> [f64; 21] {
+    fn shares(&self, client: usize, feature: usize) -> [f64; 21]
+        requires { feature < 4 }
+    {
         let mut shares = [0.0; 21];
         for member in 0..36 {
             if let Column::Holds {
@@ -72,9 +74,13 @@ impl Relaxation {
                 number,
             } = &self.tableau.members[member]
             {
-                if *holder == client {
-                    let value = self.features.value_of(*number, feature);
-                    put(&mut shares, value, self.tableau.rows[member][36]);
+                if *holder == client && *number < 393 {
+                    let value = self.worths.features.value_of(*number, feature);
+                    put(
+                        &mut shares,
+                        usize::from(value),
+                        self.tableau.rows[member][36],
+                    );
                 }
             }
         }
@@ -83,7 +89,9 @@ impl Relaxation {
 
     /// How much a split by a client's feature, 0..3, is called for: 0 where the feature has one value, and else more for a
     /// trip than for a ticket, and more where no value has a great share.
-    pub fn call_for(&self, client: usize, feature: usize) -> f64 {
+    pub fn call_for(&self, client: usize, feature: usize) -> f64
+        requires { feature < 4 }
+    {
         let undecided = 1.0 - greatest(&self.shares(client, feature));
         if undecided < SMALL {
             0.0
@@ -110,15 +118,16 @@ impl Relaxation {
         found
     }
 
-    /// What is left, solved, where the feature by which a split is called for most has the value with the greatest share; none
-    /// where no split is called for.
-    pub fn decided(&self) -> Option<Relaxation> {
-        let place = self.most_called_for()?;
+    /// Fixes the feature by which a split is called for most to the value with the greatest share, and solves what is left as far as
+    /// that tells whether it is worth more than a total. Says whether a split is called for.
+    pub fn decide(&mut self, total: u32) -> bool {
+        let Some(place) = self.most_called_for() else {
+            return false;
+        };
         let value = greatest_at(&self.shares(place / 4, place % 4));
-        let mut left = *self;
-        left.narrow(place / 4, place % 4, value as u8);
-        left.repair(0.0);
-        Some(left)
+        self.worths.narrow(place / 4, place % 4, value as u8);
+        self.repair(total);
+        true
     }
 
     /// How much a split by a client's feature leaves to search: for each part of it that whole prices do not bound by a total,
@@ -131,7 +140,8 @@ impl Relaxation {
         total: f64,
         most: f64,
     ) -> f64
-        requires { client < 8 }
+        requires client { client < 8 }
+        requires feature { feature < 4 }
     {
         let bounds = self.bounds_of_parts(client, feature, prices);
         let mut sum = 0.0;
@@ -146,30 +156,44 @@ impl Relaxation {
         sum
     }
 
+    /// In how many parts of a split by a client's feature whole prices leave more than a total.
+    pub fn open_parts(&self, client: usize, feature: usize, prices: &Prices, total: f64) -> f64
+        requires client { client < 8 }
+        requires feature { feature < 4 }
+    {
+        let mut count = 0.0;
+        for bound in self.bounds_of_parts(client, feature, prices) {
+            if bound > total + SMALL {
+                count += 1.0;
+            }
+        }
+        count
+    }
+
     /// What the relaxation of one part of a split is worth, as far as it is more than a total.
     fn value_of_part(&self, client: usize, feature: usize, value: u8, total: f64) -> f64
-        requires { client < 8 }
+        requires client { client < 8 }
+        requires feature { feature < 4 }
     {
-        let mut part = *self;
-        part.narrow(client, feature, value);
-        part.repair(total);
-        part.value()
+        let mut worths = self.worths;
+        worths.narrow(client, feature, value);
+        let mut tableau = self.tableau;
+        tableau.repair(&worths, total);
+        tableau.value()
     }
 
     /// What whole prices bound in each part of a split by a client's feature.
     fn bounds_of_parts(&self, client: usize, feature: usize, prices: &Prices) -> [f64; 21]
-        requires { client < 8 }
+        requires client { client < 8 }
+        requires feature { feature < 4 }
     {
-        let charges = charges(&self.features, &row_of(prices));
+        let charges = charges(&self.worths.features, &row_of(prices));
         let mut margins = [-1000000.0; 21];
-        let worths = &self.worths.dollars[client];
+        let worths = self.worths.row(client);
         for number in 0..393 {
             let margin = f64::from(worths[number]) - charges[number];
-            raise(
-                &mut margins,
-                self.features.value_of(number, feature),
-                margin,
-            );
+            let value = self.worths.features.value_of(number, feature);
+            raise(&mut margins, usize::from(value), margin);
         }
         let others = self.bound_at(prices) - greatest(&margins);
         for value in 0..21 {

@@ -13,6 +13,15 @@ pub(crate) enum Column {
     Spare { good: usize },
     /// A client, 0..7, has the package of a number, 0..392.
     Holds { client: usize, number: usize },
+    /// What is got of a good, 0..27, beyond what there is.
+    Extra { good: usize },
+}
+
+/// A column and what one of it gains, which is below 0 where a worse one has to do.
+#[derive(Clone, Copy)]
+pub(crate) struct Entering {
+    pub(crate) column: Column,
+    pub(crate) gain: f64,
 }
 
 /// A basis of 36 columns, for the 28 goods and the 8 clients.
@@ -26,13 +35,15 @@ pub(crate) struct Tableau {
 
 impl Tableau {
     /// All goods are left over, of which there are so many, and each client stays at home. Of a good of which eight clients can't use up
-    /// all, one more than they can use is as good as any number, and so it gets no price.
+    /// all, one more than they can use is as good as any number, and so it gets no price. A good of which there is none has the
+    /// greatest price, and nobody wants it.
     pub(crate) fn new(stock: &[f64; 28]) -> Tableau {
         let mut rows = [[0.0; 37]; 37];
         let mut members = [Column::Spare { good: 0 }; 36];
         for good in 0..28 {
             rows[good][good] = 1.0;
             rows[good][36] = stock[good].min(9.0);
+            rows[36][good] = first_price(stock[good]);
             members[good] = Column::Spare { good };
         }
         for client in 0..8 {
@@ -43,28 +54,42 @@ impl Tableau {
         Tableau { rows, members }
     }
 
+    /// What the amounts are worth together, in dollars.
+    pub(crate) fn value(&self) -> f64 {
+        self.rows[36][36]
+    }
+
     /// What one more of a column takes from each member; last what it would gain, below 0.
     pub(crate) fn takes(&self, column: &Column, gain: f64) -> [f64; 37] {
         let places = places_of(column);
+        let sign = if let Column::Extra { good: _ } = column {
+            -1.0
+        } else {
+            1.0
+        };
         let mut takes = [0.0; 37];
         for member in 0..36 {
-            takes[member] = part(&self.rows[member], &places);
+            takes[member] = sign * part(&self.rows[member], &places);
         }
         takes[36] = -gain;
         takes
     }
 
-    /// The member that is used up first where a column takes so much of each.
-    pub(crate) fn leaving(&self, takes: &[f64; 37]) -> Option<usize>
+    /// The member that is used up first where a column takes so much of each; of several the first, or the one that comes first as a
+    /// column where steps are idle.
+    pub(crate) fn leaving(&self, takes: &[f64; 37], is_idle: bool) -> Option<usize>
         ensures { IfSome result (λ member. member < 36) }
     {
         let mut first = None;
         let mut least = 1000000.0;
+        let mut rank = 0;
         for member in 0..36 {
             if takes[member] > SMALL {
                 let most = self.rows[member][36] / takes[member];
-                if most < least - SMALL {
+                let other_rank = rank_of(&self.members[member]);
+                if most < least - SMALL || (is_idle && most < least + SMALL && other_rank < rank) {
                     least = most;
+                    rank = other_rank;
                     first = Some(member);
                 }
             }
@@ -87,13 +112,27 @@ impl Tableau {
     }
 }
 
+/// The place of a column in the order of columns: the goods, and then the clients' packages.
+fn rank_of(column: &Column) -> usize {
+    match column {
+        Column::Spare { good } => *good,
+        Column::Holds { client, number } => 28 + 393 * (*client).min(8) + (*number).min(392),
+        Column::Extra { good } => 3172 + (*good).min(28),
+    }
+}
+
+/// What a good costs at first, of which there are so many.
+fn first_price(stock: f64) -> f64 {
+    if stock < 0.5 { 14001.0 } else { 0.0 }
+}
+
 /// The place that no row has.
 const NOWHERE: usize = 37;
 
 /// The places of a row that a column takes up, at most ten; the others are nowhere.
 fn places_of(column: &Column) -> [usize; 10] {
     match column {
-        Column::Spare { good } => {
+        Column::Spare { good } | Column::Extra { good } => {
             let mut places = [NOWHERE; 10];
             places[0] = *good;
             places

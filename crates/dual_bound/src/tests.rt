@@ -55,7 +55,8 @@ fn choice_bounds_what_it_leaves(rt: HostRuntime) -> Result<(), Fail> {
 #[test]
 fn relaxation_gives_whole_packages_and_prices(rt: HostRuntime) -> Result<(), Fail> {
     let account = one_seat()?;
-    let relaxation = Relaxation::new(&account).narrowed(&Choice::none(), 0);
+    let mut relaxation = Relaxation::new(&account);
+    relaxation.repair(0);
     let mut due = [Package::None; 8];
     due[1] = Package::Trip {
         hotel: 0,
@@ -66,8 +67,8 @@ fn relaxation_gives_whole_packages_and_prices(rt: HostRuntime) -> Result<(), Fai
     let prices = relaxation.prices_for(1150);
     assert_eq!(rt; relaxation.packages(), due);
     assert_eq!(rt; leaf_bound(&account, &Choice::none(), &prices), Some(1150));
-    assert!(rt; relaxation.decided().is_none());
     assert!(rt; relaxation.call_for(1, 0) <= 0.0);
+    assert!(rt; !relaxation.decide(0));
     Ok(())
 }
 

@@ -1,75 +1,117 @@
-// What the packages are worth to the clients that have them left.
-ghost use Rattle.std.specs.Prelude.{◌<◌};
+// What the packages are worth to the clients that have them left, in one table.
+ghost use Rattle.std.specs.Prelude.{◌≡◌, ℕ, Some, slice_get, ◌+◌, ◌*◌, ◌<◌, ◌≤ℤ◌, ◌-ℤ◌, ◌^◌, pos, negsuc, length, slice_index};
+ghost use Rattle.tac_base.specs.Clients.{Preferences};
+ghost use Rattle.packages.specs.Packages.{IsPackage, utility_of};
+ghost use Rattle.packages.specs.Features.{feature_of};
+ghost use Rattle.dual_bound.specs.Tables.{IsCeiling, IsPut, KeepsOthers, dollars_at};
+ghost use Rattle.bound_cert.specs.Certificate.{all_left};
 
-use crate::charges::{Features, charges};
+use crate::features::Features;
 use game_text::Account;
-use packages::{package, utility};
+use packages::{Package, package, utility};
 
-/// What a package that a client has not left is worth to it: so little that whatever else is left is taken before it.
+/// What a package that a client has not left counts: so little that whatever it has left counts more.
 const GONE: i32 = -1_000_000;
 
-/// What each package is worth to each client, in dollars.
+/// No less than what each package is worth to each client that has it left, in dollars.
 #[derive(Clone, Copy)]
-pub(crate) struct Worths {
-    /// By client 0..7 and the package's number 0..392.
-    pub(crate) dollars: [[i32; 393]; 8],
+pub struct Worths {
+    /// By client 0..7 and then the package's number 0..392.
+    pub dollars: [i32; 3144],
+    pub(crate) features: Features,
 }
 
 impl Worths {
-    /// Each package for which there are goods, of so many of each, is left to each client.
-    pub(crate) fn new(account: &Account, features: &Features, stock: &[f64; 28]) -> Worths {
-        let lacks = charges(features, &lacking(stock));
-        let mut worths = Worths {
-            dollars: [[GONE; 393]; 8],
-        };
-        for number in 0..393 {
-            if lacks[usize::from(number)] < 0.5 {
-                worths.put(account, number);
-            }
-        }
-        worths
-    }
-
-    /// Puts down what the package of a number, 0..392, is worth to each client.
-    fn put(&mut self, account: &Account, number: u16)
-        requires { number < 393 }
+    /// Each package is left to each client.
+    pub(crate) fn new(account: &Account) -> Worths
+        ensures { IsCeiling account.now all_left result.dollars }
     {
-        if let Some(choice) = package(number) {
-            for client in 0..8 {
-                let row = &mut self.dollars[client];
-                row[usize::from(number)] = utility(&account.clients[client], &choice) as i32;
+        // The proof rests on the account's ranges, which are known where it is read.
+        let _holdings = &account.holdings;
+        let mut dollars = [0; 3144];
+        for number in 0..393 {
+            if let Some(choice) = package(number) {
+                put(&mut dollars, account, number, &choice);
+            }
+        }
+        Worths {
+            dollars,
+            features: Features::new(),
+        }
+    }
+
+    /// A client, 0..7, keeps those packages whose feature, 0..3, has the value.
+    pub(crate) fn narrow(&mut self, client: usize, feature: usize, value: u8)
+        requires client { client < 8 }
+        requires feature { feature < 4 }
+        ensures { KeepsOthers (feature_of feature) client value self.old.dollars self.new.dollars }
+    {
+        for number in 0..393 {
+            if self.features.value_of(number, feature) != value {
+                self.dollars[393 * client + number] = GONE;
             }
         }
     }
 
-    /// A client, 0..7, keeps those packages whose feature has the value.
-    pub(crate) fn narrow(&mut self, features: &Features, client: usize, feature: usize, value: u8)
+    /// The dollars of a client, 0..7, by the package's number.
+    pub(crate) fn row(&self, client: usize) -> &[i32]
         requires { client < 8 }
+        ensures { length result.now ≡ 393 }
     {
-        let row = &mut self.dollars[client];
-        for number in 0..393 {
-            if features.value_of(number, feature) != usize::from(value) {
-                row[number] = GONE;
-            }
-        }
+        &self.dollars[393 * client..393 * client + 393]
     }
 
-    /// What the package of a number is worth to a client.
-    pub(crate) fn of(&self, client: usize, number: usize) -> f64 {
-        match self.dollars.get(client) {
-            Some(row) => f64::from(row.get(number).copied().unwrap_or(GONE)),
-            None => 0.0,
+    /// Whether the package of a number is taken from a client.
+    pub(crate) fn is_gone(&self, client: usize, number: usize) -> bool {
+        client < 8 && number < 393 && self.dollars[393 * client + number] < 0
+    }
+
+    /// The most that any package left to a client, 0..7, is worth beyond its cost, or more.
+    pub(crate) fn most(&self, client: usize, costs: &[u32; 393]) -> i64
+        requires { client < 8 }
+        ensures bound { (n : ℕ) → n < 393 → (dollars_at self.now.dollars client n -ℤ pos (slice_index costs.now n)) ≤ℤ result }
+        ensures low { negsuc (2 ^ 33) ≤ℤ result }
+        ensures high { result ≤ℤ pos (2 ^ 33) }
+    {
+        let mut most = -8_000_000_000;
+        for number in 0..393 {
+            most = raised(most, self.dollars[393 * client + number], costs[number]);
         }
+        most
     }
 }
 
-/// One for each good of which there is none, and 0 for the others.
-fn lacking(stock: &[f64; 28]) -> [f64; 37] {
-    let mut row = [0.0; 37];
-    for good in 0..28 {
-        if stock[good] < 0.5 {
-            row[good] = 1.0;
-        }
+/// The greater of a margin so far and what the dollars are beyond the cost.
+fn raised(most: i64, dollars: i32, cost: u32) -> i64
+    requires low { negsuc (2 ^ 33) ≤ℤ most }
+    requires high { most ≤ℤ pos (2 ^ 33) }
+    ensures kept { most ≤ℤ result }
+    ensures raised { (dollars -ℤ pos cost) ≤ℤ result }
+    ensures low { negsuc (2 ^ 33) ≤ℤ result }
+    ensures high { result ≤ℤ pos (2 ^ 33) }
+{
+    let margin = i64::from(dollars) - i64::from(cost);
+    if margin > most { margin } else { most }
+}
+
+/// What a package is worth to a client, 0..7.
+fn worth_to(account: &Account, client: usize, choice: &Package) -> i32
+    requires client { client < 8 }
+    requires lawful { IsPackage choice.now }
+    ensures value { (wants : Preferences) → slice_get account.now.clients client ≡ Some wants → result ≡ pos (utility_of wants choice.now) }
+    ensures low { pos 0 ≤ℤ result }
+    ensures high { result ≤ℤ pos 1750 }
+{
+    utility(&account.clients[client], choice) as i32
+}
+
+/// Puts down what the package of a number, 0..392, is worth to each client.
+fn put(dollars: &mut [i32; 3144], account: &Account, number: u16, choice: &Package)
+    requires number { number < 393 }
+    requires lawful { IsPackage choice.now }
+    ensures { IsPut account.now.clients number choice.now dollars.old 8 dollars.new }
+{
+    for client in 0..8 {
+        dollars[393 * client + usize::from(number)] = worth_to(account, client, choice);
     }
-    row
 }

@@ -12,12 +12,12 @@ pub returns-then-is_enough : goal.returns-then-is_enough
 returns-then-is_enough c = λ h. elim c.if-are_left.branch [
   | then-are_left w ↦
       let account = c.args.account.now in
-      let prices = c.args.prices.now in
+      let prices = c.args.quote.now.prices in
       let ps = c.args.allocation.now in
       let left = chosen c.args.choice.now in
       let ranges = subst IsAccount c.account.view_is c.account.invariant in
       let feasible : IsFeasible account ps = record { eight = c.requires.eight; lawful = c.requires.lawful; enough = w.is_enough.ensures.enough (sym w.value-is ∙ c.if-is_enough.true) } in
-      let within = subst (λ total. is_within (leaf_bound account left prices) total ≡ true) c.worth.ensures.value (sym c.leaf_holds.ensures ∙ h) in
+      let within = subst (λ total. is_within (leaf_bound account left prices) total ≡ true) c.worth.ensures.value (c.holds.ensures account left ranges c.requires.stock c.requires.ceiling h) in
       reached_settled account ranges left prices ps feasible (c.are_left.ensures w.if-are_left.true) within
   | else-are_left w ↦ cc (sym w.value-is ∙ c.if-is_enough.true)
 ]

@@ -1,0 +1,65 @@
+use Rattle.std.proofs.Common.{◌≡◌, ◌+◌, ◌-◌, ◌<◌, true, [], ◌∷◌, length-append, sym, ap, subst, ◌∙◌, rules, arith}
+use Rattle.game_text.specs.Accounts.{IsAccount}
+use Rattle.packages.specs.Bounds.{stock_value}
+use Rattle.bound_cert.specs.Trees.{is_tree}
+use Rattle.bound_cert.specs.Views.{tree_of, forest_of}
+use Rattle.bound_cert.specs.Certificate.{holds}
+use Rattle.packages.specs.Features.{narrowed}
+use Rattle.dual_bound.specs.Choices.{chosen, fixed_count}
+use Rattle.dual_bound.specs.Tables.{IsCeiling}
+use Rattle.dual_bound.proofs.TableLaws.{ceiling_narrowed}
+use Rattle.allocator.proofs.Claims.{all_hold_more}
+use Rattle.allocator.proofs.Growing.{all_hold-push, are_trees-push, holds-split, is_tree-split, leaf_fits}
+use Rattle.allocator.proofs.searching.+search.Goals as goal
+
+pub explore-loop-value-preserved : goal.explore-loop-value-preserved
+explore-loop-value-preserved t c =
+    let l = c.loop-value in
+    let left = chosen c.args.choice.now in
+    let client = c.in-Some.field-0.client in
+    let feature = c.in-Some.field-0.feature in
+    let child = c.in_ok-child.child in
+    let total = c.explore_part.new.best.total in
+    let fits : is_tree (31 - c.args.level) (tree_of child) ≡ true = subst (λ d. is_tree d (tree_of child) ≡ true) (omega arith) c.in_ok-child.ensures.fits in
+    let hold : holds c.args.account.now total (narrowed left client feature l.value) (tree_of child) ≡ true =
+    subst (λ n. holds c.args.account.now total n (tree_of child) ≡ true) c.with-next.ensures.left c.in_ok-child.ensures.holds in
+    record {
+      reached = c.in_ok-child.ensures.reached;
+      grows = omega (arith, c.in_ok-child.ensures.grows, l.invariant.grows);
+      count = rw c.in_ok-push.ensures.items (length-append l.children.items (child ∷ []) ∙ omega (arith, l.invariant.count));
+      hold = rw c.in_ok-push.ensures.items (all_hold-push c.args.account.now total left client feature 0 l.value l.children.items child
+          (all_hold_more c.args.account.now l.best.total total left client feature 0 (forest_of l.children.items) l.invariant.hold c.in_ok-child.ensures.grows) (omega (arith, l.invariant.count)) hold);
+      fit = rw c.in_ok-push.ensures.items (are_trees-push (31 - c.args.level) l.children.items child l.invariant.fit fits);
+    }
+
+pub explore-returns-then-holds-clause-fits : goal.explore-returns-then-holds-clause-fits
+explore-returns-then-holds-clause-fits t c = leaf_fits (32 - c.args.level) c.leaf.result c.new-quote.result.prices c.leaf.ensures.view (c.leaf.ensures.fits (32 - c.args.level))
+
+pub explore_part-returns-then-holds-clause-fits : goal.explore_part-returns-then-holds-clause-fits
+explore_part-returns-then-holds-clause-fits t c = leaf_fits (32 - c.args.level) c.leaf.result c.args.known.now.prices c.leaf.ensures.view (c.leaf.ensures.fits (32 - c.args.level))
+
+pub explore-returns-in_default-clause-fits : goal.explore-returns-in_default-clause-fits
+explore-returns-in_default-clause-fits t c = leaf_fits (32 - c.args.level) c.leaf-in_default.result c.full_prices.result c.leaf-in_default.ensures.view (c.leaf-in_default.ensures.fits (32 - c.args.level))
+
+pub explore-returns-clause-holds : goal.explore-returns-clause-holds
+explore-returns-clause-holds t c =
+    let l = c.loop-value in
+    holds-split c.args.account.now l.best.total (chosen c.args.choice.now) c.in-Some.field-0.client c.in-Some.field-0.feature l.children (omega (arith, l.invariant.count, c.value_count-value-end.ensures)) l.invariant.hold
+
+pub explore-returns-clause-fits : goal.explore-returns-clause-fits
+explore-returns-clause-fits t c =
+    let l = c.loop-value in
+    let deep : c.args.level < 32 = omega (arith, c.requires.level, c.in-Some.ensures.few) in
+    is_tree-split c.args.level c.in-Some.field-0.client c.in-Some.field-0.feature l.children deep c.in-Some.ensures.client c.in-Some.ensures.feature (omega (arith, l.invariant.count, c.value_count-value-end.ensures)) l.invariant.fit
+
+pub explore-explore_part-requires : goal.explore-explore_part-requires
+explore-explore_part-requires t c =
+    let account = c.args.account.now in
+    let ranges = subst IsAccount c.account.view_is c.account.invariant in
+    let deep : c.args.level < 32 = omega (arith, c.requires.level, c.in-Some.ensures.few) in
+    let level : c.args.level + 1 ≡ fixed_count c.with-next.result = omega (arith, c.requires.level, c.with-next.ensures.count) in
+    let table = c.narrow.new.self.worths.dollars in
+    let narrow = ceiling_narrowed account ranges (chosen c.args.choice.now) c.in-Some.field-0.client c.in-Some.field-0.feature c.loop-value.value c.args.left.now.worths.dollars table c.requires.ceiling c.narrow.ensures in
+    let ceiling = subst (λ left. IsCeiling account left table) (sym c.with-next.ensures.left) narrow in
+    let stock : c.new-quote.result.stock_value ≡ stock_value account.holdings c.new-quote.result.prices = c.new-quote.ensures.stock ∙ ap (stock_value account.holdings) (sym c.new-quote.ensures.prices) in
+    (search rules, (level, (ceiling, (stock, c.loop-value.invariant.reached))))

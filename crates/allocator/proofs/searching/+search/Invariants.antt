@@ -1,0 +1,22 @@
+use Rattle.std.proofs.Common.{◌≡◌, ◌+◌, ◌-◌, ◌*◌, ◌≤◌, true, length}
+use Rattle.bound_cert.specs.Trees.{are_trees}
+use Rattle.bound_cert.specs.Views.{forest_of}
+use Rattle.dual_bound.specs.Choices.{chosen}
+use Rattle.bound_cert.specs.Certificate.{all_hold}
+use Rattle.allocator.specs.Searching.{IsReached}
+use Rattle.allocator.proofs.searching.+search.Given as goal
+
+abbrev pub decreases-explore : goal.decreases-explore
+decreases-explore l = 2 * (32 - l.level)
+
+abbrev pub decreases-explore_part : goal.decreases-explore_part
+decreases-explore_part l = 2 * (32 - l.level) + 1
+
+abbrev pub invariant-explore-loop-value : goal.invariant-explore-loop-value
+invariant-explore-loop-value l = record {
+  reached : IsReached l.account l.best.allocation l.best.total;
+  grows : l.initial.best.total ≤ l.best.total;
+  count : length l.children.items ≡ l.value;
+  hold : all_hold l.account l.best.total (chosen l.choice) l.client l.feature 0 (forest_of l.children.items) ≡ true;
+  fit : are_trees (31 - l.level) (forest_of l.children.items) ≡ true;
+}

@@ -1,0 +1,15 @@
+use Rattle.std.proofs.Common.{◌≡◌, true, IfOk, ap, subst, ◌∙◌}
+use Rattle.packages.specs.Bounds.{Narrowing}
+use Rattle.bound_cert.specs.Certificate.{holds}
+use Rattle.bound_cert.specs.Views.{tree_of}
+use Rattle.dual_bound.specs.Choices.{chosen}
+use Rattle.allocator.proofs.ChoiceStart.{chosen_nothing}
+use Rattle.allocator.proofs.Growing.{leaf_fits}
+use Rattle.allocator.proofs.solving.explore_all.Goals as goal
+
+pub returns-then-holds-clause-fits : goal.returns-then-holds-clause-fits
+returns-then-holds-clause-fits c = leaf_fits 32 c.leaf.result c.settled-quote.result.prices c.leaf.ensures.view (c.leaf.ensures.fits 32)
+
+pub returns-clause-holds : goal.returns-clause-holds
+returns-clause-holds c =
+    subst (λ (left : Narrowing). IfOk c.explore.result (λ root. holds c.args.account.now c.explore.new.best.total left (tree_of root) ≡ true)) (ap chosen c.none-all.ensures ∙ chosen_nothing) c.explore.ensures.holds

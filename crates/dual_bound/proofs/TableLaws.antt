@@ -1,0 +1,191 @@
+-- What tables hold, and what tables of worths and costs bound.
+use Rattle.std.proofs.Common.{◌≡◌, ◌≢◌, ℕ, zero, suc, ◌+◌, ◌*◌, ◌<◌, ◌≤◌, ◌||◌, ℤ, pos, ◌+ℤ◌, ◌-ℤ◌, ◌≤ℤ◌, true, List, [], ◌∷◌, Option, Some, None, drop, length, get_or, set, eqb, int_le, not, inl, inr, refl, sym, ap, subst, ◌∙◌, arith}
+use Rattle.std.specs.List.{slice_get}
+use Rattle.std.proofs.lemmas.Int.{ints}
+use Rattle.std.proofs.lemmas.Bool.{and_parts, cases_eq}
+use Rattle.std.proofs.lemmas.List.{get_or-set_same, get_or-set_other}
+use Rattle.std.proofs.lemmas.Bool.Decides.{nat_tests}
+use Rattle.std.proofs.lemmas.Option.{slice_get_within}
+use Rattle.tac_base.specs.Clients.{Preferences}
+use Rattle.game_text.specs.Accounts.{AccountFile, IsAccount}
+use Rattle.packages.specs.declared.travel_packages.Package.{Package}
+use Rattle.packages.specs.Packages.{utility_of}
+use Rattle.packages.specs.Listing.{packages}
+use Rattle.packages.specs.Features.{feature_of, narrowed}
+use Rattle.packages.specs.Bounds.{Narrowing, cost_of, margin_of, plus, best_margin, margins, leaf_bound}
+use Rattle.packages.proofs.Decoded.{length-packages}
+use Rattle.packages.proofs.Margins.{drop_at, drop_past}
+use Rattle.bound_cert.specs.Certificate.{all_left, is_within}
+use Rattle.dual_bound.specs.Choices.{fixed_at, chosen}
+use Rattle.dual_bound.specs.Tables.{dollars_at, IsCeiling, AreCosts, IsPut, KeepsOthers, KeepsLeft}
+use Rattle.dual_bound.proofs.ChoiceLaws.{fixed_fits}
+use Rattle.dual_bound.proofs.Greatest.{greatest_at_most, parts_of}
+
+value_is : (k client a value : ℕ) → (not (eqb k client) || eqb a value) ≡ true → k ≡ client → a ≡ value
+value_is k client a value h same = grind (arith, nat_tests)
+
+-- a table that keeps what has a value is a ceiling of what is narrowed by it
+pub ceiling_narrowed : (account : AccountFile) (is_account : IsAccount account) (left : Narrowing) (client feature value : ℕ) (old new : List ℤ) → IsCeiling account left old → KeepsOthers (feature_of feature) client value old new
+    → IsCeiling account (narrowed left client feature value) new
+ceiling_narrowed account is_account left client feature value old new ceiling keeps = λ k n wants p at found is_left.
+    let parts = and_parts (left k p) (not (eqb k client) || eqb (feature_of feature p) value) is_left in
+    let below : k < 8 = omega (arith, slice_get_within account.clients k wants at, is_account.clients.count) in
+    let same = keeps k n p below found (value_is k client (feature_of feature p) value parts.1) in
+    subst (λ d. pos (utility_of wants p) ≤ℤ d) (sym same) (ceiling k n wants p at found parts.0)
+
+-- what a place of the table bounds
+pub margin_at_most : (u c : ℕ) (d most : ℤ) → pos u ≤ℤ d → (d -ℤ pos c) ≤ℤ most → (pos u -ℤ pos c) ≤ℤ most
+margin_at_most u c d most hu hd = omega (arith, ints, hu, hd)
+
+-- a bound is at most a sum so far and what is left to add
+abbrev pub IsUnder : Option ℤ → ℤ → Option ℤ → Type 0
+IsUnder bound sum rest = (b : ℤ) → bound ≡ Some b → (r : ℤ) × (rest ≡ Some r) × (b ≤ℤ (sum +ℤ r))
+
+same_some : (a b : ℤ) → Some a ≡ Some b → b ≤ℤ a
+same_some a b h =
+    let is : a ≡ b = cc in
+    omega (arith, ints, is)
+
+pub under_start : (stock : ℕ) (rest : Option ℤ) → IsUnder (plus (Some (pos stock)) rest) (pos stock) rest
+under_start stock None = λ b is. cc
+under_start stock (Some r) = λ b is. (r, refl, same_some (pos stock +ℤ r) b is)
+
+add_step : (b sum r x s most : ℤ) → b ≤ℤ (sum +ℤ r) → x +ℤ s ≡ r → x ≤ℤ most → b ≤ℤ ((sum +ℤ most) +ℤ s)
+add_step b sum r x s most h is le = omega (arith, ints, h, is, le)
+
+pub under_step : (left : Narrowing) (prices : List ℕ) (clients : List Preferences) (k : ℕ) (client : Preferences) (bound : Option ℤ) (sum most : ℤ) → slice_get clients k ≡ Some client
+    → ((n : ℕ) (p : Package) → slice_get packages n ≡ Some p → left k p ≡ true → margin_of client prices p ≤ℤ most)
+    → IsUnder bound sum (margins left prices k (drop k clients)) → IsUnder bound (sum +ℤ most) (margins left prices (k + 1) (drop (k + 1) clients))
+under_step left prices clients k client bound sum most at each under = λ b is.
+    let rest = rw (drop_at clients k client at) at (under b is) in
+    let parts = parts_of (best_margin client prices (left k)) (margins left prices (k + 1) (drop (k + 1) clients)) rest.0 rest.1 in (
+      parts.right_part,
+      parts.right_is,
+      add_step b sum rest.0 parts.left_part parts.right_part most rest.2 parts.sum_is
+          (greatest_at_most (margin_of client prices) (left k) packages most parts.left_part each parts.left_is),
+    )
+
+within_of : (bound : Option ℤ) (sum : ℤ) (claim : ℕ) → ((b : ℤ) → bound ≡ Some b → b ≤ℤ sum) → int_le sum (pos claim) ≡ true → is_within bound claim ≡ true
+within_of None sum claim under le = refl
+within_of (Some b) sum claim under le =
+    let low : b ≤ℤ sum = under b refl in
+    grind (arith, ints)
+
+pub under_done : (left : Narrowing) (prices : List ℕ) (clients : List Preferences) (k : ℕ) (bound : Option ℤ) (sum : ℤ) (claim : ℕ) → length clients ≤ k → IsUnder bound sum (margins left prices k (drop k clients))
+    → int_le sum (pos claim) ≡ true → is_within bound claim ≡ true
+under_done left prices clients k bound sum claim all under le =
+    within_of bound sum claim (λ b is.
+    let rest = rw (drop_past clients k all) at (under b is) in
+    let none : pos 0 ≡ rest.0 = cc (rest.1) in
+    omega (arith, ints, rest.2, none)) le
+
+client_at : (clients : List Preferences) (k : ℕ) → k < length clients → (client : Preferences) × (slice_get clients k ≡ Some client)
+client_at [] k lt = absurd (omega arith)
+client_at (c ∷ cs) zero lt = (c, refl)
+client_at (c ∷ cs) (suc k) lt = client_at cs k (omega arith)
+
+-- one more client, whose margins the tables bound
+pub under_more : (account : AccountFile) (is_account : IsAccount account) (left : Narrowing) (prices costs : List ℕ) (table : List ℤ) (k : ℕ) (sum most new : ℤ) → k < 8 → AreCosts prices costs → IsCeiling account left table
+    → ((n : ℕ) → n < 393 → (dollars_at table k n -ℤ pos (get_or costs n 0)) ≤ℤ most) → new ≡ sum +ℤ most
+    → IsUnder (leaf_bound account left prices) sum (margins left prices k (drop k account.clients)) → IsUnder (leaf_bound account left prices) new (margins left prices (k + 1) (drop (k + 1) account.clients))
+under_more account is_account left prices costs table k sum most new lt costs_are ceiling bound is under =
+    let client = client_at account.clients k (omega (arith, is_account.clients.count)) in
+    let each : (n : ℕ) (p : Package) → slice_get packages n ≡ Some p → left k p ≡ true → margin_of client.0 prices p ≤ℤ most = λ n p at is_left.
+    let below : n < 393 = omega (arith, slice_get_within packages n p at, length-packages) in
+    let cost_is = costs_are n p at in
+    margin_at_most (utility_of client.0 p) (cost_of prices p) (dollars_at table k n) most (ceiling k n client.0 p client.1 at is_left)
+    (subst (λ c. (dollars_at table k n -ℤ pos c) ≤ℤ most) cost_is (bound n below)) in
+    rw is (under_step left prices account.clients k client.0 (leaf_bound account left prices) sum most client.1 each under)
+
+same_package : (n : ℕ) (p q : Package) → slice_get packages n ≡ Some p → slice_get packages n ≡ Some q → p ≡ q
+same_package n p q hp hq = cc
+
+-- the entries of the packages so far, and of one more
+pub entries_more : {A : Type 0} (f : Package → A) (none : A) (table : List A) (j place : ℕ) (entry : A) (choice : Package) → j < length table → slice_get packages j ≡ Some choice → entry ≡ f choice → place ≡ j
+    → ((n : ℕ) (p : Package) → n < j → slice_get packages n ≡ Some p → get_or table n none ≡ f p)
+    → (n : ℕ) (p : Package) → n < j + 1 → slice_get packages n ≡ Some p → get_or (set table place entry) n none ≡ f p
+entries_more f none table j place entry choice long found entry_is place_is before = λ n p lt at. elim (cases_eq n j) [
+  | inl same ↦
+      let here : get_or (set table j entry) j none ≡ entry = get_or-set_same table j entry none long in
+      let p_is : choice ≡ p = same_package j choice p found (subst (λ i. slice_get packages i ≡ Some p) same at) in
+      rw (place_is, same, here, entry_is, p_is) refl
+  | inr other ↦ rw (place_is, get_or-set_other table j n entry none other) (before n p (omega (arith, other)) at)
+]
+
+-- a table from which the packages so far were taken that lack a value
+abbrev pub KeepsSoFar : (Package → ℕ) → ℕ → ℕ → ℕ → List ℤ → List ℤ → Type 0
+KeepsSoFar feature client value j old new =
+    (k n : ℕ) (p : Package) → k < 8 → slice_get packages n ≡ Some p → (k ≡ client → n < j → feature p ≡ value) → dollars_at new k n ≡ dollars_at old k n
+
+pub keeps_same : (feature : Package → ℕ) (client value j : ℕ) (old new : List ℤ) → KeepsSoFar feature client value j old new → KeepsSoFar feature client value (j + 1) old new
+keeps_same feature client value j old new keeps = λ k n p lt at fits. keeps k n p lt at (λ same less. fits same (omega arith))
+
+row_is : (k client n j : ℕ) → n < 393 → j < 393 → 393 * k + n ≡ 393 * client + j → k ≡ client
+row_is k client n j hn hj is = omega arith
+
+pub keeps_more : (feature : Package → ℕ) (client value j place : ℕ) (old new : List ℤ) (gone : ℤ) (choice : Package) → slice_get packages j ≡ Some choice → (feature choice ≡ value → ⊥) → place ≡ 393 * client + j
+    → KeepsSoFar feature client value j old new → KeepsSoFar feature client value (j + 1) old (set new place gone)
+keeps_more feature client value j place old new gone choice found lacks place_is keeps = λ k n p lt at fits.
+    let n_in : n < 393 = omega (arith, slice_get_within packages n p at, length-packages) in
+    let j_in : j < 393 = omega (arith, slice_get_within packages j choice found, length-packages) in
+    elim (cases_eq (393 * k + n) place) [
+      | inl same ↦
+          let k_is : k ≡ client = row_is k client n j n_in j_in (same ∙ place_is) in
+          let n_is : n ≡ j = omega (arith, same, place_is, k_is) in
+          let p_is : p ≡ choice = same_package j p choice (subst (λ i. slice_get packages i ≡ Some p) n_is at) found in
+          absurd (lacks (ap feature (sym p_is) ∙ fits k_is (omega (arith, n_is))))
+      | inr other ↦ rw (get_or-set_other new place (393 * k + n) gone (pos 0) other) (keeps k n p lt at (λ is less. fits is (omega arith)))
+    ]
+
+pub put_more : (clients : List Preferences) (number : ℕ) (p : Package) (old new : List ℤ) (j place : ℕ) (worth dollars : ℤ) → number < 393 → j < 8 → length new ≡ 3144 → place ≡ 393 * j + number → dollars ≡ worth
+    → ((wants : Preferences) → slice_get clients j ≡ Some wants → worth ≡ pos (utility_of wants p)) → IsPut clients number p old j new → IsPut clients number p old (j + 1) (set new place dollars)
+put_more clients number p old new j place worth dollars number_in j_in long place_is dollars_is worth_is before = record {
+  worth = λ k wants lt at. elim (cases_eq k j) [
+    | inl same ↦
+        let here : get_or (set new place dollars) place (pos 0) ≡ dollars = get_or-set_same new place dollars (pos 0) (omega (arith, place_is, long)) in
+        let at_place : 393 * k + number ≡ place = omega (arith, place_is, same) in
+        rw (at_place, here, dollars_is) (worth_is wants (subst (λ i. slice_get clients i ≡ Some wants) same at))
+    | inr other ↦
+        let apart : 393 * k + number ≢ place = λ is. other (omega (arith, is, place_is)) in
+        rw (get_or-set_other new place (393 * k + number) dollars (pos 0) apart) (before.worth k wants (omega (arith, other)) at)
+  ];
+  others = λ k n n_in other.
+      let apart : 393 * k + n ≢ place = λ is. other (omega (arith, is, place_is)) in
+      rw (get_or-set_other new place (393 * k + n) dollars (pos 0) apart) (before.others k n n_in other);
+}
+
+-- a table with what the packages so far are worth
+abbrev pub IsWorthSoFar : List Preferences → ℕ → List ℤ → Type 0
+IsWorthSoFar clients j table =
+    (k n : ℕ) (wants : Preferences) (p : Package) → n < j → slice_get clients k ≡ Some wants → slice_get packages n ≡ Some p → dollars_at table k n ≡ pos (utility_of wants p)
+
+pub worths_more : (account : AccountFile) (is_account : IsAccount account) (j : ℕ) (old new : List ℤ) (choice : Package) → slice_get packages j ≡ Some choice → IsPut account.clients j choice old 8 new
+    → IsWorthSoFar account.clients j old → IsWorthSoFar account.clients (j + 1) new
+worths_more account is_account j old new choice found put before = λ k n wants p lt client_at at.
+    let n_in : n < 393 = omega (arith, slice_get_within packages n p at, length-packages) in
+    let k_in : k < 8 = omega (arith, slice_get_within account.clients k wants client_at, is_account.clients.count) in
+    elim (cases_eq n j) [
+      | inl same ↦
+          let p_is : choice ≡ p = same_package j choice p found (subst (λ i. slice_get packages i ≡ Some p) same at) in
+          let worth = put.worth k wants k_in client_at in
+          subst (λ i. dollars_at new k i ≡ pos (utility_of wants p)) (sym same) (subst (λ q. dollars_at new k j ≡ pos (utility_of wants q)) p_is worth)
+      | inr other ↦ put.others k n n_in other ∙ before k n wants p (omega (arith, other)) client_at at
+    ]
+
+int_refl : (a : ℤ) (b : ℤ) → b ≡ a → a ≤ℤ b
+int_refl a b h = omega (arith, ints, h)
+
+-- the table of all packages is a ceiling
+pub ceiling_of_worths : (account : AccountFile) (table : List ℤ) (j : ℕ) → 393 ≤ j → IsWorthSoFar account.clients j table → IsCeiling account all_left table
+ceiling_of_worths account table j all worths = λ k n wants p client_at at left.
+    int_refl (pos (utility_of wants p)) (dollars_at table k n) (worths k n wants p (omega (arith, slice_get_within packages n p at, length-packages)) client_at at)
+
+-- a table that keeps what has a fixed value keeps what is left
+pub keeps_chosen : (choice : List (List (Option ℕ))) (client feature value : ℕ) (old new : List ℤ) → feature < 4 → fixed_at choice client feature ≡ Some value → KeepsOthers (feature_of feature) client value old new → KeepsLeft (chosen choice) old new
+keeps_chosen choice client feature value old new lt is keeps = λ k n p k_in at left.
+    keeps k n p k_in at (λ same. fixed_fits (get_or choice client []) feature value p lt is (subst (λ j. chosen choice j p ≡ true) same left))
+
+-- a table that keeps what is left of all is a ceiling of it
+pub ceiling_left : (account : AccountFile) (is_account : IsAccount account) (left : Narrowing) (old new : List ℤ) → IsCeiling account all_left old → KeepsLeft left old new → IsCeiling account left new
+ceiling_left account is_account left old new ceiling keeps = λ k n wants p at found is_left.
+    subst (λ d. pos (utility_of wants p) ≤ℤ d) (sym (keeps k n p (omega (arith, slice_get_within account.clients k wants at, is_account.clients.count)) found is_left)) (ceiling k n wants p at found refl)

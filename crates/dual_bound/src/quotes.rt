@@ -1,0 +1,77 @@
+// Prices with what they say of all packages.
+ghost use Rattle.std.specs.Prelude.{◌≡◌, ℕ, ◌+◌, ◌*◌, ◌<◌, ◌≤◌, ◌^◌, pos, negsuc, ◌+ℤ◌, ◌≤ℤ◌, true};
+ghost use Rattle.game_text.specs.Accounts.{AccountFile, IsAccount};
+ghost use Rattle.packages.specs.Bounds as bounds;
+ghost use Rattle.bound_cert.specs.Certificate.{is_within};
+ghost use Rattle.dual_bound.specs.Tables.{AreCosts, IsCeiling};
+
+use crate::worths::Worths;
+use game_text::Account;
+use packages::{Prices, cost, package, stock_value};
+
+/// Prices, what each package costs at them, and what all goods cost that there are.
+#[derive(Drop)]
+pub struct Quote {
+    pub prices: Prices,
+    /// By the package's number 0..392.
+    pub(crate) costs: [u32; 393],
+    pub stock_value: u64,
+    ghost costs_are: { AreCosts prices costs },
+    ghost few: { stock_value ≤ 28 * 2 ^ 48 },
+}
+
+impl Quote {
+    /// What an account's goods and all packages cost at the prices, in dollars.
+    pub fn new(account: &Account, prices: &Prices) -> Quote
+        ensures prices { result.prices ≡ prices.now }
+        ensures stock { result.stock_value ≡ bounds.stock_value account.now.holdings prices.now }
+    {
+        Quote {
+            prices: *prices,
+            costs: costs(prices),
+            stock_value: stock_value(account, prices),
+        }
+    }
+
+    /// Whether the prices bound by a claim in dollars what is left of an account's packages, as far as a table tells that is a
+    /// ceiling of it.
+    pub fn holds(&self, left: &Worths, claim: u32) -> bool
+        ensures { (account : AccountFile) (narrowing : bounds.Narrowing) → IsAccount account
+            → self.now.stock_value ≡ bounds.stock_value account.holdings self.now.prices
+            → IsCeiling account narrowing left.now.dollars
+            → result ≡ true → is_within (bounds.leaf_bound account narrowing self.now.prices) claim ≡ true }
+    {
+        let mut bound = self.stock_value as i64;
+        for client in 0..8 {
+            bound = added(bound, left.most(client, &self.costs), client);
+        }
+        bound <= i64::from(claim)
+    }
+}
+
+/// The sum of a bound so far, after so many clients, and what one more client adds at most.
+fn added(bound: i64, most: i64, client: usize) -> i64
+    requires client { client < 8 }
+    requires low { negsuc (2 ^ 34 * client) ≤ℤ bound }
+    requires high { bound ≤ℤ pos (2 ^ 53 + 2 ^ 34 * client) }
+    requires most_low { negsuc (2 ^ 33) ≤ℤ most }
+    requires most_high { most ≤ℤ pos (2 ^ 33) }
+    ensures value { result ≡ bound +ℤ most }
+    ensures low { negsuc (2 ^ 34 * (client + 1)) ≤ℤ result }
+    ensures high { result ≤ℤ pos (2 ^ 53 + 2 ^ 34 * (client + 1)) }
+{
+    bound + most
+}
+
+/// What each package costs, by number 0..392.
+fn costs(prices: &Prices) -> [u32; 393]
+    ensures { AreCosts prices.now result }
+{
+    let mut costs = [0; 393];
+    for number in 0..393 {
+        if let Some(choice) = package(number) {
+            costs[usize::from(number)] = cost(prices, &choice);
+        }
+    }
+    costs
+}
