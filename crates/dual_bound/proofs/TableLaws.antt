@@ -1,23 +1,26 @@
 -- What tables hold, and what tables of worths and costs bound.
-use Rattle.std.proofs.Common.{◌≡◌, ◌≢◌, ℕ, zero, suc, ◌+◌, ◌*◌, ◌<◌, ◌≤◌, ◌||◌, ℤ, pos, ◌+ℤ◌, ◌-ℤ◌, ◌≤ℤ◌, true, List, [], ◌∷◌, Option, Some, None, drop, length, get_or, set, eqb, int_le, not, inl, inr, refl, sym, ap, subst, ◌∙◌, arith}
-use Rattle.std.specs.List.{slice_get}
+use Rattle.std.proofs.Common.{◌≡◌, ◌≢◌, ℕ, zero, suc, false, length-append, ◌+◌, ◌*◌, ◌<◌, ◌≤◌, ◌||◌, ℤ, pos, ◌+ℤ◌, ◌-ℤ◌, ◌≤ℤ◌, ◌<ℤ◌, ◌++◌, true, List, [], ◌∷◌, Option, Some, None, drop, length, get_or, set, eqb, int_le, not, inl, inr, refl, sym, ap, subst, ◌∙◌, arith}
+use Rattle.std.specs.List.{All, slice_get}
+use Rattle.std.proofs.lemmas.List.Elements.{All-push}
 use Rattle.std.proofs.lemmas.Int.{ints}
 use Rattle.std.proofs.lemmas.Bool.{and_parts, cases_eq}
 use Rattle.std.proofs.lemmas.List.{get_or-set_same, get_or-set_other}
 use Rattle.std.proofs.lemmas.Bool.Decides.{nat_tests}
-use Rattle.std.proofs.lemmas.Option.{slice_get_within}
+use Rattle.std.proofs.lemmas.Option.{get_or_from_slice_get, slice_get_within}
 use Rattle.tac_base.specs.Clients.{Preferences}
 use Rattle.game_text.specs.Accounts.{AccountFile, IsAccount}
 use Rattle.packages.specs.declared.travel_packages.Package.{Package}
 use Rattle.packages.specs.Packages.{utility_of}
 use Rattle.packages.specs.Listing.{packages}
+use Rattle.packages.specs.Decoding.{package_at}
 use Rattle.packages.specs.Features.{feature_of, narrowed}
 use Rattle.packages.specs.Bounds.{Narrowing, cost_of, margin_of, plus, best_margin, margins, leaf_bound}
-use Rattle.packages.proofs.Decoded.{length-packages}
+use Rattle.packages.proofs.Decoded.{length-packages, package_is}
 use Rattle.packages.proofs.Margins.{drop_at, drop_past}
 use Rattle.bound_cert.specs.Certificate.{all_left, is_within}
 use Rattle.dual_bound.specs.Choices.{fixed_at, chosen}
-use Rattle.dual_bound.specs.Tables.{dollars_at, IsCeiling, AreCosts, IsPut, KeepsOthers, KeepsLeft}
+use Rattle.packages.specs.declared.travel_packages.Package.TheVariants as kinds
+use Rattle.dual_bound.specs.Tables.{margins_at, dollars_at, IsCeiling, AreCosts, IsPut, KeepsOthers, KeepsLeft, HasMore}
 use Rattle.dual_bound.proofs.ChoiceLaws.{fixed_fits}
 use Rattle.dual_bound.proofs.Greatest.{greatest_at_most, parts_of}
 
@@ -152,6 +155,77 @@ put_more clients number p old new j place worth dollars number_in j_in long plac
   others = λ k n n_in other.
       let apart : 393 * k + n ≢ place = λ is. other (omega (arith, is, place_is)) in
       rw (get_or-set_other new place (393 * k + n) dollars (pos 0) apart) (before.others k n n_in other);
+}
+
+-- a table that has less than nothing for the packages so far that lack a value
+abbrev pub TakesSoFar : (Package → ℕ) → ℕ → ℕ → ℕ → List ℤ → Type 0
+TakesSoFar feature client value j new = (n : ℕ) (p : Package) → n < j → slice_get packages n ≡ Some p → feature p ≢ value → dollars_at new client n <ℤ pos 0
+
+pub takes_more : (feature : Package → ℕ) (client value j place : ℕ) (new : List ℤ) (gone : ℤ) → place < length new → place ≡ 393 * client + j → gone <ℤ pos 0
+    → TakesSoFar feature client value j new → TakesSoFar feature client value (j + 1) (set new place gone)
+takes_more feature client value j place new gone long place_is below takes = λ n p lt at lacks. elim (cases_eq n j) [
+  | inl same ↦
+      let here : get_or (set new place gone) place (pos 0) ≡ gone = get_or-set_same new place gone (pos 0) long in
+      let at_place : 393 * client + n ≡ place = omega (arith, place_is, same) in
+      rw (at_place, here) below
+  | inr other ↦
+      let apart : 393 * client + n ≢ place = λ is. other (omega (arith, is, place_is)) in
+      rw (get_or-set_other new place (393 * client + n) gone (pos 0) apart) (takes n p (omega (arith, other)) at lacks)
+]
+
+pub takes_same : (feature : Package → ℕ) (client value j : ℕ) (new : List ℤ) (choice : Package) → slice_get packages j ≡ Some choice → feature choice ≡ value → TakesSoFar feature client value j new → TakesSoFar feature client value (j + 1) new
+takes_same feature client value j new choice found has takes = λ n p lt at lacks. elim (cases_eq n j) [
+  | inl same ↦ absurd (lacks (ap feature (same_package j p choice (subst (λ i. slice_get packages i ≡ Some p) same at) found) ∙ has))
+  | inr other ↦ takes n p (omega (arith, other)) at lacks
+]
+
+-- one more client's package
+pub margins_more : (prices : List ℕ) (table : List ℤ) (k : ℕ) (ns : List ℕ) (n j : ℕ) → k + length ns ≡ j
+    → margins_at prices table k (ns ++ n ∷ []) ≡ margins_at prices table k ns +ℤ (dollars_at table j n -ℤ pos (cost_of prices (get_or packages n kinds.None)))
+margins_more prices table k [] n j is =
+    let same : k ≡ j = omega (arith, is) in
+    rw same (omega (arith, ints))
+margins_more prices table k (m ∷ ns) n j is =
+    let rest = margins_more prices table (k + 1) ns n j (omega (arith, is)) in
+    omega (arith, ints, rest)
+
+-- packages of the first so many clients whose margins by a table add up to a bound with what the stock costs
+pub record IsChosen (prices : List ℕ) (stock : ℕ) (table : List ℤ) (count : ℕ) (bound : ℤ) : Type 0 where
+  pub numbers : List ℕ
+  pub counted : length numbers ≡ count
+  pub lawful : All (λ n. n < 393) numbers
+  pub sum_is : bound ≡ pos stock +ℤ margins_at prices table 0 numbers
+
+pub none_chosen : (prices : List ℕ) (stock : ℕ) (table : List ℤ) (bound : ℤ) → bound ≡ pos stock → IsChosen prices stock table 0 bound
+none_chosen prices stock table bound is = record { numbers = []; counted = refl; lawful = λ k d lt. absurd (omega arith); sum_is = omega (arith, ints, is) }
+
+sum_more : (stock : ℕ) (bound new most sum more : ℤ) → bound ≡ pos stock +ℤ sum → new ≡ bound +ℤ most → more ≡ sum +ℤ most → new ≡ pos stock +ℤ more
+sum_more stock bound new most sum more h is all = omega (arith, ints, h, is, all)
+
+pub chosen_more : (prices costs : List ℕ) (stock : ℕ) (table : List ℤ) (count n : ℕ) (bound most new : ℤ) → n < 393 → AreCosts prices costs → most ≡ dollars_at table count n -ℤ pos (get_or costs n 0) → new ≡ bound +ℤ most
+    → IsChosen prices stock table count bound → IsChosen prices stock table (count + 1) new
+chosen_more prices costs stock table count n bound most new lt costs_are most_is is before =
+    let found = package_is n lt in
+    let cost_is : get_or costs n 0 ≡ cost_of prices (get_or packages n kinds.None) = costs_are n (package_at n) found ∙ ap (cost_of prices) (sym (get_or_from_slice_get packages n (package_at n) kinds.None found)) in
+    let most_here : most ≡ dollars_at table count n -ℤ pos (cost_of prices (get_or packages n kinds.None)) = subst (λ c. most ≡ dollars_at table count n -ℤ pos c) cost_is most_is in
+    let more = margins_more prices table 0 before.numbers n count (omega (arith, before.counted)) in
+    let sum : margins_at prices table 0 (before.numbers ++ n ∷ []) ≡ margins_at prices table 0 before.numbers +ℤ most = subst (λ m. margins_at prices table 0 (before.numbers ++ n ∷ []) ≡ margins_at prices table 0 before.numbers +ℤ m) (sym most_here) more in
+    record {
+      numbers = before.numbers ++ n ∷ [];
+      counted = length-append before.numbers (n ∷ []) ∙ omega (arith, before.counted);
+      lawful = All-push (λ m. m < 393) before.numbers n before.lawful lt;
+      sum_is = sum_more stock bound new most (margins_at prices table 0 before.numbers) (margins_at prices table 0 (before.numbers ++ n ∷ [])) before.sum_is is sum;
+    }
+
+above : (claim : ℕ) (bound : ℤ) → int_le bound (pos claim) ≡ false → pos claim <ℤ bound
+above claim bound h = grind (arith, ints)
+
+pub chosen_all : (prices : List ℕ) (stock : ℕ) (table : List ℤ) (count claim : ℕ) (bound : ℤ) → count ≡ 8 → int_le bound (pos claim) ≡ false → IsChosen prices stock table count bound → HasMore prices stock table claim
+chosen_all prices stock table count claim bound all more chosen = record {
+  numbers = chosen.numbers;
+  eight = chosen.counted ∙ all;
+  lawful = chosen.lawful;
+  more = subst (λ b. pos claim <ℤ b) chosen.sum_is (above claim bound more);
 }
 
 -- a table with what the packages so far are worth

@@ -1,9 +1,9 @@
 // Prices with what they say of all packages.
-ghost use Rattle.std.specs.Prelude.{◌≡◌, ℕ, ◌+◌, ◌*◌, ◌<◌, ◌≤◌, ◌^◌, pos, negsuc, ◌+ℤ◌, ◌≤ℤ◌, true};
+ghost use Rattle.std.specs.Prelude.{◌≡◌, ℕ, ◌+◌, ◌*◌, ◌<◌, ◌≤◌, ◌^◌, pos, negsuc, ◌+ℤ◌, ◌≤ℤ◌, true, false};
 ghost use Rattle.game_text.specs.Accounts.{AccountFile, IsAccount};
 ghost use Rattle.packages.specs.Bounds as bounds;
 ghost use Rattle.bound_cert.specs.Certificate.{is_within};
-ghost use Rattle.dual_bound.specs.Tables.{AreCosts, IsCeiling};
+ghost use Rattle.dual_bound.specs.Tables.{AreCosts, HasMore, IsCeiling};
 
 use crate::worths::Worths;
 use game_text::Account;
@@ -36,10 +36,11 @@ impl Quote {
     /// Whether the prices bound by a claim in dollars what is left of an account's packages, as far as a table tells that is a
     /// ceiling of it.
     pub fn holds(&self, left: &Worths, claim: u32) -> bool
-        ensures { (account : AccountFile) (narrowing : bounds.Narrowing) → IsAccount account
+        ensures bounds { (account : AccountFile) (narrowing : bounds.Narrowing) → IsAccount account
             → self.now.stock_value ≡ bounds.stock_value account.holdings self.now.prices
             → IsCeiling account narrowing left.now.dollars
             → result ≡ true → is_within (bounds.leaf_bound account narrowing self.now.prices) claim ≡ true }
+        ensures more { result ≡ false → HasMore self.now.prices self.now.stock_value left.now.dollars claim }
     {
         let mut bound = self.stock_value as i64;
         for client in 0..8 {

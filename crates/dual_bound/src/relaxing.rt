@@ -3,7 +3,7 @@ ghost use Rattle.std.specs.Prelude.{◌≡◌, ◌<◌, length};
 ghost use Rattle.packages.specs.Features.{feature_of};
 ghost use Rattle.bound_cert.specs.Certificate.{all_left};
 ghost use Rattle.dual_bound.specs.Choices.{chosen};
-ghost use Rattle.dual_bound.specs.Tables.{IsCeiling, KeepsLeft, KeepsOthers};
+ghost use Rattle.dual_bound.specs.Tables.{IsCeiling, IsNarrowed, KeepsLeft};
 
 use crate::charges::charges;
 use crate::choices::Choice;
@@ -47,7 +47,7 @@ impl Relaxation {
     pub fn narrow(&mut self, client: u8, feature: u8, value: u8)
         requires client { client < 8 }
         requires feature { feature < 4 }
-        ensures { KeepsOthers (feature_of feature) client value self.old.worths.dollars self.new.worths.dollars }
+        ensures { IsNarrowed (feature_of feature) client value self.old.worths.dollars self.new.worths.dollars }
     {
         self.worths
             .narrow(usize::from(client), usize::from(feature), value);

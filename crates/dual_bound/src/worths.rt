@@ -1,9 +1,9 @@
 // What the packages are worth to the clients that have them left, in one table.
-ghost use Rattle.std.specs.Prelude.{◌≡◌, ℕ, Some, slice_get, ◌+◌, ◌*◌, ◌<◌, ◌≤ℤ◌, ◌-ℤ◌, ◌^◌, pos, negsuc, length, slice_index};
+ghost use Rattle.std.specs.Prelude.{◌≡◌, ℕ, Some, slice_get, ◌+◌, ◌*◌, ◌<◌, ◌≤ℤ◌, ◌-ℤ◌, ◌^◌, ◌⊎◌, pos, negsuc, length, slice_index};
 ghost use Rattle.tac_base.specs.Clients.{Preferences};
 ghost use Rattle.packages.specs.Packages.{IsPackage, utility_of};
 ghost use Rattle.packages.specs.Features.{feature_of};
-ghost use Rattle.dual_bound.specs.Tables.{IsCeiling, IsPut, KeepsOthers, dollars_at};
+ghost use Rattle.dual_bound.specs.Tables.{IsCeiling, IsNarrowed, IsPut, dollars_at};
 ghost use Rattle.bound_cert.specs.Certificate.{all_left};
 
 use crate::features::Features;
@@ -44,7 +44,7 @@ impl Worths {
     pub(crate) fn narrow(&mut self, client: usize, feature: usize, value: u8)
         requires client { client < 8 }
         requires feature { feature < 4 }
-        ensures { KeepsOthers (feature_of feature) client value self.old.dollars self.new.dollars }
+        ensures { IsNarrowed (feature_of feature) client value self.old.dollars self.new.dollars }
     {
         for number in 0..393 {
             if self.features.value_of(number, feature) != value {
@@ -66,32 +66,39 @@ impl Worths {
         client < 8 && number < 393 && self.dollars[393 * client + number] < 0
     }
 
-    /// The most that any package left to a client, 0..7, is worth beyond its cost, or more.
+    /// The most that any package is worth to a client, 0..7, beyond its cost, as the table has it.
     pub(crate) fn most(&self, client: usize, costs: &[u32; 393]) -> i64
         requires { client < 8 }
         ensures bound { (n : ℕ) → n < 393 → (dollars_at self.now.dollars client n -ℤ pos (slice_index costs.now n)) ≤ℤ result }
+        ensures reached { (n : ℕ) × (n < 393) × (result ≡ dollars_at self.now.dollars client n -ℤ pos (slice_index costs.now n)) }
         ensures low { negsuc (2 ^ 33) ≤ℤ result }
         ensures high { result ≤ℤ pos (2 ^ 33) }
     {
-        let mut most = -8_000_000_000;
-        for number in 0..393 {
-            most = raised(most, self.dollars[393 * client + number], costs[number]);
+        let mut most = margin(self.dollars[393 * client], costs[0]);
+        for number in 1..393 {
+            let other = margin(self.dollars[393 * client + number], costs[number]);
+            most = greater(most, other);
         }
         most
     }
 }
 
-/// The greater of a margin so far and what the dollars are beyond the cost.
-fn raised(most: i64, dollars: i32, cost: u32) -> i64
-    requires low { negsuc (2 ^ 33) ≤ℤ most }
-    requires high { most ≤ℤ pos (2 ^ 33) }
-    ensures kept { most ≤ℤ result }
-    ensures raised { (dollars -ℤ pos cost) ≤ℤ result }
+/// What dollars are beyond a cost.
+fn margin(dollars: i32, cost: u32) -> i64
+    ensures value { result ≡ dollars -ℤ pos cost }
     ensures low { negsuc (2 ^ 33) ≤ℤ result }
     ensures high { result ≤ℤ pos (2 ^ 33) }
 {
-    let margin = i64::from(dollars) - i64::from(cost);
-    if margin > most { margin } else { most }
+    i64::from(dollars) - i64::from(cost)
+}
+
+/// The greater of two margins.
+fn greater(one: i64, other: i64) -> i64
+    ensures value { (result ≡ one) ⊎ (result ≡ other) }
+    ensures one { one ≤ℤ result }
+    ensures other { other ≤ℤ result }
+{
+    if other > one { other } else { one }
 }
 
 /// What a package is worth to a client, 0..7.

@@ -59,7 +59,7 @@ explore-explore_part-requires t c =
     let deep : c.args.level < 32 = omega (arith, c.requires.level, c.in-Some.ensures.few) in
     let level : c.args.level + 1 ≡ fixed_count c.with-next.result = omega (arith, c.requires.level, c.with-next.ensures.count) in
     let table = c.narrow.new.self.worths.dollars in
-    let narrow = ceiling_narrowed account ranges (chosen c.args.choice.now) c.in-Some.field-0.client c.in-Some.field-0.feature c.loop-value.value c.args.left.now.worths.dollars table c.requires.ceiling c.narrow.ensures in
+    let narrow = ceiling_narrowed account ranges (chosen c.args.choice.now) c.in-Some.field-0.client c.in-Some.field-0.feature c.loop-value.value c.args.left.now.worths.dollars table c.requires.ceiling c.narrow.ensures.keeps in
     let ceiling = subst (λ left. IsCeiling account left table) (sym c.with-next.ensures.left) narrow in
     let stock : c.new-quote.result.stock_value ≡ stock_value account.holdings c.new-quote.result.prices = c.new-quote.ensures.stock ∙ ap (stock_value account.holdings) (sym c.new-quote.ensures.prices) in
     (search rules, (level, (ceiling, (stock, c.loop-value.invariant.reached))))

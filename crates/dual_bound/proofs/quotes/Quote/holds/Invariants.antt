@@ -2,13 +2,14 @@ use Rattle.std.proofs.Common.{◌≡◌, ◌+◌, ◌*◌, ◌^◌, pos, negsuc,
 use Rattle.game_text.specs.Accounts.{AccountFile, IsAccount}
 use Rattle.packages.specs.Bounds.{Narrowing, stock_value, margins, leaf_bound}
 use Rattle.dual_bound.specs.Tables.{IsCeiling}
-use Rattle.dual_bound.proofs.TableLaws.{IsUnder}
+use Rattle.dual_bound.proofs.TableLaws.{IsChosen, IsUnder}
 use Rattle.dual_bound.proofs.quotes.Quote.holds.Given as goal
 
 abbrev pub invariant-loop-client : goal.invariant-loop-client
 invariant-loop-client l = record {
   under : (account : AccountFile) (narrowing : Narrowing) → IsAccount account → l.self.stock_value ≡ stock_value account.holdings l.self.prices → IsCeiling account narrowing l.left.dollars
       → IsUnder (leaf_bound account narrowing l.self.prices) l.bound (margins narrowing l.self.prices l.client (drop l.client account.clients));
+  chosen : IsChosen l.self.prices l.self.stock_value l.left.dollars l.client l.bound;
   low : negsuc (2 ^ 34 * l.client) ≤ℤ l.bound;
   high : l.bound ≤ℤ pos (2 ^ 53 + 2 ^ 34 * l.client);
 }

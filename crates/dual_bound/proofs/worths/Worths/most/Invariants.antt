@@ -1,10 +1,11 @@
-use Rattle.std.proofs.Common.{ℕ, ◌<◌, ◌^◌, pos, negsuc, ◌-ℤ◌, ◌≤ℤ◌, get_or}
+use Rattle.std.proofs.Common.{◌≡◌, ℕ, ◌<◌, ◌^◌, pos, negsuc, ◌-ℤ◌, ◌≤ℤ◌, get_or}
 use Rattle.dual_bound.specs.Tables.{dollars_at}
 use Rattle.dual_bound.proofs.worths.Worths.most.Given as goal
 
 abbrev pub invariant-loop-number : goal.invariant-loop-number
 invariant-loop-number l = record {
   bound : (n : ℕ) → n < l.number → (dollars_at l.self.dollars l.client n -ℤ pos (get_or l.costs n 0)) ≤ℤ l.most;
+  reached : (n : ℕ) × (n < 393) × (l.most ≡ dollars_at l.self.dollars l.client n -ℤ pos (get_or l.costs n 0));
   low : negsuc (2 ^ 33) ≤ℤ l.most;
   high : l.most ≤ℤ pos (2 ^ 33);
 }
