@@ -10,7 +10,7 @@ use dual_bound::{Choice, Relaxation};
 use game_text::Account;
 use packages::{Narrowing, Package, package};
 
-/// The first package that is left to a client, 0..7: the one that uses nothing but what is fixed.
+/// The first package that is left to a client, 0..7: the only one where all its features are fixed.
 fn first_left(choice: &Choice, client: usize) -> Option<Package>
     requires { client < 8 }
     ensures lawful { IfSome result IsPackage }
@@ -46,7 +46,7 @@ pub(crate) fn first_choice(choice: &Choice) -> Option<[Package; 8]>
     Some(allocation)
 }
 
-/// Lets the clients take better packages in turn, each at prices that keep it from what the packages so far use up.
+/// Lets the clients take better packages in turn, each at prices that keep it from what the others use up.
 pub(crate) fn better_choice(
     account: &Account,
     relaxation: &Relaxation,
@@ -59,8 +59,10 @@ pub(crate) fn better_choice(
 {
     let mut allocation = *first;
     for client in 0..8 {
-        let prices = scarcity_prices(account, &allocation);
         let has = allocation[client];
+        let mut others = allocation;
+        others[client] = Package::None;
+        let prices = scarcity_prices(account, &others);
         allocation[client] = relaxation.best_left(client, &prices, &has);
     }
     allocation

@@ -6,15 +6,13 @@ use crate::rounding::best_margin;
 use crate::tableau::{Column, Entering, SMALL, Tableau};
 use crate::worths::Worths;
 
-/// At most so many members are replaced where packages are gone.
-const MOST_REPAIRS: u32 = 100;
-
-/// Prices bound what is left by so much less than a total that they do so too when they are cut to whole dollars.
+/// Prices are pushed until they bound what is left by so much less than a total, so that they mostly do so too when they are cut to
+/// whole dollars.
 const SPARE_DOLLARS: f64 = 4.0;
 
 /// A member that may not keep its amount: there is less than nothing of it (-1), or some of a package that is gone (1).
 #[derive(Clone, Copy)]
-struct Fault {
+pub(crate) struct Fault {
     member: usize,
     sign: f64,
 }
@@ -29,9 +27,10 @@ struct Push {
 }
 
 impl Tableau {
-    /// Drives out what is gone, as long as more may be left than a total. The prices bound what is left after each step.
-    pub(crate) fn repair(&mut self, worths: &Worths, total: f64) {
-        for _ in 0..MOST_REPAIRS {
+    /// Drives out what is gone by at most so many steps, as long as more may be left than a total. The prices bound what is left after
+    /// each step, but for errors of rounding.
+    pub(crate) fn repair(&mut self, worths: &Worths, total: f64, steps: u32) {
+        for _ in 0..steps {
             let Some(fault) = self.fault(worths) else {
                 return;
             };
@@ -42,7 +41,7 @@ impl Tableau {
     }
 
     /// The member that is furthest from an amount that it may keep, if one is.
-    fn fault(&self, worths: &Worths) -> Option<Fault>
+    pub(crate) fn fault(&self, worths: &Worths) -> Option<Fault>
         ensures { IfSome result (λ fault. fault.member < 36) }
     {
         let mut found = None;

@@ -15,6 +15,9 @@ use packages::stock;
 /// At most so many columns enter.
 const MOST_STEPS: u32 = 2000;
 
+/// At most so many members are replaced where packages are gone.
+const MOST_REPAIRS: u32 = 100;
+
 /// After so many steps in a row that gain nothing, the first column that gains enters.
 const MOST_IDLE: u32 = 100;
 
@@ -66,7 +69,8 @@ impl Relaxation {
     pub fn repair(&mut self, total: u32)
         ensures { self.new.worths ≡ self.old.worths }
     {
-        self.tableau.repair(&self.worths, f64::from(total));
+        self.tableau
+            .repair(&self.worths, f64::from(total), MOST_REPAIRS);
     }
 
     /// Whether the fractions are worth more together than so many dollars.

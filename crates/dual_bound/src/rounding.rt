@@ -85,7 +85,7 @@ impl Relaxation {
     /// Whole prices by which the bound is no more than so much, if they are found, and else near those of the relaxation.
     fn prices_within(&self, most: f64) -> Prices {
         let (near, bound) = self.rounded(most);
-        if bound > most {
+        if bound > most && self.tableau.fault(&self.worths).is_none() {
             if let Some(tableau) = self.tableau.whole(&self.worths, most) {
                 return tableau.prices(SMALL);
             }
@@ -136,7 +136,8 @@ impl Tableau {
         ensures { IfSome result (λ good. good < 28) }
     {
         for good in 0..28 {
-            if self.rows[36][good] - f64::from(self.price(good, SMALL)) > SMALL {
+            let price = self.rows[36][good].min(14001.0);
+            if price - f64::from(self.price(good, SMALL)) > SMALL {
                 return Some(good);
             }
         }

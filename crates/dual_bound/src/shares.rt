@@ -19,6 +19,9 @@ fn numbered(number: usize) -> Package
     package(number as u16).unwrap_or(Package::None)
 }
 
+/// At most so many members are replaced to see what a part of a split is worth.
+const MOST_TRIED: u32 = 8;
+
 impl Relaxation {
     /// The packages that the clients have whole; a client that has none whole stays at home.
     pub fn packages(&self) -> [Package; 8]
@@ -178,7 +181,7 @@ impl Relaxation {
         let mut worths = self.worths;
         worths.narrow(client, feature, value);
         let mut tableau = self.tableau;
-        tableau.repair(&worths, total);
+        tableau.repair(&worths, total, MOST_TRIED);
         tableau.value()
     }
 

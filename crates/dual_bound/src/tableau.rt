@@ -112,12 +112,12 @@ impl Tableau {
     }
 }
 
-/// The place of a column in the order of columns: the goods, and then the clients' packages.
+/// The place of a column in the order of columns: what is left over of each good and what is got beyond, and then the clients' packages.
 fn rank_of(column: &Column) -> usize {
     match column {
-        Column::Spare { good } => *good,
-        Column::Holds { client, number } => 28 + 393 * (*client).min(8) + (*number).min(392),
-        Column::Extra { good } => 3172 + (*good).min(28),
+        Column::Spare { good } => 2 * (*good).min(27),
+        Column::Extra { good } => 2 * (*good).min(27) + 1,
+        Column::Holds { client, number } => 56 + 393 * (*client).min(8) + (*number).min(392),
     }
 }
 
