@@ -30,11 +30,13 @@ impl Tableau {
     /// Drives out what is gone by at most so many steps, as long as more may be left than a total. The prices bound what is left after
     /// each step, but for errors of rounding.
     pub(crate) fn repair(&mut self, worths: &Worths, total: f64, steps: u32) {
+        let mut charges = charges(&worths.features, &self.rows[36]);
         for _ in 0..steps {
             let Some(fault) = self.fault(worths) else {
                 return;
             };
-            if !self.repair_member(worths, &fault, self.value() - total + SPARE_DOLLARS) {
+            let dollars = self.value() - total + SPARE_DOLLARS;
+            if !self.repair_member(worths, &fault, dollars, &mut charges) {
                 return;
             }
         }
@@ -70,11 +72,17 @@ impl Tableau {
     }
 
     /// Replaces the member of a fault by the column that costs least for it, and says whether that was done. Where none costs
-    /// less than so many dollars together, the prices alone are moved, by these dollars.
-    fn repair_member(&mut self, worths: &Worths, fault: &Fault, dollars: f64) -> bool
+    /// less than so many dollars together, the prices alone are moved, by these dollars. The charges of packages go with the prices.
+    fn repair_member(
+        &mut self,
+        worths: &Worths,
+        fault: &Fault,
+        dollars: f64,
+        charges: &mut [f64; 393],
+    ) -> bool
         requires { fault.now.member < 36 }
     {
-        let push = self.push(worths, fault);
+        let push = self.push(worths, fault, charges);
         let most = dollars / push.row[36];
         if !(most > 0.0) {
             return false;
@@ -87,19 +95,20 @@ impl Tableau {
         if takes[fault.member].abs() < SMALL {
             return false;
         }
+        *charges = pushed(&push, -entering.gain * fault.sign / takes[fault.member]);
         self.enter(&entering.column, &takes, fault.member);
         true
     }
 
-    /// How the prices change as the member of a fault is driven out.
-    fn push(&self, worths: &Worths, fault: &Fault) -> Push
+    /// How the prices change as the member of a fault is driven out, where packages have these charges.
+    fn push(&self, worths: &Worths, fault: &Fault, before: &[f64; 393]) -> Push
         requires { fault.now.member < 36 }
     {
         let mut row = [0.0; 37];
         add(&mut row, &self.rows[fault.member], fault.sign);
         Push {
             row,
-            charges: charges(&worths.features, &self.rows[36]),
+            charges: *before,
             takes: charges(&worths.features, &row),
         }
     }

@@ -21,4 +21,5 @@ pub use choices::Choice;
 pub use quotes::Quote;
 pub use relaxing::Relaxation;
 pub use settling::dual_prices;
+pub use shares::Priced;
 pub use worths::Worths;

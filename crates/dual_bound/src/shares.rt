@@ -22,6 +22,13 @@ fn numbered(number: usize) -> Package
 /// At most so many members are replaced to see what a part of a split is worth.
 const MOST_TRIED: u32 = 8;
 
+/// What packages cost at whole prices, and what these prices bound, as far as floating point tells.
+#[derive(Clone, Copy)]
+pub struct Priced {
+    charges: [f64; 393],
+    bound: f64,
+}
+
 impl Relaxation {
     /// The packages that the clients have whole; a client that has none whole stays at home.
     pub fn packages(&self) -> [Package; 8]
@@ -139,14 +146,14 @@ impl Relaxation {
         &self,
         client: usize,
         feature: usize,
-        prices: &Prices,
+        priced: &Priced,
         total: f64,
         most: f64,
     ) -> f64
         requires client { client < 8 }
         requires feature { feature < 4 }
     {
-        let bounds = self.bounds_of_parts(client, feature, prices);
+        let bounds = self.bounds_of_parts(client, feature, priced);
         let mut sum = 0.0;
         for value in 0..21 {
             if bounds[usize::from(value)] > total + SMALL && sum < most {
@@ -160,12 +167,12 @@ impl Relaxation {
     }
 
     /// In how many parts of a split by a client's feature whole prices leave more than a total.
-    pub fn open_parts(&self, client: usize, feature: usize, prices: &Prices, total: f64) -> f64
+    pub fn open_parts(&self, client: usize, feature: usize, priced: &Priced, total: f64) -> f64
         requires client { client < 8 }
         requires feature { feature < 4 }
     {
         let mut count = 0.0;
-        for bound in self.bounds_of_parts(client, feature, prices) {
+        for bound in self.bounds_of_parts(client, feature, priced) {
             if bound > total + SMALL {
                 count += 1.0;
             }
@@ -185,20 +192,27 @@ impl Relaxation {
         tableau.value()
     }
 
+    /// What packages cost at whole prices, and what these bound.
+    pub fn priced(&self, prices: &Prices) -> Priced {
+        Priced {
+            charges: charges(&self.worths.features, &row_of(prices)),
+            bound: self.bound_at(prices),
+        }
+    }
+
     /// What whole prices bound in each part of a split by a client's feature.
-    fn bounds_of_parts(&self, client: usize, feature: usize, prices: &Prices) -> [f64; 21]
+    fn bounds_of_parts(&self, client: usize, feature: usize, priced: &Priced) -> [f64; 21]
         requires client { client < 8 }
         requires feature { feature < 4 }
     {
-        let charges = charges(&self.worths.features, &row_of(prices));
         let mut margins = [-1000000.0; 21];
         let worths = self.worths.row(client);
         for number in 0..393 {
-            let margin = f64::from(worths[number]) - charges[number];
+            let margin = f64::from(worths[number]) - priced.charges[number];
             let value = self.worths.features.value_of(number, feature);
             raise(&mut margins, usize::from(value), margin);
         }
-        let others = self.bound_at(prices) - greatest(&margins);
+        let others = priced.bound - greatest(&margins);
         for value in 0..21 {
             margins[value] += others;
         }

@@ -77,9 +77,9 @@ fn split_leaves_the_parts_that_are_worth_more(rt: HostRuntime) -> Result<(), Fai
     let account = one_seat()?;
     let relaxation = Relaxation::new(&account);
     // All parts are worth at most 1150, and only the part where client 1 takes the trip is worth more than 1100.
-    let prices = relaxation.prices_for(1150);
-    let left = relaxation.after_split(1, 0, &prices, 1100.0, 1000000.0);
+    let priced = relaxation.priced(&relaxation.prices_for(1150));
+    let left = relaxation.after_split(1, 0, &priced, 1100.0, 1000000.0);
     assert!(rt; left > 2500.0 && left < 2502.0);
-    assert!(rt; relaxation.after_split(1, 0, &prices, 1150.0, 1000000.0) <= 0.0);
+    assert!(rt; relaxation.after_split(1, 0, &priced, 1150.0, 1000000.0) <= 0.0);
     Ok(())
 }
