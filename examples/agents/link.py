@@ -1,5 +1,6 @@
 """A link to the server, as docs/PROTOCOL.md tells it: lines of words, one reply line for each request line."""
 
+import argparse
 import socket
 import sys
 import time
@@ -72,6 +73,7 @@ class Link:
 
     stream: socket.socket
     lines: object
+    word: str
     agent: int = 0
     endow: list = field(default_factory=list)
     clients: list = field(default_factory=list)
@@ -81,10 +83,10 @@ class Link:
         """Takes a seat by its word, and waits until the game begins."""
         stream = connect(host, port)
         stream.setsockopt(socket.IPPROTO_TCP, socket.TCP_NODELAY, 1)
-        link = cls(stream, stream.makefile("r", encoding="ascii", newline="\n"))
+        link = cls(stream, stream.makefile("r", encoding="ascii", newline="\n"), word)
         first = link.ask(f"hello {word}").split()
-        if first[:1] != ["welcome"]:
-            sys.exit(f"no seat: {' '.join(first) or 'the link was closed'}")
+        if first[0] != "welcome":
+            sys.exit(f"{word}: {' '.join(first)}")
         link.agent = int(first[1])
         link.endow = [int(units) for units in link.line().split()[2:]]
         for _ in range(8):
@@ -93,12 +95,21 @@ class Link:
         return link
 
     def line(self):
-        """The next line that the server sends, or nothing at the end."""
-        return self.lines.readline().rstrip("\n")
+        """The next line that the server sends. Where the link was closed or failed, the agent ends and says so."""
+        try:
+            line = self.lines.readline()
+        except OSError:
+            line = ""
+        if not line.endswith("\n"):
+            sys.exit(f"{self.word}: the link was closed")
+        return line.rstrip("\n")
 
     def ask(self, request):
         """Sends a request line, and gives its reply line."""
-        self.stream.sendall(request.encode("ascii") + b"\n")
+        try:
+            self.stream.sendall(request.encode("ascii") + b"\n")
+        except OSError:
+            pass  # then no reply line comes either
         return self.line()
 
     def bid(self, good, *points):
@@ -109,15 +120,21 @@ class Link:
         words = self.ask(f"quote {good}").split()
         return Quote(int(words[0][1:]), int(words[2]), int(words[3]), words[4] == "closed")
 
+    def read(self, request):
+        """The number that a reading is answered. Where it is refused, as with `no spent`, the agent ends and says so."""
+        reply = self.ask(request)
+        words = reply.split()
+        if words[1:2] != request.split()[:1]:
+            sys.exit(f"{self.word}: {request}: {reply}")
+        return int(words[2])
+
     def own(self, good):
         """How many units the agent holds."""
-        words = self.ask(f"own {good}").split()
-        return int(words[2]) if words[1:2] == ["own"] else 0
+        return self.read(f"own {good}")
 
     def cash(self):
         """What the agent earned so far less what it paid, in dollars."""
-        words = self.ask("cash").split()
-        return int(words[2]) if words[1:2] == ["cash"] else 0
+        return self.read("cash")
 
     def quit(self):
         self.ask("quit")
@@ -125,7 +142,12 @@ class Link:
 
 
 def arguments(what):
-    """The host, the port and the seat word of the command line."""
-    if len(sys.argv) != 4:
-        sys.exit(f"usage: {sys.argv[0]} HOST PORT WORD\n\n{what}")
-    return sys.argv[1], int(sys.argv[2]), sys.argv[3]
+    """The host, the port, the seat word and the pause of the command line."""
+    parser = argparse.ArgumentParser(description=what, formatter_class=argparse.RawDescriptionHelpFormatter)
+    parser.add_argument("host")
+    parser.add_argument("port", type=int)
+    parser.add_argument("word", help="the seat word of the agent")
+    # A session has 65,536 lines: at two seconds they last for the slowest game.
+    parser.add_argument("--pause", type=float, default=2.0, metavar="SECONDS", help="how long it waits between two looks; a tick or less is good")
+    given = parser.parse_args()
+    return given.host, given.port, given.word, given.pause

@@ -1,8 +1,8 @@
 #!/usr/bin/env python3
 """Buys a fixed plan: for each client the trip that it prefers, in the hotel that its premium pays for.
 
-It buys the flights at once, bids for the rooms until their auctions close, each minute a little above the quote, and keeps the tickets
-that it has.
+It buys the flights at once, bids for the rooms 50 dollars above the quote, at most 300, and anew where the quote has come to its bid, until
+the game is over. It keeps the tickets that it has.
 """
 
 import time
@@ -26,21 +26,22 @@ def plan(clients):
 
 
 def main():
-    link = Link.greet(*arguments(__doc__))
+    host, port, word, pause = arguments(__doc__)
+    link = Link.greet(host, port, word)
     needs = plan(link.clients)
     for good, units in needs.items():
         if good not in HOTELS:
             link.bid(good, (units, MOST_FOR_A_SEAT))
-    standing = {}
+    standing = Counter()  # dollars
     while not link.quote(0).closed:
         for good in HOTELS:
             quote = link.quote(good)
             price = min(quote.ask + 50, MOST_FOR_A_ROOM)
-            # A bid takes the place of the earlier one, so it is worth a call only where the quote came near to it.
-            if needs[good] and not quote.closed and quote.ask + 1 > standing.get(good, 0):
+            # A bid takes the place of the earlier one, so it is worth a call only where the quote has come to that and more can be bid.
+            if needs[good] and not quote.closed and standing[good] <= quote.ask and standing[good] < price:
                 link.bid(good, (needs[good], price))
                 standing[good] = price
-        time.sleep(0.02)
+        time.sleep(pause)
     bought = sum(link.own(good) for good in needs)
     print(f"agent {link.agent} planned {sum(needs.values())} units, has {bought} of these goods, cash {link.cash()}")
     link.quit()

@@ -2,7 +2,8 @@
 """Trades tickets at its clients' values, and buys each client its trip.
 
 A ticket is worth to the agent what the keenest client without one of its type would pay for its night. It sells what it holds above
-that, and bids for what it lacks a little below. It goes through the ticket auctions until they close.
+that, and bids for what it lacks a little below. It goes through the ticket auctions again and again, 500 times at most, and then waits for
+the end of the game.
 """
 
 import time
@@ -11,6 +12,7 @@ from collections import Counter
 from link import HOTELS, Link, arguments, inbound, outbound, room, ticket
 
 MARGIN = 10  # dollars that it wants to gain by a trade
+MOST_ROUNDS = 500  # an agent has 1024 calls in each auction, and a round takes two of a ticket's
 
 
 def values_of(clients, kind, night):
@@ -34,7 +36,8 @@ def offer(link, kind, night):
 
 
 def main():
-    link = Link.greet(*arguments(__doc__))
+    host, port, word, pause = arguments(__doc__)
+    link = Link.greet(host, port, word)
     seats = Counter()
     for client in link.clients:
         seats[inbound(client.arrive)] += 1
@@ -45,15 +48,13 @@ def main():
     for good, units in rooms.items():
         link.bid(good, (units, 150))
     rounds = 0
-    # An agent has 1024 calls in each auction; each round takes two of a ticket's.
-    while not link.quote(0).closed and rounds < 400:
-        for kind in range(3):
-            for night in range(1, 5):
-                offer(link, kind, night)
-        rounds += 1
-        time.sleep(0.05)
     while not link.quote(0).closed:
-        time.sleep(0.05)
+        if rounds < MOST_ROUNDS:
+            for kind in range(3):
+                for night in range(1, 5):
+                    offer(link, kind, night)
+        rounds += 1
+        time.sleep(pause)
     got = sum(link.own(good) for good in HOTELS)
     tickets = [link.own(ticket(kind, night)) for kind in range(3) for night in range(1, 5)]
     print(f"agent {link.agent} began with {sum(link.endow)} tickets, has {sum(tickets)} and {got} rooms, cash {link.cash()}")

@@ -7,7 +7,8 @@ from link import Link, arguments
 
 
 def main():
-    link = Link.greet(*arguments(__doc__))
+    host, port, word, pause = arguments(__doc__)
+    link = Link.greet(host, port, word)
     open_goods = list(range(28))
     hotels = []
     while open_goods:
@@ -17,7 +18,7 @@ def main():
                 open_goods.remove(good)
                 if 8 <= good < 16:
                     hotels.append(f"{good} at {quote.ask}")
-        time.sleep(0.02)
+        time.sleep(pause)
     print(f"agent {link.agent} saw the hotels close: {', '.join(hotels)}")
     link.quit()
 
