@@ -1,6 +1,6 @@
 -- What the parties hold before any call.
 use Rattle.std.proofs.Common.{◌≡◌, ℕ, zero, suc, ◌<◌, ◌≤◌, List, [], ◌∷◌, ◌++◌, length, map, get_or, refl, sym, ap, subst, arith, Bool, true, false, ℤ, pos, ◌+ℤ◌, ◌≤ℤ◌}
-use Rattle.std.specs.Prelude.{replicate, nat_lt}
+use Rattle.std.specs.Prelude.{nat_lt}
 use Rattle.std.proofs.lemmas.Bool.Decides.{nat_tests}
 use Rattle.std.specs.List.{All, AllByRecursion}
 use Rattle.std.proofs.lemmas.Int.{ints}
@@ -63,15 +63,6 @@ tickets_endowed endow place h = each endow (recursion_from_All IsEndowment endow
     each [] k agent = nothing_few
     each (tickets ∷ lists) k zero = few (get_or tickets place 0) (at_place tickets k.0)
     each (tickets ∷ lists) k (suc agent) = each lists k.1 agent
-
-pub nobody_endowed : (n : ℕ) → AreEndowed (replicate n (pos 0))
-unfolding IsFew
-nobody_endowed n agent = each n agent
-  where
-    each : (m k : ℕ) → IsFew (get_or (replicate m (pos 0)) k (pos 0))
-    each zero k = nothing_few
-    each (suc m) zero = nothing_few
-    each (suc m) (suc k) = each m k
 
 -- ---- an auction before any call
 

@@ -1,20 +1,14 @@
 -- A closed auction stays closed and trades no more.
-use Rattle.std.proofs.Common.{◌≡◌, ℕ, false, true, List, [], ◌∷◌, refl, ap, Option, Some, None}
-use Rattle.std.specs.Prelude.{◌&&◌}
-use Rattle.std.proofs.lemmas.Bool.{or_right}
+use Rattle.std.proofs.Common.{◌≡◌, ℕ, false, true, List, [], refl, ap, Option, Some, None}
 use Rattle.tac_base.specs.declared.calls.Call.{Call}
 use Rattle.tac_base.specs.declared.calls.Call.TheVariants.{Bid, Withdraw, Own as OwnCall, Update, Publish, Close}
 use Rattle.tac_base.specs.declared.calls.Reply.{Reply}
 use Rattle.tac_base.specs.declared.calls.Reply.TheVariants.{Closed}
 use Rattle.auction_rules.specs.Setup.{Setup, Rules, FlightRules, HotelRules, TicketRules}
-use Rattle.auction_rules.specs.History.{Entry, is_admission, is_own, is_close, is_closed}
+use Rattle.auction_rules.specs.History.{Entry, is_own, is_closed}
 use Rattle.auction_rules.specs.Refusals.{refusal}
 use Rattle.auction_rules.specs.Legal.{entry_by, trades_by, trades_of}
 use Rattle.auction_rules.proofs.Steps.{entry_refused}
-
--- an entry more leaves a closed auction closed
-pub closed_more : (e : Entry) (past : List Entry) → is_closed past ≡ true → is_closed (e ∷ past) ≡ true
-closed_more e past closed = or_right (is_admission e.reply && is_close e.call) (is_closed past) closed
 
 -- a question trades nothing
 own_trades : (rules : Rules) (good : ℕ) (past : List Entry) (caller : ℕ) → trades_by rules good past caller OwnCall ≡ []

@@ -25,11 +25,6 @@ entry_call setup past caller call = entry_by_call setup past caller call (refusa
 pub lawful_more : (setup : Setup) (past : List Entry) (caller : ℕ) (call : Call) → IsLawful setup past → IsLawful setup (entry_of setup past caller call ∷ past)
 lawful_more setup past caller call lawful = (rw (entry_caller setup past caller call, entry_call setup past caller call), lawful)
 
--- a past that calls make is lawful, and has an entry for each call
-pub past_of_lawful : (setup : Setup) (calls : List (ℕ × Call)) → IsLawful setup (past_of setup calls)
-past_of_lawful setup [] = tt
-past_of_lawful setup ((caller, call) ∷ calls) = lawful_more setup (past_of setup calls) caller call (past_of_lawful setup calls)
-
 pub length-past_of : (setup : Setup) (calls : List (ℕ × Call)) → length (past_of setup calls) ≡ length calls
 length-past_of setup [] = refl
 length-past_of setup ((caller, call) ∷ calls) = ap suc (length-past_of setup calls)

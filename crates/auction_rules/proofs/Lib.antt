@@ -22,5 +22,4 @@ pub mod Asks
 pub mod Outbids
 pub mod Quoted
 pub mod FlightPrices
-pub mod Payers
 pub mod ClosingTrades

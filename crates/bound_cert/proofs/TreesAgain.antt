@@ -19,10 +19,9 @@ use Rattle.text_forms.proofs.Joins.{joined_parts, parts_more}
 use Rattle.text_forms.proofs.RowLaws.{is_column, numbers_lack, row_again}
 use Rattle.text_forms.proofs.PrintedLines.{lacks_from, join_lacks, ahead, at_end}
 use Rattle.packages.specs.Features.{values_of}
-use Rattle.bound_cert.specs.declared.node_lines.NodeLine.{NodeLine}
 use Rattle.bound_cert.specs.declared.node_lines.NodeLine.TheVariants.{Leaf, Split}
 use Rattle.bound_cert.specs.NodeLines.{leaf_columns, split_columns, node_line_of, leaf_text, split_text}
-use Rattle.bound_cert.specs.Reading.{forest_by, node_line_in, tree_in, root_in, cert_of}
+use Rattle.bound_cert.specs.Reading.{forest_by, tree_in, root_in, cert_of}
 use Rattle.bound_cert.specs.Texts.{tree_lines, forest_lines, spelling}
 use Rattle.bound_cert.specs.Trees.{Tree, leaf, split, Trees, no_trees, more, count_of, are_prices, is_tree, are_trees, IsCertificate}
 use Rattle.bound_cert.proofs.RootCases.{short_text}
@@ -72,10 +71,6 @@ split_again : (client feature : ℕ) → client < 8 → feature < 4 → node_lin
 split_again client feature in_client in_feature = split_read (pos client ∷ pos feature ∷ []) (split_in client feature in_client in_feature)
 
 -- ---- trees
-
-node_ahead : (numbers : List ℕ) (line : List ℕ) (lines : List (List ℕ)) (after : Remaining) (node : NodeLine) → node_line_of line ≡ Ok node
-    → node_line_in (ahead numbers (line ∷ lines) after) ≡ Ok (get_or numbers 0 0, node, ahead (drop 1 numbers) lines after)
-node_ahead numbers line lines after node h = rw h refl
 
 -- the tests that a split passes
 record IsSplit (depth client feature : ℕ) (trees : Trees) : Type 0 where

@@ -1,9 +1,9 @@
 -- Waiting tick by tick.
-use Rattle.std.proofs.Common.{◌≡◌, ℕ, zero, suc, ◌+◌, ◌-◌, ◌≤◌, ◌<◌, Bool, true, false, cond, List, [], ◌∷◌, ◌++◌, length, map, take, Some, None, refl, sym, ap, ◌∙◌, arith, subst}
-use Rattle.std.specs.Prelude.{IfSome, MatchBool, count_by}
+use Rattle.std.proofs.Common.{◌≡◌, ℕ, zero, suc, ◌+◌, ◌-◌, ◌≤◌, Bool, true, false, cond, List, [], ◌∷◌, ◌++◌, map, take, refl, sym, ap, ◌∙◌, arith, subst}
+use Rattle.std.specs.Prelude.{MatchBool, count_by}
 use Rattle.std.specs.Int.{from_bool}
 use Rattle.std.specs.declared.option.Option.{Option}
-use Rattle.std.proofs.lemmas.List.{length-map, length-append, length-take-le, map-append}
+use Rattle.std.proofs.lemmas.List.{map-append}
 use Rattle.std.proofs.lemmas.List.Sums.{sum_by-append}
 use Rattle.tac_io.specs.Counts.{Rose}
 use Rattle.tac_io.specs.Told.{and_then_told}
@@ -34,18 +34,6 @@ waits_for_more waited waited' waited'' tick missed lapsed first last before e = 
     one : (b : Bool) → count_by (λ (wait : ℕ × Bool). wait.1) ((tick, b) ∷ []) ≡ from_bool b
     one true = refl
     one false = refl
-
--- fewer than 54 ticks were waited for before the last
-pub few_yet : (waited waited' : Option (List (ℕ × Bool))) (tick missed : ℕ) → 1 ≤ tick → tick ≤ 54 → WaitsFor waited waited' (tick - 1) missed → IfSome waited (λ ticks. ticks ≡ []) → IfSome waited' (λ ticks. length ticks < 54)
-few_yet waited None tick missed first last before none = tt
-few_yet None (Some ts) tick missed first last before none = let clash : Some ts ≡ None = before.told in absurd (cc)
-few_yet (Some ss) (Some ts) tick missed first last before none =
-    let told : Some ts ≡ Some (ss ++ before.waits) = before.told in
-    let all : ts ≡ ss ++ before.waits = cc in
-    let parts = ap length all ∙ length-append ss before.waits in
-    let old = ap length none in
-    let new = sym (length-map before.waits (λ wait. wait.0)) ∙ ap length before.in_order ∙ length-take-le (tick - 1) ticks (omega (arith, last)) in
-    omega (arith, parts, old, new, last, first)
 
 rose_twice : (first before now : ℕ) → Rose first before → Rose before now → Rose first now
 rose_twice first before now one two = record {

@@ -82,10 +82,6 @@ count_with choice client feature value h client_in feature_in free =
 rows_short : (rows : List (List (Option ℕ))) → ((k : ℕ) → k < length rows → length (get_or rows k []) ≡ 4) → All (λ r. count_by is_some r ≤ 4) rows
 rows_short rows four = λ k d lt. omega (arith, count_by-le-length is_some (get_or rows k d), ap length (get_or_default rows k d [] lt), four k lt)
 
--- at most 32 features are fixed
-pub count_bound : (choice : List (List (Option ℕ))) → IsChoice choice → fixed_count choice ≤ 32
-count_bound choice h = omega (arith, h.eight, sum_by-le (λ r. count_by is_some r) 4 choice (rows_short choice (λ k lt. h.four k (omega (arith, h.eight)))))
-
 -- where a feature is not fixed, fewer than 32 are
 pub count_free : (choice : List (List (Option ℕ))) (client feature : ℕ) → IsChoice choice → client < 8 → feature < 4 → fixed_at choice client feature ≡ None → fixed_count choice < 32
 count_free choice client feature h client_in feature_in free =

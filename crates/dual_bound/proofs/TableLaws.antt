@@ -1,5 +1,5 @@
 -- What tables hold, and what tables of worths and costs bound.
-use Rattle.std.proofs.Common.{◌≡◌, ◌≢◌, ℕ, zero, suc, false, length-append, ◌+◌, ◌*◌, ◌<◌, ◌≤◌, ◌||◌, ℤ, pos, ◌+ℤ◌, ◌-ℤ◌, ◌≤ℤ◌, ◌<ℤ◌, ◌++◌, true, List, [], ◌∷◌, Option, Some, None, drop, length, get_or, set, eqb, int_le, not, inl, inr, refl, sym, ap, subst, ◌∙◌, arith}
+use Rattle.std.proofs.Common.{◌≡◌, ◌≢◌, ℕ, zero, suc, false, length-append, ◌+◌, ◌*◌, ◌<◌, ◌≤◌, ◌||◌, ℤ, pos, ◌+ℤ◌, ◌-ℤ◌, ◌≤ℤ◌, ◌<ℤ◌, ◌++◌, true, List, [], ◌∷◌, Option, Some, drop, length, get_or, set, eqb, int_le, not, inl, inr, refl, sym, ap, subst, ◌∙◌, arith}
 use Rattle.std.specs.List.{All, slice_get}
 use Rattle.std.proofs.lemmas.List.Elements.{All-push}
 use Rattle.std.proofs.lemmas.Int.{ints}
@@ -14,10 +14,10 @@ use Rattle.packages.specs.Packages.{utility_of}
 use Rattle.packages.specs.Listing.{packages}
 use Rattle.packages.specs.Decoding.{package_at}
 use Rattle.packages.specs.Features.{feature_of, narrowed}
-use Rattle.packages.specs.Bounds.{Narrowing, cost_of, margin_of, plus, best_margin, margins, leaf_bound}
+use Rattle.packages.specs.Bounds.{Narrowing, cost_of, margin_of, best_margin, margins, leaf_bound}
 use Rattle.packages.proofs.Decoded.{length-packages, package_is}
-use Rattle.packages.proofs.Margins.{drop_at, drop_past}
-use Rattle.bound_cert.specs.Certificate.{all_left, is_within}
+use Rattle.packages.proofs.Margins.{drop_at}
+use Rattle.bound_cert.specs.Certificate.{all_left}
 use Rattle.dual_bound.specs.Choices.{fixed_at, chosen}
 use Rattle.packages.specs.declared.travel_packages.Package.TheVariants as kinds
 use Rattle.dual_bound.specs.Tables.{margins_at, dollars_at, IsCeiling, AreCosts, IsPut, KeepsOthers, KeepsLeft, HasMore}
@@ -44,15 +44,6 @@ margin_at_most u c d most hu hd = omega (arith, ints, hu, hd)
 abbrev pub IsUnder : Option ℤ → ℤ → Option ℤ → Type 0
 IsUnder bound sum rest = (b : ℤ) → bound ≡ Some b → (r : ℤ) × (rest ≡ Some r) × (b ≤ℤ (sum +ℤ r))
 
-same_some : (a b : ℤ) → Some a ≡ Some b → b ≤ℤ a
-same_some a b h =
-    let is : a ≡ b = cc in
-    omega (arith, ints, is)
-
-pub under_start : (stock : ℕ) (rest : Option ℤ) → IsUnder (plus (Some (pos stock)) rest) (pos stock) rest
-under_start stock None = λ b is. cc
-under_start stock (Some r) = λ b is. (r, refl, same_some (pos stock +ℤ r) b is)
-
 add_step : (b sum r x s most : ℤ) → b ≤ℤ (sum +ℤ r) → x +ℤ s ≡ r → x ≤ℤ most → b ≤ℤ ((sum +ℤ most) +ℤ s)
 add_step b sum r x s most h is le = omega (arith, ints, h, is, le)
 
@@ -67,20 +58,6 @@ under_step left prices clients k client bound sum most at each under = λ b is.
       add_step b sum rest.0 parts.left_part parts.right_part most rest.2 parts.sum_is
           (greatest_at_most (margin_of client prices) (left k) packages most parts.left_part each parts.left_is),
     )
-
-within_of : (bound : Option ℤ) (sum : ℤ) (claim : ℕ) → ((b : ℤ) → bound ≡ Some b → b ≤ℤ sum) → int_le sum (pos claim) ≡ true → is_within bound claim ≡ true
-within_of None sum claim under le = refl
-within_of (Some b) sum claim under le =
-    let low : b ≤ℤ sum = under b refl in
-    grind (arith, ints)
-
-pub under_done : (left : Narrowing) (prices : List ℕ) (clients : List Preferences) (k : ℕ) (bound : Option ℤ) (sum : ℤ) (claim : ℕ) → length clients ≤ k → IsUnder bound sum (margins left prices k (drop k clients))
-    → int_le sum (pos claim) ≡ true → is_within bound claim ≡ true
-under_done left prices clients k bound sum claim all under le =
-    within_of bound sum claim (λ b is.
-    let rest = rw (drop_past clients k all) at (under b is) in
-    let none : pos 0 ≡ rest.0 = cc (rest.1) in
-    omega (arith, ints, rest.2, none)) le
 
 client_at : (clients : List Preferences) (k : ℕ) → k < length clients → (client : Preferences) × (slice_get clients k ≡ Some client)
 client_at [] k lt = absurd (omega arith)
@@ -195,9 +172,6 @@ pub record IsChosen (prices : List ℕ) (stock : ℕ) (table : List ℤ) (count 
   pub counted : length numbers ≡ count
   pub lawful : All (λ n. n < 393) numbers
   pub sum_is : bound ≡ pos stock +ℤ margins_at prices table 0 numbers
-
-pub none_chosen : (prices : List ℕ) (stock : ℕ) (table : List ℤ) (bound : ℤ) → bound ≡ pos stock → IsChosen prices stock table 0 bound
-none_chosen prices stock table bound is = record { numbers = []; counted = refl; lawful = λ k d lt. absurd (omega arith); sum_is = omega (arith, ints, is) }
 
 sum_more : (stock : ℕ) (bound new most sum more : ℤ) → bound ≡ pos stock +ℤ sum → new ≡ bound +ℤ most → more ≡ sum +ℤ most → new ≡ pos stock +ℤ more
 sum_more stock bound new most sum more h is all = omega (arith, ints, h, is, all)

@@ -33,10 +33,6 @@ module _ {A : Type 0} where
   pub all_by_place : (P : A → Type 0) (xs : List A) → ((k : ℕ) (x : A) → get_elem? xs k ≡ some x → P x) → All P xs
   all_by_place P xs at k d inside = at k (get_or xs k d) (place_of xs k d inside)
 
-  recursion_by_place : (P : A → Type 0) (xs : List A) → ((k : ℕ) (x : A) → get_elem? xs k ≡ some x → P x) → AllByRecursion P xs
-  recursion_by_place P [] at = tt
-  recursion_by_place P (x ∷ xs) at = (at 0 x refl, recursion_by_place P xs (λ k y e. at (suc k) y e))
-
   pub get_or_place : (xs : List A) (k : ℕ) (x d : A) → get_elem? xs k ≡ some x → get_or xs k d ≡ x
   get_or_place [] k x d at = absurd (some-ne-none x (sym at))
   get_or_place (y ∷ xs) zero x d at = some-injective y x at

@@ -7,14 +7,12 @@ use native.Mathlib.Decide.{ℕ_discrete}
 use Rattle.auction_rules.specs.History.{Entry}
 use Rattle.auction_rules.specs.Effects.{nets}
 use Rattle.auction_rules.specs.Legal.{cap}
-use Rattle.trade_ledger.specs.declared.cash_calls.CashReply.{CashReply}
 use Rattle.trade_ledger.specs.declared.cash_calls.CashReply.TheVariants.{Done}
-use Rattle.trade_ledger.specs.declared.cash_calls.CashCall.TheVariants.{Read}
 use Rattle.trade_ledger.specs.declared.cash_calls.CashEntry.{CashEntry}
 use Rattle.trade_ledger.specs.CashHistory.{cash_cap}
 use Rattle.trade_ledger.specs.Posts.{posts_of, due_post}
 use Rattle.floor.specs.Keeping.{IsKept, count_entries}
-use Rattle.floor.proofs.Posts.{bare, due_posts-more, few_due, with_posts, with_reading, posts_and_readings}
+use Rattle.floor.proofs.Posts.{bare, due_posts-more, few_due, with_posts, posts_and_readings}
 
 -- ---- caps
 
@@ -23,9 +21,6 @@ cap_agent caller is = rw (ne_eqb caller 8 (λ e. absurd (omega arith))) refl
 
 pub cash_cap_agent : (caller : ℕ) → caller < 8 → cash_cap caller ≡ 29696
 cash_cap_agent caller is = rw (ne_eqb caller 8 (λ e. absurd (omega arith))) refl
-
-pub cap_clock : (caller : ℕ) → caller ≡ 8 → cap caller ≡ 64
-cap_clock caller is = ap cap is
 
 pub cash_cap_clock : (caller : ℕ) → caller ≡ 8 → cash_cap caller ≡ 480
 cash_cap_clock caller is = ap cash_cap is
@@ -100,20 +95,6 @@ module _ {caller : ℕ} {callers lefts : List ℕ} {entries : List (List (ℕ ×
         clock_reads_nothing = kept.clock_reads_nothing;
         posted = λ w. ap (sum_by w) more.0 ∙ (sum_by-append w (posts_of (bare cash)) (due_post good p e)
             ∙ (ap (λ (k : ℕ). k + sum_by w (due_post good p e)) (kept.posted w) ∙ sym (due_posts-more w good entries p e (omega (arith, kept.goods)))));
-      }
-
-  pub kept_reading : IsKept caller callers lefts entries cash_left cash count → (q cash_left' agent by : ℕ) (reply : CashReply) → caller < 8 → count < 1024 → cash_left' + 1 ≡ cash_left
-      → IsKept caller callers lefts entries cash_left' (cash ++ (q, record { caller = by; call = Read agent; reply = reply }) ∷ []) (count + 1)
-  kept_reading kept q cash_left' agent by reply is few one =
-      let more = with_reading cash q by agent reply in record {
-        goods = kept.goods;
-        own = kept.own;
-        capped = kept.capped;
-        cash_capped = omega (arith, kept.cash_capped, length-append cash ((q, record { caller = by; call = Read agent; reply = reply }) ∷ []));
-        counted = omega (arith, kept.counted, more.1);
-        few = omega arith;
-        clock_reads_nothing = λ clock. absurd (omega arith);
-        posted = λ w. ap (sum_by w) more.0 ∙ kept.posted w;
       }
 
   -- the same where the code names the parts otherwise

@@ -9,7 +9,7 @@ use Rattle.tac_base.specs.declared.calls.Trade.{Trade}
 use Rattle.tac_base.specs.declared.calls.Nets.{Nets}
 use Rattle.auction_rules.specs.History.{Entry}
 use Rattle.auction_rules.specs.Effects.{nets as nets_of_trades}
-use Rattle.trade_ledger.specs.declared.cash_calls.CashCall.TheVariants.{Post, Read}
+use Rattle.trade_ledger.specs.declared.cash_calls.CashCall.TheVariants.{Post}
 use Rattle.trade_ledger.specs.declared.cash_calls.CashReply.{CashReply}
 use Rattle.trade_ledger.specs.declared.cash_calls.CashReply.TheVariants.{Done}
 use Rattle.trade_ledger.specs.declared.cash_calls.CashEntry.{CashEntry}
@@ -87,16 +87,6 @@ with_posts cash q (t ∷ ts) caller good position nets reply =
       ap posts_of (map_push (λ (p : ℕ × CashEntry). p.1) cash (q, post)) ∙ filter-append (λ (e : CashEntry). is_post e.call) (bare cash) (post ∷ []),
       sum_by_push (λ (p : ℕ × CashEntry). cond (not (is_post p.1.call)) 1 0) cash (q, post) ∙ omega arith,
       length-append cash ((q, post) ∷ []),
-    )
-
--- the cash history with one reading more
-pub with_reading : (cash : List (ℕ × CashEntry)) (q caller agent : ℕ) (reply : CashReply)
-    → let read : CashEntry = record { caller = caller; call = Read agent; reply = reply } in let after = cash ++ (q, read) ∷ [] in
-    (posts_of (bare after) ≡ posts_of (bare cash)) × (count_readings after ≡ count_readings cash + 1)
-with_reading cash q caller agent reply =
-    let read : CashEntry = record { caller = caller; call = Read agent; reply = reply } in (
-      ap posts_of (map_push (λ (p : ℕ × CashEntry). p.1) cash (q, read)) ∙ (filter-append (λ (e : CashEntry). is_post e.call) (bare cash) (read ∷ []) ∙ append-nil (posts_of (bare cash))),
-      sum_by_push (λ (p : ℕ × CashEntry). cond (not (is_post p.1.call)) 1 0) cash (q, read),
     )
 
 one_each : (b : Bool) (e : CashEntry) (rest : List CashEntry) → sum_by (λ (x : CashEntry). 1) (cond b (e ∷ rest) rest) + cond (not b) 1 0 ≡ sum_by (λ (x : CashEntry). 1) rest + 1

@@ -47,10 +47,6 @@ module _ {A : Type 0} where
       ∙ (ap (λ (l : List A). l ++ map (λ (y : D). get_or (f y) k d) ds) (get_or-with_each rows (f x) k d (long 0 x refl) inside)
       ∙ append_assoc (get_or rows k []) (get_or (f x) k d ∷ []) (map (λ (y : D). get_or (f y) k d) ds))
 
-  pub length-gathered : {D : Type 0} (f : D → List A) (ds : List D) (rows : List (List A)) → length (fold (λ (l : List (List A)) (x : D). with_each l (f x)) rows ds) ≡ length rows
-  length-gathered f [] rows = refl
-  length-gathered f (x ∷ ds) rows = length-gathered f ds (with_each rows (f x)) ∙ length-with_each rows (f x)
-
   pub at_middle : (l r : List A) (x : A) → get_elem? (l ++ x ∷ r) (length l) ≡ some x
   at_middle [] r x = refl
   at_middle (y ∷ l) r x = at_middle l r x

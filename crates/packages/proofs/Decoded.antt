@@ -34,9 +34,6 @@ and-right : (a b : Bool) → (a && b) ≡ true → b ≡ true
 and-right true b h = h
 and-right false b h = cc
 
-pub length-NIGHTS : length NIGHTS ≡ 73
-length-NIGHTS = refl
-
 pub package_is : (n : ℕ) → n < 393 → slice_get packages n ≡ Some (package_at n)
 package_is n h = ap (λ ps. slice_get ps n) packages_are ∙ slice_get-map package_at (range_with_len 0 393) n ∙ ap (option_map package_at) (slice_get-get_or (range_with_len 0 393) n 0 (omega (arith, length-range_with_len 0 393)) ∙ ap Some (get_or-range_with_len 0 393 n 0 h ∙ omega arith))
 

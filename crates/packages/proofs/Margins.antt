@@ -1,6 +1,5 @@
 -- The greatest margin, package by package.
-use Rattle.std.specs.Int.RustNames.{int_lt}
-use Rattle.std.proofs.Common.{IfSome, subst, ◌≡◌, ℕ, zero, suc, ◌+◌, ◌<◌, ◌≤◌, ℤ, pos, Bool, true, false, List, [], ◌∷◌, Option, Some, None, map, drop, length, cond, refl, sym, ap, arith, drop-cons, add-one}
+use Rattle.std.proofs.Common.{IfSome, subst, ◌≡◌, ℕ, zero, suc, ◌+◌, ◌<◌, ◌≤◌, ℤ, pos, Bool, true, false, List, [], ◌∷◌, Option, Some, None, map, drop, length, refl, sym, ap, arith, drop-cons, add-one}
 use Rattle.std.proofs.lemmas.Int.{ints}
 use Rattle.std.proofs.lemmas.Option.{get_or_from_slice_get, slice_get_within}
 use Rattle.std.specs.Int.{int_max}
@@ -48,23 +47,8 @@ drop_past (x ∷ xs) (suc n) h = drop_past xs n (omega arith)
 pub greatest_done : {X : Type 0} (f : X → ℤ) (p : X → Bool) (xs : List X) (n : ℕ) (most : Option ℤ) → length xs ≤ n → greater most (greatest_from f p xs n) ≡ most
 greatest_done f p xs n most h = rw (drop_past xs n h) (greater_none most)
 
-either_int : (b : Bool) (P : ℤ → Type 0) (x y : ℤ) → P x → P y → P (cond b x y)
-either_int true P x y px py = px
-either_int false P x y px py = py
-
--- what holds of both holds of the greater
-pub greater_keeps : (P : ℤ → Type 0) (most : Option ℤ) (m : ℤ) → IfSome most P → P m → IfSome (greater most (Some m)) P
-greater_keeps P None m h pm = pm
-greater_keeps P (Some a) m h pm = either_int (int_lt m a) P a m h pm
-
 pub if_some_is : (P : ℤ → Type 0) (a b : Option ℤ) → a ≡ b → IfSome b P → IfSome a P
 if_some_is P a b h p = subst (λ o. IfSome o P) (sym h) p
-
-pub plus_assoc : (a b c : Option ℤ) → plus (plus a b) c ≡ plus a (plus b c)
-plus_assoc None b c = refl
-plus_assoc (Some a) None c = refl
-plus_assoc (Some a) (Some b) None = refl
-plus_assoc (Some a) (Some b) (Some c) = ap Some (omega (arith, ints))
 
 plus_zero : (bound : Option ℤ) → plus bound (Some (pos 0)) ≡ bound
 plus_zero None = refl

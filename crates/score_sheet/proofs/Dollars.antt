@@ -2,7 +2,6 @@
 use Rattle.std.proofs.Common.{◌≡◌, ℕ, ◌+◌, ◌*◌, ◌<◌, ◌≤◌, List, [], ◌∷◌, ◌++◌, length, map, take, get_or, fold, sum_by, refl, sym, ap, ◌∙◌, arith, ℤ, pos, ◌+ℤ◌, ◌-ℤ◌, Option, Some, None, to_z, of_z, w64}
 use Rattle.std.specs.Prelude.{◌==◌, reverse, slice_get}
 use Rattle.std.specs.Option.{option_map}
-use Rattle.std.proofs.Math.Nat.{mul-le-mul_left, mul-le-mul_right}
 use Rattle.std.proofs.lemmas.Int.{ints}
 use Rattle.std.proofs.lemmas.List.{length-map, take_more, map_more, reverse-append}
 use Rattle.std.proofs.lemmas.List.Concat.{flat_map-cons}
@@ -21,13 +20,6 @@ use Rattle.score_sheet.specs.Settlement.{cash_of}
 
 abbrev cost_of : Trade → ℕ
 cost_of t = t.units * t.price
-
--- no trade costs more than 255 units at 65,535 dollars
-pub cost_le : (units price : ℕ) → units ≤ 255 → price ≤ 65535 → units * price ≤ 16711425
-cost_le units price few low =
-    let first : units * price ≤ 255 * price = mul-le-mul_right price few in
-    let second : 255 * price ≤ 255 * 65535 = mul-le-mul_left 255 low in
-    omega (arith, first, second)
 
 sales-append : (xs ys : List Trade) (party : ℕ) → sum_by cost_of (sales_by (xs ++ ys) party) ≡ sum_by cost_of (sales_by xs party) + sum_by cost_of (sales_by ys party)
 sales-append xs ys party =

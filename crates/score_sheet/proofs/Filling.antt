@@ -3,7 +3,6 @@ use Rattle.std.proofs.Common.{◌≡◌, ℕ, ◌+◌, ◌<◌, List, [], ◌∷
 use Rattle.std.specs.List.{All}
 use Rattle.std.proofs.lemmas.List.{map_more, take_more_set}
 use Rattle.std.proofs.lemmas.List.Elements.{All-push}
-use Rattle.std.proofs.Math.Seq.{take-length}
 use Rattle.std.proofs.lemmas.Int.{ints}
 use Rattle.game_text.specs.Accounts.{IsHolding}
 
@@ -16,13 +15,6 @@ filled_more f xs ys i x y inside is inside' value so_far =
 pub all_more : {B : Type 0} (P : B → Type 0) (ys : List B) (i : ℕ) (y : B) → i < length ys → P y → All P (take i ys) → All P (take (i + 1) (set ys i y))
 all_more {B} P ys i y inside here so_far =
     subst (λ (zs : List B). All P zs) (sym (take_more_set ys i y inside)) (All-push P (take i ys) y so_far here)
-
-pub filled_all : {A B : Type 0} (f : A → B) (xs : List A) (ys : List B) (n : ℕ) → n ≡ length xs → n ≡ length ys → take n ys ≡ map f (take n xs) → ys ≡ map f xs
-filled_all f xs ys n long long' filled =
-    sym (ap (λ k. take k ys) long' ∙ take-length ys) ∙ (filled ∙ ap (map f) (ap (λ k. take k xs) long ∙ take-length xs))
-
-pub all_filled : {B : Type 0} (P : B → Type 0) (ys : List B) (n : ℕ) → n ≡ length ys → All P (take n ys) → All P ys
-all_filled {B} P ys n long all = subst (λ (zs : List B). All P zs) (ap (λ k. take k ys) long ∙ take-length ys) all
 
 -- a holding as the code has it
 pub holding_fits : (held : ℤ) → IsHolding held → to_z w32 (of_z w32 held) ≡ held

@@ -51,11 +51,6 @@ stops lines rest line after reason e bad =
     ap (lines_from lines) e ∙ line_first lines line (parts_of 10 after) (some_part after)
     ∙ ap (λ (r : Result HotelLine ℕ). at_line (length lines + 1) r (λ l. lines_from (l ∷ lines) (parts_of 10 after))) bad
 
--- what is left has no line end
-pub ends_by : (lines : List HotelLine) (rest : List ℕ) (b : Bool) → parts_of 10 rest ≡ rest ∷ [] → (length rest == 0) ≡ b →
-    lines_from lines (parts_of 10 rest) ≡ cond b (Ok lines) (Err (length lines + 1, 3))
-ends_by lines rest b e empty = ap (lines_from lines) e ∙ ap (λ (c : Bool). cond c (Ok lines) (Err (length lines + 1, 3))) empty
-
 -- a script's history has an entry for each line
 pub length-script_past : (lines : List HotelLine) → length (script_past lines) ≡ length lines
 length-script_past [] = refl

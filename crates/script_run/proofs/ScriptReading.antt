@@ -1,7 +1,6 @@
 -- The lines of a script, read one after the other.
-use Rattle.std.proofs.Common.{◌≡◌, ◌≢◌, ℕ, ◌+◌, ◌≤◌, List, [], ◌∷◌, length, refl, sym, ap, ◌∙◌, arith, Bool, true, false, cond}
+use Rattle.std.proofs.Common.{◌≡◌, ◌≢◌, ℕ, ◌+◌, ◌≤◌, List, [], ◌∷◌, length, refl, sym, ap, ◌∙◌, arith}
 use Rattle.std.specs.Prelude.{◌==◌, Result, Ok, Err}
-use Rattle.std.proofs.lemmas.Bool.Decides.{nat_tests}
 use Rattle.std.proofs.lemmas.List.Splits.{length-slice_split}
 use Rattle.text_forms.specs.Words.{parts_of}
 use Rattle.script_run.specs.ScriptLines.{BadLine, at_line, lines_from, lines_of_text}
@@ -11,9 +10,6 @@ pub record HasRead {Line : Type 0} (judge : List Line → List ℕ → Result Li
   pub at : number ≡ length lines + 1
   pub within : number + length rest ≤ length script + 1
   pub left : lines_from judge lines (parts_of 10 rest) ≡ lines_of_text judge script
-
-pub begins : {Line : Type 0} (judge : List Line → List ℕ → Result Line ℕ) (script : List ℕ) → HasRead judge [] script script 1
-begins judge script = record { at = refl; within = omega arith; left = refl }
 
 -- a part that is not the last is a line
 pub line_first : {Line : Type 0} (judge : List Line → List ℕ → Result Line ℕ) (lines : List Line) (part : List ℕ) (parts : List (List ℕ)) → length parts ≢ 0 →
@@ -48,21 +44,3 @@ pub stops : {Line : Type 0} (judge : List Line → List ℕ → Result Line ℕ)
     parts_of 10 rest ≡ line ∷ parts_of 10 after → judge lines line ≡ Err reason → lines_of_text judge script ≡ Err (number, reason)
 stops {Line = Line} judge lines script rest line after number reason read e bad =
     sym read.left ∙ next_line judge lines rest line after (Err reason) e bad ∙ ap {B = Result (List Line) BadLine} (λ (n : ℕ). Err (n, reason)) (sym read.at)
-
--- what is left has no line end
-at_end : {Line : Type 0} (judge : List Line → List ℕ → Result Line ℕ) (lines : List Line) (rest : List ℕ) (b : Bool) → parts_of 10 rest ≡ rest ∷ [] → (length rest == 0) ≡ b →
-    lines_from judge lines (parts_of 10 rest) ≡ cond b (Ok lines) (Err (length lines + 1, 3))
-at_end {Line = Line} judge lines rest b e empty =
-    ap (lines_from judge lines) e ∙ ap (λ (c : Bool). cond {A = Result (List Line) BadLine} c (Ok lines) (Err (length lines + 1, 3))) empty
-
-pub ends : {Line : Type 0} (judge : List Line → List ℕ → Result Line ℕ) (lines : List Line) (script rest : List ℕ) (number : ℕ) → HasRead judge lines script rest number →
-    parts_of 10 rest ≡ rest ∷ [] → length rest ≡ 0 → lines_of_text judge script ≡ Ok lines
-ends judge lines script rest number read e empty =
-    let test : (length rest == 0) ≡ true = grind (arith, nat_tests) in
-    sym read.left ∙ at_end judge lines rest true e test
-
-pub ends_badly : {Line : Type 0} (judge : List Line → List ℕ → Result Line ℕ) (lines : List Line) (script rest : List ℕ) (number : ℕ) → HasRead judge lines script rest number →
-    parts_of 10 rest ≡ rest ∷ [] → length rest ≢ 0 → lines_of_text judge script ≡ Err (number, 3)
-ends_badly {Line = Line} judge lines script rest number read e some =
-    let test : (length rest == 0) ≡ false = grind (arith, nat_tests) in
-    sym read.left ∙ at_end judge lines rest false e test ∙ ap {B = Result (List Line) BadLine} (λ (n : ℕ). Err (n, 3)) (sym read.at)

@@ -28,7 +28,7 @@ use Rattle.clock_events.specs.Laws.{calls_of, IsFor, IsDue}
 use Rattle.script_run.specs.declared.call_counts.CallCounts.{CallCounts}
 use Rattle.script_run.specs.declared.call_counts.GoodCounts.{GoodCounts}
 use Rattle.script_run.specs.CallCounts.{count_at, no_calls}
-use Rattle.script_run.specs.GameStates.{GameState, opening, call_turn, clocked, ticked, past_at, entry_at, called, readings_of, reading_of}
+use Rattle.script_run.specs.GameStates.{GameState, opening, call_turn, clocked, past_at, entry_at, called, readings_of, reading_of}
 use Rattle.script_run.specs.OpenGames.{SeenGame}
 use Rattle.script_run.specs.Tables.{made, due, HasClockRoom, AreCounted}
 use Rattle.script_run.proofs.Counted.{by, one_if, one_if_le, one_if_same, one_if_other, entries_called, made_called, made_below, made_most, part_posts, part_read, readings_posts, readings_read}
@@ -309,20 +309,6 @@ clock_step game told state counts read tick n good call is counted due_all whole
 -- the tick that was begun
 abbrev pub begun_tick : GameState → ℕ → GameState
 begun_tick state tick = record { pasts = state.pasts; cash = state.cash; ticks = tick }
-
-pub ticked_some : (game : GameFile) (state : GameState) (tick : ℕ) → state.ticks < 54 → tick ≡ state.ticks + 1 →
-    clocked game (schedule.calls_at game tick) (begun_tick state tick) ≡ ticked game state
-ticked_some game state tick few next =
-    (λ i. clocked game (schedule.calls_at game (next i)) (begun_tick state (next i))) ∙ by_test (nat_le 54 state.ticks) (grind (arith, nat_tests))
-  where
-    by_test : (b : Bool) → b ≡ false → clocked game (schedule.calls_at game (state.ticks + 1)) (begun_tick state (state.ticks + 1))
-        ≡ cond b state (clocked game (schedule.calls_at game (state.ticks + 1)) (begun_tick state (state.ticks + 1)))
-    by_test true is = absurd cc
-    by_test false is = refl
-
-pub ticked_none : (game : GameFile) (state : GameState) → 54 ≤ state.ticks → state ≡ ticked game state
-ticked_none game state most = let test : nat_le 54 state.ticks ≡ true = grind (arith, nat_tests) in
-    sym (ap (λ (b : Bool). cond b state (clocked game (schedule.calls_at game (state.ticks + 1)) (begun_tick state (state.ticks + 1)))) test)
 
 -- what is so while the clock makes the calls of a tick
 pub record IsTicking (game : GameFile) (first : GameState) (tick n : ℕ) (seen : SeenGame) : Type 0 where

@@ -98,7 +98,3 @@ pub in_turn : (held new : Held) (taken taken' left left' : Option (List ℕ)) (c
 in_turn held new taken taken' None left' count count' got answers le = tt
 in_turn held new taken taken' (Some left) None count count' got answers le = tt
 in_turn held new taken taken' (Some left) (Some left') count count' got answers le = next_is_first held new taken taken' left left' count count' got answers le
-
--- From the first answer on, they are those of all the bytes that the link has to give.
-pub from_the_first : (held : Held) (left : List ℕ) → held.unread ≡ [] → answers_left held left 0 ≡ all_answers [] (2 ^ 26) left
-from_the_first held left none = ap (λ unread. all_answers [] (2 ^ 26 - 0 + length unread) (unread ++ left)) none

@@ -23,18 +23,6 @@ pub record IsGoing (unread₀ : List ℕ) (count₀ : ℕ) (taken₀ left₀ : O
   pub plain : has_end skipped ≡ false
   pub is_long : MatchBool long (512 < length skipped) (skipped ≡ [])
 
-pub going_at_first : (unread : List ℕ) (count : ℕ) (taken left : Option (List ℕ)) → IsGoing unread count taken left false unread count taken left
-going_at_first unread count taken left = record {
-  more = [];
-  skipped = [];
-  told = sym (and_then_told-nothing taken);
-  gave = sym (before_told-nothing left);
-  counted = omega arith;
-  whole = append-nil unread;
-  plain = refl;
-  is_long = refl;
-}
-
 -- a read that gave no byte changed nothing
 pub nothing_given : (old new : List ℕ) (taken taken' left left' : Option (List ℕ)) (n : ℕ) → Gives old new taken taken' left left' n → n ≡ 0 → (taken' ≡ taken) × (left' ≡ left)
 nothing_given old new taken taken' left left' n gives z =
