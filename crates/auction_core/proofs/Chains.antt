@@ -1,5 +1,5 @@
 -- A stored history with one entry more, and what is stored at a position.
-use Rattle.std.proofs.Common.{◌≡◌, ℕ, zero, suc, ◌+◌, ◌-◌, ◌<◌, ◌≤◌, List, [], ◌∷◌, ◌++◌, length, refl, sym, ap, ◌∙◌, subst, arith, take, drop, map, length-take-le, length-append, length-drop, Option, Some, None, sum_by}
+use Rattle.std.proofs.Common.{◌≡◌, ℕ, zero, suc, ◌+◌, ◌≤◌, List, [], ◌∷◌, ◌++◌, length, refl, sym, ap, ◌∙◌, subst, arith, take, drop, map, length-take-le, length-append, length-drop, Option, Some, None}
 use Rattle.std.specs.List.{All, AllByRecursion, flat_map}
 use Rattle.std.specs.Prelude.{reverse, slice_get}
 use Rattle.std.proofs.lemmas.List.{length-map, map-append, reverse-append, take-append-le, drop-append-le}
@@ -13,7 +13,7 @@ use Rattle.auction_rules.specs.History.{Entry}
 use Rattle.auction_rules.specs.Effects.{all_trades}
 use Rattle.auction_rules.specs.Traded.{traded}
 use Rattle.auction_rules.proofs.Trading.{length_le}
-use Rattle.auction_core.specs.Stored.{entry_with, stored, AreChained, count_trades, IsStored, entry_behind, Shows, IsShown}
+use Rattle.auction_core.specs.Stored.{entry_with, stored, AreChained, count_trades, IsStored, entry_behind, IsShown}
 
 -- ---- the trades of the entries lie in the list
 

@@ -1,5 +1,4 @@
-ghost use Rattle.std.specs.Prelude.{◌≡◌, ℕ, ◌+◌, ◌≤◌, ◌==◌, if◌then◌else◌, [], length, List, pos, slice_index_or, Some, None};
-ghost use Rattle.tac_base.specs.Kinds.{kind_of};
+ghost use Rattle.std.specs.Prelude.{◌≡◌, ◌+◌, ◌≤◌, ◌==◌, if◌then◌else◌, [], length, List, pos, slice_index_or, Some, None};
 ghost use Rattle.auction_rules.specs.Setup.{Setup};
 ghost use Rattle.auction_rules.specs.History.{Entry};
 ghost use Rattle.auction_rules.specs.Board as boards;

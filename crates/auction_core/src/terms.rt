@@ -1,4 +1,4 @@
-ghost use Rattle.std.specs.Prelude.{◌≡◌, ◌≤◌, ◌<◌, ◌-◌, [], pos, map, replicate, slice_index_or};
+ghost use Rattle.std.specs.Prelude.{◌≡◌, ◌-◌, [], pos, map, slice_index_or};
 ghost use Rattle.tac_base.specs.Kinds.{kind_of};
 ghost use Rattle.auction_core.specs.Setups.{setup_of, rules_by, endow_by, AreInRange, AreEndowed};
 ghost use Rattle.auction_core.specs.Terms as terms;

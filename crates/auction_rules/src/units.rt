@@ -1,5 +1,5 @@
-ghost use Rattle.std.specs.Prelude.{◌≡◌, ℕ, ◌+◌, ◌<◌, ◌≤◌, ◌++◌, length, All};
-ghost use Rattle.tac_base.specs.Bids.{size_of, total_size};
+ghost use Rattle.std.specs.Prelude.{◌≡◌, ◌+◌, ◌<◌, ◌≤◌, ◌++◌, length, All};
+ghost use Rattle.tac_base.specs.Bids.{size_of};
 ghost use Rattle.auction_rules.specs.Units as spec;
 ghost use Rattle.auction_rules.specs.Refusals as refusals;
 

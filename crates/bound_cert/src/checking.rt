@@ -1,4 +1,4 @@
-ghost use Rattle.std.specs.Prelude.{◌≡◌, ℕ, ◌≤◌, IsTrue, vec_len};
+ghost use Rattle.std.specs.Prelude.{◌≡◌, ◌≤◌, IsTrue, vec_len};
 ghost use Rattle.bound_cert.specs.Views.{tree_of, forest_of};
 ghost use Rattle.bound_cert.specs.Ways.{left_by};
 ghost use Rattle.bound_cert.specs.Certificate.{holds, all_hold, is_within, all_left, BoundsAll};

@@ -1,4 +1,4 @@
-ghost use Rattle.std.specs.Prelude.{◌≡◌, pos, map, unsigned_abs, slice_index_or, length, IsTrue};
+ghost use Rattle.std.specs.Prelude.{◌≡◌, map, unsigned_abs, IsTrue};
 ghost use Rattle.std.specs.List.{list_all};
 ghost use Rattle.text_forms.specs.Rows as rows;
 ghost use Rattle.text_forms.specs.Words.{words_of};

@@ -1,5 +1,5 @@
 // The features of all packages.
-ghost use Rattle.std.specs.Prelude.{◌≡◌, ◌<◌, [], ◌∷◌, Some, slice_get};
+ghost use Rattle.std.specs.Prelude.{◌≡◌, ◌<◌, [], Some, slice_get};
 ghost use Rattle.packages.specs.declared.travel_packages.Package.{Package};
 ghost use Rattle.packages.specs.Packages.{IsPackage};
 ghost use Rattle.packages.specs.Listing.{packages};

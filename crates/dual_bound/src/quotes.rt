@@ -1,5 +1,5 @@
 // Prices with what they say of all packages.
-ghost use Rattle.std.specs.Prelude.{◌≡◌, ℕ, ◌+◌, ◌*◌, ◌<◌, ◌≤◌, ◌^◌, pos, negsuc, ◌+ℤ◌, ◌≤ℤ◌, true, false};
+ghost use Rattle.std.specs.Prelude.{◌≡◌, ◌+◌, ◌*◌, ◌<◌, ◌≤◌, ◌^◌, pos, negsuc, ◌+ℤ◌, ◌≤ℤ◌, true, false};
 ghost use Rattle.game_text.specs.Accounts.{AccountFile, IsAccount};
 ghost use Rattle.packages.specs.Bounds as bounds;
 ghost use Rattle.bound_cert.specs.Certificate.{is_within};

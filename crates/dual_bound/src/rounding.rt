@@ -1,6 +1,5 @@
 // Whole prices near those of the relaxation.
 ghost use Rattle.std.specs.Prelude.{◌≡◌, ◌<◌, ◌≤◌, length, IfSome};
-ghost use Rattle.packages.specs.Prices.{ArePrices};
 
 use crate::charges::charges;
 use crate::relaxing::{Limits, Relaxation};

@@ -1,5 +1,5 @@
 // The tableau of the relaxation, in which clients may have fractions of packages.
-ghost use Rattle.std.specs.Prelude.{◌<◌, ◌≤◌, IfSome};
+ghost use Rattle.std.specs.Prelude.{◌<◌, IfSome};
 
 use packages::{Package, package};
 

@@ -1,21 +1,20 @@
 -- How many units of standing points are left to sell after sales.
 use Rattle.std.proofs.Common.{None, ℤ, ◌≡◌, ◌≢◌, ℕ, ◌+◌, ◌≤◌, Bool, true, false, cond, List, [], ◌∷◌, ◌++◌, map, refl, sym, subst, arith}
-use Rattle.std.specs.Prelude.{not, ◌==◌, filter, sum_by}
-use Rattle.std.specs.List.{All, AllByRecursion}
+use Rattle.std.specs.Prelude.{not, filter}
+use Rattle.std.specs.List.{AllByRecursion}
 use Rattle.std.proofs.lemmas.List.Elements.{All-from_recursion}
 use Rattle.std.proofs.lemmas.List.Sums.{sum_by-cons, sum_by-append}
 use Rattle.std.proofs.lemmas.List.Filters.{sum_by-filter_both}
 use Rattle.tac_base.specs.declared.bids.Point.{Point}
 use Rattle.tac_base.specs.declared.calls.Trade.{Trade}
 use Rattle.tac_base.specs.Bids.{size_of, total_size, first_fault, point_fault}
-use Rattle.tac_base.proofs.Faults.{good_point, both_none, few_units}
+use Rattle.tac_base.proofs.Faults.{good_point, both_none}
 use Rattle.auction_rules.specs.Traded.{traded, Spends}
 use Rattle.auction_rules.proofs.Agents.{number_same}
 use Rattle.auction_rules.proofs.Trading.{sum_by-filter-le}
 use Rattle.auction_rules.proofs.Lists.{all-filter}
 use Rattle.flight_auction.specs.declared.sales.StandingPoint.{StandingPoint}
 use Rattle.flight_auction.specs.Book.{is_of, points_of, others_than, owned_by, reaches, sale, sales, unsold, units_standing, IsSound}
-use Rattle.flight_auction.proofs.Limits.{left_of_bid}
 
 HasUnits : StandingPoint → Type 0
 HasUnits s = 1 ≤ size_of s.point

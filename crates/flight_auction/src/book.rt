@@ -1,4 +1,4 @@
-ghost use Rattle.std.specs.Prelude.{◌≡◌, ℕ, ◌+◌, ◌≤◌, ◌||◌, [], ◌∷◌, ◌++◌, IsTrue, length, List, All, pos, negsuc, ◌≤ℤ◌};
+ghost use Rattle.std.specs.Prelude.{◌≡◌, ◌+◌, ◌≤◌, ◌||◌, [], ◌∷◌, ◌++◌, IsTrue, length, List, All, pos, negsuc, ◌≤ℤ◌};
 ghost use Rattle.tac_base.specs.Kinds.{kind_of};
 ghost use Rattle.auction_rules.specs.Setup.{Setup, FlightRules};
 ghost use Rattle.auction_rules.specs.History.{Entry};

@@ -44,7 +44,7 @@ impl Desk {
     ghost use Rattle.auction_rules.specs.Legal.{cap};
     ghost use Rattle.turn_lock.specs.Passes.{left_of};
     ghost use Rattle.floor.specs.Keeping.{IsPosted, count_entries};
-    ghost use Rattle.floor.specs.Desks.{desk_ids, desk_caller, entries_of, entries_at, cash_of, seen_at};
+    ghost use Rattle.floor.specs.Desks.{desk_ids, desk_caller, entries_of, entries_at, cash_of};
     ghost use Rattle.floor.specs.Floors.{floor_ids};
     ghost use Rattle.floor.specs.Answers.{IsSameDesk, IsAnswered, IsOutcome, TakesLawfulBid, IsCashOutcome, IsSeen, IsClockCall};
 

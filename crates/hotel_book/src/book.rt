@@ -1,4 +1,4 @@
-ghost use Rattle.std.specs.Prelude.{min, ◌≡◌, ℕ, ◌≤◌, ◌||◌, [], ◌∷◌, length, List, false, IsTrue};
+ghost use Rattle.std.specs.Prelude.{min, ◌≡◌, ◌≤◌, ◌||◌, [], ◌∷◌, length, List, false, IsTrue};
 ghost use Rattle.tac_base.specs.Kinds.{kind_of};
 ghost use Rattle.auction_rules.specs.Goods.{clock};
 ghost use Rattle.auction_rules.specs.Setup.{Setup, HotelRules};

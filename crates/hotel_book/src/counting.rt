@@ -1,4 +1,4 @@
-ghost use Rattle.std.specs.Prelude.{◌≡◌, ℕ, ◌+◌, ◌*◌, ◌<◌, ◌≤◌, ◌++◌, length, All};
+ghost use Rattle.std.specs.Prelude.{◌≡◌, ◌+◌, ◌<◌, ◌≤◌, ◌++◌, length, All};
 ghost use Rattle.auction_rules.specs.History.{units_of_last, units_of_bids};
 ghost use Rattle.auction_rules.specs.Precedence as precedence;
 ghost use Rattle.auction_rules.specs.Ask as asks;

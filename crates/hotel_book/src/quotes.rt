@@ -1,4 +1,4 @@
-ghost use Rattle.std.specs.Prelude.{◌≡◌, ℕ, ◌+◌, ◌<◌, ◌≤◌, length};
+ghost use Rattle.std.specs.Prelude.{◌≡◌, ◌+◌, ◌<◌, ◌≤◌, length};
 ghost use Rattle.tac_base.specs.Bids.{total_size};
 ghost use Rattle.auction_rules.specs.BeatQuote as quotes;
 ghost use Rattle.auction_rules.specs.History.{units_of_bids};

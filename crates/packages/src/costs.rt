@@ -1,4 +1,4 @@
-ghost use Rattle.std.specs.Prelude.{◌≡◌, ℕ, ◌<◌, ◌≤◌, ◌*◌, ◌+◌, slice_index};
+ghost use Rattle.std.specs.Prelude.{◌≡◌, ◌<◌, ◌≤◌, ◌*◌, ◌+◌, slice_index};
 ghost use Rattle.packages.specs.Bounds.{cost_of};
 ghost use Rattle.packages.specs.Costs.{rooms_price, ticket_price};
 ghost use Rattle.packages.specs.Packages.{IsPackage};

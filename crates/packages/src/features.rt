@@ -1,4 +1,4 @@
-ghost use Rattle.std.specs.Prelude.{◌≡◌, ℕ, ◌<◌};
+ghost use Rattle.std.specs.Prelude.{◌≡◌, ◌<◌};
 ghost use Rattle.packages.specs.Features.{feature_of, rank_of, values_of};
 ghost use Rattle.packages.specs.Packages.{IsPackage};
 

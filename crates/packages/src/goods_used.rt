@@ -1,4 +1,4 @@
-ghost use Rattle.std.specs.Prelude.{◌≡◌, ℕ, ◌≤◌};
+ghost use Rattle.std.specs.Prelude.{◌≡◌, ◌≤◌};
 ghost use Rattle.packages.specs.Goods.{good_of, thing_of};
 ghost use Rattle.packages.specs.Packages.{IsPackage, use_of};
 

@@ -1,6 +1,5 @@
 // How many lines of a game script there were.
 ghost use Rattle.std.specs.Prelude.{◌≡◌, ◌≤◌, [], ◌∷◌, List, MatchResult, Ok, Err};
-ghost use Rattle.script_run.specs.GameLines as lines;
 ghost use Rattle.script_run.specs.GameScripts as scripts;
 ghost use Rattle.script_run.specs.declared.game_lines.GameLine.{GameLine};
 

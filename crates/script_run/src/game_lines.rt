@@ -1,7 +1,6 @@
 // The lines of a game script.
 ghost use Rattle.std.specs.Prelude.{◌≡◌, ◌∷◌, []};
 ghost use Rattle.script_run.specs.GameLines as lines;
-ghost use Rattle.script_run.specs.HotelLines.{agent_of};
 
 use crate::hotel_lines::agent_of_digit;
 use line_protocol::{Request, RequestFault, read_request};

@@ -1,5 +1,5 @@
 // The lines of a hotel script.
-ghost use Rattle.std.specs.Prelude.{◌≡◌, ◌≤◌, [], ◌∷◌, List, Some, option_map};
+ghost use Rattle.std.specs.Prelude.{◌≡◌, ◌≤◌, [], ◌∷◌, List, Some};
 ghost use Rattle.bid_strings.specs.BidForm.{points_of, judged};
 ghost use Rattle.auction_core.specs.Calls.{IsFit};
 ghost use Rattle.script_run.specs.HotelLines as lines;

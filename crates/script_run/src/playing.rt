@@ -1,7 +1,6 @@
 // A game that is played from a script.
 ghost use Rattle.std.specs.Prelude.{◌≡◌, ◌≤◌, length, IfOk};
 ghost use Rattle.game_log.specs.Written.{Writes};
-ghost use Rattle.script_run.specs.OneThreadRun.{whole_game, count_of};
 ghost use Rattle.script_run.specs.GameOuts.{IsSheetOf, PlaysScript};
 ghost use Rattle.script_run.specs.GameRuns.{PlaysLines};
 ghost use Rattle.script_run.specs.PlayedGames.{PlaysToEnd, WritesSheet, WritesPlayed, first_text};

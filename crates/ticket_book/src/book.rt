@@ -1,4 +1,4 @@
-ghost use Rattle.std.specs.Prelude.{◌≡◌, ℕ, ◌≤◌, ◌||◌, [], ◌∷◌, length, List, IsTrue, ◌<◌, ◌≢◌, All};
+ghost use Rattle.std.specs.Prelude.{◌≡◌, ◌≤◌, ◌||◌, [], ◌∷◌, length, List, IsTrue, ◌<◌, ◌≢◌, All};
 ghost use Rattle.tac_base.specs.Kinds.{kind_of};
 ghost use Rattle.auction_rules.specs.Goods.{clock};
 ghost use Rattle.auction_rules.specs.Setup.{Setup, TicketRules};

@@ -1,4 +1,4 @@
-ghost use Rattle.std.specs.Prelude.{◌≡◌, ℕ, ◌+◌, ◌*◌, ◌<◌, ◌≤◌, ◌++◌, [], ◌∷◌, length, filter, not, Some};
+ghost use Rattle.std.specs.Prelude.{◌≡◌, ◌+◌, ◌*◌, ◌<◌, ◌≤◌, ◌++◌, length, filter, not, Some};
 ghost use Rattle.std.specs.List.{list_all};
 ghost use Rattle.auction_rules.specs.Units as units;
 ghost use Rattle.auction_rules.specs.TicketMatch as rule;

@@ -1,4 +1,4 @@
-ghost use Rattle.std.specs.Prelude.{◌≡◌, ℕ, ◌+◌, ◌<◌, ◌≤◌, ◌++◌, [], ◌∷◌, length, None, if◌then◌else◌, ◌==◌};
+ghost use Rattle.std.specs.Prelude.{◌≡◌, ◌+◌, ◌<◌, ◌≤◌, ◌++◌, length, if◌then◌else◌};
 ghost use Rattle.tac_base.specs.declared.bids.Point.{Point};
 ghost use Rattle.tac_base.specs.Bids.{size_of};
 ghost use Rattle.auction_rules.specs.Units as units;

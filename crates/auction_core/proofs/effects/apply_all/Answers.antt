@@ -1,6 +1,5 @@
 use Rattle.std.proofs.Common.{take, sym, ap, ◌∙◌, List, ℤ, ◌∷◌, [], ◌≡◌, length, arith}
 use Rattle.std.proofs.Math.Seq.{take-length}
-use Rattle.tac_base.specs.declared.calls.Trade.{Trade}
 use Rattle.trade_ledger.specs.Holdings.{held_after}
 use Rattle.auction_core.proofs.Holding.{held_start, held_more, all_held, trades_more, traded_so_far}
 use Rattle.auction_core.proofs.effects.apply_all.Goals as goal

@@ -1,4 +1,4 @@
-use Rattle.std.proofs.Common.{rules, ◌≡◌, ◌≤◌, ℤ, subst, sym, ap, ◌∙◌, reverse, arith, to_z, of_z, w32}
+use Rattle.std.proofs.Common.{rules, ◌≡◌, ◌≤◌, ℤ, subst, sym, ◌∙◌, reverse, arith, to_z, of_z, w32}
 use Rattle.std.proofs.lemmas.Int.{ints}
 use Rattle.auction_rules.specs.Effects.{holding}
 use Rattle.game_text.specs.Accounts.{IsHolding}

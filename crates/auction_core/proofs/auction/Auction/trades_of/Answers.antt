@@ -1,4 +1,4 @@
-use Rattle.std.proofs.Common.{◌≡◌, ℕ, ◌+◌, ◌<◌, ◌≤◌, List, take, drop, map, length, subst, sym, ap, ◌∙◌, arith, Some, slice_get}
+use Rattle.std.proofs.Common.{◌≡◌, ◌<◌, List, take, drop, map, length, subst, sym, ap, ◌∙◌, arith, Some, slice_get}
 use Rattle.std.proofs.lemmas.List.{length-map}
 use Rattle.std.proofs.lemmas.Option.{slice_get-get_or}
 use Rattle.tac_base.specs.declared.calls.Entry.{Entry as StoredEntry}

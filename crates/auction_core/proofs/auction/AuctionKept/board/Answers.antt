@@ -1,5 +1,4 @@
 use Rattle.std.proofs.Common.{◌≡◌, ap, arith, reverse, length}
-use Rattle.std.proofs.lemmas.List.{length-map, length-reverse}
 use Rattle.tac_base.specs.declared.calls.Board.{Board}
 use Rattle.auction_core.specs.Stored.{stored}
 use Rattle.auction_core.proofs.Counting.{length-part}

@@ -1,4 +1,4 @@
-use Rattle.std.proofs.Common.{◌≡◌, List, ℤ, ◌++◌, [], ◌∷◌, pos, length, sym, ap, ◌∙◌, arith}
+use Rattle.std.proofs.Common.{◌≡◌, List, ℤ, ◌++◌, [], ◌∷◌, pos, length, ap, ◌∙◌, arith}
 use Rattle.auction_rules.specs.Setup.{Setup}
 use Rattle.auction_core.specs.Books.{held_by}
 use Rattle.auction_core.specs.Terms.{rules_of}

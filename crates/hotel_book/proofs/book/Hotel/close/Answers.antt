@@ -1,4 +1,4 @@
-use Rattle.std.proofs.Common.{◌≡◌, ◌≤◌, length, arith, ◌∙◌, ap, false}
+use Rattle.std.proofs.Common.{arith, ◌∙◌, ap, false}
 use Rattle.auction_rules.specs.Ask.{ask}
 use Rattle.auction_rules.specs.HotelClosing.{sold_units, closing_trades}
 use Rattle.hotel_book.specs.Book.{HotelBook, StandsFor}
