@@ -51,7 +51,7 @@ fn explore_all(
 }
 
 /// Finds a best allocation of an account's goods to its clients, by depth-first search. The one of several and the
-/// certificate are our own choice.
+/// certificate are our own choice. `Memory` leaves no allocation.
 pub fn solve(alloc: Global, account: &Account) -> Result<Solved, Memory>
     ensures feasible { IfOk result (λ solved. IsFeasible account.now solved.allocation) }
     ensures worth { IfOk result (λ solved. total_of account.now.clients solved.allocation ≡ solved.total) }

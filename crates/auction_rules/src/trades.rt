@@ -3,7 +3,7 @@ ghost use Rattle.auction_rules.specs.Effects as effects;
 
 use tac_base::Trade;
 
-/// How many units the agent that has the number buys in the trades.
+/// How many units the agent that has the number, 0..7, buys in the trades, of which there are at most 128.
 pub fn bought(trades: &[Trade], number: u8) -> u32
     requires { length trades.now ≤ 128 }
     ensures { result ≡ effects.bought trades.now number }
@@ -15,7 +15,7 @@ pub fn bought(trades: &[Trade], number: u8) -> u32
         .sum()
 }
 
-/// How many units the agent that has the number sells in the trades.
+/// How many units the agent that has the number, 0..7, sells in the trades, of which there are at most 128.
 pub fn sold(trades: &[Trade], number: u8) -> u32
     requires { length trades.now ≤ 128 }
     ensures { result ≡ effects.sold trades.now number }

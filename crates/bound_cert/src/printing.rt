@@ -68,7 +68,7 @@ fn print_children(children: &Vec<CertNode>, out: &mut Vec<u8>) -> Result<(), All
     Ok(())
 }
 
-/// The text of a certificate.
+/// The text of a certificate. `Memory` leaves no text.
 pub fn print_cert(alloc: Global, cert: &Cert) -> Result<Vec<u8>, Memory>
     ensures text { IfOk result (λ text. text.items ≡ spelling (tree_of cert.now.root)) }
     // There is a line for each leaf and each split, and each line has its line end.

@@ -65,7 +65,7 @@ impl Relaxation {
         }
     }
 
-    /// Solves what is left, as far as that tells whether it is worth more than a total.
+    /// Solves what is left, as far as that tells whether it is worth more than a total in dollars.
     pub fn repair(&mut self, total: u32)
         ensures { self.new.worths ≡ self.old.worths }
     {
@@ -73,7 +73,7 @@ impl Relaxation {
             .repair(&self.worths, f64::from(total), MOST_REPAIRS);
     }
 
-    /// Whether the fractions are worth more together than so many dollars.
+    /// Whether the fractions are worth more together than a total in dollars.
     pub fn is_worth_more(&self, total: u32) -> bool {
         self.tableau.value() > f64::from(total) + SMALL
     }

@@ -66,8 +66,8 @@ impl Relaxation {
         bound
     }
 
-    /// Whole prices near those of the relaxation. Where it is worth no more than a total, others are sought too that may bound what is
-    /// left by the total.
+    /// Whole prices near those of the relaxation. Where it is worth no more than a total in dollars, others are sought too that may
+    /// bound what is left by the total.
     pub fn prices_for(&self, total: u32) -> Prices {
         if self.is_worth_more(total) {
             self.rounded(0.0).0

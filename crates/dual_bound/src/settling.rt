@@ -173,7 +173,8 @@ pub fn dual_prices(account: &Account, choice: &Choice) -> Prices
 }
 
 impl Relaxation {
-    /// The prices of `dual_prices`, of a relaxation of what the choice leaves.
+    /// Whole prices for what the choice leaves, of which no single one is worth moving by 50. The relaxation is of what the choice
+    /// leaves.
     pub fn settled(&self, account: &Account, choice: &Choice) -> Quote
         requires { IsCeiling account.now (chosen choice.now) self.now.worths.dollars }
         ensures settled { settled.IsSettled account.now (chosen choice.now) result.prices }

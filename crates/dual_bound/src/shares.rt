@@ -22,7 +22,7 @@ fn numbered(number: usize) -> Package
 /// At most so many members are replaced to see what a part of a split is worth.
 const MOST_TRIED: u32 = 8;
 
-/// What packages cost at whole prices, and what these prices bound, as far as floating point tells.
+/// What packages cost at whole prices, and what these prices bound, both in dollars, as far as floating point tells.
 #[derive(Clone, Copy)]
 pub struct Priced {
     charges: [f64; 393],
@@ -86,7 +86,7 @@ impl Relaxation {
             {
                 if *holder == client && *number < 393 {
                     let value = self.worths.features.value_of(*number, feature);
-                    put(
+                    add_at(
                         &mut shares,
                         usize::from(value),
                         self.tableau.rows[member][36],
@@ -129,7 +129,7 @@ impl Relaxation {
     }
 
     /// Fixes the feature by which a split is called for most to the value with the greatest share, and solves what is left as far as
-    /// that tells whether it is worth more than a total. Says whether a split is called for.
+    /// that tells whether it is worth more than a total in dollars. Says whether a split is called for.
     pub fn decide(&mut self, total: u32) -> bool {
         let Some(place) = self.most_called_for() else {
             return false;
@@ -140,8 +140,9 @@ impl Relaxation {
         true
     }
 
-    /// How much a split by a client's feature leaves to search: for each part of it that whole prices do not bound by a total,
-    /// the square of what its relaxation is worth beyond the total. Where that comes to so much, no more parts are looked at.
+    /// How much a split by a client's feature leaves to search: for each part of it that whole prices do not bound by a total in
+    /// dollars, one and the square of the dollars that its relaxation is worth beyond the total. No more parts are looked at where
+    /// the sum has come to `most`.
     pub fn after_split(
         &self,
         client: usize,
@@ -166,7 +167,7 @@ impl Relaxation {
         sum
     }
 
-    /// In how many parts of a split by a client's feature whole prices leave more than a total.
+    /// In how many parts of a split by a client's feature whole prices leave more than a total in dollars.
     pub fn open_parts(&self, client: usize, feature: usize, priced: &Priced, total: f64) -> f64
         requires client { client < 8 }
         requires feature { feature < 4 }
@@ -180,7 +181,7 @@ impl Relaxation {
         count
     }
 
-    /// What the relaxation of one part of a split is worth, as far as it is more than a total.
+    /// What the relaxation of one part of a split is worth in dollars, as far as it is more than a total in dollars.
     fn value_of_part(&self, client: usize, feature: usize, value: u8, total: f64) -> f64
         requires client { client < 8 }
         requires feature { feature < 4 }
@@ -192,7 +193,7 @@ impl Relaxation {
         tableau.value()
     }
 
-    /// What packages cost at whole prices, and what these bound.
+    /// What packages cost at whole prices, and what these bound, in dollars.
     pub fn priced(&self, prices: &Prices) -> Priced {
         Priced {
             charges: charges(&self.worths.features, &row_of(prices)),
@@ -200,7 +201,7 @@ impl Relaxation {
         }
     }
 
-    /// What whole prices bound in each part of a split by a client's feature.
+    /// What whole prices bound, in dollars, in each part of a split by a client's feature.
     fn bounds_of_parts(&self, client: usize, feature: usize, priced: &Priced) -> [f64; 21]
         requires client { client < 8 }
         requires feature { feature < 4 }
@@ -221,7 +222,7 @@ impl Relaxation {
 }
 
 /// Adds to the number at a place.
-fn put(row: &mut [f64; 21], place: usize, more: f64) {
+fn add_at(row: &mut [f64; 21], place: usize, more: f64) {
     if let Some(sum) = row.get_mut(place) {
         *sum += more;
     }

@@ -23,8 +23,8 @@ use tac_base::{Agent, Board, Call, Caller, Fills, Good, Kind, Left, Points, Repl
 const ROOMS: usize = 16;
 
 /// The auction of a hotel night, by the game description: its rooms go to the highest units, at the
-/// price of the last one that wins. A bid has to beat the published price, in dollars, which is a rule
-/// after TAC; bids do not change that price. No call takes memory.
+/// price of the sixteenth, or at 0 where fewer than 16 units stand. A bid has to beat the published
+/// price, in dollars, which is a rule after TAC; bids do not change that price. No call takes memory.
 #[derive(Debug, Drop)]
 pub struct Hotel {
     good: Good,

@@ -154,7 +154,7 @@ fn decoded(n: u16) -> Option<Package>
     })
 }
 
-/// The package of a number: all 393 packages, each once.
+/// The package of a number, 0..392, and none past the last one: all 393 packages, each once.
 pub fn package(n: u16) -> Option<Package>
     ensures value { result ≡ slice_get packages n }
     ensures variant { IsSome result ↔ (n < 393) }

@@ -67,7 +67,8 @@ fn all_cash(closed: &Closed) -> [i64; 8]
     cash
 }
 
-/// Tells each agent's holdings, and its cash by the trades of all auctions; the cash book is not read.
+/// Tells how many of each good each agent has, -200000..200000, and its cash by the trades of all auctions, in dollars,
+/// -1000000000000000..1000000000000000; the cash book is not read.
 pub fn settle(closed: &Closed) -> Accounts
     ensures { result ≡ settlement_of closed.now.auctions }
 {

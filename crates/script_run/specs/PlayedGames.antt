@@ -1,4 +1,4 @@
--- A game that was played to its end, and what writing it does to a sink; for private clauses.
+-- A game that was played to its end, and what writing it and its sheet does to a sink.
 use Rattle.std.specs.Prelude.{◌≡◌, ℕ, ◌<◌, ◌⊎◌, ⊤, List, ◌++◌, length, Result, Ok, Err, Option}
 use Rattle.tac_io.specs.Counts.{Rose}
 use Rattle.tac_io.specs.Told.{and_then_told, TakesSome}
