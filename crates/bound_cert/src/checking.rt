@@ -10,12 +10,7 @@ use game_text::Account;
 use packages::{Narrowing, Prices, leaf_bound, value_count};
 
 /// Whether the prices bound what a narrowing leaves by a claim in dollars. They do where some client has no package left.
-pub fn leaf_holds<N: Narrowing>(
-    account: &Account,
-    claim: u32,
-    narrowing: &N,
-    prices: &Prices,
-) -> bool
+fn leaf_holds<N: Narrowing>(account: &Account, claim: u32, narrowing: &N, prices: &Prices) -> bool
     ensures { result ≡ is_within (leaf_bound account.now (N.left narrowing.now) prices.now) claim }
 {
     match leaf_bound(account, narrowing, prices) {

@@ -11,7 +11,7 @@ mod tests;
 mod trees;
 mod ways;
 
-pub use checking::{check, leaf_holds};
+pub use checking::check;
 pub use faults::CertFault;
 pub use printing::print_cert;
 pub use reading::read_cert;

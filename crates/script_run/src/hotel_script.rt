@@ -9,7 +9,7 @@ use tac_io::{Sink, write_all};
 use text_forms::cut;
 
 /// The most bytes of a script.
-const LONGEST_SCRIPT: usize = 67_108_864;
+pub(crate) const LONGEST_SCRIPT: usize = 67_108_864;
 
 /// The hotel before the first line.
 fn begun(alloc: Global) -> Result<HotelRun, ScriptFault>

@@ -8,6 +8,7 @@ ghost use Rattle.script_run.specs.QuietGames.{PlaysQuietly, IsQuietFault, quiet_
 
 use crate::fault::{QuietFault, ScriptFault};
 use crate::game_run::GameRun;
+use crate::hotel_script::LONGEST_SCRIPT;
 use crate::play_count::{PlayCount, counted};
 use auction_core::Closed;
 use game_log::{LogHead, LogWriteFault, write_play_part, write_sheet_part};
@@ -18,9 +19,6 @@ use std::thread::Threads;
 use tac_base::Memory;
 use tac_io::{Failed, Sink, write_all};
 use text_forms::cut;
-
-/// The most bytes of a script.
-const LONGEST_SCRIPT: usize = 67_108_864;
 
 /// A game that was played to its end: what is to be written of the lines, and the histories.
 #[derive(Drop)]
