@@ -7,7 +7,8 @@ use Rattle.auction_rules.specs.History.{Entry}
 use Rattle.auction_rules.specs.Legal.{past_of, cap}
 use Rattle.script_run.specs.declared.hotel_lines.HotelLine.{HotelLine}
 use Rattle.script_run.specs.HotelLines.{line_of, asked}
-use Rattle.script_run.specs.Replies.{reply_line, trade_line}
+use Rattle.game_log.specs.LogText.{trade_line}
+use Rattle.script_run.specs.Replies.{reply_line}
 
 -- how many of the lines are the caller's
 abbrev pub lines_of : List HotelLine → ℕ → ℕ

@@ -7,13 +7,15 @@ ghost use Rattle.script_run.specs.HotelLines.{asked};
 ghost use Rattle.script_run.specs.HotelRuns.{called};
 ghost use Rattle.script_run.specs.HotelScripts.{entry_text};
 ghost use Rattle.script_run.specs.Replies as replies;
+ghost use Rattle.game_log.specs.LogText as log;
 
 use crate::ScriptFault;
 use crate::hotel_lines::HotelLine;
 use crate::line_counts::LineCounts;
 use crate::one_game::one_game;
-use crate::replies::{reply_line, trade_line};
+use crate::replies::reply_line;
 use auction_core::Auction;
+use game_log::trade_line;
 use std::alloc::{AllocError, Global};
 use tac_base::{Good, Memory, Reply, Trade};
 use turn_lock::Kept;
@@ -38,7 +40,7 @@ fn first_night() -> Good
 
 /// Appends the lines of trades.
 fn push_trades(text: &mut Vec<u8>, trades: &[Trade]) -> Result<(), AllocError>
-    ensures { OnOk result (text.new.items ≡ text.old.items ++ flat_map replies.trade_line trades.now) }
+    ensures { OnOk result (text.new.items ≡ text.old.items ++ flat_map log.trade_line trades.now) }
 {
     for trade in trades {
         text.extend_from_slice(trade_line(trade).as_slice())?;
@@ -53,7 +55,7 @@ fn push_entry(
     reply: Reply,
     trades: &[Trade],
 ) -> Result<(), AllocError>
-    ensures { OnOk result (text.new.items ≡ text.old.items ++ (replies.reply_line position reply ++ flat_map replies.trade_line trades.now)) }
+    ensures { OnOk result (text.new.items ≡ text.old.items ++ (replies.reply_line position reply ++ flat_map log.trade_line trades.now)) }
 {
     text.extend_from_slice(reply_line(position, reply).as_slice())?;
     push_trades(text, trades)

@@ -8,6 +8,7 @@ use Rattle.auction_rules.specs.Legal.{entry_of}
 use Rattle.auction_core.specs.declared.entries.Struck.{Struck}
 use Rattle.script_run.specs.HotelLines.{asked}
 use Rattle.script_run.specs.Replies as replies
+use Rattle.game_log.specs.LogText as log
 use Rattle.script_run.proofs.Running.{newest_trades}
 use Rattle.script_run.proofs.hotel_run.call.Goals as goal
 
@@ -19,5 +20,5 @@ returns-clause-text c =
     let traded : c.trades_of.result.now ≡ e.trades =
     newest_trades before.history c.act-struck.new.self.history e c.args.position c.trades_of.result.now (c.act-struck.ensures.appended ∙ ap (λ (x : Entry). before.history ++ x ∷ []) same) c.requires.place c.trades_of.ensures in
     let replied : c.act-struck.result.reply ≡ e.reply = ap (λ (s : Struck). s.reply) c.act-struck.ensures.struck ∙ ap (λ (x : Entry). x.reply) same in
-    subst (λ (told : Reply × List Trade). OnOk c.push_entry.result (c.push_entry.new.text.items ≡ c.args.text.now.items ++ (replies.reply_line c.args.position told.0 ++ flat_map replies.trade_line told.1)))
+    subst (λ (told : Reply × List Trade). OnOk c.push_entry.result (c.push_entry.new.text.items ≡ c.args.text.now.items ++ (replies.reply_line c.args.position told.0 ++ flat_map log.trade_line told.1)))
     (λ i. (replied i, traded i)) c.push_entry.ensures

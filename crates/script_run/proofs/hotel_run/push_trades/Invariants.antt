@@ -1,6 +1,6 @@
 use Rattle.std.proofs.Common.{◌≡◌, ◌++◌, take}
 use Rattle.std.specs.List.{flat_map}
-use Rattle.script_run.specs.Replies.{trade_line}
+use Rattle.game_log.specs.LogText.{trade_line}
 use Rattle.script_run.proofs.hotel_run.push_trades.Given as goal
 
 abbrev pub invariant-loop-trade : goal.invariant-loop-trade
