@@ -1,4 +1,6 @@
 pub mod Endings
+pub mod PostedCash
+pub mod OneThreadCash
 pub mod LongFiles
 pub mod Unambiguous
 pub mod CodedOutcomes

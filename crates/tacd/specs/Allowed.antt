@@ -17,6 +17,7 @@ use Rattle.tacd.specs.declared.refusals.Refusal.TheVariants.{Usage, GameLine, Ga
 use Rattle.draw_maker.specs.Games.{made_game}
 use Rattle.draw_maker.specs.Scripts.{made_script}
 use Rattle.tacd.specs.Commands.{Command, Hotel, Show, Make, Solve, Play, Trial, Serve}
+use Rattle.tacd.specs.Cash.{HasCashOfPosts}
 use Rattle.tacd.specs.Trials.{trial_text}
 use Rattle.tacd.specs.Outcomes.{Outcome, Done, Lapsed, Cut, Refused}
 
@@ -111,10 +112,10 @@ RefusesScript content name before now Memory = now ≡ before
 RefusesScript content name before now TextTooLong = IsTooLong content name longest_script × (now ≡ before)
 RefusesScript content name before now refusal = ⊥
 
--- a game is played by the script of that name, or the script is refused
+-- a game is played by the script of that name, and the cash in its sheet is that of the posts; or the script is refused
 abbrev pub ScriptAllows : Content → GameFile → List ℕ → ℕ → ℕ → Outcome → Type 0
 ScriptAllows content game name before now outcome =
-    ((script : List ℕ) × IsFile content name script × GameAllows game script outcome × (now ≡ before))
+    ((script : List ℕ) × IsFile content name script × GameAllows game script outcome × (now ≡ before) × HasCashOfPosts game script)
     ⊎ ((refusal : Refusal) × (outcome ≡ Refused refusal) × RefusesScript content name before now refusal)
 
 -- the game of the first name is played by the script of the second; or the game is refused, and the script is not read

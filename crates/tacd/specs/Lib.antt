@@ -1,6 +1,7 @@
 pub mod Commands
 pub mod Words
 pub mod Outcomes
+pub mod Cash
 pub mod Allowed
 pub mod Files
 pub mod Ends

@@ -4,6 +4,7 @@ ghost use Rattle.game_run.specs.LinkStates.{link_state};
 ghost use Rattle.line_protocol.specs.Requests.{request_of};
 ghost use Rattle.line_protocol.specs.Replies.{said_text};
 ghost use Rattle.tacd.specs.Causes.{ClockFaultExactly, GameRefusedExactly, IsComplete, LinkFaultExactly, ReadFaultExactly, TextRefusedExactly, UsageExactly, WriteFaultExactly};
+ghost use Rattle.tacd.specs.Cash.{IsCashOfPosts};
 ghost use Rattle.tacd.specs.Commands.{command_of};
 ghost use Rattle.tacd.specs.Allowed.{Allows};
 ghost use Rattle.tacd.specs.Ends.{Tells};
@@ -44,6 +45,8 @@ pub fn tac<R: Threads + Sync + Wait + Clock, F: Files, K: Sink, N: Links, T: Tic
         (links_state N.ports N.pending N.faults links.old) (links_state N.ports N.pending N.faults links.new)
         (ticker_state T.paced T.waited T.faults ticker.old) (ticker_state T.paced T.waited T.faults ticker.new) result.played result.ended outcome
         × Tells outcome (K.taken out.old) (K.taken out.new) (K.faults out.old) (K.faults out.new) result.code) }
+    // The cash of each agent in the sheet of that game is the sum of its nets over all posts of its cash history.
+    ensures cash { IfSome result.played (λ played. IsCashOfPosts played.closed) }
     ensures others { OffService (command_of (map (λ word. string_bytes word) words.now)) ((links.new ≡ links.old) × (ticker.new ≡ ticker.old) × (result.ended.items ≡ []) × (result.played ≡ None)) }
     ensures usage { UsageExactly (command_of (map (λ word. string_bytes word) words.now)) result.code }
     ensures read_fault { ReadFaultExactly (F.faults files.old) (F.faults files.new) result.code }

@@ -5,6 +5,7 @@ use Rattle.line_protocol.specs.Replies.{said_text}
 use Rattle.game_run.specs.LinkStates.{link_state}
 use Rattle.tacd.specs.Commands.{command_of}
 use Rattle.tacd.specs.Service.{links_state, ticker_state}
+use Rattle.tacd.proofs.PostedCash.{cash_served}
 use Rattle.tacd.proofs.RefusedGames.{game_refused}
 use Rattle.tacd.proofs.RefusedTexts.{text_refused}
 use Rattle.tacd.proofs.Completeness.{is_complete}
@@ -58,6 +59,21 @@ returns-clause-clock_fault g c =
     (λ (same : (c.run.new.links ≡ c.args.links.now) × (c.run.new.ticker ≡ c.args.ticker.now) × (c.run.result.ended.items ≡ []) × (c.run.result.played ≡ None)). ap g.T.Ticker.faults same.1) c.run.ensures.others)
     (clock_served state (λ line answer. answer ≡ request_of line) said_text (links c.args.links.now) (links c.run.new.links) (ticker c.args.ticker.now) (ticker c.run.new.ticker) c.run.result.ended
     command (g.F.Files.content c.args.files.now) (files c.args.files.now) (files c.run.new.files) (out c.args.out.now) (out c.run.new.out) c.run.result.code (taken c.args.out.now) (taken c.run.new.out) c.run.result.played c.run.ensures.service)
+
+pub returns-clause-cash : goal.returns-clause-cash
+returns-clause-cash g c =
+    let command = command_of (map (λ word. string_bytes word) c.args.words.now) in
+    let links = links_state g.N.Links.ports g.N.Links.pending g.N.Links.faults in
+    let ticker = ticker_state g.T.Ticker.paced g.T.Ticker.waited g.T.Ticker.faults in
+    let state = link_state g.N.Link.Link.taken g.N.Link.Link.left g.N.Link.Link.sent g.N.Link.Link.faults g.N.Link.Link.write_faults in
+    let files = g.F.Files.faults in
+    let out = g.K.Sink.faults in
+    let taken = g.K.Sink.taken in
+    cash_served state (λ line answer. answer ≡ request_of line) said_text (links c.args.links.now) (links c.run.new.links) (ticker c.args.ticker.now) (ticker c.run.new.ticker) c.run.result.ended
+    command (g.F.Files.content c.args.files.now) (files c.args.files.now) (files c.run.new.files) (out c.args.out.now) (out c.run.new.out) c.run.result.code (taken c.args.out.now) (taken c.run.new.out) c.run.result.played
+    (off_map command ((c.run.new.links ≡ c.args.links.now) × (c.run.new.ticker ≡ c.args.ticker.now) × (c.run.result.ended.items ≡ []) × (c.run.result.played ≡ None)) _
+    (λ (same : (c.run.new.links ≡ c.args.links.now) × (c.run.new.ticker ≡ c.args.ticker.now) × (c.run.result.ended.items ≡ []) × (c.run.result.played ≡ None)). same.3) c.run.ensures.others)
+    c.run.ensures.service
 
 pub returns-clause-complete : goal.returns-clause-complete
 returns-clause-complete g c =

@@ -1,0 +1,102 @@
+-- The cash that a sheet is made of is what the posts add up to, and so in each game that was played over links.
+use Rattle.std.proofs.Common.{◌≡◌, ℕ, ◌≤◌, List, [], ◌∷◌, ◌++◌, map, fold, refl, sym, ap, ◌∙◌, subst, inl, inr, arith, ℤ, pos, ◌+ℤ◌, Option, Some, None}
+use Rattle.std.specs.Prelude.{reverse, Result, IfSome}
+use Rattle.std.specs.Global.{Vec}
+use Rattle.std.proofs.lemmas.Int.{ints}
+use Rattle.std.proofs.lemmas.List.{reverse-append}
+use Rattle.std.proofs.lemmas.List.Concat.{flat_map-append}
+use Rattle.tac_base.specs.declared.calls.Trade.{Trade}
+use Rattle.game_text.specs.Games.{GameFile}
+use Rattle.auction_rules.specs.History.{Entry}
+use Rattle.auction_rules.specs.Effects.{all_trades, dollars}
+use Rattle.trade_ledger.specs.CashHistory.{total_of}
+use Rattle.trade_ledger.specs.Posts.{trades_of_all}
+use Rattle.trade_ledger.proofs.Matching.{dollars-append}
+use Rattle.auction_core.specs.Auctions.{AuctionHistory}
+use Rattle.auction_core.specs.ClosedGame.{ClosedGame}
+use Rattle.score_sheet.specs.Settlement.{cash_of}
+use Rattle.line_protocol.specs.declared.asking.Request.{Request}
+use Rattle.line_protocol.specs.declared.asking.RequestFault.{RequestFault}
+use Rattle.line_protocol.specs.declared.saying.Said.{Said}
+use Rattle.game_run.specs.LinkStates.{LinkState}
+use Rattle.game_run.specs.PlayedGame.{IsLegalGame}
+use Rattle.tacd.specs.declared.answer.Played.{Played}
+use Rattle.tacd.specs.Outcomes.{Outcome}
+use Rattle.tacd.specs.Commands.{Command, Hotel, Show, Make, Solve, Play, Trial, Serve}
+use Rattle.tacd.specs.Allowed.{Content}
+use Rattle.tacd.specs.Cash.{IsCashOfPosts}
+use Rattle.tacd.specs.Ends.{Tells}
+use Rattle.tacd.specs.Service.{LinksState, TickerState, OffService, OnService, ServesGame, ServeAllows}
+
+-- the order of the entries does not matter
+reversed : (history : List Entry) (party : ℕ) → dollars (all_trades (reverse history)) party ≡ dollars (all_trades history) party
+reversed [] party = refl
+reversed (e ∷ history) party =
+    let apart : all_trades (reverse (e ∷ history)) ≡ all_trades (reverse history) ++ all_trades (e ∷ []) = ap all_trades (reverse-append (e ∷ []) history) ∙ flat_map-append (λ (x : Entry). x.trades) (reverse history) (e ∷ []) in
+    let joined : all_trades (e ∷ history) ≡ all_trades (e ∷ []) ++ all_trades history = flat_map-append (λ (x : Entry). x.trades) (e ∷ []) history in
+    omega (
+      arith,
+      ints,
+      ap (λ (ts : List Trade). dollars ts party) apart ∙ dollars-append (all_trades (reverse history)) (all_trades (e ∷ [])) party,
+      reversed history party,
+      ap (λ (ts : List Trade). dollars ts party) joined ∙ dollars-append (all_trades (e ∷ [])) (all_trades history) party,
+    )
+
+-- what a party gains in the trades of an auction
+abbrev gain_in : ℕ → AuctionHistory → ℤ
+gain_in party auction = dollars (all_trades (reverse auction.history)) party
+
+-- a sum of gains is the gain of all trades
+summed : (gained : ℤ) (auctions : List AuctionHistory) (party : ℕ) →
+    fold ◌+ℤ◌ gained (map (gain_in party) auctions) ≡ gained +ℤ dollars (trades_of_all (map (λ (a : AuctionHistory). a.history) auctions)) party
+summed gained [] party = omega (arith, ints)
+summed gained (auction ∷ auctions) party =
+    omega (
+      arith,
+      ints,
+      summed (gained +ℤ gain_in party auction) auctions party,
+      reversed auction.history party,
+      dollars-append (all_trades auction.history) (trades_of_all (map (λ (a : AuctionHistory). a.history) auctions)) party,
+    )
+
+-- the cash of a party is the gain of all trades
+cash_is : (auctions : List AuctionHistory) (party : ℕ) → cash_of auctions party ≡ dollars (trades_of_all (map (λ (a : AuctionHistory). a.history) auctions)) party
+cash_is auctions party = omega (arith, ints, summed (pos 0) auctions party)
+
+-- in a legal game the cash of each agent is the sum of its nets over all posts
+pub cash_of_posts : (game : GameFile) (closed : ClosedGame) → IsLegalGame game closed → IsCashOfPosts closed
+cash_of_posts game closed legal =
+    let each : (party : ℕ) → party ≤ 8 → cash_of closed.auctions party ≡ total_of closed.cash party = λ party low. cash_is closed.auctions party ∙ sym (legal.totals party low) in
+    λ i. each 0 (omega arith) i ∷ each 1 (omega arith) i ∷ each 2 (omega arith) i ∷ each 3 (omega arith) i ∷ each 4 (omega arith) i ∷ each 5 (omega arith) i ∷ each 6 (omega arith) i ∷ each 7 (omega arith) i ∷ []
+
+-- ---- the game of a service
+
+-- it was played legally, so its cash is that of the posts
+abbrev HasCash : Option Played → Type 0
+HasCash played = IfSome played (λ p. IsCashOfPosts p.closed)
+
+no_game : (played : Option Played) → played ≡ None → HasCash played
+no_game played none = subst HasCash (sym none) tt
+
+module _ {L : Type 0} (state : L → LinkState) (may_answer : List ℕ → Result Request RequestFault → Type 0) (text : Said → List ℕ)
+    (links links' : LinksState L) (ticker ticker' : TickerState) (ended : Vec L) where
+  in_game : (game : GameFile) (port pace : ℕ) (played : Option Played) (outcome : Outcome) → ServesGame state may_answer text game port pace links links' ticker ticker' played ended outcome → HasCash played
+  in_game game port pace (Some played) outcome plays = cash_of_posts game played.closed plays.0.end.played.played.legal_game
+  in_game game port pace None outcome plays = tt
+
+  in_service : (content : Content) (name : List ℕ) (port pace before now : ℕ) (played : Option Played) (outcome : Outcome) →
+      ServeAllows state may_answer text content name port pace before now links links' ticker ticker' played ended outcome → HasCash played
+  in_service content name port pace before now played outcome (inl serves) = in_game serves.0 port pace played outcome serves.2
+  in_service content name port pace before now played outcome (inr refuses) = no_game played refuses.5
+
+  pub cash_served : (command : Option Command) (content : Content) (before now out_before out_now code : ℕ) (taken taken' : Option (List ℕ)) (played : Option Played) → OffService command (played ≡ None) →
+      OnService command (λ name port pace. (outcome : Outcome) × ServeAllows state may_answer text content name port pace before now links links' ticker ticker' played ended outcome × Tells outcome taken taken' out_before out_now code) →
+      HasCash played
+  cash_served None content before now out_before out_now code taken taken' played off on = no_game played off
+  cash_served (Some (Hotel script)) content before now out_before out_now code taken taken' played off on = no_game played off
+  cash_served (Some (Show game)) content before now out_before out_now code taken taken' played off on = no_game played off
+  cash_served (Some (Make seed)) content before now out_before out_now code taken taken' played off on = no_game played off
+  cash_served (Some (Solve account)) content before now out_before out_now code taken taken' played off on = no_game played off
+  cash_served (Some (Play game script)) content before now out_before out_now code taken taken' played off on = no_game played off
+  cash_served (Some (Trial seed count)) content before now out_before out_now code taken taken' played off on = no_game played off
+  cash_served (Some (Serve name port pace)) content before now out_before out_now code taken taken' played off on = in_service content name port pace before now played on.0 on.1
