@@ -6,6 +6,7 @@ use Rattle.tacd.specs.declared.refusals.Refusal.{Refusal}
 use Rattle.tacd.specs.declared.refusals.Refusal.TheVariants.{Usage, GameLine, GameTooLong, ReadFault, LinkFault, Memory, TextLine, TextTooLong}
 use Rattle.tacd.specs.declared.ends.End.{End}
 use Rattle.tacd.specs.declared.ends.End.TheVariants as ends
+use Rattle.tacd.specs.Allowed.{Content}
 use Rattle.tacd.specs.Commands.{Play}
 use Rattle.tacd.specs.Outcomes.{Refused, refusal_code}
 use Rattle.tacd.specs.Ends.{Finishes}
@@ -58,9 +59,9 @@ late (ends.Refused (TextLine line reason)) taken taken' before now code is finis
     is_not code 8 2 (code_told (TextLine line reason) taken taken' before now code finished) (omega arith) (omega arith)
 late (ends.Refused TextTooLong) taken taken' before now code is finished = is_not code 8 2 (code_told TextTooLong taken taken' before now code finished) (omega arith) (omega arith)
 
-pub selects_two : (game script : List ℕ) (names names' : Option (List (List ℕ))) (end : End) (taken taken' : Option (List ℕ)) (before now code : ℕ) → SelectsTwo game script names names' end →
-    Finishes end taken taken' before now code → Selects (Some (Play game script)) names names' code
-selects_two game script names names' end taken taken' before now code (inl first) finished =
+pub selects_two : (content : Content) (game script : List ℕ) (names names' : Option (List (List ℕ))) (end : End) (taken taken' : Option (List ℕ)) (before now code : ℕ) → SelectsTwo content game script names names' end →
+    Finishes end taken taken' before now code → Selects content (Some (Play game script)) names names' code
+selects_two content game script names names' end taken taken' before now code (inl first) finished =
     let not = early end taken taken' before now code first.1 finished in
     inl (first.0, not.0, not.1)
-selects_two game script names names' end taken taken' before now code (inr both) finished = inr (both.0, late end taken taken' before now code both.1 finished)
+selects_two content game script names names' end taken taken' before now code (inr both) finished = inr (both.0, both.1, late end taken taken' before now code both.2 finished)

@@ -146,7 +146,7 @@ fn run_asked<R: Threads + Sync + Wait + Clock, F: Files, K: Sink, N: Links, T: T
     ensures outcome { (outcome : Outcome)
         × Allows (F.content files.old) (Some (seen asked.entry)) (F.faults files.old) (F.faults files.new) outcome
         × Tells outcome (K.taken out.old) (K.taken out.new) (K.faults out.old) (K.faults out.new) result.code }
-    ensures names { Selects (Some (seen asked.entry)) (F.names files.old) (F.names files.new) result.code }
+    ensures names { Selects (F.content files.old) (Some (seen asked.entry)) (F.names files.old) (F.names files.new) result.code }
     ensures service { OnService (Some (seen asked.entry)) (λ name port pace. (outcome : Outcome)
         × ServeAllows (link_state N.Link.taken N.Link.left N.Link.sent N.Link.faults N.Link.write_faults) (λ line answer. answer ≡ request_of line) said_text
         (F.content files.old) name port pace (F.faults files.old) (F.faults files.new)
@@ -209,7 +209,7 @@ pub(crate) fn run<R: Threads + Sync + Wait + Clock, F: Files, K: Sink, N: Links,
     ensures outcome { (outcome : Outcome)
         × Allows (F.content files.old) (command_of (map (λ word. string_bytes word) words.now)) (F.faults files.old) (F.faults files.new) outcome
         × Tells outcome (K.taken out.old) (K.taken out.new) (K.faults out.old) (K.faults out.new) result.code }
-    ensures names { Selects (command_of (map (λ word. string_bytes word) words.now)) (F.names files.old) (F.names files.new) result.code }
+    ensures names { Selects (F.content files.old) (command_of (map (λ word. string_bytes word) words.now)) (F.names files.old) (F.names files.new) result.code }
     ensures service { OnService (command_of (map (λ word. string_bytes word) words.now)) (λ name port pace. (outcome : Outcome)
         × ServeAllows (link_state N.Link.taken N.Link.left N.Link.sent N.Link.faults N.Link.write_faults) (λ line answer. answer ≡ request_of line) said_text
         (F.content files.old) name port pace (F.faults files.old) (F.faults files.new)

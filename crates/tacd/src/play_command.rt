@@ -70,7 +70,7 @@ pub(crate) fn play_files<R: Threads + Sync, F: Files, K: Sink>(
     requires { IfSome (F.names files.old) (λ names. (names ≡ []) × (length game.now ≤ 1024) × (length script.now ≤ 1024)) }
     ensures ends { EndsOrIsCut (PlayAllows (F.content files.old) game.now script.now (F.faults files.old) (F.faults files.new))
         (K.taken out.old) (K.taken out.new) (K.faults out.old) (K.faults out.new) result }
-    ensures names { SelectsTwo game.now script.now (F.names files.old) (F.names files.new) result }
+    ensures names { SelectsTwo (F.content files.old) game.now script.now (F.names files.old) (F.names files.new) result }
 {
     match game_file(alloc, files, game) {
         Ok(game) => play_named(rt, alloc, &game, script, files, out),

@@ -57,7 +57,7 @@ pub fn tac<R: Threads + Sync + Wait + Clock, F: Files, K: Sink, N: Links, T: Tic
     ensures text_refused { TextRefusedExactly (F.content files.old) (command_of (map (λ word. string_bytes word) words.now)) (F.faults files.old) (F.faults files.new) result.code }
     ensures complete { IsComplete (F.content files.old) (command_of (map (λ word. string_bytes word) words.now)) (F.faults files.old) (F.faults files.new) (K.faults out.old) (K.faults out.new)
         (N.faults links.old) (N.faults links.new) (T.faults ticker.old) (T.faults ticker.new) result.code }
-    ensures names { Selects (command_of (map (λ word. string_bytes word) words.now)) (F.names files.old) (F.names files.new) result.code }
+    ensures names { Selects (F.content files.old) (command_of (map (λ word. string_bytes word) words.now)) (F.names files.old) (F.names files.new) result.code }
 {
     run(rt, alloc, words, files, out, links, ticker)
 }

@@ -15,7 +15,7 @@ pub returns-in-Play-clause-outcome : goal.returns-in-Play-clause-outcome
 returns-in-Play-clause-outcome g c = rw c.in-Play.is (rw c.coded-in-Play.ensures.code (tells_or_cut _ _ _ _ _ _ _ _ _ c.play_files-end.ensures.ends c.finish-code-in-Play.ensures))
 
 pub returns-in-Play-clause-names : goal.returns-in-Play-clause-names
-returns-in-Play-clause-names g c = rw c.in-Play.is (rw c.coded-in-Play.ensures.code (selects_two _ _ _ _ _ _ _ _ _ _ c.play_files-end.ensures.names c.finish-code-in-Play.ensures))
+returns-in-Play-clause-names g c = rw c.in-Play.is (rw c.coded-in-Play.ensures.code (selects_two _ _ _ _ _ _ _ _ _ _ _ c.play_files-end.ensures.names c.finish-code-in-Play.ensures))
 
 pub returns-in-Serve-clause-outcome : goal.returns-in-Serve-clause-outcome
 returns-in-Serve-clause-outcome g c =
