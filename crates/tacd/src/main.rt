@@ -1,4 +1,4 @@
-//! The program `tac`: its commands over the files and the output of the system.
+//! The program `tac`: its commands over the files, the output, the links and the clock of the system.
 #![tactic(auto)]
 
 mod answer;
