@@ -1,5 +1,5 @@
 // A game over links in memory, and the system's links and ticker.
-ghost use Rattle.std.specs.Prelude.{◌≡◌, [], IfOk};
+ghost use Rattle.std.specs.Prelude.{◌≡◌, [], IfOk, IfSome};
 
 use crate::are_short;
 use crate::sleep_ticker::SleepTicker;
@@ -20,19 +20,14 @@ use tac_io::{
     HeldLink, Hold, LinesSent, Link, Links, MemFiles, MemLink, MemLinks, MemSink, MemTicker, Ticker,
 };
 
-// The calls of the outside that are to fail, each counted from 1: of the sink, of the links and of the ticker; 0 for none.
+// The calls of the sink and of the links that are to fail, each counted from 1; 0 for none.
 #[derive(Clone, Copy)]
 struct Faults {
     write: u64,
     links: u64,
-    tick: u64,
 }
 
-const NO_FAULT: Faults = Faults {
-    write: 0,
-    links: 0,
-    tick: 0,
-};
+const NO_FAULT: Faults = Faults { write: 0, links: 0 };
 
 // What a service left: its code, what it wrote, the links that it took, and whether a game was played.
 #[derive(Drop)]
@@ -43,13 +38,27 @@ struct Served<L> {
     played: bool,
 }
 
-// Serves the plain game over the links.
+// Serves the plain game over the links, and no tick lapses.
 fn serve<R: Threads + Sync + Wait + Clock, L: Link + Send + Drop>(
     rt: &R,
     alloc: Global,
     given: Vec<L>,
     faults: Faults,
 ) -> Result<Served<L>, Fail> {
+    let mut ticker = MemTicker::new(alloc, Vec::new(alloc))?;
+    serve_by(rt, alloc, given, faults, &mut ticker)
+}
+
+// Serves the plain game over the links by the ticker.
+fn serve_by<R: Threads + Sync + Wait + Clock, L: Link + Send + Drop, T: Ticker + Send>(
+    rt: &R,
+    alloc: Global,
+    given: Vec<L>,
+    faults: Faults,
+    ticker: &mut T,
+) -> Result<Served<L>, Fail>
+    requires { IfSome (T.waited ticker.old) (λ ticks. ticks ≡ []) }
+{
     let mut words = Vec::new(alloc);
     for word in ["serve", "game", "7411", "5"] {
         words.push(String::from_str(alloc, word)?)?;
@@ -62,16 +71,7 @@ fn serve<R: Threads + Sync + Wait + Clock, L: Link + Send + Drop>(
     let mut files = MemFiles::new(alloc, vec![in alloc; game]?, 1_000_000, Vec::new(alloc))?;
     let mut out = MemSink::new(alloc, 1_000_000, 1_000_000, vec![in alloc; faults.write]?)?;
     let mut links = MemLinks::new(given, vec![in alloc; faults.links]?);
-    let mut ticker = MemTicker::new(alloc, vec![in alloc; faults.tick]?)?;
-    let answer = tac(
-        rt,
-        alloc,
-        &words,
-        &mut files,
-        &mut out,
-        &mut links,
-        &mut ticker,
-    );
+    let answer = tac(rt, alloc, &words, &mut files, &mut out, &mut links, ticker);
     Ok(Served {
         code: answer.code,
         text: out.bytes().to_vec(alloc)?,
@@ -80,123 +80,278 @@ fn serve<R: Threads + Sync + Wait + Clock, L: Link + Send + Drop>(
     })
 }
 
-// A link that gives these bytes at once, and fails at a read and at a write; 0 for none.
-fn link(alloc: Global, bytes: &[u8], read: u64, write: u64) -> Result<MemLink, Fail> {
+// A link that gives these bytes, as many at once as stated, has room for `room` bytes, and fails at a read and at a write; 0 for none.
+fn link(
+    alloc: Global,
+    bytes: &[u8],
+    most_at_once: usize,
+    room: usize,
+    read: u64,
+    write: u64,
+) -> Result<MemLink, Fail> {
     Ok(MemLink::new(
         alloc,
         bytes.to_vec(alloc)?,
-        1_000,
-        10_000,
+        most_at_once,
+        room,
         vec![in alloc; read]?,
         vec![in alloc; write]?,
     )?)
 }
 
-// Four links: one that takes a seat and leaves, one with a word of no seat, one for the same seat, and one that does not greet.
-fn four_links(alloc: Global) -> Result<Vec<MemLink>, Fail> {
+// Links that give these bytes at once, in order.
+fn links(alloc: Global, given: &[&[u8]]) -> Result<Vec<MemLink>, Fail> {
     let mut links = Vec::new(alloc);
-    for bytes in [
-        "hello seat0\nquit\n",
-        "hello nobody\n",
-        "hello seat0\n",
-        "hi\n",
-    ] {
-        links.push(link(alloc, bytes.as_bytes(), 0, 0)?)?;
+    for bytes in given {
+        links.push(link(alloc, bytes, 1_000, 10_000, 0, 0)?)?;
     }
     Ok(links)
 }
 
+// What four links ask: one takes a seat and leaves, one has a word of no seat, one wants the same seat, and one does not greet.
+const FOUR: [&[u8]; 4] = [
+    b"hello seat0\nquit\n",
+    b"hello nobody\n",
+    b"hello seat0\n",
+    b"hi\n",
+];
+
 const FOUR_HEADS: &str =
     "taclog 1\nserve\nlink 0 seated 0\nlink 1 wrongword\nlink 2 taken\nlink 3 syntax\nend 0 quit\nmissed 0\nauction 0 54\n";
 
+// What the agent of the first seat is sent first.
 const WELCOME: &str =
-    "welcome 0\nendow 0 0 0 0 0 0 0 0 0 0 0 0 0\nclient 0 0 1 2 100 0 0 100\nclient 0 1 1 2 100 0 0 100\nclient 0 2 1 2 100 0 0 100\nclient 0 3 1 2 100 0 0 100\nclient 0 4 1 2 100 0 0 100\nclient 0 5 1 2 100 0 0 100\nclient 0 6 1 2 100 0 0 100\nclient 0 7 1 2 100 0 0 100\nbye\n";
+    "welcome 0\nendow 0 0 0 0 0 0 0 0 0 0 0 0 0\nclient 0 0 1 2 100 0 0 100\nclient 0 1 1 2 100 0 0 100\nclient 0 2 1 2 100 0 0 100\nclient 0 3 1 2 100 0 0 100\nclient 0 4 1 2 100 0 0 100\nclient 0 5 1 2 100 0 0 100\nclient 0 6 1 2 100 0 0 100\nclient 0 7 1 2 100 0 0 100\n";
 
 #[test]
 fn a_game_is_served_and_told(rt: HostRuntime) -> Result<(), Fail> {
     let alloc = rt.alloc();
-    let served = serve(&rt, alloc, four_links(alloc)?, NO_FAULT)?;
-    assert_eq!(rt; served.code, 0);
-    let text = str::from_utf8(served.text.as_slice())?;
-    assert!(rt; text.starts_with(FOUR_HEADS));
-    assert!(rt; text.find("\nscore 7 0 0 0 0\n").is_some());
-    let mut ended = served.ended.into_iter();
-    for sent in [
-        WELCOME,
-        "refused wrongword\n",
-        "refused taken\n",
-        "refused syntax\n",
-    ] {
-        let link = ended.next().ok_or("four links")?;
-        assert_eq!(rt; link.sent(), sent.as_bytes());
+    for most_at_once in [1_000, 1] {
+        let mut given = Vec::new(alloc);
+        for bytes in FOUR {
+            given.push(link(alloc, bytes, most_at_once, 10_000, 0, 0)?)?;
+        }
+        let served = serve(&rt, alloc, given, NO_FAULT)?;
+        assert_eq!(rt; served.code, 0);
+        let text = str::from_utf8(served.text.as_slice())?;
+        assert!(rt; text.starts_with(FOUR_HEADS));
+        assert!(rt; text.find("\nscore 7 0 0 0 0\n").is_some());
+        let mut ended = served.ended.into_iter();
+        for (first, rest) in [
+            (WELCOME, "bye\n"),
+            ("", "refused wrongword\n"),
+            ("", "refused taken\n"),
+            ("", "refused syntax\n"),
+        ] {
+            let link = ended.next().ok_or("four links")?;
+            assert_eq!(rt; link.sent(), format!(in alloc; "{first}{rest}")?.as_bytes());
+        }
     }
     Ok(())
 }
 
 #[test]
-fn each_fault_of_a_service_has_its_end(rt: HostRuntime) -> Result<(), Fail> {
+fn a_line_has_at_most_512_bytes(rt: HostRuntime) -> Result<(), Fail> {
     let alloc = rt.alloc();
-    for (faults, code, text, played) in [
-        (
-            Faults {
-                links: 1,
-                ..NO_FAULT
-            },
-            5,
-            "fault links\n",
-            false,
-        ),
-        (
-            Faults {
-                links: 4,
-                ..NO_FAULT
-            },
-            5,
-            "fault links\n",
-            false,
-        ),
-        (
-            Faults {
-                write: 1,
-                ..NO_FAULT
-            },
-            4,
-            "",
-            true,
-        ),
+    for (count, rest, sent, cause) in [
+        (512, "\n", "no syntax\n", "end"),
+        (513, "\nquit\n", "no toolong\nbye\n", "quit"),
+        (513, "", "", "end"),
     ] {
-        let served = serve(&rt, alloc, four_links(alloc)?, faults)?;
-        assert_eq!(rt; served.code, code);
-        assert_eq!(rt; served.text.as_slice(), text.as_bytes());
-        assert_eq!(rt; served.played, played);
+        let mut bytes = b"hello seat0\n".to_vec(alloc)?;
+        for _ in 0..count {
+            bytes.push(b'a')?;
+        }
+        bytes.extend_from_slice(rest.as_bytes())?;
+        let served = serve(&rt, alloc, links(alloc, &[bytes.as_slice()])?, NO_FAULT)?;
+        assert_eq!(rt; served.code, 0);
+        let head = format!(in alloc;
+            "taclog 1\nserve\nlink 0 seated 0\nend 0 {cause}\nmissed 0\n"
+        )?;
+        assert!(rt; served.text.starts_with(head.as_bytes()));
+        assert_eq!(rt; served.ended.len(), 1);
+        assert_eq!(rt;
+            served.ended[0].sent(),
+            format!(in alloc; "{WELCOME}{sent}")?.as_bytes()
+        );
     }
-    let late = serve(
+    Ok(())
+}
+
+// How many entries of the clock stand in the log.
+fn count_clock(text: &[u8]) -> usize {
+    text.split(|byte| *byte == b'\n')
+        .filter(|line| line.starts_with(b"8 "))
+        .count()
+}
+
+#[test]
+fn at_most_64_links_are_taken(rt: HostRuntime) -> Result<(), Fail> {
+    let alloc = rt.alloc();
+    let served = serve(
         &rt,
         alloc,
-        four_links(alloc)?,
-        Faults {
-            tick: 20,
-            ..NO_FAULT
-        },
+        links(alloc, &[b"hi\n".as_slice(); 65])?,
+        NO_FAULT,
     )?;
-    assert_eq!(rt; late.code, 6);
-    let text = str::from_utf8(late.text.as_slice())?;
+    assert_eq!(rt; served.code, 0);
+    assert_eq!(rt; served.ended.len(), 64);
     assert!(rt;
-        text.find("\nend 0 quit\nmissed 1\nauction 0 54\n")
-            .is_some()
+        served
+            .ended
+            .iter()
+            .all(|link| link.sent() == b"refused syntax\n".as_slice())
     );
-    let broken = link(alloc, b"hello seat0\nown 0\nown ", 2, 0)?;
-    let unheard = link(alloc, b"hello seat1\nown 0\n", 0, 1)?;
-    let lost = link(alloc, b"hello seat2\n", 1, 0)?;
-    let served = serve(&rt, alloc, vec![in alloc; broken, unheard, lost]?, NO_FAULT)?;
+    let mut head = String::from_str(alloc, "taclog 1\nserve\n")?;
+    for number in 0..64 {
+        write!(head, "link {number} syntax\n")?;
+    }
+    head.push_str("missed 0\nauction 0 54\n")?;
+    assert!(rt; served.text.starts_with(head.as_bytes()));
+    assert_eq!(rt; count_clock(&served.text), 480);
+    Ok(())
+}
+
+#[test]
+fn no_game_is_played_where_links_fail(rt: HostRuntime) -> Result<(), Fail> {
+    let alloc = rt.alloc();
+    let three = [
+        b"hello seat0\n".as_slice(),
+        b"hello seat1\n",
+        b"hello seat2\n",
+    ];
+    // The first call listens, and each later one gives a link.
+    for (failing, taken) in [(1, 0), (3, 1), (5, 3)] {
+        let faults = Faults {
+            links: failing,
+            ..NO_FAULT
+        };
+        let served = serve(&rt, alloc, links(alloc, &three)?, faults)?;
+        assert_eq!(rt; served.code, 5);
+        assert_eq!(rt; served.text.as_slice(), b"fault links\n".as_slice());
+        assert!(rt; !served.played);
+        assert_eq!(rt; served.ended.len(), taken);
+        assert!(rt; served.ended.iter().all(|link| link.sent().is_empty()));
+    }
+    Ok(())
+}
+
+#[test]
+fn a_game_whose_log_is_not_written_was_played(rt: HostRuntime) -> Result<(), Fail> {
+    let alloc = rt.alloc();
+    let faults = Faults {
+        write: 1,
+        ..NO_FAULT
+    };
+    let served = serve(&rt, alloc, links(alloc, &FOUR)?, faults)?;
+    assert_eq!(rt; served.code, 4);
+    assert!(rt; served.text.is_empty());
+    assert!(rt; served.played);
+    Ok(())
+}
+
+#[test]
+fn the_fault_of_a_link_ends_its_session_alone(rt: HostRuntime) -> Result<(), Fail> {
+    let alloc = rt.alloc();
+    let broken = link(alloc, b"hello seat0\nown 0\nown ", 1_000, 10_000, 2, 0)?;
+    let unheard = link(alloc, b"hello seat1\nown 0\n", 1_000, 10_000, 0, 1)?;
+    let lost = link(alloc, b"hello seat2\n", 1_000, 10_000, 1, 0)?;
+    let full = link(alloc, b"hello seat3\nown 0\n", 1_000, 60, 0, 0)?;
+    let given = vec![in alloc; broken, unheard, lost, full]?;
+    let served = serve(&rt, alloc, given, NO_FAULT)?;
     assert_eq!(rt; served.code, 0);
     let text = str::from_utf8(served.text.as_slice())?;
     assert!(rt;
         text.starts_with(
-            "taclog 1\nserve\nlink 0 seated 0\nlink 1 seated 1\nlink 2 lost\nend 0 readfault\nend 1 writefault\nmissed 0\nauction 0 55\n"
+            "taclog 1\nserve\nlink 0 seated 0\nlink 1 seated 1\nlink 2 lost\nlink 3 seated 3\nend 0 readfault\nend 1 writefault\nend 3 writefault\nmissed 0\nauction 0 55\n"
         )
     );
     assert!(rt; text.find("\n0 own = own 0 ()\n").is_some());
+    let welcome = "welcome 3\nendow 3 0 0 0 0 0 0 0 0 0 0 0 0\nclient 3 0 1 2 100 0 0 100\n";
+    assert_eq!(rt; served.ended.len(), 4);
+    assert!(rt; served.ended[1].sent().is_empty());
+    assert!(rt; served.ended[2].sent().is_empty());
+    assert_eq!(rt; served.ended[3].sent().len(), 60);
+    assert!(rt; welcome.as_bytes().starts_with(served.ended[3].sent()));
+    Ok(())
+}
+
+#[test]
+fn the_calls_of_lapsed_ticks_are_made(rt: HostRuntime) -> Result<(), Fail> {
+    let alloc = rt.alloc();
+    for (first, end, missed) in [(20, 21, "missed 1"), (1, 55, "missed 54")] {
+        let mut lapsing = Vec::new(alloc);
+        for tick in first..end {
+            lapsing.push(tick)?;
+        }
+        let mut ticker = MemTicker::new(alloc, lapsing)?;
+        let served = serve_by(&rt, alloc, links(alloc, &FOUR)?, NO_FAULT, &mut ticker)?;
+        assert_eq!(rt; served.code, 6);
+        let text = str::from_utf8(served.text.as_slice())?;
+        let head = format!(in alloc; "\nend 0 quit\n{missed}\nauction 0 54\n")?;
+        assert!(rt; text.find(head.as_str()).is_some(), "{missed}");
+        assert_eq!(rt; count_clock(&served.text), 480);
+        assert!(rt; text.ends_with("\nend\n"));
+    }
+    Ok(())
+}
+
+// A ticker of which each tick lapses that is waited for before a pace was set.
+#[derive(Drop)]
+struct PacedTicker {
+    pace: Option<u16>,
+    lapses: u64,
+}
+
+impl Ticker for PacedTicker {
+    ghost use Rattle.std.specs.Prelude.{None};
+
+    type Due = Tick;
+
+    type Lapse = Tick;
+
+    ghost due_tick = { λ due. due };
+
+    ghost lapse_tick = { λ lapse. lapse };
+
+    ghost paced = { λ _. None };
+
+    ghost waited = { λ _. None };
+
+    ghost faults = { λ s. s.lapses };
+
+    fn pace(&mut self, milliseconds: u16) {
+        self.pace = Some(milliseconds);
+    }
+
+    fn wait<R: Wait + Clock>(&mut self, _rt: &R, tick: Tick) -> Result<Tick, Tick> {
+        if self.pace.is_some() {
+            return Ok(tick);
+        }
+        self.lapses = self.lapses.saturating_add(1);
+        Err(tick)
+    }
+
+    fn late(&mut self, lapse: Tick) -> Tick {
+        lapse
+    }
+
+    fn faults(&self) -> u64 {
+        self.lapses
+    }
+}
+
+#[test]
+fn the_pace_is_set_before_the_first_wait(rt: HostRuntime) -> Result<(), Fail> {
+    let alloc = rt.alloc();
+    let mut ticker = PacedTicker {
+        pace: None,
+        lapses: 0,
+    };
+    let served = serve_by(&rt, alloc, links(alloc, &FOUR)?, NO_FAULT, &mut ticker)?;
+    assert_eq!(rt; served.code, 0);
+    assert!(rt; served.text.starts_with(FOUR_HEADS.as_bytes()));
+    assert_eq!(rt; ticker.pace, Some(5));
     Ok(())
 }
 

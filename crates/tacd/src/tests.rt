@@ -52,8 +52,7 @@ fn run<R: Threads + Sync + Wait + Clock>(
     script: &[u8],
     faults: Faults,
 ) -> Result<Ran, Fail> {
-    let script = file(alloc, "script", script)?;
-    run_over(rt, alloc, line, vec![in alloc; script]?, faults)
+    run_over(rt, alloc, line, &[("script", script)], faults)
 }
 
 // Plays a game by a script.
@@ -64,20 +63,22 @@ fn run_play<R: Threads + Sync + Wait + Clock>(
     script: &str,
     faults: Faults,
 ) -> Result<Ran, Fail> {
-    let game = file(alloc, "game", game.as_bytes())?;
-    let script = file(alloc, "script", script.as_bytes())?;
-    let files = vec![in alloc; game, script]?;
-    run_over(rt, alloc, "play game script", files, faults)
+    let files = [("game", game.as_bytes()), ("script", script.as_bytes())];
+    run_over(rt, alloc, "play game script", &files, faults)
 }
 
-// Runs the words of a line, parted by spaces, over files.
+// Runs the words of a line, parted by spaces, over files, each with its name.
 fn run_over<R: Threads + Sync + Wait + Clock>(
     rt: &R,
     alloc: Global,
     line: &str,
-    files: Vec<MemFile>,
+    files: &[(&str, &[u8])],
     faults: Faults,
 ) -> Result<Ran, Fail> {
+    let mut given = Vec::new(alloc);
+    for (name, bytes) in files {
+        given.push(file(alloc, name, bytes)?)?;
+    }
     let mut words = Vec::new(alloc);
     for word in line.split_whitespace() {
         words.push(String::from_str(alloc, word)?)?;
@@ -85,7 +86,7 @@ fn run_over<R: Threads + Sync + Wait + Clock>(
     if !are_short(&words) {
         return Err(Fail::from("a word is too long"));
     }
-    let mut files = MemFiles::new(alloc, files, 1_000_000, vec![in alloc; faults.read]?)?;
+    let mut files = MemFiles::new(alloc, given, 1_000_000, vec![in alloc; faults.read]?)?;
     let mut out = MemSink::new(
         alloc,
         1_000_000,
@@ -337,54 +338,98 @@ const TRADES: &str =
 const TRADES_TOLD: &str =
     "0 @0 taken 1 0\n0 @0 taken 1 0\n0 @0 taken 0 0\n1 @0 taken 0 0\n0 @1 taken 1 0\n2 @2 taken 1 0\n1 @3 own -2 ()\n0 @4 cash -660\n0 @1 quote 0 0 open\ntaclog 1\nplay\nauction 0 55\n";
 
+// Bids of every fault.
+const BIDS: &str =
+    "0 bid 0 ((16 10000))\n0 bid 0 ((17 1))\n0 bid 0 ((1 0))\n0 bid 0 ((1 10001))\n0 bid 0 ((0 100))\n0 bid 0 ((1 1)\n0 bid 0 ((1 1) (1 1) (1 1) (1 1) (1 1) (1 1) (1 1) (1 1) (1 1) (1 1) (1 1) (1 1) (1 1) (1 1) (1 1) (1 1) (1 1))\n0 bid 28 ((1 1))\n0 buy 0\n";
+
+// What the agent is told of them.
+const BIDS_TOLD: &str =
+    "0 @0 taken 16 0\n0 no bid 3\n0 no bid 4\n0 no bid 4\n0 no bid 5\n0 no bid 1\n0 no bid 2\n0 no auction\n0 no syntax\ntaclog 1\nplay\nauction 0 55\n";
+
 #[test]
 fn games_are_played_to_their_sheets(rt: HostRuntime) -> Result<(), Fail> {
     let alloc = rt.alloc();
     let game = plain_game(alloc, "client 0 0 1 2 100 0 0 100\n")?;
-    for (script, told, middle, scores) in [
+    let rows: [(&str, &str, &[&str]); 5] = [
         (
             "",
             "taclog 1\nplay\nauction 0 54\n",
-            "\ncash 0\nsheet\nscore 0 0 0 0 0\npackage 0 0 none\n",
-            "\nscore 7 0 0 0 0\npackage 7 0 none\n",
+            &[
+                "\ncash 0\nsheet\nscore 0 0 0 0 0\npackage 0 0 none\n",
+                "\nscore 7 0 0 0 0\npackage 7 0 none\n",
+            ],
         ),
         (
             "0 quit\n",
             "0 bye\ntaclog 1\nplay\nauction 0 54\n",
-            "\ncash 0\nsheet\n",
-            "\nscore 7 0 0 0 0\n",
+            &["\ncash 0\nsheet\n", "\nscore 7 0 0 0 0\n"],
         ),
         (
             "0 bid 24 ((-1 60))\n1 bid 24 ((2 70))\n1 quote 24\n",
             "0 @0 taken 0 0\n1 @1 taken 1 0\n1 @2 quote 70 0 open\ntaclog 1\nplay\n",
-            "\n1 bid ((2 70)) = taken 1 0\ntrade 1 0 1 60\n",
-            "\nscore 0 0 60 1 -140\n",
+            &[
+                "\n1 bid ((2 70)) = taken 1 0\ntrade 1 0 1 60\n",
+                "\nscore 0 0 60 1 -140\n",
+            ],
+        ),
+        (
+            BIDS,
+            BIDS_TOLD,
+            &[
+                "\n0 bid ((16 10000)) = taken 16 0\ntrade 0 8 16 300\n",
+                "\ncash 1\n0 post 0 0 -4800 0 0 0 0 0 0 0 4800\nsheet\n",
+                "\nscore 0 0 -4800 0 -4800\n",
+            ],
         ),
         (
             TRADES,
             TRADES_TOLD,
-            "\nauction 24 5\n1 bid ((-2 60)) = taken 0 0\n0 bid ((1 70)) = taken 1 0\ntrade 0 1 1 60\n2 bid ((1 70)) = taken 1 0\ntrade 2 1 1 60\n1 own = own -2 ()\n8 close = done\n",
-            "\nscore 0 1100 -660 0 440\n",
+            &[
+                "\nauction 8 2\n",
+                "\nauction 15 8\n",
+                "\nauction 16 1\n",
+                "\nauction 24 5\n1 bid ((-2 60)) = taken 0 0\n0 bid ((1 70)) = taken 1 0\ntrade 0 1 1 60\n2 bid ((1 70)) = taken 1 0\ntrade 2 1 1 60\n1 own = own -2 ()\n8 close = done\n",
+                "\ncash 6\n0 post 0 0 -300 0 0 0 0 0 0 0 300\n0 post 4 0 -300 0 0 0 0 0 0 0 300\n0 post 24 1 -60 60 0 0 0 0 0 0 0\n2 post 24 2 0 60 -60 0 0 0 0 0 0\n0 read = -660\n8 post 8 1 0 0 0 0 0 0 0 0 0\nsheet\n",
+                "\nscore 0 1100 -660 0 440\n",
+                "\nscore 1 0 120 2 -280\n",
+                "\nscore 2 0 -60 0 -60\n",
+                "\nscore 3 0 0 0 0\n",
+                "\nscore 4 0 0 0 0\n",
+                "\nscore 5 0 0 0 0\n",
+                "\nscore 6 0 0 0 0\n",
+                "\nscore 7 0 0 0 0\n",
+            ],
         ),
-        (
-            TRADES,
-            TRADES_TOLD,
-            "\ncash 6\n0 post 0 0 -300 0 0 0 0 0 0 0 300\n0 post 4 0 -300 0 0 0 0 0 0 0 300\n0 post 24 1 -60 60 0 0 0 0 0 0 0\n2 post 24 2 0 60 -60 0 0 0 0 0 0\n0 read = -660\n8 post 8 1 0 0 0 0 0 0 0 0 0\nsheet\n",
-            "\nscore 1 0 120 2 -280\n",
-        ),
-        (
-            TRADES,
-            TRADES_TOLD,
-            "\nauction 8 2\n",
-            "\nscore 2 0 -60 0 -60\n",
-        ),
-    ] {
+    ];
+    for (script, told, parts) in rows {
         let ran = run_play(&rt, alloc, &game, script, NO_FAULT)?;
         let text = str::from_utf8(ran.text.as_slice())?;
         assert_eq!(rt; ran.code, 0, "of {script}");
         assert!(rt; text.starts_with(told));
-        assert!(rt; text.find(middle).is_some());
-        assert!(rt; text.find(scores).is_some());
+        for part in parts {
+            assert!(rt; text.find(part).is_some(), "{part}");
+        }
+    }
+    Ok(())
+}
+
+#[test]
+fn an_agent_has_1024_calls_of_a_good(rt: HostRuntime) -> Result<(), Fail> {
+    let alloc = rt.alloc();
+    let game = plain_game(alloc, "client 0 0 1 2 100 0 0 100\n")?;
+    let mut script = String::new(alloc);
+    for _ in 0..1025 {
+        script.push_str("0 own 24\n")?;
+    }
+    let ran = run_play(&rt, alloc, &game, &script, NO_FAULT)?;
+    assert_eq!(rt; ran.code, 0);
+    let text = str::from_utf8(ran.text.as_slice())?;
+    for part in [
+        "\n0 @1023 own 0 ()\n0 no spent\ntaclog 1\n",
+        "\nauction 24 1025\n",
+        "\n0 own = own 0 ()\n8 close = done\n",
+    ] {
+        assert!(rt; text.find(part).is_some(), "{part}");
     }
     Ok(())
 }
@@ -409,6 +454,8 @@ fn a_game_or_its_script_is_refused(rt: HostRuntime) -> Result<(), Fail> {
         (&game, "0 quit\n0 cash\n", 0, 8, "text 2 2\n"),
         (&bad, "0 quit\n0 cash\n", 0, 2, "game 20 4\n"),
         (&bad, "", 1, 3, "fault read\n"),
+        // No script is selected where the game is refused.
+        (&bad, "", 4, 2, "game 20 4\n"),
         // The game is selected, read, and read at its end; then the script is selected.
         (&game, "", 4, 3, "fault read\n"),
     ] {
@@ -427,12 +474,14 @@ fn a_game_or_its_script_is_refused(rt: HostRuntime) -> Result<(), Fail> {
     Ok(())
 }
 
+// An account with one seat and one ticket, which two clients want.
+const ONE_SEAT: &[u8] =
+    b"account\nhold 1 0 0 0 2 0 0 0 2 0 0 0 0 0 0 0 1 0 0 0 0 0 0 0 0 0 0 0\nclient 0 1 2 50 100 0 0\nclient 1 1 2 50 150 0 0\nclient 2 1 2 50 0 0 0\nclient 3 1 2 50 0 0 0\nclient 4 1 2 50 0 0 0\nclient 5 1 2 50 0 0 0\nclient 6 1 2 50 0 0 0\nclient 7 1 2 50 0 0 0\nend\n";
+
 #[test]
 fn accounts_are_solved_or_refused(rt: HostRuntime) -> Result<(), Fail> {
     let alloc = rt.alloc();
-    let one_seat =
-        b"account\nhold 1 0 0 0 2 0 0 0 2 0 0 0 0 0 0 0 1 0 0 0 0 0 0 0 0 0 0 0\nclient 0 1 2 50 100 0 0\nclient 1 1 2 50 150 0 0\nclient 2 1 2 50 0 0 0\nclient 3 1 2 50 0 0 0\nclient 4 1 2 50 0 0 0\nclient 5 1 2 50 0 0 0\nclient 6 1 2 50 0 0 0\nclient 7 1 2 50 0 0 0\nend\n";
-    let solved = run(&rt, alloc, "solve script", one_seat, NO_FAULT)?;
+    let solved = run(&rt, alloc, "solve script", ONE_SEAT, NO_FAULT)?;
     assert_eq!(rt; solved.code, 0);
     assert!(rt;
         solved.text.as_slice().starts_with(
@@ -449,6 +498,55 @@ fn accounts_are_solved_or_refused(rt: HostRuntime) -> Result<(), Fail> {
         let ran = run(&rt, alloc, "solve script", file.as_bytes(), NO_FAULT)?;
         assert_eq!(rt; ran.text.as_slice(), text.as_bytes(), "of {file}");
         assert_eq!(rt; ran.code, 8, "of {file}");
+    }
+    Ok(())
+}
+
+// How many runs end at a failed write, where the first write fails in the first of them, the second in the next, and so on until no write
+// fails; each has code 4 and a first part of the text that is due, but not all of it.
+fn count_failed<R: Threads + Sync + Wait + Clock>(
+    rt: &R,
+    alloc: Global,
+    line: &str,
+    files: &[(&str, &[u8])],
+    most_at_once: usize,
+) -> Result<u64, Fail> {
+    let due = run_over(rt, alloc, line, files, NO_FAULT)?;
+    for failed in 0..10_000 {
+        let faults = Faults {
+            read: 0,
+            write: failed + 1,
+            most_at_once,
+        };
+        let ran = run_over(rt, alloc, line, files, faults)?;
+        if ran.code == 0 && ran.text == due.text {
+            return Ok(failed);
+        }
+        if ran.code != 4 || ran.text.len() >= due.text.len() || !due.text.starts_with(&ran.text) {
+            return Err(Fail::from("another end"));
+        }
+    }
+    Err(Fail::from("too many writes"))
+}
+
+#[test]
+fn each_write_fails_in_its_place(rt: HostRuntime) -> Result<(), Fail> {
+    let alloc = rt.alloc();
+    let game = plain_game(alloc, "client 0 0 1 2 100 0 0 100\n")?;
+    let files = [
+        ("game", game.as_bytes()),
+        ("account", ONE_SEAT),
+        ("script", TRADES.as_bytes()),
+    ];
+    for (line, most_at_once) in [
+        ("show game", 100),
+        ("solve account", 10),
+        ("play game script", 1_000_000),
+    ] {
+        assert!(rt;
+            count_failed(&rt, alloc, line, &files, most_at_once)? > 9,
+            "{line}"
+        );
     }
     Ok(())
 }
