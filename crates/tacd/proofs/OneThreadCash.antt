@@ -41,7 +41,7 @@ use Rattle.line_protocol.specs.declared.saying.Said.TheVariants as said
 use Rattle.clock_events.specs.Schedule.{calls_at}
 use Rattle.script_run.specs.declared.game_lines.GameLine.{GameLine}
 use Rattle.script_run.specs.declared.game_lines.GameLine.TheVariants.{Tick, Asks}
-use Rattle.script_run.specs.GameStates.{GameState, opening, past_at, entry_at, called, reading_of, readings_of, call_turn, cash_turn, turn, clocked, ticked}
+use Rattle.script_run.specs.GameStates.{GameState, past_at, entry_at, called, reading_of, readings_of, call_turn, cash_turn, turn, clocked, ticked}
 use Rattle.script_run.specs.OneThreadRun.{auction_with, played, ticked_often, whole_game}
 use Rattle.script_run.specs.GameOuts.{closed_game}
 use Rattle.tacd.specs.Cash.{IsCashOfPosts}

@@ -1,23 +1,18 @@
 -- The log of a game is written in two parts.
-use Rattle.std.proofs.Common.{◌≡◌, ℕ, List, ◌++◌, refl, ◌∙◌, subst, inl, inr, Ok, Err, Option}
+use Rattle.std.proofs.Common.{◌≡◌, ℕ, List, ◌++◌, refl, ◌∙◌, subst, inl, Ok, Err, Option}
 use Rattle.tac_io.specs.Counts.{Rose}
-use Rattle.tac_io.specs.Told.{and_then_told, TakesSome}
+use Rattle.tac_io.specs.Told.{and_then_told}
 use Rattle.game_text.specs.Games.{GameFile}
 use Rattle.game_log.specs.SheetText.{sheet_part}
 use Rattle.game_log.specs.declared.fault.LogWriteFault.TheVariants as log
 use Rattle.game_log.proofs.Writing.{wrote_both, some_after}
 use Rattle.script_run.specs.PlayedGames.{WritesSheet}
 use Rattle.tacd.specs.declared.answer.Played.{Played}
-use Rattle.tacd.specs.declared.refusals.Refusal.TheVariants.{Memory}
 use Rattle.tacd.specs.declared.ends.End.TheVariants as ends
 use Rattle.tacd.specs.Ends.{EndsOrIsCut}
 use Rattle.tacd.specs.Service.{LogAllows, first_part}
 
 module _ (game : GameFile) (played : Played) (t0 t1 t2 : Option (List ℕ)) (f0 f1 f2 : ℕ) where
-  -- a write of the first part failed
-  pub cut_in_first : TakesSome t0 t1 (first_part played) → Rose f0 f1 → EndsOrIsCut (LogAllows game played) t0 t1 f0 f1 ends.WriteFault
-  cut_in_first some rose = inr (first_part played, refl, (some, rose))
-
   -- both parts were written
   pub whole : t1 ≡ and_then_told t0 (first_part played) → f1 ≡ f0 → WritesSheet game played.closed t1 t2 f1 f2 (Ok tt) → EndsOrIsCut (LogAllows game played) t0 t2 f0 f2 ends.Done
   whole first quiet second = inl (
@@ -35,7 +30,3 @@ module _ (game : GameFile) (played : Played) (t0 t1 t2 : Option (List ℕ)) (f0 
     some_after t0 t1 t2 (first_part played) (sheet_part second.0) first second.2,
     subst (λ (f : ℕ). Rose f f2) quiet second.3,
   )
-
-  -- there was no memory for the second part
-  pub no_second : t1 ≡ and_then_told t0 (first_part played) → f1 ≡ f0 → WritesSheet game played.closed t1 t2 f1 f2 (Err log.Memory) → EndsOrIsCut (LogAllows game played) t0 t2 f0 f2 (ends.Refused Memory)
-  no_second first quiet second = inr (first_part played, refl, (second.taken_same ∙ first, second.faults_same ∙ quiet))
