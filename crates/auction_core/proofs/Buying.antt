@@ -11,7 +11,7 @@ use Rattle.tac_base.specs.declared.calls.Reply.TheVariants.{Closed, WrongCall, S
 use Rattle.tac_base.specs.Bids.{size_of, buys_of}
 use Rattle.auction_rules.specs.declared.units.Placed.{Placed}
 use Rattle.auction_rules.specs.declared.units.BidUnit.{BidUnit}
-use Rattle.auction_rules.specs.Goods.{agents}
+use Rattle.tac_base.specs.Goods.{agents}
 use Rattle.auction_rules.specs.Units.{point_units, units_from, among, without}
 use Rattle.auction_rules.specs.Setup.{Setup, Rules, FlightRules, HotelRules, TicketRules}
 use Rattle.auction_rules.specs.History.{Entry, is_admission, is_own, is_closed, bid_after, last_bid, bid_units, units_of_last}

@@ -12,7 +12,7 @@ use Rattle.tac_base.specs.declared.calls.Call.TheVariants.{Bid, Withdraw, Own as
 use Rattle.tac_base.specs.Bids.{size_of, buys_of}
 use Rattle.auction_rules.specs.declared.units.Placed.{Placed}
 use Rattle.auction_rules.specs.declared.units.BidUnit.{BidUnit}
-use Rattle.auction_rules.specs.Goods.{agents, house}
+use Rattle.tac_base.specs.Goods.{agents, house}
 use Rattle.auction_rules.specs.Units.{point_units, common_units}
 use Rattle.auction_rules.specs.History.{Entry, last_bid}
 use Rattle.auction_rules.specs.FlightRule.{bids_looked_at, point_trades, positions_below, flight_trades}

@@ -7,7 +7,7 @@ use Rattle.std.proofs.lemmas.List.{take_more}
 use Rattle.std.proofs.lemmas.List.Elements.{filter-append, All-from_recursion}
 use Rattle.std.proofs.lemmas.List.Sums.{sum_by-append, sum_by-take-le}
 use Rattle.tac_base.specs.declared.calls.Trade.{Trade}
-use Rattle.auction_rules.specs.Goods.{parties}
+use Rattle.tac_base.specs.Goods.{parties}
 use Rattle.auction_rules.specs.Effects.{bought, sold, net_units}
 use Rattle.auction_rules.specs.Traded.{traded}
 use Rattle.auction_rules.proofs.Trading.{bought_le, sold_le}

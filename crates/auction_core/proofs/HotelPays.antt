@@ -5,7 +5,7 @@ use Rattle.std.proofs.lemmas.Bool.{and_parts}
 use Rattle.std.proofs.lemmas.Bool.Decides.{nat_tests}
 use Rattle.tac_base.specs.declared.calls.Trade.{Trade}
 use Rattle.auction_rules.specs.declared.units.BidUnit.{BidUnit}
-use Rattle.auction_rules.specs.Goods.{agents, house}
+use Rattle.tac_base.specs.Goods.{agents, house}
 use Rattle.auction_rules.specs.Precedence.{wins}
 use Rattle.auction_rules.specs.Ask.{ask}
 use Rattle.auction_rules.specs.WinningNumber.{winning}

@@ -1,6 +1,6 @@
 -- What the book of an auction means, whatever the kind of its good.
 use Rattle.std.specs.Prelude.{ℕ, List, ℤ, map}
-use Rattle.auction_rules.specs.Goods.{parties}
+use Rattle.tac_base.specs.Goods.{parties}
 use Rattle.auction_rules.specs.Setup.{Setup}
 use Rattle.auction_rules.specs.History.{Entry}
 use Rattle.auction_rules.specs.Effects.{holding}

@@ -7,7 +7,7 @@ use Rattle.tac_base.specs.declared.bids.Point.{Point}
 use Rattle.tac_base.specs.declared.calls.Call.TheVariants.{Bid}
 use Rattle.auction_rules.specs.declared.units.Placed.{Placed}
 use Rattle.auction_rules.specs.declared.units.BidUnit.{BidUnit}
-use Rattle.auction_rules.specs.Goods.{agents}
+use Rattle.tac_base.specs.Goods.{agents}
 use Rattle.auction_rules.specs.Units.{units_of, among, without}
 use Rattle.auction_rules.specs.Setup.{Rules}
 use Rattle.auction_rules.specs.History.{Entry, is_admission, is_closed, last_bid, bid_units, units_of_last}

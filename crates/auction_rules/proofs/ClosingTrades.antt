@@ -6,7 +6,7 @@ use Rattle.std.proofs.lemmas.List.Sums.{sum_by-cons, sum_by-append}
 use Rattle.std.proofs.lemmas.Bool.Decides.{nat_tests}
 use Rattle.tac_base.specs.declared.calls.Trade.{Trade}
 use Rattle.auction_rules.specs.declared.units.BidUnit.{BidUnit}
-use Rattle.auction_rules.specs.Goods.{agents, house}
+use Rattle.tac_base.specs.Goods.{agents, house}
 use Rattle.auction_rules.specs.Setup.{Rules}
 use Rattle.auction_rules.specs.History.{Entry}
 use Rattle.auction_rules.specs.Standing.{stand}

@@ -7,7 +7,7 @@ use Rattle.tac_base.specs.declared.calls.Trade.{Trade}
 use Rattle.tac_base.specs.Bids.{size_of}
 use Rattle.auction_rules.specs.declared.units.Placed.{Placed}
 use Rattle.auction_rules.specs.declared.units.BidUnit.{BidUnit}
-use Rattle.auction_rules.specs.Goods.{house}
+use Rattle.tac_base.specs.Goods.{house}
 use Rattle.auction_rules.specs.Units.{point_units, common_units}
 use Rattle.auction_rules.specs.FlightRule.{point_trades, positions_below, flight_trades}
 use Rattle.auction_rules.proofs.Lists.{all-filter, all-flat_map, all_alike}

@@ -9,7 +9,7 @@ use Rattle.tac_base.specs.declared.calls.Call.{Call}
 use Rattle.tac_base.specs.declared.calls.Call.TheVariants.{Bid, Withdraw, Own as OwnCall, Update, Publish, Close}
 use Rattle.auction_rules.specs.declared.units.Placed.{Placed}
 use Rattle.auction_rules.specs.declared.units.BidUnit.{BidUnit}
-use Rattle.auction_rules.specs.Goods.{agents}
+use Rattle.tac_base.specs.Goods.{agents}
 use Rattle.auction_rules.specs.Units.{block, point_units, units_from, units_of}
 use Rattle.auction_rules.specs.Setup.{HotelRules}
 use Rattle.auction_rules.specs.History.{Entry, is_admission, is_closed, bid_after, last_bid, bid_units, units_of_last}

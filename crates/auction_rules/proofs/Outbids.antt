@@ -9,7 +9,7 @@ use Rattle.tac_base.specs.declared.calls.Trade.{Trade}
 use Rattle.tac_base.specs.declared.calls.Call.TheVariants.{Bid}
 use Rattle.tac_base.specs.declared.calls.Reply.TheVariants.{Taken}
 use Rattle.auction_rules.specs.declared.units.BidUnit.{BidUnit}
-use Rattle.auction_rules.specs.Goods.{agents}
+use Rattle.tac_base.specs.Goods.{agents}
 use Rattle.auction_rules.specs.Units.{units_of}
 use Rattle.auction_rules.specs.Setup.{Rules, HotelRules}
 use Rattle.auction_rules.specs.History.{Entry, is_closed, last_bid, bid_units, units_of_last}

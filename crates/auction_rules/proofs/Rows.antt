@@ -9,7 +9,7 @@ use Rattle.tac_base.specs.declared.calls.Call.{Call}
 use Rattle.tac_base.specs.declared.calls.Call.TheVariants.{Bid, Withdraw, Own as OwnCall, Update, Publish, Close}
 use Rattle.tac_base.specs.declared.calls.Reply.{Reply}
 use Rattle.tac_base.specs.declared.calls.Reply.TheVariants.{Taken, Own, Sold, Done, Closed, WrongCall, NoBid, Sell, SelfCross, BelowQuote}
-use Rattle.auction_rules.specs.Goods.{inbound_flight, outbound_flight, hotel_night, ticket_night}
+use Rattle.tac_base.specs.Goods.{inbound_flight, outbound_flight, hotel_night, ticket_night}
 use Rattle.auction_rules.specs.Setup.{Setup, HotelRules, FlightRules, TicketRules}
 use Rattle.auction_rules.specs.History.{Entry}
 use Rattle.auction_rules.specs.Effects.{dollars, nets}

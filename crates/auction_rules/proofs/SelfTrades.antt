@@ -12,7 +12,7 @@ use Rattle.tac_base.specs.declared.calls.Reply.{Reply}
 use Rattle.tac_base.specs.declared.calls.Reply.TheVariants.{Closed, WrongCall}
 use Rattle.auction_rules.specs.declared.units.Placed.{Placed}
 use Rattle.auction_rules.specs.declared.units.BidUnit.{BidUnit}
-use Rattle.auction_rules.specs.Goods.{agents, clock, house}
+use Rattle.tac_base.specs.Goods.{agents, clock, house}
 use Rattle.auction_rules.specs.Setup.{Setup, Rules, FlightRules, HotelRules, TicketRules}
 use Rattle.auction_rules.specs.History.{Entry, is_own, is_closed, last_bid}
 use Rattle.auction_rules.specs.FlightRule.{price, price_after, looked_at, bids_looked_at}

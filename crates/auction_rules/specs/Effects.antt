@@ -2,7 +2,7 @@
 use Rattle.std.specs.Prelude.{ℕ, ◌*◌, ◌==◌, if◌then◌else◌, List, ℤ, pos, ◌+ℤ◌, ◌-ℤ◌, map, sum_by, filter, slice_index_or}
 use Rattle.std.specs.List.{flat_map}
 use Rattle.tac_base.specs.declared.calls.Trade.{Trade}
-use Rattle.auction_rules.specs.Goods.{house, parties}
+use Rattle.tac_base.specs.Goods.{house, parties}
 use Rattle.auction_rules.specs.Setup.{Setup}
 use Rattle.auction_rules.specs.History.{Entry}
 

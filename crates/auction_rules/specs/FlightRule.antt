@@ -10,7 +10,7 @@ use Rattle.tac_base.specs.declared.calls.Call.TheVariants.{Bid, Update}
 use Rattle.tac_base.specs.Bids.{size_of}
 use Rattle.auction_rules.specs.declared.units.BidUnit.{BidUnit}
 use Rattle.auction_rules.specs.declared.units.Placed.{Placed}
-use Rattle.auction_rules.specs.Goods.{house}
+use Rattle.tac_base.specs.Goods.{house}
 use Rattle.auction_rules.specs.Units.{units_of, point_units, common_units}
 use Rattle.auction_rules.specs.History.{Entry, is_admission}
 

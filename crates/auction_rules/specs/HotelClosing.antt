@@ -3,7 +3,7 @@ use Rattle.std.specs.Prelude.{ℕ, ◌==◌, if◌then◌else◌, List, Option, 
 use Rattle.std.specs.List.{filter_map}
 use Rattle.tac_base.specs.declared.calls.Trade.{Trade}
 use Rattle.auction_rules.specs.declared.units.BidUnit.{BidUnit}
-use Rattle.auction_rules.specs.Goods.{agents, house}
+use Rattle.tac_base.specs.Goods.{agents, house}
 use Rattle.auction_rules.specs.Precedence.{wins}
 use Rattle.auction_rules.specs.Ask.{ask}
 use Rattle.auction_rules.specs.WinningNumber.{winning}

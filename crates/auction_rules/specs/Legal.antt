@@ -6,7 +6,7 @@ use Rattle.tac_base.specs.declared.calls.Call.{Call}
 use Rattle.tac_base.specs.declared.calls.Call.TheVariants.{Bid, Own as OwnCall, Close}
 use Rattle.tac_base.specs.declared.calls.Reply.{Reply}
 use Rattle.tac_base.specs.declared.calls.Reply.TheVariants.{Taken, Own, Sold, Done}
-use Rattle.auction_rules.specs.Goods.{agents, clock}
+use Rattle.tac_base.specs.Goods.{agents, clock}
 use Rattle.auction_rules.specs.Setup.{Setup, Rules, FlightRules, HotelRules, TicketRules}
 use Rattle.auction_rules.specs.History.{Entry, is_close, last_bid}
 use Rattle.auction_rules.specs.Effects.{bought, sold, holding}

@@ -1,4 +1,3 @@
-pub mod Goods
 pub mod Units
 pub mod Setup
 pub mod History

@@ -7,7 +7,7 @@ use Rattle.tac_base.specs.declared.calls.Call.TheVariants.{Bid, Withdraw, Own as
 use Rattle.tac_base.specs.declared.calls.Reply.{Reply}
 use Rattle.tac_base.specs.declared.calls.Reply.TheVariants.{Closed, WrongCall, NoBid, Sell, SelfCross, BelowQuote}
 use Rattle.tac_base.specs.Bids.{buys_of}
-use Rattle.auction_rules.specs.Goods.{clock}
+use Rattle.tac_base.specs.Goods.{clock}
 use Rattle.auction_rules.specs.Setup.{Rules, FlightRules, HotelRules, TicketRules}
 use Rattle.auction_rules.specs.History.{Entry, is_own, is_closed}
 use Rattle.auction_rules.specs.Standing.{stand}

@@ -11,7 +11,7 @@ use Rattle.tac_base.specs.declared.calls.Reply.TheVariants.{Taken, Done}
 use Rattle.tac_base.specs.Bids.{size_of}
 use Rattle.auction_rules.specs.declared.units.Placed.{Placed}
 use Rattle.auction_rules.specs.declared.units.BidUnit.{BidUnit}
-use Rattle.auction_rules.specs.Goods.{clock}
+use Rattle.tac_base.specs.Goods.{clock}
 use Rattle.auction_rules.specs.Units.{units_of, among}
 use Rattle.auction_rules.specs.Setup.{Rules, FlightRules}
 use Rattle.auction_rules.specs.History.{Entry, is_closed, last_bid, units_of_last}

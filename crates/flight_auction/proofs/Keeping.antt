@@ -10,7 +10,7 @@ use Rattle.tac_base.specs.declared.calls.Call.TheVariants.{Bid, Withdraw, Update
 use Rattle.tac_base.specs.declared.calls.Reply.{Reply}
 use Rattle.tac_base.specs.declared.calls.Reply.TheVariants.{Taken, Done, Closed, WrongCall, NoBid, Sell}
 use Rattle.tac_base.specs.Bids.{size_of}
-use Rattle.auction_rules.specs.Goods.{clock, house}
+use Rattle.tac_base.specs.Goods.{clock, house}
 use Rattle.auction_rules.specs.Effects.{bought, sold, sales_by}
 use Rattle.auction_rules.specs.Setup.{Setup, Rules, FlightRules}
 use Rattle.auction_rules.specs.History.{Entry, is_own, is_closed}

@@ -8,7 +8,7 @@ use Rattle.std.proofs.lemmas.List.Elements.{filter-append}
 use Rattle.std.proofs.lemmas.List.Concat.{flat_map-append}
 use Rattle.auction_rules.specs.declared.units.Placed.{Placed}
 use Rattle.auction_rules.specs.declared.units.BidUnit.{BidUnit}
-use Rattle.auction_rules.specs.Goods.{agents}
+use Rattle.tac_base.specs.Goods.{agents}
 use Rattle.auction_rules.specs.Units.{units_of}
 use Rattle.auction_rules.specs.History.{Entry, last_bid, units_of_last}
 use Rattle.auction_rules.specs.FlightRule.{positions_below}

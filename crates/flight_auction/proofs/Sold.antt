@@ -8,7 +8,7 @@ use Rattle.tac_base.specs.declared.bids.Point.{Point}
 use Rattle.tac_base.specs.Bids.{size_of, buys_of}
 use Rattle.auction_rules.specs.declared.units.Placed.{Placed}
 use Rattle.auction_rules.specs.declared.units.BidUnit.{BidUnit}
-use Rattle.auction_rules.specs.Goods.{house}
+use Rattle.tac_base.specs.Goods.{house}
 use Rattle.auction_rules.specs.Units.{point_units, units_from, units_of, among, common_units}
 use Rattle.auction_rules.specs.FlightRule.{point_trades, flight_trades, positions_below}
 use Rattle.auction_rules.specs.Standing.{signed_as, left_points}

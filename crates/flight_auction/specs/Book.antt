@@ -5,7 +5,7 @@ use Rattle.tac_base.specs.declared.bids.Point.{Point}
 use Rattle.tac_base.specs.declared.calls.Trade.{Trade}
 use Rattle.auction_rules.specs.declared.units.Placed.{Placed}
 use Rattle.auction_rules.specs.declared.units.BidUnit.{BidUnit}
-use Rattle.auction_rules.specs.Goods.{agents, house}
+use Rattle.tac_base.specs.Goods.{agents, house}
 use Rattle.auction_rules.specs.Setup.{Setup, Rules, FlightRules}
 use Rattle.auction_rules.specs.History.{Entry, is_closed, last_bid}
 use Rattle.auction_rules.specs.FlightRule.{price, positions_below}

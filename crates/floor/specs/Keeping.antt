@@ -3,7 +3,7 @@ use Rattle.std.specs.Prelude.{◌≡◌, ℕ, ◌+◌, ◌<◌, ◌≤◌, not, 
 use Rattle.std.specs.List.Sorted.{IsStrictlyIncreasing}
 use Rattle.tac_base.specs.declared.calls.Board.{Board}
 use Rattle.auction_rules.specs.History.{Entry}
-use Rattle.auction_rules.specs.Goods.{clock}
+use Rattle.tac_base.specs.Goods.{clock}
 use Rattle.auction_rules.specs.Legal.{cap}
 use Rattle.auction_core.specs.Auctions.{AuctionHistory}
 use Rattle.trade_ledger.specs.declared.cash_calls.CashEntry.{CashEntry}

@@ -1,7 +1,7 @@
 -- A game that was played over links.
 use Rattle.std.specs.Prelude.{◌≡◌, ℕ, ◌<◌, ◌≤◌, List, [], false, All, filter, map, replicate, slice_index_or}
 use Rattle.game_text.specs.Games.{GameFile}
-use Rattle.auction_rules.specs.Goods.{agents, clock}
+use Rattle.tac_base.specs.Goods.{agents, clock}
 use Rattle.auction_rules.specs.Effects.{dollars}
 use Rattle.auction_rules.specs.History.{Entry}
 use Rattle.auction_rules.specs.Legal.{Legal}

@@ -3,7 +3,7 @@ use Rattle.std.specs.Prelude.{◌≡◌, ℕ, ◌^◌, ◌-◌, ◌+◌, ◌<◌
 use mathlib.Core.Option.{some}
 use lib.ListN.{get_elem?}
 use Rattle.game_text.specs.Games.{GameFile}
-use Rattle.auction_rules.specs.Goods.{agents, clock}
+use Rattle.tac_base.specs.Goods.{agents, clock}
 use Rattle.auction_core.specs.ClosedGame.{ClosedGame, all_goods}
 use Rattle.auction_core.specs.Setups.{setup_of}
 use Rattle.tac_io.specs.AllAnswers.{all_answers}

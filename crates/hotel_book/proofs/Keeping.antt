@@ -9,7 +9,7 @@ use Rattle.tac_base.specs.declared.calls.Reply.{Reply}
 use Rattle.tac_base.specs.declared.calls.Reply.TheVariants.{Taken, Sold, Done, Closed, WrongCall}
 use Rattle.auction_rules.specs.declared.units.Placed.{Placed}
 use Rattle.auction_rules.specs.declared.units.BidUnit.{BidUnit}
-use Rattle.auction_rules.specs.Goods.{clock}
+use Rattle.tac_base.specs.Goods.{clock}
 use Rattle.auction_rules.specs.Setup.{Setup, Rules, HotelRules}
 use Rattle.auction_rules.specs.History.{Entry, is_closed, last_bid, last_bids, bid_units, units_of_bids, is_own}
 use Rattle.auction_rules.specs.Standing.{stand}

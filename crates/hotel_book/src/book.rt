@@ -1,6 +1,6 @@
 ghost use Rattle.std.specs.Prelude.{min, ◌≡◌, ◌≤◌, ◌||◌, [], ◌∷◌, length, List, false, IsTrue};
 ghost use Rattle.tac_base.specs.Kinds.{kind_of};
-ghost use Rattle.auction_rules.specs.Goods.{clock};
+ghost use Rattle.tac_base.specs.Goods.{clock};
 ghost use Rattle.auction_rules.specs.Setup.{Setup, HotelRules};
 ghost use Rattle.auction_rules.specs.History.{Entry};
 ghost use Rattle.auction_rules.specs.Standing.{left, stand};

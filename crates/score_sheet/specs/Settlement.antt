@@ -1,7 +1,7 @@
 -- What a game leaves to each agent.
 use Rattle.std.specs.Prelude.{◌≡◌, ℕ, List, ℤ, pos, ◌+ℤ◌, length, map, fold, reverse}
 use Rattle.std.specs.List.{All}
-use Rattle.auction_rules.specs.Goods.{agents}
+use Rattle.tac_base.specs.Goods.{agents}
 use Rattle.auction_rules.specs.Effects.{all_trades, dollars, holding}
 use Rattle.trade_ledger.specs.CashKeeping.{IsWithin}
 use Rattle.game_text.specs.Accounts.{IsHolding}

@@ -2,7 +2,7 @@
 ghost use Rattle.std.specs.Prelude.{◌≡◌, map};
 ghost use Rattle.std.specs.List.{All};
 ghost use Rattle.trade_ledger.specs.CashKeeping.{IsWithin};
-ghost use Rattle.auction_rules.specs.Goods.{agents};
+ghost use Rattle.tac_base.specs.Goods.{agents};
 ghost use Rattle.score_sheet.specs.Settlement.{AreHoldings, holdings_of, cash_of, settlement_of};
 
 use crate::gains::gain_of_game;

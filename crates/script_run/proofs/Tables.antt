@@ -15,7 +15,7 @@ use Rattle.tac_base.specs.declared.calls.Reply.{Reply}
 use Rattle.line_protocol.specs.declared.saying.Said.{Said}
 use Rattle.line_protocol.specs.declared.saying.Said.TheVariants.{At, Spent}
 use Rattle.game_text.specs.Games.{GameFile}
-use Rattle.auction_rules.specs.Goods.{clock}
+use Rattle.tac_base.specs.Goods.{clock}
 use Rattle.auction_rules.specs.History.{Entry}
 use Rattle.auction_rules.specs.Legal.{cap, entries_of}
 use Rattle.auction_rules.proofs.Histories.{entry_caller}

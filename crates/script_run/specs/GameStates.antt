@@ -3,7 +3,7 @@ use Rattle.std.specs.Prelude.{ℕ, ◌+◌, ◌==◌, Bool, false, nat_le, if◌
 use Rattle.tac_base.specs.declared.calls.Call.{Call}
 use Rattle.tac_base.specs.declared.calls.Call.TheVariants as calls
 use Rattle.game_text.specs.Games.{GameFile}
-use Rattle.auction_rules.specs.Goods.{clock}
+use Rattle.tac_base.specs.Goods.{clock}
 use Rattle.auction_rules.specs.History.{Entry}
 use Rattle.auction_rules.specs.Board.{board}
 use Rattle.auction_rules.specs.Legal.{entry_of, entries_of}

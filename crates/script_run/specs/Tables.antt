@@ -2,7 +2,7 @@
 use Rattle.std.specs.Prelude.{◌≡◌, ℕ, ◌+◌, ◌≤◌, ◌==◌, List, length, sum_by, count_by, take, slice_index}
 use Rattle.tac_base.specs.declared.calls.Call.{Call}
 use Rattle.game_text.specs.Games.{GameFile}
-use Rattle.auction_rules.specs.Goods.{clock}
+use Rattle.tac_base.specs.Goods.{clock}
 use Rattle.auction_rules.specs.History.{Entry}
 use Rattle.auction_rules.specs.Legal.{entries_of}
 use Rattle.turn_lock.specs.Part.{part}

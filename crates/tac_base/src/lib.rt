@@ -5,6 +5,7 @@
 mod bids;
 mod calls;
 mod clients;
+pub mod limits;
 mod memory;
 mod numbers;
 mod numerals;

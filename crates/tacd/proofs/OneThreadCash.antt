@@ -16,7 +16,7 @@ use Rattle.tac_base.specs.declared.numbers.Kind.TheVariants.{Ticket}
 use Rattle.tac_base.specs.Kinds.{kind_of}
 use Rattle.game_text.specs.Games.{GameFile}
 use Rattle.auction_rules.specs.declared.units.BidUnit.{BidUnit}
-use Rattle.auction_rules.specs.Goods.{clock}
+use Rattle.tac_base.specs.Goods.{clock}
 use Rattle.auction_rules.specs.History.{Entry}
 use Rattle.auction_rules.specs.Effects.{all_trades, dollars, nets}
 use Rattle.auction_rules.specs.Legal.{entry_of, entry_by, entries_of, trades_by}

@@ -1,7 +1,7 @@
 -- The cash of the sheet, and the posts of the cash history.
 use Rattle.std.specs.Prelude.{◌≡◌, List, ℕ, map}
 use Rattle.game_text.specs.Games.{GameFile}
-use Rattle.auction_rules.specs.Goods.{agents}
+use Rattle.tac_base.specs.Goods.{agents}
 use Rattle.trade_ledger.specs.CashHistory.{total_of}
 use Rattle.auction_core.specs.ClosedGame.{ClosedGame}
 use Rattle.score_sheet.specs.Settlement.{settlement_of}

@@ -12,7 +12,7 @@ use Rattle.tac_base.specs.declared.calls.Reply.{Reply}
 use Rattle.tac_base.specs.declared.calls.Reply.TheVariants.{Taken, Done, Closed, WrongCall, NoBid, SelfCross}
 use Rattle.auction_rules.specs.declared.units.Placed.{Placed}
 use Rattle.auction_rules.specs.declared.units.BidUnit.{BidUnit}
-use Rattle.auction_rules.specs.Goods.{agents, clock}
+use Rattle.tac_base.specs.Goods.{agents, clock}
 use Rattle.auction_rules.specs.Units.{units_of, without}
 use Rattle.auction_rules.specs.Effects.{bought, sold}
 use Rattle.auction_rules.specs.Setup.{Setup, Rules, TicketRules}

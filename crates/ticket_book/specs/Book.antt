@@ -2,7 +2,7 @@
 use Rattle.std.specs.Prelude.{◌≡◌, ℕ, ◌≤◌, ◌==◌, Bool, List, All, Option, map, filter}
 use Rattle.auction_rules.specs.declared.units.Placed.{Placed}
 use Rattle.auction_rules.specs.declared.units.BidUnit.{BidUnit}
-use Rattle.auction_rules.specs.Goods.{agents}
+use Rattle.tac_base.specs.Goods.{agents}
 use Rattle.auction_rules.specs.Setup.{Setup, TicketRules}
 use Rattle.auction_rules.specs.History.{Entry, last_bids, is_closed}
 use Rattle.auction_rules.specs.Standing.{stand}

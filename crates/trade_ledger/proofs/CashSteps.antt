@@ -7,7 +7,7 @@ use Rattle.std.proofs.lemmas.List.Sums.{fold-append}
 use mathlib.Core.Logic.{dite}
 use native.Mathlib.Decide.{ℕ_discrete}
 use Rattle.tac_base.specs.declared.calls.Nets.{Nets}
-use Rattle.auction_rules.specs.Goods.{clock}
+use Rattle.tac_base.specs.Goods.{clock}
 use Rattle.turn_lock.specs.Part.{part}
 use Rattle.turn_lock.proofs.Parts.{nine_parts, part_mine, part_other}
 use Rattle.turn_lock.proofs.Places.{take_all, take_before}

@@ -5,7 +5,7 @@ use Rattle.std.proofs.lemmas.Int.{ints}
 use mathlib.Core.Logic.{dite}
 use native.Mathlib.Decide.{ℕ_discrete}
 use Rattle.tac_base.specs.declared.calls.Trade.{Trade}
-use Rattle.auction_rules.specs.Goods.{parties}
+use Rattle.tac_base.specs.Goods.{parties}
 use Rattle.auction_rules.specs.Effects.{net_units}
 use Rattle.std.specs.Prelude.{All}
 use Rattle.trade_ledger.specs.Holdings.{held_after, sum_held, IsHolding}

@@ -3,7 +3,8 @@ use Rattle.std.specs.Prelude.{◌≡◌, ℕ, ◌==◌, if◌then◌else◌, ⊤
 use Rattle.std.specs.List.{filter_map}
 use Rattle.tac_base.specs.declared.calls.Nets.{Nets}
 use Rattle.tac_base.specs.declared.calls.Board.{Board}
-use Rattle.auction_rules.specs.Goods.{clock}
+use Rattle.tac_base.specs.Goods.{clock}
+use Rattle.tac_base.specs.declared.limits.TheConstants.{CLOCK_CASH_ENTRIES, AGENT_CASH_ENTRIES}
 use Rattle.trade_ledger.specs.declared.cash_calls.CashCall.{CashCall}
 use Rattle.trade_ledger.specs.declared.cash_calls.CashCall.TheVariants.{Post, Read}
 use Rattle.trade_ledger.specs.declared.cash_calls.CashReply.{CashReply}
@@ -49,7 +50,7 @@ IsLegalCash history = (position : ℕ) (e : CashEntry) → slice_get history pos
 
 -- the most entries that a caller may have
 abbrev pub cash_cap : ℕ → ℕ
-cash_cap caller = if caller == clock then 480 else 29696
+cash_cap caller = if caller == clock then CLOCK_CASH_ENTRIES else AGENT_CASH_ENTRIES
 
 -- what is shown of a history: its length alone
 abbrev pub cash_board : List CashEntry → Board

@@ -1,7 +1,8 @@
 -- What the cash book keeps of its history.
+use Rattle.tac_base.specs.declared.limits.TheConstants.{CASH_ENTRIES}
 use Rattle.std.specs.Prelude.{◌≡◌, ℕ, ◌*◌, ◌<◌, ◌≤◌, List, ℤ, pos, neg_ℤ, ◌≤ℤ◌, length, slice_index_or}
 use Rattle.std.specs.List.{AllByRecursion}
-use Rattle.auction_rules.specs.Goods.{clock}
+use Rattle.tac_base.specs.Goods.{clock}
 use Rattle.turn_lock.specs.Part.{part}
 use Rattle.trade_ledger.specs.declared.cash_calls.CashEntry.{CashEntry}
 use Rattle.trade_ledger.specs.CashHistory.{IsLegalCash, total_of, cash_cap}
@@ -18,4 +19,4 @@ pub record IsSound (history : List CashEntry) (kept : List ℤ) (capacity : ℕ)
   pub capped : (caller : ℕ) → length (part (λ e. e.caller) history caller) ≤ cash_cap caller
   pub totals : (party : ℕ) → party < 9 → slice_index_or kept party (pos 0) ≡ total_of history party
   pub small : (party : ℕ) → party < 9 → IsWithin (length history * 2147483648) (total_of history party)
-  pub room : 238048 ≤ capacity
+  pub room : CASH_ENTRIES ≤ capacity

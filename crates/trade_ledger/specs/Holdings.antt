@@ -2,7 +2,7 @@
 use Rattle.std.specs.Prelude.{ℤ, pos, ◌+ℤ◌, ◌≤ℤ◌, List, map, fold, slice_index_or}
 use Rattle.std.specs.Prelude.{neg_ℤ}
 use Rattle.tac_base.specs.declared.calls.Trade.{Trade}
-use Rattle.auction_rules.specs.Goods.{parties}
+use Rattle.tac_base.specs.Goods.{parties}
 use Rattle.auction_rules.specs.Effects.{net_units}
 
 -- what each party holds after trades: what it held before, and its net units

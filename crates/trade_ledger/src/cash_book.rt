@@ -5,11 +5,10 @@ ghost use Rattle.trade_ledger.specs.CashKeeping.{IsWithin};
 use crate::cash_calls::{CashCall, CashEntry, CashReply};
 use std::alloc::Global;
 use std::marker::Model;
+use tac_base::limits::CASH_ENTRIES;
 use tac_base::{Board, Caller, Memory, Nets, Party};
 use turn_lock::Kept;
 
-/// The most entries of a cash history: 29,696 of each agent, and 480 of the clock.
-const ENTRIES: usize = 238_048;
 
 /// The cash history of a game, and what each party has gained in it.
 #[derive(Drop)]
@@ -69,7 +68,7 @@ impl CashBook {
     pub fn begin(alloc: Global) -> Result<CashBook, Memory>
         ensures { IfOk result (λ b. b ≡ []) }
     {
-        let entries = Vec::with_capacity(alloc, ENTRIES)?;
+        let entries = Vec::with_capacity(alloc, CASH_ENTRIES as usize)?;
         Ok(CashBook {
             entries,
             totals: [0; 9],
@@ -80,7 +79,7 @@ impl CashBook {
     #[tactic(auto, using(crate::proofs::CashSteps::few_entries))]
     pub fn entry(&self, position: u32) -> Option<&CashEntry>
         ensures value { option_copied result ≡ slice_get self.now position }
-        ensures few { length self.now ≤ 238048 }
+        ensures few { length self.now ≤ CASH_ENTRIES }
     {
         self.entries.get(position as usize)
     }

@@ -1,5 +1,5 @@
 use Rattle.std.proofs.Common.{ℕ, ◌+◌, ◌<◌, ◌≤◌, Bool, true, false, cond, ◌==◌, List, [], ◌∷◌, length, arith}
-use Rattle.auction_rules.specs.Goods.{clock}
+use Rattle.tac_base.specs.Goods.{clock}
 use Rattle.turn_lock.specs.Part.{part_from, part}
 use Rattle.trade_ledger.specs.declared.cash_calls.CashEntry.{CashEntry}
 use Rattle.trade_ledger.specs.CashHistory.{cash_cap}

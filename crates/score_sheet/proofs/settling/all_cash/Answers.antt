@@ -1,5 +1,5 @@
 use Rattle.std.proofs.Common.{◌≡◌, ℕ, ℤ, List, length-set, get_or, sym, ap, ◌∙◌, subst, arith, to_z, of_z, w64}
-use Rattle.auction_rules.specs.Goods.{agents}
+use Rattle.tac_base.specs.Goods.{agents}
 use Rattle.trade_ledger.specs.CashKeeping.{IsWithin}
 use Rattle.score_sheet.specs.Settlement.{cash_of}
 use Rattle.score_sheet.proofs.Dollars.{fits}

@@ -1,6 +1,6 @@
 use Rattle.std.proofs.Common.{◌≡◌, length, take, map}
 use Rattle.std.specs.List.{All}
-use Rattle.auction_rules.specs.Goods.{agents}
+use Rattle.tac_base.specs.Goods.{agents}
 use Rattle.trade_ledger.specs.CashKeeping.{IsWithin}
 use Rattle.score_sheet.specs.Settlement.{cash_of}
 use Rattle.score_sheet.proofs.settling.all_cash.Given as goal

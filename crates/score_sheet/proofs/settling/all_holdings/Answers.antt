@@ -1,5 +1,5 @@
 use Rattle.std.proofs.Common.{◌≡◌, ℕ, List, length-set, get_or, sym, ap, ◌∙◌, arith}
-use Rattle.auction_rules.specs.Goods.{agents}
+use Rattle.tac_base.specs.Goods.{agents}
 use Rattle.score_sheet.specs.Settlement.{AreHoldings, holdings_of}
 use Rattle.score_sheet.proofs.Filling.{filled_more, all_more}
 use Rattle.score_sheet.proofs.settling.all_holdings.Goals as goal

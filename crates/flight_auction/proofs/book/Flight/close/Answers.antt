@@ -2,7 +2,7 @@ use Rattle.flight_auction.specs.Book.{FlightBook, StandsFor}
 use Rattle.flight_auction.proofs.Keeping.{book_of, follows_on_closed, follows_closed}
 use Rattle.std.proofs.Common.{◌≡◌, refl, ap, arith}
 use Rattle.tac_base.specs.declared.calls.Call.TheVariants.{Close}
-use Rattle.auction_rules.specs.Goods.{clock}
+use Rattle.tac_base.specs.Goods.{clock}
 use Rattle.flight_auction.specs.Book.{units_standing}
 use Rattle.auction_rules.proofs.Trading.{nothing_spent}
 use Rattle.flight_auction.proofs.book.Flight.close.Goals as goal

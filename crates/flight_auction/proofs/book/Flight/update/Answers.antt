@@ -2,7 +2,7 @@ use Rattle.std.proofs.Common.{refl, ◌∙◌, ap, w8, ℤ, ◌≡◌, arith, to
 use Rattle.std.proofs.lemmas.Int.{ints}
 use Rattle.auction_rules.specs.FlightRule.{next_price}
 use Rattle.tac_base.specs.declared.calls.Call.TheVariants.{Update}
-use Rattle.auction_rules.specs.Goods.{clock}
+use Rattle.tac_base.specs.Goods.{clock}
 use Rattle.flight_auction.specs.Book.{FlightBook, StandsFor}
 use Rattle.flight_auction.proofs.Keeping.{book_of, follows_on_closed, follows_updated}
 use Rattle.flight_auction.proofs.Limits.{sound_priced, sound_unsold}

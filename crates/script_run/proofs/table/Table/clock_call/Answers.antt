@@ -1,7 +1,7 @@
 use Rattle.std.proofs.Common.{rules, ◌≡◌, ℕ, ◌+◌, ◌<◌, ◌≤◌, List, drop, length, sym, ap, ◌∙◌, subst}
 use Rattle.tac_base.specs.declared.calls.Call.{Call}
 use Rattle.game_text.specs.Games.{GameFile}
-use Rattle.auction_rules.specs.Goods.{clock}
+use Rattle.tac_base.specs.Goods.{clock}
 use Rattle.auction_rules.specs.Legal.{cap, entries_of}
 use Rattle.turn_lock.specs.Part.{part}
 use Rattle.trade_ledger.specs.CashHistory.{cash_cap}

@@ -1,0 +1,68 @@
+//! The limits of the game and of its texts. Each stands here alone; code, clauses and definitions cite it. They are our own rules, but for the
+//! numbers of agents, clients, goods and ticks.
+
+/// The most calls of an agent in one auction, refused ones included.
+pub const AGENT_CALLS: u32 = 1_024;
+
+/// The most calls of the clock in one auction.
+pub const CLOCK_CALLS: u32 = 64;
+
+/// The most entries of one auction: eight agents' calls and the clock's.
+pub const AUCTION_ENTRIES: u32 = 8_256;
+
+/// The most cash readings of an agent.
+pub const CASH_READINGS: u32 = 1_024;
+
+/// The most cash entries of an agent: a post for each of its calls in 28 auctions, and its readings.
+pub const AGENT_CASH_ENTRIES: u32 = 29_696;
+
+/// The most cash entries of the clock: a post for each call of a game's schedule.
+pub const CLOCK_CASH_ENTRIES: u32 = 480;
+
+/// The most entries of the cash book: eight agents' and the clock's.
+pub const CASH_ENTRIES: u32 = 238_048;
+
+/// The ticks of a game, which are numbered from 1.
+pub const TICKS: u8 = 54;
+
+/// The most bytes of a game file.
+pub const GAME_BYTES: u32 = 1_048_576;
+
+/// The most bytes of a script, a log, an account or a certificate.
+pub const TEXT_BYTES: u32 = 67_108_864;
+
+/// The most bytes of a request line, before its line end.
+pub const LINE_BYTES: u32 = 512;
+
+/// The most request lines that a session answers, and that a game script has of one agent.
+pub const SESSION_LINES: u32 = 65_536;
+
+/// The most bytes of a link that its lines use.
+pub const LINK_BYTES: u32 = 67_108_864;
+
+/// The most links that a served game takes.
+pub const LINKS: u32 = 64;
+
+/// The highest price of a bid, in dollars.
+pub const BID_PRICE: u16 = 10_000;
+
+/// The most points of a bid.
+pub const BID_POINTS: u8 = 16;
+
+/// The most units of a bid, buys and sells counted without sign.
+pub const BID_UNITS: u8 = 16;
+
+/// The most trades of one entry: 16 units against each of eight agents.
+pub const ENTRY_TRADES: u8 = 128;
+
+/// The highest price of a good in a certificate, in dollars: more than eight clients' utilities add up to.
+pub const DUAL_PRICE: u16 = 14_001;
+
+/// The greatest holding of a good in an account, and of an agent in a game, without sign.
+pub const HOLDING: i32 = 200_000;
+
+/// The most splits on the way to a leaf of a certificate.
+pub const CERTIFICATE_DEPTH: u8 = 32;
+
+/// The most requests of a made script.
+pub const MADE_REQUESTS: u32 = 50_000;
