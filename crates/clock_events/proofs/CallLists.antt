@@ -10,7 +10,7 @@ use Rattle.tac_base.specs.declared.calls.Call.TheVariants.{Update}
 use Rattle.game_text.specs.Flights.{FlightTerms}
 use Rattle.game_text.specs.Games.{GameFile}
 use Rattle.std.proofs.lemmas.Bool.Decides.{nat_tests}
-use Rattle.clock_events.specs.Schedule.{draw_at, update_of, publication_of, closing_of, closed_last, open_after, hotel_calls, hotel_calls_at, calls_at}
+use Rattle.game_text.specs.Schedule.{draw_at, update_of, publication_of, closing_of, closed_last, open_after, hotel_calls, hotel_calls_at, calls_at}
 
 pub publication_at : (order : List ℕ) (turn n good d : ℕ) → 1 ≤ n → n - 1 < length (open_after order turn) → good ≡ slice_index_or (open_after order turn) (n - 1) d → Some (publication_of good) ≡ slice_get (hotel_calls order turn) n
 publication_at order turn zero good d first within at = absurd (omega (arith, first))

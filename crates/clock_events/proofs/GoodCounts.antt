@@ -8,7 +8,7 @@ use Rattle.std.proofs.lemmas.List.Filters.{sum_by-filter_both}
 use Rattle.std.proofs.lemmas.Bool.Decides.{nat_tests}
 use Rattle.text_forms.specs.Rows.{IsBetween, AllBetween}
 use Rattle.game_text.specs.ClosingOrders.{is_distinct}
-use Rattle.clock_events.specs.Schedule.{is_among, hotel_nights}
+use Rattle.game_text.specs.Schedule.{is_among, hotel_nights}
 
 pub count-cons : {X : Type 0} (p : X → Bool) (x : X) (xs : List X) → count_by p (x ∷ xs) ≡ cond (p x) 1 0 + count_by p xs
 count-cons p x xs = sum_by-cons (λ y. cond (p y) 1 0) x xs

@@ -15,7 +15,7 @@ use Rattle.text_forms.specs.Rows.{IsBetween, AllBetween}
 use Rattle.game_text.specs.Flights.{FlightTerms}
 use Rattle.game_text.specs.ClosingOrders.{IsOrder}
 use Rattle.game_text.specs.Games.{GameFile, IsGame}
-use Rattle.clock_events.specs.Schedule.{update_of, publication_of, closing_of, closed_last, hotel_nights, is_among, open_after, hotel_calls, hotel_calls_at, calls_at, ticks, schedule, clock_calls}
+use Rattle.game_text.specs.Schedule.{update_of, publication_of, closing_of, closed_last, hotel_nights, is_among, open_after, hotel_calls, hotel_calls_at, calls_at, ticks, schedule, clock_calls}
 use Rattle.clock_events.specs.Laws.{calls_of, IsDue}
 use Rattle.clock_events.proofs.GoodCounts.{count-cons, count-filter, count_left_out, count_among, among_first, distinct_once, none_below, all_between}
 

@@ -12,7 +12,7 @@ use Rattle.tac_base.specs.declared.calls.Call.{Call}
 use Rattle.tac_base.specs.declared.calls.Call.TheVariants.{Bid, Withdraw, Own, Update, Publish, Close}
 use Rattle.game_text.specs.Games.{GameFile}
 use Rattle.floor.specs.Answers.{IsClockCall}
-use Rattle.clock_events.specs.Schedule.{calls_at, clock_calls, schedule, ticks}
+use Rattle.game_text.specs.Schedule.{calls_at, clock_calls, schedule, ticks}
 use Rattle.clock_events.specs.Laws.{IsDue, IsFor}
 
 -- so many numbers, from the first on

@@ -8,7 +8,7 @@ use Rattle.std.proofs.lemmas.List.Sums.{sum_by-append}
 use Rattle.tac_io.specs.Counts.{Rose}
 use Rattle.tac_io.specs.Told.{and_then_told}
 use Rattle.tac_io.proofs.Tellings.{and_then_told-nothing, and_then_told-twice}
-use Rattle.clock_events.specs.Schedule.{ticks}
+use Rattle.game_text.specs.Schedule.{ticks}
 use Rattle.clock_events.specs.Clocking.{HasMissedCause}
 use Rattle.clock_events.proofs.TickCalls.{next_tick}
 

@@ -4,7 +4,7 @@ use Rattle.std.specs.Prelude.{replicate}
 use Rattle.tac_base.specs.declared.calls.Call.TheVariants.{Update, Publish, Close}
 use Rattle.game_text.specs.Flights.{FlightTerms}
 use Rattle.game_text.specs.Games.{GameFile}
-use Rattle.clock_events.specs.Schedule.{calls_at, clock_calls, hotel_nights, open_after, schedule}
+use Rattle.game_text.specs.Schedule.{calls_at, clock_calls, hotel_nights, open_after, schedule}
 
 abbrev quiet_flight : FlightTerms
 quiet_flight = record { first = 300; bound = pos 10; draws = replicate 53 10 }

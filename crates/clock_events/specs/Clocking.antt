@@ -7,7 +7,7 @@ use Rattle.tac_io.specs.Counts.{Rose}
 use Rattle.tac_io.specs.Told.{and_then_told}
 use Rattle.floor.specs.declared.desk.Desk.{Desk}
 use Rattle.floor.specs.Desks.{entries_at}
-use Rattle.clock_events.specs.Schedule.{calls_at, ticks}
+use Rattle.game_text.specs.Schedule.{calls_at, ticks}
 
 -- the calls of a good at the first `count` ticks
 abbrev pub calls_until : GameFile → ℕ → ℕ → List Call

@@ -3,7 +3,7 @@ use Rattle.std.specs.Prelude.{◌≡◌, ◌≤◌, ◌==◌, ℕ, count_by}
 use Rattle.tac_base.specs.declared.calls.Call.{Call}
 use Rattle.tac_base.specs.declared.calls.Call.TheVariants.{Bid, Withdraw, Own, Update, Publish, Close}
 use Rattle.game_text.specs.Games.{GameFile}
-use Rattle.clock_events.specs.Schedule.{calls_at}
+use Rattle.game_text.specs.Schedule.{calls_at}
 
 -- how many calls of a tick are of a good
 abbrev pub calls_of : GameFile → ℕ → ℕ → ℕ

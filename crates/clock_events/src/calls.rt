@@ -1,5 +1,5 @@
 ghost use Rattle.std.specs.Prelude.{◌≡◌, ◌+◌, ◌≤◌, ◌<◌, ◌==◌, ◌∷◌, [], slice_get, length, map};
-ghost use Rattle.clock_events.specs.Schedule as spec;
+ghost use Rattle.game_text.specs.Schedule as spec;
 
 use arrayvec::ArrayVec;
 use game_text::Game;

@@ -6,7 +6,7 @@ ghost use Rattle.floor.specs.Floors.{floor_ids};
 ghost use Rattle.tac_io.specs.Counts.{Rose};
 ghost use Rattle.tac_io.specs.Told.{and_then_told};
 ghost use Rattle.clock_events.specs.Clocking.{HasMade, HasMissedCause, WaitsForAll};
-ghost use Rattle.clock_events.specs.Schedule.{clock_calls};
+ghost use Rattle.game_text.specs.Schedule.{clock_calls};
 
 use crate::calls::LAST_TICK;
 use crate::{schedule, schedule_law};

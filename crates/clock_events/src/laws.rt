@@ -1,6 +1,6 @@
 ghost use Rattle.std.specs.Prelude.{◌≡◌, ◌≤◌, ℕ, length};
 ghost use Rattle.std.specs.List.{All};
-ghost use Rattle.clock_events.specs.Schedule as spec;
+ghost use Rattle.game_text.specs.Schedule as spec;
 ghost use Rattle.clock_events.specs.Laws as laws;
 
 use game_text::Game;

@@ -15,7 +15,7 @@ use Rattle.line_protocol.specs.declared.admission.Verdict.TheVariants.{Seated, S
 use Rattle.line_protocol.specs.declared.admission.Cause.{Cause}
 use Rattle.line_protocol.specs.declared.admission.Cause.TheVariants.{Quit, End, ReadFault, WriteFault, Budget}
 use Rattle.line_protocol.proofs.JoinedWords.{lacks}
-use Rattle.game_log.specs.Heads.{Head, Play, Serve}
+use Rattle.line_protocol.specs.Heads.{Head, Play, Serve}
 use Rattle.game_log.specs.LogText.{then_number, verdict_text, cause_text, link_line, end_line, missed_line, first_lines}
 use Rattle.game_log.specs.Logged.{IsNumber, IsVerdict, IsEnd, IsHead}
 use Rattle.game_log.proofs.Cuts.{IsWord, row, row_same, cut_same, lacks_append, number_word, number_again, pieces_cons}

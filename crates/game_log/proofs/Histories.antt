@@ -12,7 +12,7 @@ use Rattle.trade_ledger.specs.declared.cash_calls.CashReply.{CashReply}
 use Rattle.trade_ledger.specs.declared.cash_calls.CashReply.TheVariants.{Done, Cash}
 use Rattle.trade_ledger.specs.declared.cash_calls.CashEntry.{CashEntry}
 use Rattle.auction_core.specs.ClosedGame.{ClosedGame}
-use Rattle.game_log.specs.Heads.{Head}
+use Rattle.line_protocol.specs.Heads.{Head}
 use Rattle.game_log.specs.LogText.{then_signed, cash_call_text, cash_reply_text, cash_entry_line, cash_line, cash_text, auction_text, first_lines, histories_text, play_part}
 use Rattle.game_log.specs.Logged.{IsNumber, IsSigned, AreCashNumbers, IsCashReply, FitsCall, IsCashEntry, IsHead, IsPlayed, HaveOneHistory}
 use Rattle.game_log.proofs.Cuts.{IsWord, row, row_same, number_word, signed_word, signed_same, pieces_cons}

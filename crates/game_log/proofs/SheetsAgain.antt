@@ -11,7 +11,7 @@ use Rattle.bound_cert.specs.Texts.{tree_lines}
 use Rattle.bound_cert.specs.Trees.{Tree}
 use Rattle.auction_core.specs.ClosedGame.{ClosedGame}
 use Rattle.score_sheet.specs.Sheets.{Scored}
-use Rattle.game_log.specs.Heads.{Head}
+use Rattle.line_protocol.specs.Heads.{Head}
 use Rattle.game_log.specs.Logged.{IsNumber, IsSigned, IsHead, IsPlayed, HaveOneHistory}
 use Rattle.game_log.specs.LoggedSheet.{IsShownPackage, IsKnownScore, IsShownScore, IsShownSheet}
 use Rattle.game_log.specs.SheetText.{score_line, package_line, cert_line, agent_lines, sheet_lines, sheet_part, log_text}

@@ -1,4 +1,3 @@
-pub mod Heads
 pub mod LogText
 pub mod Written
 pub mod Logged

@@ -20,7 +20,7 @@ use Rattle.line_protocol.specs.declared.admission.Verdict.{Verdict}
 use Rattle.line_protocol.specs.declared.admission.Verdict.TheVariants.{Seated, Syntax, WrongWord, Taken, Lost}
 use Rattle.line_protocol.specs.declared.admission.Cause.{Cause}
 use Rattle.line_protocol.specs.declared.admission.Cause.TheVariants.{Quit, End, ReadFault, WriteFault, Budget}
-use Rattle.game_log.specs.Heads.{Head, Play, Serve}
+use Rattle.line_protocol.specs.Heads.{Head, Play, Serve}
 
 -- a space and a number
 abbrev pub then_number : ℕ → List ℕ

@@ -18,7 +18,7 @@ use Rattle.line_protocol.specs.declared.admission.Verdict.TheVariants as verdict
 use Rattle.line_protocol.specs.declared.admission.Cause.{Cause}
 use Rattle.auction_core.specs.Auctions.{AuctionHistory}
 use Rattle.auction_core.specs.ClosedGame.{ClosedGame, all_goods}
-use Rattle.game_log.specs.Heads.{Head, Play, Serve}
+use Rattle.line_protocol.specs.Heads.{Head, Play, Serve}
 
 -- numbers of 64 bits, which all that are shown are
 abbrev pub IsNumber : ℕ → Type 0

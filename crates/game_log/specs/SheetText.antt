@@ -8,7 +8,7 @@ use Rattle.packages.specs.declared.travel_packages.Package.TheVariants.{None, Tr
 use Rattle.bound_cert.specs.Texts.{tree_lines}
 use Rattle.score_sheet.specs.Sheets.{Scored}
 use Rattle.auction_core.specs.ClosedGame.{ClosedGame}
-use Rattle.game_log.specs.Heads.{Head}
+use Rattle.line_protocol.specs.Heads.{Head}
 use Rattle.game_log.specs.LogText.{then_number, play_part}
 
 -- score A BEST CASH SHORT SCORE

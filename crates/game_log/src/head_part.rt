@@ -1,7 +1,7 @@
 // The head of a log, line by line.
 ghost use Rattle.std.specs.Prelude.{◌++◌};
 ghost use Rattle.std.specs.List.{flat_map, enumerate_from};
-ghost use Rattle.game_log.specs.Heads.{Serve, head_of};
+ghost use Rattle.line_protocol.specs.Heads.{Serve, head_of};
 ghost use Rattle.game_log.specs.LogText as log;
 ghost use Rattle.game_log.specs.Written.{Writes};
 

@@ -1,6 +1,6 @@
 ghost use Rattle.std.specs.Prelude.{◌≡◌, ◌++◌, ℕ, List};
 ghost use Rattle.auction_core.specs.ClosedGame.{ClosedGame};
-ghost use Rattle.game_log.specs.Heads.{Head};
+ghost use Rattle.line_protocol.specs.Heads.{Head};
 ghost use Rattle.game_log.specs.LogText.{play_part};
 ghost use Rattle.game_log.specs.Logged.{IsHead, IsPlayed, HaveOneHistory};
 

@@ -2,7 +2,6 @@
 #![tactic(auto)]
 
 mod fault;
-mod head;
 mod head_lines;
 mod head_part;
 mod known;
@@ -16,7 +15,7 @@ mod sheet_text;
 mod whole_log;
 
 pub use fault::LogWriteFault;
-pub use head::LogHead;
+pub use line_protocol::LogHead;
 pub use law::one_game;
 pub use lines::trade_line;
 pub use play_part::write_play_part;

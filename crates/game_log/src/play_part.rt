@@ -5,7 +5,7 @@ ghost use Rattle.tac_io.specs.Counts.{HasCause};
 ghost use Rattle.tac_io.specs.Told.{TakesSome, and_then_told};
 ghost use Rattle.auction_rules.specs.History.{Entry};
 ghost use Rattle.trade_ledger.specs.declared.cash_calls.CashEntry.{CashEntry};
-ghost use Rattle.game_log.specs.Heads.{head_of};
+ghost use Rattle.line_protocol.specs.Heads.{head_of};
 ghost use Rattle.game_log.specs.LogText as log;
 ghost use Rattle.game_log.specs.Logged.{AreTradeNumbers, AreNumbers, IsEntry, IsAuction, AreEntryNumbers, IsCash, IsPlayed, IsHead};
 ghost use Rattle.game_log.specs.Written.{Writes};

@@ -1,7 +1,7 @@
 ghost use Rattle.std.specs.Prelude.{◌≡◌, ◌++◌, ℕ, List};
 ghost use Rattle.auction_core.specs.ClosedGame.{ClosedGame};
 ghost use Rattle.score_sheet.specs.Sheets.{Scored};
-ghost use Rattle.game_log.specs.Heads.{Head};
+ghost use Rattle.line_protocol.specs.Heads.{Head};
 ghost use Rattle.game_log.specs.Logged.{IsHead, IsPlayed, HaveOneHistory};
 ghost use Rattle.game_log.specs.LoggedSheet.{IsShownSheet};
 ghost use Rattle.game_log.specs.SheetText.{sheet_part, log_text};

@@ -12,7 +12,7 @@ use Rattle.auction_core.specs.ClosedGame.{ClosedGame, all_goods}
 use Rattle.floor.specs.declared.desk.Desk.{Desk}
 use Rattle.floor.specs.Desks.{desk_caller, entries_of, cash_of, boards_of, IsNewDesk}
 use Rattle.floor.specs.Closing.{board_of, IsBorneOut}
-use Rattle.clock_events.specs.Schedule.{clock_calls}
+use Rattle.game_text.specs.Schedule.{clock_calls}
 use Rattle.agent_gate.specs.Sessions.{AreMadeBy}
 use Rattle.agent_gate.specs.Transcript.{IsTranscript}
 use Rattle.agent_gate.specs.Turns.{Turn, cash_made, boards_shown, AreLawful}

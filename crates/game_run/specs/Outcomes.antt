@@ -10,7 +10,7 @@ use Rattle.line_protocol.specs.declared.saying.Said.{Said}
 use Rattle.line_protocol.specs.declared.admission.Cause.{Cause}
 use Rattle.line_protocol.specs.declared.admission.Verdict.{Verdict}
 use Rattle.clock_events.specs.Clocking.{WaitsForAll, HasMissedCause}
-use Rattle.game_log.specs.Heads.{head_of, Serve}
+use Rattle.line_protocol.specs.Heads.{head_of, Serve}
 use Rattle.game_run.specs.declared.run.GameEnd.{GameEnd}
 use Rattle.game_run.specs.declared.run.RunFault.{RunFault}
 use Rattle.game_run.specs.declared.run.RunFault.TheVariants.{Links, Memory}

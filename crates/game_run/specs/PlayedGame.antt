@@ -10,7 +10,7 @@ use Rattle.trade_ledger.specs.CashHistory.{IsLegalCash, total_of}
 use Rattle.trade_ledger.specs.Posts.{Matched, trades_of_all}
 use Rattle.auction_core.specs.ClosedGame.{ClosedGame, all_goods}
 use Rattle.auction_core.specs.Setups.{setup_of}
-use Rattle.clock_events.specs.Schedule.{clock_calls}
+use Rattle.game_text.specs.Schedule.{clock_calls}
 use Rattle.line_protocol.specs.declared.admission.Cause.{Cause}
 use Rattle.line_protocol.specs.declared.admission.Verdict.{Verdict}
 use Rattle.game_run.specs.Admission.{seats_given}

@@ -14,7 +14,7 @@ use Rattle.line_protocol.specs.declared.saying.Said.{Said}
 use Rattle.line_protocol.specs.declared.admission.Cause.{Cause}
 use Rattle.floor.specs.declared.desk.Desk.{Desk}
 use Rattle.floor.specs.Desks.{desk_ids, desk_caller, entries_at, entries_of, cash_of}
-use Rattle.clock_events.specs.Schedule.{clock_calls}
+use Rattle.game_text.specs.Schedule.{clock_calls}
 use Rattle.agent_gate.specs.Served.{HasSessionCause}
 use Rattle.agent_gate.specs.Sessions.{IsSession}
 use Rattle.game_run.specs.declared.crew.Two.{Two}

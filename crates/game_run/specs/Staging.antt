@@ -18,7 +18,7 @@ use Rattle.floor.specs.declared.desk.Desk.{Desk}
 use Rattle.floor.specs.declared.floor.Floor.{Floor}
 use Rattle.floor.specs.Desks.{IsNewDesk}
 use Rattle.floor.specs.Floors.{floor_ids, starts_of, AreDesksOf}
-use Rattle.clock_events.specs.Schedule.{clock_calls}
+use Rattle.game_text.specs.Schedule.{clock_calls}
 use Rattle.agent_gate.specs.Served.{IsServed, HasSessionCause}
 use Rattle.agent_gate.specs.Transcript.{IsTranscript}
 use Rattle.agent_gate.specs.Turns.{Turn}

@@ -12,7 +12,7 @@ use crate::ending::{Ending, in_order, without_sessions};
 use crate::stage::{Over, Stage, make_stage, play_out};
 use agent_gate::Dialect;
 use auction_core::Closed;
-use game_log::LogHead;
+use line_protocol::LogHead;
 use game_text::Game;
 use std::alloc::Global;
 use std::sync::Wait;

@@ -1,6 +1,6 @@
 use crate::{GameEnd, RunFault, run_game};
 use agent_gate::LineDialect;
-use game_log::LogHead;
+use line_protocol::LogHead;
 use game_text::{Game, read_game};
 use line_protocol::{Cause, Verdict};
 use std::alloc::{AllocError, Global};

@@ -10,3 +10,4 @@ pub mod AgentLines
 pub mod Accounts
 pub mod Games
 pub mod OneAgent
+pub mod Schedule

@@ -3,3 +3,4 @@ pub mod RequestForms
 pub mod Replies
 pub mod Ranges
 pub mod ReplyForms
+pub mod Heads

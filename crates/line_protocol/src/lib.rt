@@ -3,6 +3,7 @@
 
 mod admission;
 mod asking;
+mod head;
 mod printing;
 mod reading;
 mod requests;
@@ -12,6 +13,7 @@ mod tests;
 
 pub use admission::{Cause, Verdict};
 pub use asking::{Request, RequestFault};
+pub use head::LogHead;
 pub use printing::{print_answer, print_reply};
 pub use reading::read_reply;
 pub use requests::{one_request, read_request};

@@ -23,7 +23,7 @@ use Rattle.turn_lock.specs.Part.{part}
 use Rattle.trade_ledger.specs.CashHistory.{cash_cap}
 use Rattle.auction_core.specs.Setups.{setup_of}
 use Rattle.auction_core.specs.Calls.{IsFit}
-use Rattle.clock_events.specs.Schedule as schedule
+use Rattle.game_text.specs.Schedule as schedule
 use Rattle.clock_events.specs.Laws.{calls_of, IsFor, IsDue}
 use Rattle.script_run.specs.declared.call_counts.CallCounts.{CallCounts}
 use Rattle.script_run.specs.declared.call_counts.GoodCounts.{GoodCounts}

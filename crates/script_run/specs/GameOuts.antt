@@ -8,7 +8,7 @@ use Rattle.score_sheet.specs.Settlement.{settlement_of}
 use Rattle.score_sheet.specs.Sheets.{Scored, IsSheet}
 use Rattle.game_log.specs.LogText.{play_part}
 use Rattle.game_log.specs.SheetText.{sheet_part}
-use Rattle.game_log.specs.Heads.{Play}
+use Rattle.line_protocol.specs.Heads.{Play}
 use Rattle.script_run.specs.declared.game_lines.GameLine.{GameLine}
 use Rattle.script_run.specs.declared.fault.ScriptFault.{ScriptFault}
 use Rattle.script_run.specs.declared.fault.ScriptFault.TheVariants.{Line, TooLong, Failed, Memory}

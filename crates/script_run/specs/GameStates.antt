@@ -14,7 +14,7 @@ use Rattle.trade_ledger.specs.declared.cash_calls.CashEntry.{CashEntry}
 use Rattle.trade_ledger.specs.CashHistory.{total_of}
 use Rattle.trade_ledger.specs.Posts.{due_post}
 use Rattle.auction_core.specs.Setups.{setup_of}
-use Rattle.clock_events.specs.Schedule.{calls_at}
+use Rattle.game_text.specs.Schedule.{calls_at}
 use Rattle.line_protocol.specs.declared.asking.Request.{Request}
 use Rattle.line_protocol.specs.declared.asking.Request.TheVariants as requests
 use Rattle.line_protocol.specs.declared.asking.RequestFault.{RequestFault}

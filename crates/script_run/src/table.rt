@@ -1,7 +1,7 @@
 // The table at which the agents and the clock play.
 ghost use Rattle.std.specs.Prelude.{◌≡◌, ◌+◌, ◌-◌, drop, IfOk};
 ghost use Rattle.auction_core.specs.Calls.{IsFit};
-ghost use Rattle.clock_events.specs.Schedule.{calls_at};
+ghost use Rattle.game_text.specs.Schedule.{calls_at};
 ghost use Rattle.script_run.specs.GameStates.{opening, call_turn, cash_turn, turn, clocked, ticked};
 ghost use Rattle.script_run.specs.OneThreadRun.{closed_of, ticked_often};
 ghost use Rattle.script_run.specs.Tables.{HasClockRoom};

@@ -4,7 +4,7 @@ use Rattle.std.specs.Prelude.{◌==◌, MatchBool}
 use Rattle.tac_io.specs.Counts.{Rose}
 use Rattle.tac_io.specs.Told.{and_then_told, TakesSome}
 use Rattle.game_text.specs.Games.{GameFile}
-use Rattle.game_log.specs.Heads.{head_of}
+use Rattle.line_protocol.specs.Heads.{head_of}
 use Rattle.tacd.specs.declared.answer.Played.{Played}
 use Rattle.tacd.specs.Outcomes.{Outcome, Done, Lapsed, Cut, Refused}
 use Rattle.tacd.specs.Ends.{Tells}

@@ -38,7 +38,7 @@ use Rattle.line_protocol.specs.declared.asking.Request.TheVariants as requests
 use Rattle.line_protocol.specs.declared.asking.RequestFault.{RequestFault}
 use Rattle.line_protocol.specs.declared.saying.Said.{Said}
 use Rattle.line_protocol.specs.declared.saying.Said.TheVariants as said
-use Rattle.clock_events.specs.Schedule.{calls_at}
+use Rattle.game_text.specs.Schedule.{calls_at}
 use Rattle.script_run.specs.declared.game_lines.GameLine.{GameLine}
 use Rattle.script_run.specs.declared.game_lines.GameLine.TheVariants.{Tick, Asks}
 use Rattle.script_run.specs.GameStates.{GameState, past_at, entry_at, called, reading_of, readings_of, call_turn, cash_turn, turn, clocked, ticked}

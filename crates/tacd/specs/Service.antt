@@ -9,7 +9,7 @@ use Rattle.line_protocol.specs.declared.asking.Request.{Request}
 use Rattle.line_protocol.specs.declared.asking.RequestFault.{RequestFault}
 use Rattle.line_protocol.specs.declared.saying.Said.{Said}
 use Rattle.score_sheet.specs.Sheets.{Scored}
-use Rattle.game_log.specs.Heads.{Head, Play, Serve, head_of}
+use Rattle.line_protocol.specs.Heads.{Head, Play, Serve, head_of}
 use Rattle.game_log.specs.LogText.{play_part}
 use Rattle.game_log.specs.SheetText.{log_text}
 use Rattle.script_run.specs.GameOuts.{IsSheetOf}

@@ -7,7 +7,7 @@ ghost use Rattle.tacd.specs.Ends.{EndsOrIsCut, Tells};
 ghost use Rattle.tacd.specs.Outcomes.{Outcome};
 ghost use Rattle.tacd.specs.Service.{LogAllows, first_part, PlayedAllows, ServeAllows, ServesGame, links_state, missed_of, ticker_state};
 ghost use Rattle.game_run.specs.LinkStates.{link_state};
-ghost use Rattle.game_log.specs.Heads.{head_of};
+ghost use Rattle.line_protocol.specs.Heads.{head_of};
 ghost use Rattle.game_log.specs.Written.{Writes};
 
 use crate::answer::{Answer, Played, coded};

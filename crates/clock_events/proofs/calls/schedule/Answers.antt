@@ -1,5 +1,5 @@
 use Rattle.std.proofs.Common.{rules, ◌≡◌, ◌≢◌, ◌≤◌, ◌/◌, ◌%◌, length, ◌-◌, ◌∙◌, slice_get}
-use Rattle.clock_events.specs.Schedule as spec
+use Rattle.game_text.specs.Schedule as spec
 use Rattle.clock_events.proofs.CallLists.{hotel_call_at}
 use Rattle.clock_events.proofs.calls.schedule.Goals as goal
 

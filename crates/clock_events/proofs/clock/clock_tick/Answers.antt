@@ -2,7 +2,7 @@ use Rattle.std.proofs.Common.{rules, ◌≡◌, ◌≤◌, ◌-◌, ◌++◌, So
 use Rattle.std.specs.List.{flat_map}
 use Rattle.std.proofs.lemmas.Option.{slice_get_within}
 use Rattle.floor.specs.Desks.{entries_of}
-use Rattle.clock_events.specs.Schedule.{calls_at, ticks}
+use Rattle.game_text.specs.Schedule.{calls_at, ticks}
 use Rattle.clock_events.proofs.MadeCalls.{AreMade, made_count, made_length, made_more}
 use Rattle.clock_events.proofs.TickCalls.{all_taken, call_is_due, few_so_far, one_more, so_far, some_to_come, tick_done}
 use Rattle.clock_events.proofs.clock.clock_tick.Goals as goal

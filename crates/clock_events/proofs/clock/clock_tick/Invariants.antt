@@ -2,7 +2,7 @@ use Rattle.std.proofs.Common.{◌≡◌, ◌++◌, ◌-◌, ◌≤◌, length, t
 use Rattle.std.specs.List.{flat_map}
 use Rattle.floor.specs.Answers.{IsSameDesk}
 use Rattle.floor.specs.Desks.{boards_of, entries_of}
-use Rattle.clock_events.specs.Schedule.{calls_at, ticks}
+use Rattle.game_text.specs.Schedule.{calls_at, ticks}
 use Rattle.clock_events.proofs.MadeCalls.{AreMade}
 use Rattle.clock_events.proofs.clock.clock_tick.Given as goal
 

@@ -1,5 +1,5 @@
 use Rattle.std.proofs.Common.{◌++◌, refl}
-use Rattle.game_log.specs.Heads.{head_of}
+use Rattle.line_protocol.specs.Heads.{head_of}
 use Rattle.game_log.specs.LogText.{first_lines, histories_text}
 use Rattle.game_log.proofs.Writing.{writes_both, fails_both, failed_of}
 use Rattle.game_log.proofs.play_part.write_play_part.Goals as goal

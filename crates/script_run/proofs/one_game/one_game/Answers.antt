@@ -7,7 +7,7 @@ use Rattle.game_text.specs.ClosingOrders.{IsOrder}
 use Rattle.game_text.specs.Endowments.{IsEndowment}
 use Rattle.game_text.specs.AgentLines.{AreClients}
 use Rattle.clock_events.proofs.GoodCounts.{all_between}
-use Rattle.clock_events.specs.Schedule.{hotel_nights}
+use Rattle.game_text.specs.Schedule.{hotel_nights}
 use Rattle.script_run.proofs.one_game.one_game.Goals as goal
 
 nights_in_order : IsOrder hotel_nights

@@ -1,6 +1,6 @@
 use Rattle.std.proofs.Common.{refl}
 use Rattle.game_log.specs.LogText.{play_part}
-use Rattle.game_log.specs.Heads.{Play}
+use Rattle.line_protocol.specs.Heads.{Play}
 use Rattle.game_log.proofs.Writing.{writes_both}
 use Rattle.script_run.proofs.Written.{writes}
 use Rattle.script_run.proofs.playing.write_first.Goals as goal

@@ -5,7 +5,7 @@ use Rattle.tac_base.specs.Goods.{clock}
 use Rattle.auction_rules.specs.Legal.{cap, entries_of}
 use Rattle.turn_lock.specs.Part.{part}
 use Rattle.trade_ledger.specs.CashHistory.{cash_cap}
-use Rattle.clock_events.specs.Schedule.{calls_at}
+use Rattle.game_text.specs.Schedule.{calls_at}
 use Rattle.script_run.specs.GameStates.{GameState, past_at, called, clocked}
 use Rattle.script_run.specs.OpenGames.{SeenGame}
 use Rattle.script_run.specs.Tables.{AreCounted, HasClockRoom}

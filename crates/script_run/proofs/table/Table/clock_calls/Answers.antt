@@ -1,7 +1,7 @@
 use Rattle.std.proofs.Common.{rules, sym, ap, ◌∙◌, subst, ◌≤◌, ℕ, List, drop, length, arith}
 use Rattle.tac_base.specs.declared.calls.Call.{Call}
 use Rattle.game_text.specs.Games.{GameFile}
-use Rattle.clock_events.specs.Schedule.{calls_at}
+use Rattle.game_text.specs.Schedule.{calls_at}
 use Rattle.script_run.specs.GameStates.{clocked}
 use Rattle.script_run.specs.OpenGames.{SeenGame}
 use Rattle.script_run.specs.Tables.{HasClockRoom}

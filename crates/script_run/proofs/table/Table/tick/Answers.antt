@@ -1,6 +1,6 @@
 use Rattle.std.proofs.Common.{rules, ℕ, ◌≤◌, sym, subst}
 use Rattle.game_text.specs.Games.{GameFile}
-use Rattle.clock_events.specs.Schedule.{calls_at}
+use Rattle.game_text.specs.Schedule.{calls_at}
 use Rattle.clock_events.specs.Laws.{calls_of}
 use Rattle.script_run.specs.GameStates.{GameState}
 use Rattle.script_run.specs.Tables.{AreCounted, HasClockRoom}

@@ -2,8 +2,8 @@
 use Rattle.std.specs.Prelude.{ℕ, List}
 use Rattle.line_protocol.specs.declared.admission.Verdict.{Verdict}
 use Rattle.line_protocol.specs.declared.admission.Cause.{Cause}
-use Rattle.game_log.specs.declared.head.LogHead.{LogHead}
-use Rattle.game_log.specs.declared.head.LogHead.TheVariants as kept
+use Rattle.line_protocol.specs.declared.head.LogHead.{LogHead}
+use Rattle.line_protocol.specs.declared.head.LogHead.TheVariants as kept
 
 -- From a script; or over links, with what became of each link in order of arrival, why the session of each seated agent ended, and how
 -- many ticks were missed.

@@ -1,4 +1,4 @@
-use line_protocol::{Cause, Verdict};
+use crate::{Cause, Verdict};
 use tac_base::Agent;
 
 /// What a log says of how its game was played. Contracts see it as the `Head` that `head_of` gives, with plain lists.
