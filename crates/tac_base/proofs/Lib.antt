@@ -1,3 +1,4 @@
 pub mod Faults
 pub mod NumeralLaws
 pub mod Signed
+pub mod EqualPoints

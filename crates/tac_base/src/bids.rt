@@ -1,6 +1,7 @@
 ghost use Rattle.std.specs.Prelude.{◌≡◌, ℕ, ◌+◌, ◌<◌, ◌≤◌, ◌≢◌, ◌↔◌, List, [], ◌∷◌, ◌++◌, pos, Option, Some, None, IsOk, IfOk, IfErr, IfNone, unsigned_abs, OnOk, OnErr, length, All};
 ghost use Rattle.tac_base.specs.Bids.{fault_of, left_fault, total_size, point_at, point_fault, size_of, buys_of};
 
+use crate::limits::{BID_POINTS, BID_PRICE, BID_UNITS};
 use arrayvec::ArrayVec;
 use std::marker::Model;
 use thiserror::Error;
@@ -53,28 +54,31 @@ pub enum BidFault {
 
 /// What is wrong with the next point, after `count` points with `used` units. The order of the tests is our own.
 fn fault_at(count: usize, used: u8, size: u64, price: u64) -> Option<BidFault>
-    requires { used ≤ 16 }
+    requires { used ≤ BID_UNITS }
     ensures { result ≡ point_fault count used (point_at (pos size) price) }
 {
-    if count == 16 {
+    if count == BID_POINTS as usize {
         Some(BidFault::TooManyPoints)
     } else if size == 0 {
         Some(BidFault::ZeroUnits)
     } else if price < 1 {
         Some(BidFault::Price)
-    } else if 10000 < price {
+    } else if u64::from(BID_PRICE) < price {
         Some(BidFault::Price)
-    } else if 16 < size || 16 < u64::from(used) + size {
+    } else if u64::from(BID_UNITS) < size || u64::from(BID_UNITS) < u64::from(used) + size {
         Some(BidFault::TooManyUnits)
     } else {
         None
     }
 }
 
+/// The places of a list of points.
+const POINTS: usize = BID_POINTS as usize;
+
 /// The points of a bid so far, within the limits of a bid: at most 16 of them, with at most 16 units.
 #[derive(Debug, Drop)]
 pub struct BidDraft {
-    list: ArrayVec<Point, 16>,
+    list: ArrayVec<Point, POINTS>,
     used: u8,
 }
 
@@ -133,7 +137,7 @@ impl BidDraft {
     #[tactic(auto, using(crate::proofs::Faults::list_units))]
     fn fault_with(&self, units: i64, price: u64) -> Option<BidFault>
         ensures value { result ≡ left_fault (self.now ++ point_at units price ∷ []) }
-        ensures limits { IfNone result ((length self.now < 16) × (unsigned_abs units ≤ 16) × (price ≤ 10000)) }
+        ensures limits { IfNone result ((length self.now < BID_POINTS) × (unsigned_abs units ≤ BID_UNITS) × (price ≤ BID_PRICE)) }
     {
         fault_at(self.list.len(), self.used, units.unsigned_abs(), price)
     }
@@ -152,8 +156,8 @@ impl BidDraft {
 }
 
 /// The points, where there are at most 16.
-pub(crate) fn copied(list: &[Point]) -> ArrayVec<Point, 16>
-    requires { length list.now ≤ 16 }
+pub(crate) fn copied(list: &[Point]) -> ArrayVec<Point, POINTS>
+    requires { length list.now ≤ BID_POINTS }
     ensures { result.items ≡ list.now }
 {
     let mut kept = ArrayVec::new();
@@ -166,7 +170,7 @@ pub(crate) fn copied(list: &[Point]) -> ArrayVec<Point, 16>
 /// The points of a bid: 1 to 16 of them, each with units and a price of 1..10000 dollars, and at most 16 units in all.
 #[derive(Debug, Drop)]
 pub struct Points {
-    list: ArrayVec<Point, 16>,
+    list: ArrayVec<Point, POINTS>,
 }
 
 impl Model for Points {
@@ -201,9 +205,9 @@ impl Points {
     pub fn as_slice(&self) -> &[Point]
         ensures value { result.now ≡ self.now }
         ensures bid { fault_of self.now ≡ None }
-        ensures few { length self.now ≤ 16 }
-        ensures small { total_size self.now ≤ 16 }
-        ensures priced { All (λ point. point.price ≤ 10000) self.now }
+        ensures few { length self.now ≤ BID_POINTS }
+        ensures small { total_size self.now ≤ BID_UNITS }
+        ensures priced { All (λ point. point.price ≤ BID_PRICE) self.now }
         ensures no_empty { All (λ point. size_of point ≢ 0) self.now }
     {
         self.list.as_slice()
@@ -213,7 +217,7 @@ impl Points {
     #[tactic(auto, using(crate::proofs::Faults::bid_points, crate::proofs::Faults::bid_prices))]
     pub fn copy(&self) -> Self
         ensures value { result ≡ self.now }
-        ensures priced { All (λ point. point.price ≤ 10000) result }
+        ensures priced { All (λ point. point.price ≤ BID_PRICE) result }
     {
         Points {
             list: copied(self.list.as_slice()),
@@ -224,7 +228,7 @@ impl Points {
 /// The standing points of an agent: none, or points within the limits of a bid.
 #[derive(Debug, Drop)]
 pub struct Left {
-    list: ArrayVec<Point, 16>,
+    list: ArrayVec<Point, POINTS>,
 }
 
 impl Model for Left {
@@ -263,7 +267,7 @@ impl Left {
     pub fn as_slice(&self) -> &[Point]
         ensures value { result.now ≡ self.now }
         ensures within { left_fault self.now ≡ None }
-        ensures few { length self.now ≤ 16 }
+        ensures few { length self.now ≤ BID_POINTS }
     {
         self.list.as_slice()
     }

@@ -1,5 +1,6 @@
 ghost use Rattle.std.specs.Prelude.{◌≡◌, ℕ, ◌+◌, ◌<◌, ◌≤◌, ◌↔◌, List, [], ◌∷◌, ◌++◌, Option, Some, None, length};
 
+use crate::limits::ENTRY_TRADES;
 use crate::{Caller, Good, Left, Party, Points, Tick};
 use arrayvec::ArrayVec;
 use std::marker::Model;
@@ -19,10 +20,13 @@ pub struct Trade {
     pub price: u16,
 }
 
+/// The places of a list of trades.
+const TRADES: usize = ENTRY_TRADES as usize;
+
 /// The trades of one entry, in the order in which they were made: at most 128.
 #[derive(Debug, Drop)]
 pub struct Fills {
-    list: ArrayVec<Trade, 128>,
+    list: ArrayVec<Trade, TRADES>,
 }
 
 impl Model for Fills {
@@ -53,7 +57,7 @@ impl Fills {
 
     /// Adds a trade at the end, where there are fewer than 128.
     pub fn push(&mut self, trade: Trade)
-        requires { length self.old < 128 }
+        requires { length self.old < ENTRY_TRADES }
         ensures { self.new ≡ self.old ++ trade ∷ [] }
     {
         self.list.push(trade);
@@ -62,7 +66,7 @@ impl Fills {
     /// The trades in order.
     pub fn as_slice(&self) -> &[Trade]
         ensures value { result.now ≡ self.now }
-        ensures few { length self.now ≤ 128 }
+        ensures few { length self.now ≤ ENTRY_TRADES }
     {
         self.list.as_slice()
     }

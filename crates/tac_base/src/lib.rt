@@ -9,9 +9,11 @@ pub mod limits;
 mod memory;
 mod numbers;
 mod numerals;
+mod same;
 #[cfg(test)]
 mod tests;
 mod text;
+mod units;
 
 pub use bids::{BidDraft, BidFault, Left, Point, Points};
 pub use calls::{Board, Call, Entry, Fills, Nets, Reply, Trade};
@@ -19,4 +21,6 @@ pub use clients::Client;
 pub use memory::Memory;
 pub use numbers::{Agent, Caller, Good, Kind, OutOfRange, Party, Tick};
 pub use numerals::{one_numeral, print_numeral, print_signed, read_numeral, read_signed};
+pub use same::{same_call, same_left, same_points, same_reply};
 pub use text::Text;
+pub use units::Unit;

@@ -1,5 +1,4 @@
-//! The limits of the game and of its texts. Each stands here alone; code, clauses and definitions cite it. They are our own rules, but for the
-//! numbers of agents, clients, goods and ticks.
+//! The limits of the game and of its texts. Each stands here alone; code, clauses and definitions cite it. All of them are our own rules.
 
 /// The most calls of an agent in one auction, refused ones included.
 pub const AGENT_CALLS: u32 = 1_024;
@@ -31,8 +30,11 @@ pub const GAME_BYTES: u32 = 1_048_576;
 /// The most bytes of a script, a log, an account or a certificate.
 pub const TEXT_BYTES: u32 = 67_108_864;
 
-/// The most bytes of a request line, before its line end.
+/// The most bytes of a request line, before its line end, and of a reply.
 pub const LINE_BYTES: u32 = 512;
+
+/// The most bytes of a short text that is printed: a reply, or a line of a log.
+pub const REPLY_TEXT: usize = 640;
 
 /// The most request lines that a session answers, and that a game script has of one agent.
 pub const SESSION_LINES: u32 = 65_536;
@@ -43,8 +45,11 @@ pub const LINK_BYTES: u32 = 67_108_864;
 /// The most links that a served game takes.
 pub const LINKS: u32 = 64;
 
-/// The highest price of a bid, in dollars.
+/// The highest price of a bid, in dollars; the lowest is 1.
 pub const BID_PRICE: u16 = 10_000;
+
+/// The highest price that a board or a reply shows, in dollars: a dollar more than a bid may offer, which a hotel bid may lack.
+pub const SHOWN_PRICE: u16 = 10_001;
 
 /// The most points of a bid.
 pub const BID_POINTS: u8 = 16;
@@ -52,14 +57,23 @@ pub const BID_POINTS: u8 = 16;
 /// The most units of a bid, buys and sells counted without sign.
 pub const BID_UNITS: u8 = 16;
 
+/// The most positions of a history or of the cash book that texts name, counted from 0.
+pub const POSITION: u32 = 16_777_215;
+
 /// The most trades of one entry: 16 units against each of eight agents.
 pub const ENTRY_TRADES: u8 = 128;
 
-/// The highest price of a good in a certificate, in dollars: more than eight clients' utilities add up to.
+/// The highest price of a good in a certificate, in dollars: above what eight clients' utilities can add up to.
 pub const DUAL_PRICE: u16 = 14_001;
 
 /// The greatest holding of a good in an account, and of an agent in a game, without sign.
 pub const HOLDING: i32 = 200_000;
+
+/// The greatest holding of an agent that a reply shows, without sign.
+pub const SHOWN_HOLDING: i32 = 1_000_000;
+
+/// The most digits of an amount of cash in a text.
+pub const CASH_DIGITS: u8 = 18;
 
 /// The most splits on the way to a leaf of a certificate.
 pub const CERTIFICATE_DEPTH: u8 = 32;
