@@ -13,7 +13,9 @@ use Rattle.auction_rules.specs.declared.units.Placed.{Placed}
 use Rattle.auction_rules.specs.declared.units.BidUnit.{BidUnit}
 use Rattle.tac_base.specs.Goods.{agents}
 use Rattle.auction_rules.specs.Units.{point_units, units_from, among, without}
-use Rattle.auction_rules.specs.Setup.{Setup, Rules, FlightRules, HotelRules, TicketRules}
+use Rattle.auction_rules.specs.Setup.{Setup}
+use Rattle.auction_rules.specs.declared.rules.Rules.{Rules}
+use Rattle.auction_rules.specs.declared.rules.Rules.TheVariants.{Flight as FlightRules, Hotel as HotelRules, Tickets as TicketRules}
 use Rattle.auction_rules.specs.History.{Entry, is_admission, is_own, is_closed, bid_after, last_bid, bid_units, units_of_last}
 use Rattle.auction_rules.specs.FlightRule.{looked_at}
 use Rattle.auction_rules.specs.Standing.{gone, stand}

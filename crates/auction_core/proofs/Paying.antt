@@ -7,7 +7,9 @@ use Rattle.tac_base.specs.declared.calls.Call.TheVariants.{Bid, Withdraw, Own as
 use Rattle.tac_base.specs.declared.calls.Reply.{Reply}
 use Rattle.auction_rules.specs.declared.units.BidUnit.{BidUnit}
 use Rattle.tac_base.specs.Goods.{agents}
-use Rattle.auction_rules.specs.Setup.{Setup, Rules, FlightRules, HotelRules, TicketRules}
+use Rattle.auction_rules.specs.Setup.{Setup}
+use Rattle.auction_rules.specs.declared.rules.Rules.{Rules}
+use Rattle.auction_rules.specs.declared.rules.Rules.TheVariants.{Flight as FlightRules, Hotel as HotelRules, Tickets as TicketRules}
 use Rattle.auction_rules.specs.History.{Entry, last_bid}
 use Rattle.auction_rules.specs.FlightRule.{price, price_after, is_sale, looked_at, bids_looked_at, flight_trades}
 use Rattle.auction_rules.specs.Standing.{stand}

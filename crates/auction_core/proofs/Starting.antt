@@ -9,7 +9,8 @@ use Rattle.std.proofs.lemmas.List.Elements.{recursion_from_All}
 use Rattle.tac_base.specs.declared.calls.Entry.{Entry as StoredEntry}
 use Rattle.tac_base.specs.declared.calls.Trade.{Trade}
 use Rattle.game_text.specs.Endowments.{IsEndowment}
-use Rattle.auction_rules.specs.Setup.{Setup, Rules}
+use Rattle.auction_rules.specs.Setup.{Setup}
+use Rattle.auction_rules.specs.declared.rules.Rules.{Rules}
 use Rattle.auction_rules.specs.Effects.{all_trades}
 use Rattle.auction_rules.specs.Traded.{traded}
 use Rattle.flight_auction.specs.Book as flights

@@ -1,7 +1,6 @@
 pub mod Calls
 pub mod Books
 pub mod Setups
-pub mod Terms
 pub mod Stored
 pub mod Struck
 pub mod Auctions

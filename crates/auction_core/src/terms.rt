@@ -1,56 +1,50 @@
 ghost use Rattle.std.specs.Prelude.{◌≡◌, ◌-◌, [], pos, map, slice_index_or};
 ghost use Rattle.tac_base.specs.Kinds.{kind_of};
-ghost use Rattle.auction_core.specs.Setups.{setup_of, rules_by, endow_by, AreInRange, AreEndowed};
-ghost use Rattle.auction_core.specs.Terms as terms;
+ghost use Rattle.auction_core.specs.Setups as setups;
+ghost use Rattle.auction_core.specs.Setups.{setup_of, endow_by, AreInRange, AreEndowed};
 ghost use Rattle.auction_core.specs.Books.{held_by};
 
+use auction_rules::Rules;
 use game_text::Game;
 use std::marker::Model;
 use tac_base::{Good, Kind};
-
-/// The rules of an auction: a flight's first price in dollars, 250 to 400, and its bound, -10 to 30; or those of the other kinds, which
-/// no game changes.
-#[derive(Clone, Copy, Debug)]
-pub(crate) enum KeptRules {
-    Flight { first: u16, bound: i8 },
-    Hotel,
-    Tickets,
-}
 
 /// What is fixed of an auction before its first call: its good, and what the game says of that good. Contracts see it as the setup of
 /// the rules.
 #[derive(Debug, Drop)]
 pub struct Terms {
     pub(crate) good: Good,
-    rules: KeptRules,
+    rules: Rules,
     /// How many units each agent has at first.
     endow: [i32; 8],
 }
 
 impl Model for Terms {
     ghost use Rattle.auction_rules.specs.Setup.{Setup};
-    ghost use Rattle.auction_core.specs.Terms.{rules_of};
 
     ghost Value = { Setup };
 
-    ghost view = { λ t. record { good = t.good; rules = rules_of t.rules; endow = t.endow } };
+    ghost view = { λ t. record { good = t.good; rules = t.rules; endow = t.endow } };
 }
 
-/// The rules of a good.
-fn rules_of(good: Good, game: &Game) -> KeptRules
-    ensures value { terms.rules_of result ≡ rules_by game.now good (kind_of good) }
-    ensures range { AreInRange (terms.rules_of result) }
+/// The rules of a good. A hotel night has 16 rooms, and its quotes are not live.
+fn rules_by(good: Good, game: &Game) -> Rules
+    ensures value { result ≡ setups.rules_by game.now good (kind_of good) }
+    ensures range { AreInRange result }
 {
     match good.kind() {
         Kind::Flight => {
             let flight = &game.flights[usize::from(good.get())];
-            KeptRules::Flight {
+            Rules::Flight {
                 first: flight.first,
                 bound: flight.bound,
             }
         }
-        Kind::Hotel => KeptRules::Hotel,
-        Kind::Ticket => KeptRules::Tickets,
+        Kind::Hotel => Rules::Hotel {
+            rooms: 16,
+            live: false,
+        },
+        Kind::Ticket => Rules::Tickets,
     }
 }
 
@@ -88,7 +82,7 @@ impl Terms {
     {
         Terms {
             good,
-            rules: rules_of(good, game),
+            rules: rules_by(good, game),
             endow: endowments(good, game),
         }
     }

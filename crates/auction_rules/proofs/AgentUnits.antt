@@ -9,7 +9,7 @@ use Rattle.auction_rules.specs.declared.units.Placed.{Placed}
 use Rattle.auction_rules.specs.declared.units.BidUnit.{BidUnit}
 use Rattle.tac_base.specs.Goods.{agents}
 use Rattle.auction_rules.specs.Units.{units_of, among, without}
-use Rattle.auction_rules.specs.Setup.{Rules}
+use Rattle.auction_rules.specs.declared.rules.Rules.{Rules}
 use Rattle.auction_rules.specs.History.{Entry, is_admission, is_closed, last_bid, bid_units, units_of_last}
 use Rattle.auction_rules.specs.Standing.{gone_by, gone, stand}
 use Rattle.auction_rules.proofs.Agents.{number_same, another, agents_within, agents_pick, agents_joined}

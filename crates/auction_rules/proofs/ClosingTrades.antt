@@ -7,7 +7,7 @@ use Rattle.std.proofs.lemmas.Bool.Decides.{nat_tests}
 use Rattle.tac_base.specs.declared.calls.Trade.{Trade}
 use Rattle.auction_rules.specs.declared.units.BidUnit.{BidUnit}
 use Rattle.tac_base.specs.Goods.{agents, house}
-use Rattle.auction_rules.specs.Setup.{Rules}
+use Rattle.auction_rules.specs.declared.rules.Rules.{Rules}
 use Rattle.auction_rules.specs.History.{Entry}
 use Rattle.auction_rules.specs.Standing.{stand}
 use Rattle.auction_rules.specs.Precedence.{wins}

@@ -11,7 +11,7 @@ use Rattle.auction_rules.specs.declared.units.Placed.{Placed}
 use Rattle.auction_rules.specs.declared.units.BidUnit.{BidUnit}
 use Rattle.tac_base.specs.Goods.{agents}
 use Rattle.auction_rules.specs.Units.{block, point_units, units_from, units_of}
-use Rattle.auction_rules.specs.Setup.{HotelRules}
+use Rattle.auction_rules.specs.declared.rules.Rules.TheVariants.{Hotel as HotelRules}
 use Rattle.auction_rules.specs.History.{Entry, is_admission, is_closed, bid_after, last_bid, bid_units, units_of_last}
 use Rattle.auction_rules.specs.Standing.{gone, stand}
 use Rattle.auction_rules.specs.Precedence.{precedes}

@@ -11,7 +11,8 @@ use Rattle.tac_base.specs.declared.calls.Reply.TheVariants.{Taken}
 use Rattle.auction_rules.specs.declared.units.BidUnit.{BidUnit}
 use Rattle.tac_base.specs.Goods.{agents}
 use Rattle.auction_rules.specs.Units.{units_of}
-use Rattle.auction_rules.specs.Setup.{Rules, HotelRules}
+use Rattle.auction_rules.specs.declared.rules.Rules.{Rules}
+use Rattle.auction_rules.specs.declared.rules.Rules.TheVariants.{Hotel as HotelRules}
 use Rattle.auction_rules.specs.History.{Entry, is_closed, last_bid, bid_units, units_of_last}
 use Rattle.auction_rules.specs.Standing.{stand}
 use Rattle.auction_rules.specs.Precedence.{precedes, predecessors, wins}

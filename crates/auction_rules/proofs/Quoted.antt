@@ -9,7 +9,9 @@ use Rattle.tac_base.specs.declared.calls.Call.TheVariants.{Bid, Withdraw, Own as
 use Rattle.tac_base.specs.declared.calls.Reply.{Reply}
 use Rattle.tac_base.specs.declared.calls.Reply.TheVariants.{Own, Closed, WrongCall, Sell, BelowQuote, Done, Sold}
 use Rattle.auction_rules.specs.declared.units.BidUnit.{BidUnit}
-use Rattle.auction_rules.specs.Setup.{Setup, Rules, HotelRules}
+use Rattle.auction_rules.specs.Setup.{Setup}
+use Rattle.auction_rules.specs.declared.rules.Rules.{Rules}
+use Rattle.auction_rules.specs.declared.rules.Rules.TheVariants.{Hotel as HotelRules}
 use Rattle.auction_rules.specs.History.{Entry, is_own, is_closed, last_bid, units_of_bids}
 use Rattle.auction_rules.specs.Standing.{stand, left}
 use Rattle.auction_rules.specs.Ask.{ask, published}

@@ -10,7 +10,8 @@ use Rattle.tac_base.specs.declared.calls.Call.TheVariants.{Bid, Withdraw, Own as
 use Rattle.tac_base.specs.declared.calls.Reply.{Reply}
 use Rattle.tac_base.specs.declared.calls.Reply.TheVariants.{Taken, Own, Sold, Done, Closed, WrongCall, NoBid, Sell, SelfCross, BelowQuote}
 use Rattle.tac_base.specs.Goods.{inbound_flight, outbound_flight, hotel_night, ticket_night}
-use Rattle.auction_rules.specs.Setup.{Setup, HotelRules, FlightRules, TicketRules}
+use Rattle.auction_rules.specs.Setup.{Setup}
+use Rattle.auction_rules.specs.declared.rules.Rules.TheVariants.{Hotel as HotelRules, Flight as FlightRules, Tickets as TicketRules}
 use Rattle.auction_rules.specs.History.{Entry}
 use Rattle.auction_rules.specs.Effects.{dollars, nets}
 use Rattle.auction_rules.specs.FlightRule.{next_price, price}

@@ -13,7 +13,9 @@ use Rattle.tac_base.specs.declared.calls.Reply.TheVariants.{Closed, WrongCall}
 use Rattle.auction_rules.specs.declared.units.Placed.{Placed}
 use Rattle.auction_rules.specs.declared.units.BidUnit.{BidUnit}
 use Rattle.tac_base.specs.Goods.{agents, clock, house}
-use Rattle.auction_rules.specs.Setup.{Setup, Rules, FlightRules, HotelRules, TicketRules}
+use Rattle.auction_rules.specs.Setup.{Setup}
+use Rattle.auction_rules.specs.declared.rules.Rules.{Rules}
+use Rattle.auction_rules.specs.declared.rules.Rules.TheVariants.{Flight as FlightRules, Hotel as HotelRules, Tickets as TicketRules}
 use Rattle.auction_rules.specs.History.{Entry, is_own, is_closed, last_bid}
 use Rattle.auction_rules.specs.FlightRule.{price, price_after, looked_at, bids_looked_at}
 use Rattle.auction_rules.specs.TicketMatch.{arriving, faces, crosses, pairs, pair_trade, ticket_trades}

@@ -13,7 +13,8 @@ use Rattle.auction_rules.specs.declared.units.Placed.{Placed}
 use Rattle.auction_rules.specs.declared.units.BidUnit.{BidUnit}
 use Rattle.tac_base.specs.Goods.{agents}
 use Rattle.auction_rules.specs.Units.{block, point_units, units_from, units_of, same_side, same_unit, among, without, common_units}
-use Rattle.auction_rules.specs.Setup.{Rules, FlightRules, HotelRules, TicketRules}
+use Rattle.auction_rules.specs.declared.rules.Rules.{Rules}
+use Rattle.auction_rules.specs.declared.rules.Rules.TheVariants.{Flight as FlightRules, Hotel as HotelRules, Tickets as TicketRules}
 use Rattle.auction_rules.specs.History.{Entry, is_admission, is_closed, bid_after, last_bid, last_bids, bid_units, units_of_last, units_of_bids}
 use Rattle.auction_rules.specs.FlightRule.{looked_at}
 use Rattle.auction_rules.specs.TicketMatch.{arriving, faces, best, if_crossing, partner, pair_with, not_taken, pairs, units_of_pairs, ticket_gone}

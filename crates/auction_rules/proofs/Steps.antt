@@ -7,7 +7,9 @@ use Rattle.tac_base.specs.declared.calls.Call.{Call}
 use Rattle.tac_base.specs.declared.calls.Call.TheVariants.{Bid, Withdraw, Own as OwnCall, Update, Publish, Close}
 use Rattle.tac_base.specs.declared.calls.Reply.{Reply}
 use Rattle.tac_base.specs.declared.calls.Reply.TheVariants.{Closed, WrongCall, NoBid, Sell, SelfCross, BelowQuote}
-use Rattle.auction_rules.specs.Setup.{Setup, Rules, FlightRules, HotelRules, TicketRules}
+use Rattle.auction_rules.specs.Setup.{Setup}
+use Rattle.auction_rules.specs.declared.rules.Rules.{Rules}
+use Rattle.auction_rules.specs.declared.rules.Rules.TheVariants.{Flight as FlightRules, Hotel as HotelRules, Tickets as TicketRules}
 use Rattle.auction_rules.specs.History.{Entry, is_admission, is_own, is_closed}
 use Rattle.auction_rules.specs.BeatQuote.{need, quote_to_beat, offered, is_below_quote}
 use Rattle.auction_rules.specs.Refusals.{is_wrong_caller, is_wrong_place, sells, crosses_itself, has_standing, bid_refusal, call_refusal, refusal}

@@ -13,7 +13,9 @@ use Rattle.tac_base.specs.declared.calls.Reply.TheVariants.{Closed, WrongCall, S
 use Rattle.auction_rules.specs.declared.units.BidUnit.{BidUnit}
 use Rattle.auction_rules.specs.declared.units.Placed.{Placed}
 use Rattle.auction_rules.specs.Units.{point_units, units_from, units_of, same_side, among, without}
-use Rattle.auction_rules.specs.Setup.{Setup, Rules, TicketRules}
+use Rattle.auction_rules.specs.Setup.{Setup}
+use Rattle.auction_rules.specs.declared.rules.Rules.{Rules}
+use Rattle.auction_rules.specs.declared.rules.Rules.TheVariants.{Tickets as TicketRules}
 use Rattle.auction_rules.specs.History.{Entry, is_admission, is_bid, is_close, is_closed, last_bid, units_of_last}
 use Rattle.auction_rules.specs.TicketMatch.{faces, crosses, ticket_gone}
 use Rattle.auction_rules.specs.Standing.{gone, stand}

@@ -4,7 +4,7 @@ use Rattle.std.specs.Prelude.{ℕ, max, Bool, true, false, ◌&&◌, nat_le, if�
 use Rattle.tac_base.specs.declared.calls.Call.{Call}
 use Rattle.tac_base.specs.declared.calls.Call.TheVariants.{Publish, Close}
 use Rattle.auction_rules.specs.declared.units.BidUnit.{BidUnit}
-use Rattle.auction_rules.specs.Setup.{HotelRules}
+use Rattle.auction_rules.specs.declared.rules.Rules.TheVariants.{Hotel as HotelRules}
 use Rattle.auction_rules.specs.History.{Entry, is_admission, is_bid}
 use Rattle.auction_rules.specs.Standing.{stand}
 

@@ -1,11 +1,6 @@
 -- What is fixed of an auction before its first call.
-use Rattle.std.specs.Prelude.{ℕ, Bool, List, ℤ}
-
--- a flight's first price and bound; the rooms of a hotel night, and whether its quotes are live; or tickets
-pub data Rules : Type 0 where
-  FlightRules : (first : ℕ) → (bound : ℤ) → Rules
-  HotelRules : (rooms : ℕ) → (live : Bool) → Rules
-  TicketRules : Rules
+use Rattle.std.specs.Prelude.{ℕ, List, ℤ}
+use Rattle.auction_rules.specs.declared.rules.Rules.{Rules}
 
 -- an auction's good, its rules, and how many units of it each agent holds at first
 pub record Setup : Type 0 where

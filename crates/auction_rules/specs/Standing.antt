@@ -5,7 +5,8 @@ use Rattle.tac_base.specs.declared.calls.Call.{Call}
 use Rattle.tac_base.specs.Bids.{buys_of, size_of}
 use Rattle.auction_rules.specs.declared.units.BidUnit.{BidUnit}
 use Rattle.auction_rules.specs.declared.units.Placed.{Placed}
-use Rattle.auction_rules.specs.Setup.{Rules, FlightRules, HotelRules, TicketRules}
+use Rattle.auction_rules.specs.declared.rules.Rules.{Rules}
+use Rattle.auction_rules.specs.declared.rules.Rules.TheVariants.{Flight as FlightRules, Hotel as HotelRules, Tickets as TicketRules}
 use Rattle.auction_rules.specs.Units.{point_units, without, common_units}
 use Rattle.auction_rules.specs.History.{Entry, is_admission, is_closed, last_bid, bid_units}
 use Rattle.auction_rules.specs.FlightRule.{price, price_after, is_sale, looked_at, flight_gone}

@@ -1,7 +1,7 @@
 -- How many units of an agent would be sold if the hotel closed now.
 use Rattle.std.specs.Prelude.{ℕ, ◌==◌, Bool, ◌&&◌, List, count_by}
 use Rattle.auction_rules.specs.declared.units.BidUnit.{BidUnit}
-use Rattle.auction_rules.specs.Setup.{HotelRules}
+use Rattle.auction_rules.specs.declared.rules.Rules.TheVariants.{Hotel as HotelRules}
 use Rattle.auction_rules.specs.History.{Entry}
 use Rattle.auction_rules.specs.Standing.{stand}
 use Rattle.auction_rules.specs.Precedence.{wins}

@@ -13,7 +13,8 @@ use Rattle.auction_rules.specs.declared.units.Placed.{Placed}
 use Rattle.auction_rules.specs.declared.units.BidUnit.{BidUnit}
 use Rattle.tac_base.specs.Goods.{clock}
 use Rattle.auction_rules.specs.Units.{units_of, among}
-use Rattle.auction_rules.specs.Setup.{Rules, FlightRules}
+use Rattle.auction_rules.specs.declared.rules.Rules.{Rules}
+use Rattle.auction_rules.specs.declared.rules.Rules.TheVariants.{Flight as FlightRules}
 use Rattle.auction_rules.specs.History.{Entry, is_closed, last_bid, units_of_last}
 use Rattle.auction_rules.specs.FlightRule.{price, next_price, looked_at, bids_looked_at, flight_gone, flight_trades}
 use Rattle.auction_rules.specs.Standing.{gone, stand, left_points}

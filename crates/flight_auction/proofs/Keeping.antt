@@ -12,7 +12,9 @@ use Rattle.tac_base.specs.declared.calls.Reply.TheVariants.{Taken, Done, Closed,
 use Rattle.tac_base.specs.Bids.{size_of}
 use Rattle.tac_base.specs.Goods.{clock, house}
 use Rattle.auction_rules.specs.Effects.{bought, sold, sales_by}
-use Rattle.auction_rules.specs.Setup.{Setup, Rules, FlightRules}
+use Rattle.auction_rules.specs.Setup.{Setup}
+use Rattle.auction_rules.specs.declared.rules.Rules.{Rules}
+use Rattle.auction_rules.specs.declared.rules.Rules.TheVariants.{Flight as FlightRules}
 use Rattle.auction_rules.specs.History.{Entry, is_own, is_closed}
 use Rattle.auction_rules.specs.FlightRule.{price, next_price}
 use Rattle.auction_rules.specs.Standing.{left}

@@ -10,7 +10,7 @@ use Rattle.tac_base.specs.Bids.{size_of}
 use Rattle.auction_rules.specs.declared.units.Placed.{Placed}
 use Rattle.auction_rules.specs.declared.units.BidUnit.{BidUnit}
 use Rattle.auction_rules.specs.Units.{point_units, units_from, among, without, common_units}
-use Rattle.auction_rules.specs.Setup.{Rules}
+use Rattle.auction_rules.specs.declared.rules.Rules.{Rules}
 use Rattle.auction_rules.specs.History.{Entry, is_closed, last_bid, units_of_last}
 use Rattle.auction_rules.specs.Standing.{gone, stand, signed_as, left_points, left_of, left}
 use Rattle.auction_rules.specs.Refusals.{has_standing}

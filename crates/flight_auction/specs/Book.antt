@@ -6,7 +6,9 @@ use Rattle.tac_base.specs.declared.calls.Trade.{Trade}
 use Rattle.auction_rules.specs.declared.units.Placed.{Placed}
 use Rattle.auction_rules.specs.declared.units.BidUnit.{BidUnit}
 use Rattle.tac_base.specs.Goods.{agents, house}
-use Rattle.auction_rules.specs.Setup.{Setup, Rules, FlightRules}
+use Rattle.auction_rules.specs.Setup.{Setup}
+use Rattle.auction_rules.specs.declared.rules.Rules.{Rules}
+use Rattle.auction_rules.specs.declared.rules.Rules.TheVariants.{Flight as FlightRules}
 use Rattle.auction_rules.specs.History.{Entry, is_closed, last_bid}
 use Rattle.auction_rules.specs.FlightRule.{price, positions_below}
 use Rattle.auction_rules.specs.Standing.{stand, left_points}

@@ -1,6 +1,6 @@
 ghost use Rattle.std.specs.Prelude.{◌≡◌, ◌+◌, ◌≤◌, ◌||◌, [], ◌∷◌, ◌++◌, IsTrue, length, List, All, pos, negsuc, ◌≤ℤ◌};
 ghost use Rattle.tac_base.specs.Kinds.{kind_of};
-ghost use Rattle.auction_rules.specs.Setup.{Setup, FlightRules};
+ghost use Rattle.auction_rules.specs.Setup.{Setup};
 ghost use Rattle.auction_rules.specs.History.{Entry};
 ghost use Rattle.auction_rules.specs.Standing.{left};
 ghost use Rattle.auction_rules.specs.Board.{board};
@@ -13,7 +13,7 @@ ghost use Rattle.flight_auction.specs.Book.{StandsFor, IsPaid, owned_by, units_l
 use crate::prices::next_price;
 use crate::sales::{StandingPoint, forget, has_points, place, points_of, sell};
 use arrayvec::ArrayVec;
-use auction_rules::{bought, sells, wrong_reply};
+use auction_rules::{Rules, bought, sells, wrong_reply};
 use std::marker::Model;
 use tac_base::{Agent, Board, Call, Caller, Fills, Good, Kind, Left, Points, Reply, Tick};
 
@@ -49,7 +49,7 @@ impl Flight {
         requires first_to { first ≤ 400 }
         requires bound_from { negsuc 9 ≤ℤ bound }
         requires bound_to { bound ≤ℤ pos 30 }
-        ensures { (setup : Setup) → setup.good ≡ good → setup.rules ≡ FlightRules first bound → StandsFor result setup [] }
+        ensures { (setup : Setup) → setup.good ≡ good → setup.rules ≡ Rules.Flight first bound → StandsFor result setup [] }
     {
         Flight {
             good,
@@ -120,7 +120,7 @@ impl Flight {
     /// flight, but for `Own`, and else `WrongCall`. It changes nothing.
     #[tactic(auto, using(crate::proofs::Keeping::follows_wrong))]
     pub fn refuse(&self, caller: Caller, call: &Call) -> Reply
-        requires { IsTrue (is_wrong_caller caller call.now || is_wrong_place (FlightRules 300 (pos 0)) call.now) }
+        requires { IsTrue (is_wrong_caller caller call.now || is_wrong_place (Rules.Flight 300 (pos 0)) call.now) }
         ensures { (setup : Setup) (past : List Entry) → StandsFor self.now setup past →
             Follows setup past caller call.now result [] (StandsFor self.now setup) }
     {

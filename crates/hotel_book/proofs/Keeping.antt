@@ -10,7 +10,9 @@ use Rattle.tac_base.specs.declared.calls.Reply.TheVariants.{Taken, Sold, Done, C
 use Rattle.auction_rules.specs.declared.units.Placed.{Placed}
 use Rattle.auction_rules.specs.declared.units.BidUnit.{BidUnit}
 use Rattle.tac_base.specs.Goods.{clock}
-use Rattle.auction_rules.specs.Setup.{Setup, Rules, HotelRules}
+use Rattle.auction_rules.specs.Setup.{Setup}
+use Rattle.auction_rules.specs.declared.rules.Rules.{Rules}
+use Rattle.auction_rules.specs.declared.rules.Rules.TheVariants.{Hotel as HotelRules}
 use Rattle.auction_rules.specs.History.{Entry, is_closed, last_bid, last_bids, bid_units, units_of_bids, is_own}
 use Rattle.auction_rules.specs.Standing.{stand}
 use Rattle.auction_rules.specs.Ask.{ask, published}

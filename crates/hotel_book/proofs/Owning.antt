@@ -6,7 +6,9 @@ use Rattle.tac_base.specs.declared.bids.Point.{Point}
 use Rattle.tac_base.specs.Bids.{size_of}
 use Rattle.auction_rules.specs.declared.units.Placed.{Placed}
 use Rattle.auction_rules.specs.declared.units.BidUnit.{BidUnit}
-use Rattle.auction_rules.specs.Setup.{Setup, Rules, HotelRules}
+use Rattle.auction_rules.specs.Setup.{Setup}
+use Rattle.auction_rules.specs.declared.rules.Rules.{Rules}
+use Rattle.auction_rules.specs.declared.rules.Rules.TheVariants.{Hotel as HotelRules}
 use Rattle.auction_rules.specs.History.{Entry, units_of_last, last_bid, last_bids, is_closed, units_of_bids}
 use Rattle.auction_rules.specs.Standing.{left_of, left, stand}
 use Rattle.auction_rules.proofs.Agents.{agents_get}

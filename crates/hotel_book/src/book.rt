@@ -1,7 +1,7 @@
 ghost use Rattle.std.specs.Prelude.{min, ◌≡◌, ◌≤◌, ◌||◌, [], ◌∷◌, length, List, false, IsTrue};
 ghost use Rattle.tac_base.specs.Kinds.{kind_of};
 ghost use Rattle.tac_base.specs.Goods.{clock};
-ghost use Rattle.auction_rules.specs.Setup.{Setup, HotelRules};
+ghost use Rattle.auction_rules.specs.Setup.{Setup};
 ghost use Rattle.auction_rules.specs.History.{Entry};
 ghost use Rattle.auction_rules.specs.Standing.{left, stand};
 ghost use Rattle.auction_rules.specs.Ask.{ask};
@@ -15,7 +15,7 @@ ghost use Rattle.hotel_book.specs.Book.{StandsFor, units_left};
 use crate::closing::fill;
 use crate::counting::{ask, sold_units, units_of};
 use crate::quotes::refusal;
-use auction_rules::{Placed, wrong_reply};
+use auction_rules::{Placed, Rules, wrong_reply};
 use std::marker::Model;
 use tac_base::{Agent, Board, Call, Caller, Fills, Good, Kind, Left, Points, Reply};
 
@@ -48,7 +48,7 @@ impl Hotel {
     /// An open hotel in which nobody has bid. It has 16 rooms.
     pub fn new(good: Good) -> Self
         requires { kind_of good ≡ Kind.Hotel }
-        ensures { (setup : Setup) → setup.good ≡ good → setup.rules ≡ HotelRules 16 false →
+        ensures { (setup : Setup) → setup.good ≡ good → setup.rules ≡ Rules.Hotel 16 false →
             StandsFor result setup [] }
     {
         Hotel {
@@ -151,7 +151,7 @@ impl Hotel {
     /// hotel, but for `Own`, and else `WrongCall`. It changes nothing.
     #[tactic(auto, using(crate::proofs::Keeping::follows_wrong))]
     pub fn refuse(&self, caller: Caller, call: &Call) -> Reply
-        requires { IsTrue (is_wrong_caller caller call.now || is_wrong_place (HotelRules 16 false) call.now) }
+        requires { IsTrue (is_wrong_caller caller call.now || is_wrong_place (Rules.Hotel 16 false) call.now) }
         ensures { (setup : Setup) (past : List Entry) → StandsFor self.now setup past →
             Follows setup past caller call.now result [] (StandsFor self.now setup) }
     {

@@ -1,10 +1,11 @@
 ghost use Rattle.std.specs.Prelude.{◌≡◌, ◌<◌, ◌^◌, length, map, reverse, false, IfOk};
 ghost use Rattle.tac_base.specs.Kinds.{kind_of};
-ghost use Rattle.auction_rules.specs.Setup.{Setup, HotelRules};
+ghost use Rattle.auction_rules.specs.Setup.{Setup};
 ghost use Rattle.auction_rules.specs.Legal.{past_of};
 ghost use Rattle.hotel_book.specs.Book.{StandsFor};
 
 use crate::Hotel;
+use auction_rules::Rules;
 use std::test::Fail;
 use tac_base::{Agent, Call, Fills, Good, Kind, OutOfRange, Point, Points, Reply};
 
@@ -12,7 +13,7 @@ use tac_base::{Agent, Call, Fills, Good, Kind, OutOfRange, Point, Points, Reply}
 fn hotel_after(good: Good, bids: &[(Agent, Points)], fills: &mut Fills) -> Hotel
     requires kind { kind_of good ≡ Kind.Hotel }
     requires few { length bids.now < 2 ^ 32 }
-    ensures { (setup : Setup) → setup.good ≡ good → setup.rules ≡ HotelRules 16 false →
+    ensures { (setup : Setup) → setup.good ≡ good → setup.rules ≡ Rules.Hotel 16 false →
         StandsFor result setup (past_of setup (reverse (map (λ bid. (bid.0, Call.Bid bid.1)) bids.now))) }
 {
     let mut hotel = Hotel::new(good);

@@ -2,7 +2,8 @@
 use Rattle.std.specs.Prelude.{ℕ, ◌+◌, ◌==◌, nat_le, if◌then◌else◌, List, [], ◌∷◌, ◌++◌, length, map, count_by, replicate, pos, Result, Ok, Err, false}
 use Rattle.std.specs.List.{flat_map}
 use Rattle.text_forms.specs.Words.{parts_of}
-use Rattle.auction_rules.specs.Setup.{Setup, HotelRules}
+use Rattle.auction_rules.specs.Setup.{Setup}
+use Rattle.auction_rules.specs.declared.rules.Rules.TheVariants.{Hotel as HotelRules}
 use Rattle.auction_rules.specs.History.{Entry}
 use Rattle.auction_rules.specs.Legal.{past_of, cap}
 use Rattle.script_run.specs.declared.hotel_lines.HotelLine.{HotelLine}

@@ -15,7 +15,9 @@ use Rattle.auction_rules.specs.declared.units.BidUnit.{BidUnit}
 use Rattle.tac_base.specs.Goods.{agents, clock}
 use Rattle.auction_rules.specs.Units.{units_of, without}
 use Rattle.auction_rules.specs.Effects.{bought, sold}
-use Rattle.auction_rules.specs.Setup.{Setup, Rules, TicketRules}
+use Rattle.auction_rules.specs.Setup.{Setup}
+use Rattle.auction_rules.specs.declared.rules.Rules.{Rules}
+use Rattle.auction_rules.specs.declared.rules.Rules.TheVariants.{Tickets as TicketRules}
 use Rattle.auction_rules.specs.History.{Entry, is_closed, last_bid, last_bids, units_of_last, is_own}
 use Rattle.auction_rules.specs.TicketMatch.{ticket_trades, ticket_gone}
 use Rattle.auction_rules.specs.Standing.{stand, gone, left, left_of}

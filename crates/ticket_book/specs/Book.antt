@@ -3,7 +3,8 @@ use Rattle.std.specs.Prelude.{◌≡◌, ℕ, ◌≤◌, ◌==◌, Bool, List, A
 use Rattle.auction_rules.specs.declared.units.Placed.{Placed}
 use Rattle.auction_rules.specs.declared.units.BidUnit.{BidUnit}
 use Rattle.tac_base.specs.Goods.{agents}
-use Rattle.auction_rules.specs.Setup.{Setup, TicketRules}
+use Rattle.auction_rules.specs.Setup.{Setup}
+use Rattle.auction_rules.specs.declared.rules.Rules.TheVariants.{Tickets as TicketRules}
 use Rattle.auction_rules.specs.History.{Entry, last_bids, is_closed}
 use Rattle.auction_rules.specs.Standing.{stand}
 

@@ -1,7 +1,7 @@
 ghost use Rattle.std.specs.Prelude.{◌≡◌, ◌≤◌, ◌||◌, [], ◌∷◌, length, List, IsTrue, ◌<◌, ◌≢◌, All};
 ghost use Rattle.tac_base.specs.Kinds.{kind_of};
 ghost use Rattle.tac_base.specs.Goods.{clock};
-ghost use Rattle.auction_rules.specs.Setup.{Setup, TicketRules};
+ghost use Rattle.auction_rules.specs.Setup.{Setup};
 ghost use Rattle.auction_rules.specs.History.{Entry};
 ghost use Rattle.auction_rules.specs.Standing.{left};
 ghost use Rattle.auction_rules.specs.Legal.{IsLawful, entry_of};
@@ -17,7 +17,7 @@ use crate::refusals::crosses_itself;
 use crate::remains::left_of;
 use crate::standing::{all_units, no_units, take_away_all, units_of};
 use arrayvec::ArrayVec;
-use auction_rules::{BidUnit, Placed, bought, sold, wrong_reply};
+use auction_rules::{BidUnit, Placed, Rules, bought, sold, wrong_reply};
 use std::marker::Model;
 use tac_base::{Agent, Board, Call, Caller, Fills, Good, Kind, Left, Points, Reply};
 
@@ -48,7 +48,7 @@ impl Tickets {
     /// An open ticket auction in which nobody has bid.
     pub fn new(good: Good) -> Self
         requires { kind_of good ≡ Kind.Ticket }
-        ensures { (setup : Setup) → setup.good ≡ good → setup.rules ≡ TicketRules → StandsFor result setup [] }
+        ensures { (setup : Setup) → setup.good ≡ good → setup.rules ≡ Rules.Tickets → StandsFor result setup [] }
     {
         Tickets {
             good,
@@ -128,7 +128,7 @@ impl Tickets {
     /// The refusal of a call that ticket auctions do not have, or that the caller may not make: `Closed`
     /// after the closing, but for `Own`, and else `WrongCall`. It changes nothing.
     pub fn refuse(&self, caller: Caller, call: &Call) -> Reply
-        requires { IsTrue (is_wrong_caller caller call.now || is_wrong_place TicketRules call.now) }
+        requires { IsTrue (is_wrong_caller caller call.now || is_wrong_place Rules.Tickets call.now) }
         ensures { (setup : Setup) (past : List Entry) → StandsFor self.now setup past →
             Follows setup past caller call.now result [] (StandsFor self.now setup) }
     {

@@ -1,6 +1,7 @@
 use Rattle.std.proofs.Common.{◌≡◌, take, map, reverse, false}
 use Rattle.tac_base.specs.declared.calls.Call.TheVariants.{Bid}
-use Rattle.auction_rules.specs.Setup.{Setup, HotelRules}
+use Rattle.auction_rules.specs.Setup.{Setup}
+use Rattle.auction_rules.specs.declared.rules.Rules.TheVariants.{Hotel as HotelRules}
 use Rattle.auction_rules.specs.Legal.{past_of}
 use Rattle.hotel_book.specs.Book.{StandsFor}
 use Rattle.hotel_book.proofs.tests.hotel_after.Given as goal
