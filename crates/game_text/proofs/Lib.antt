@@ -12,3 +12,4 @@ pub mod GameTexts
 pub mod PrintedGames
 pub mod Worked
 mod AgentLineLaws
+pub mod QuietRanges

@@ -1,7 +1,8 @@
 -- The account file: an agent's clients and its holdings of the 28 goods.
-use Rattle.std.specs.Prelude.{◌≡◌, ℕ, nat_lt, if◌then◌else◌, List, [], ◌∷◌, ◌++◌, ℤ, pos, negsuc, ◌≤ℤ◌, true, Result, Ok, Err, length, codes, drop, replicate}
+use Rattle.std.specs.Prelude.{◌≡◌, ℕ, nat_lt, if◌then◌else◌, List, [], ◌∷◌, ◌++◌, ℤ, pos, neg_ℤ, ◌≤ℤ◌, true, Result, Ok, Err, length, codes, drop, replicate}
 use Rattle.std.specs.List.{All}
 use Rattle.tac_base.specs.Clients.{Preferences}
+use Rattle.tac_base.specs.declared.limits.TheConstants.{HOLDING, TEXT_BYTES}
 use Rattle.text_forms.specs.declared.lines.BadLine.{BadLine}
 use Rattle.text_forms.specs.declared.lines.Reason.{Reason}
 use Rattle.text_forms.specs.declared.rows.Column.{Column}
@@ -22,7 +23,7 @@ pub record AccountFile : Type 0 where
 
 -- a holding lies in -200000..200000
 abbrev pub IsHolding : ℤ → Type 0
-IsHolding held = (negsuc 199999 ≤ℤ held) × (held ≤ℤ pos 200000)
+IsHolding held = (neg_ℤ HOLDING ≤ℤ held) × (held ≤ℤ HOLDING)
 
 -- an account in its ranges
 pub record IsAccount (account : AccountFile) : Type 0 where
@@ -38,7 +39,7 @@ title_of line = row (codes "account") [] line >>= nothing_from
 
 -- the line of the holdings
 abbrev pub hold_column : Column
-hold_column = record { signed = true; low = negsuc 199999; high = pos 200000 }
+hold_column = record { signed = true; low = neg_ℤ HOLDING; high = HOLDING }
 
 unfoldable pub hold_of : List ℕ → Result (List ℤ) Reason
 hold_of line = row (codes "hold") (replicate 28 hold_column) line
@@ -87,4 +88,4 @@ account_in left = do
 
 -- the account of a text, or why it is refused
 unfoldable pub account_of : List ℕ → Result AccountFile GameFault
-account_of text = if nat_lt 67108864 (length text) then Err TooLong else refused (account_in (lines_from true 1 (parts_of 10 text)))
+account_of text = if nat_lt TEXT_BYTES (length text) then Err TooLong else refused (account_in (lines_from true 1 (parts_of 10 text)))

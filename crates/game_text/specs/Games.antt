@@ -2,6 +2,7 @@
 use Rattle.std.specs.Prelude.{◌≡◌, ℕ, nat_lt, if◌then◌else◌, List, [], ◌∷◌, ◌++◌, true, Result, Ok, Err, length, codes}
 use Rattle.std.specs.List.{All}
 use Rattle.tac_base.specs.Clients.{Preferences}
+use Rattle.tac_base.specs.declared.limits.TheConstants.{GAME_BYTES}
 use Rattle.text_forms.specs.declared.lines.BadLine.{BadLine}
 use Rattle.text_forms.specs.Words.{parts_of}
 use Rattle.text_forms.specs.Lines.{Remaining, lines_from, nothing_left, text_of, AreLeft}
@@ -74,4 +75,4 @@ game_in left = do
 
 -- the game of a text, or why it is refused
 unfoldable pub game_of : List ℕ → Result GameFile GameFault
-game_of text = if nat_lt 1048576 (length text) then Err TooLong else refused (game_in (lines_from true 1 (parts_of 10 text)))
+game_of text = if nat_lt GAME_BYTES (length text) then Err TooLong else refused (game_in (lines_from true 1 (parts_of 10 text)))

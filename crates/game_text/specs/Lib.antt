@@ -11,3 +11,4 @@ pub mod Accounts
 pub mod Games
 pub mod OneAgent
 pub mod Schedule
+pub mod QuietGames

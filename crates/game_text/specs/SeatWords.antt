@@ -21,6 +21,10 @@ pub record IsPadded (bytes : List ℕ) (len : ℕ) : Type 0 where
   pub zeros : bytes ≡ take len bytes ++ replicate (16 - len) 0
   pub form : IsTrue (is_seat_word (take len bytes))
 
+-- the words `seat0` to `seat7`
+abbrev pub numbered_seats : List (List ℕ)
+numbered_seats = codes "seat0" ∷ codes "seat1" ∷ codes "seat2" ∷ codes "seat3" ∷ codes "seat4" ∷ codes "seat5" ∷ codes "seat6" ∷ codes "seat7" ∷ []
+
 -- no word comes twice
 abbrev pub are_distinct : List (List ℕ) → Bool
 are_distinct [] = true

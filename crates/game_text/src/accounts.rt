@@ -9,10 +9,8 @@ use crate::client_lines::owned_of;
 use crate::headers::{end_at, title_of};
 use std::marker::Model;
 use tac_base::Client;
+use tac_base::limits::{HOLDING, TEXT_BYTES};
 use text_forms::{BadLine, Column, Lines, Part, Reason, at_line, read_row, repeat};
-
-/// An account file has at most so many bytes.
-const MOST_BYTES: usize = 67_108_864;
 
 /// An agent's clients and its holdings of the goods. The ranges are this project's own.
 #[derive(Clone, Copy, Debug, PartialEq, Eq)]
@@ -41,8 +39,8 @@ fn hold_columns() -> [Column; 28]
 {
     [Column {
         signed: true,
-        low: -200_000,
-        high: 200_000,
+        low: -i64::from(HOLDING),
+        high: i64::from(HOLDING),
     }; 28]
 }
 
@@ -119,7 +117,7 @@ fn account_in(lines: Lines<'_>) -> Result<Account, BadLine>
 fn account_of(text: &[u8]) -> Result<Account, GameFault>
     ensures { result ≡ accounts.account_of text.now }
 {
-    if text.len() > MOST_BYTES {
+    if text.len() > TEXT_BYTES as usize {
         return Err(GameFault::TooLong);
     }
     Ok(account_in(Lines::without_comments(text))?)
@@ -129,11 +127,11 @@ fn account_of(text: &[u8]) -> Result<Account, GameFault>
 pub fn read_account(text: &[u8]) -> Result<Account, GameFault>
     // Which account it is, or the first bad line with its first reason.
     ensures exact { result ≡ accounts.account_of text.now }
-    ensures too_long { (result ≡ Err GameFault.TooLong) ↔ (67108864 < length text.now) }
+    ensures too_long { (result ≡ Err GameFault.TooLong) ↔ (TEXT_BYTES < length text.now) }
     // The lines that are neither empty nor comments are the account's own, and the account is in its ranges.
     ensures found { IfOk result (λ account. accounts.IsAccountText account text.now × accounts.IsAccount account) }
     // Each text of an account is read as that account.
-    ensures only { (account : accounts.AccountFile) → length text.now ≤ 67108864 → accounts.IsAccountText account text.now → accounts.IsAccount account → result ≡ Ok account }
+    ensures only { (account : accounts.AccountFile) → length text.now ≤ TEXT_BYTES → accounts.IsAccountText account text.now → accounts.IsAccount account → result ≡ Ok account }
 {
     account_of(text)
 }

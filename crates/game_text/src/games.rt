@@ -12,11 +12,9 @@ use crate::headers::{end_at, header_of};
 use crate::seat_words::seats_of;
 use crate::{FlightLine, GameFault, SeatWord};
 use std::marker::Model;
+use tac_base::limits::GAME_BYTES;
 use tac_base::{Client, Good};
 use text_forms::{BadLine, Lines, Part, at_line, repeat};
-
-/// A game file has at most so many bytes.
-const MOST_BYTES: usize = 1_048_576;
 
 /// What a game file says. The ranges are those of the game description; the form of the file is this project's own.
 #[derive(Debug, Drop)]
@@ -112,7 +110,7 @@ fn game_in(lines: Lines<'_>) -> Result<Game, BadLine>
 fn game_of(text: &[u8]) -> Result<Game, GameFault>
     ensures { result ≡ games.game_of text.now }
 {
-    if text.len() > MOST_BYTES {
+    if text.len() > GAME_BYTES as usize {
         return Err(GameFault::TooLong);
     }
     Ok(game_in(Lines::without_comments(text))?)
@@ -122,11 +120,11 @@ fn game_of(text: &[u8]) -> Result<Game, GameFault>
 pub fn read_game(text: &[u8]) -> Result<Game, GameFault>
     // Which game it is, or the first bad line with its first reason.
     ensures exact { result ≡ games.game_of text.now }
-    ensures too_long { (result ≡ Err GameFault.TooLong) ↔ (1048576 < length text.now) }
+    ensures too_long { (result ≡ Err GameFault.TooLong) ↔ (GAME_BYTES < length text.now) }
     // The lines that are neither empty nor comments are the game's own, and the game is in its ranges.
     ensures found { IfOk result (λ game. games.IsTextOf game text.now × games.IsGame game) }
     // Each text of a game is read as that game.
-    ensures only { (game : games.GameFile) → length text.now ≤ 1048576 → games.IsTextOf game text.now → games.IsGame game → result ≡ Ok game }
+    ensures only { (game : games.GameFile) → length text.now ≤ GAME_BYTES → games.IsTextOf game text.now → games.IsGame game → result ≡ Ok game }
 {
     game_of(text)
 }

@@ -13,6 +13,7 @@ mod games;
 mod headers;
 mod numbers;
 mod printing;
+mod quiet;
 mod seat_words;
 #[cfg(test)]
 mod tests;

@@ -8,7 +8,7 @@ use tac_base::OutOfRange;
 use text_forms::{Reason, Words};
 
 /// The word by which an agent takes its seat: 1 to 16 bytes of `a`..`z` and `0`..`9`. The rule is this project's own.
-#[derive(Clone, Copy, Debug, PartialEq, Eq)]
+#[derive(Clone, Copy, Debug, PartialEq, Eq, Hash)]
 pub struct SeatWord {
     bytes: [u8; 16],
     len: u8,
@@ -58,6 +58,14 @@ fn padded(text: &[u8]) -> [u8; 16]
     bytes
 }
 
+/// The seat word of a text that is one.
+fn seat_word(text: &[u8]) -> SeatWord
+    requires { IsTrue (seats.is_seat_word text.now) }
+    ensures { result ≡ text.now }
+{
+    SeatWord::new(text).unwrap()
+}
+
 impl SeatWord {
     /// Refused exactly where the text is no seat word.
     pub fn new(text: &[u8]) -> Result<Self, OutOfRange>
@@ -72,6 +80,22 @@ impl SeatWord {
         } else {
             Err(OutOfRange)
         }
+    }
+
+    /// The words `seat0` to `seat7`.
+    pub fn numbered() -> [Self; 8]
+        ensures { result ≡ seats.numbered_seats }
+    {
+        [
+            seat_word(b"seat0"),
+            seat_word(b"seat1"),
+            seat_word(b"seat2"),
+            seat_word(b"seat3"),
+            seat_word(b"seat4"),
+            seat_word(b"seat5"),
+            seat_word(b"seat6"),
+            seat_word(b"seat7"),
+        ]
     }
 
     /// The bytes of the word.

@@ -1,0 +1,24 @@
+-- The quiet game: flights stay at 300 dollars, nobody has a ticket at the start, the hotels close in rising order, and each client
+-- would come on day 1 and leave on day 2, and gives 100 dollars for the better hotel and for the museum.
+use Rattle.std.specs.Prelude.{ℕ, List, [], ◌∷◌, pos, replicate}
+use Rattle.tac_base.specs.Clients.{Preferences}
+use Rattle.game_text.specs.SeatWords.{numbered_seats}
+use Rattle.game_text.specs.Flights.{FlightTerms}
+use Rattle.game_text.specs.Games.{GameFile}
+use Rattle.game_text.specs.Schedule.{hotel_nights}
+
+-- with bound 10 a draw of 10 changes nothing
+abbrev pub quiet_flight : FlightTerms
+quiet_flight = record { first = 300; bound = pos 10; draws = replicate 53 10 }
+
+abbrev pub quiet_client : Preferences
+quiet_client = record { arrive = 1; depart = 2; premium = 100; values = 0 ∷ 0 ∷ 100 ∷ [] }
+
+unfoldable pub quiet_game : GameFile
+quiet_game = record {
+  words = numbered_seats;
+  flights = replicate 8 quiet_flight;
+  order = hotel_nights;
+  endow = replicate 8 (replicate 12 0);
+  clients = replicate 8 (replicate 8 quiet_client);
+}
