@@ -3,10 +3,8 @@ ghost use Rattle.game_text.specs.Schedule as spec;
 
 use arrayvec::ArrayVec;
 use game_text::Game;
+use tac_base::limits::TICKS;
 use tac_base::{Call, Good, Tick};
-
-/// The last tick, at which flights and tickets close.
-pub(crate) const LAST_TICK: u8 = 54;
 
 /// The good of a number.
 fn good(number: u8) -> Good
@@ -24,7 +22,7 @@ fn is_among(goods: &[Good], good: Good) -> bool
 }
 
 /// The hotel nights that are open after so many closings.
-#[tactic(auto, unfolding(crate::specs::Schedule::open_after))]
+#[tactic(auto, unfolding(game_text::specs::Schedule::open_after))]
 fn open_after(order: &[Good], turn: usize) -> ArrayVec<Good, 8>
     requires turn { turn ≤ 8 }
     requires count { length order.now ≡ 8 }
@@ -74,7 +72,7 @@ pub fn schedule(game: &Game, tick: Tick, n: u8) -> Option<(Good, Call)>
 {
     let n = usize::from(n);
     let number = tick.get();
-    if number == LAST_TICK {
+    if number == TICKS {
         return last_call(n);
     }
     if n < 8 {

@@ -8,13 +8,13 @@ ghost use Rattle.tac_io.specs.Told.{and_then_told};
 ghost use Rattle.clock_events.specs.Clocking.{HasMade, HasMissedCause, WaitsForAll};
 ghost use Rattle.game_text.specs.Schedule.{clock_calls};
 
-use crate::calls::LAST_TICK;
 use crate::{schedule, schedule_law};
 use floor::{Desk, Floor};
 use game_text::Game;
 use std::sync::Wait;
 use std::time::Clock;
 use tac_base::Tick;
+use tac_base::limits::TICKS;
 use tac_io::Ticker;
 
 /// What the clock leaves.
@@ -56,7 +56,7 @@ pub fn clock_tick<R: Wait + Clock, T: Ticker>(
 
 /// Waits for a tick, and says whether it lapsed. A lapse is taken as due.
 fn wait_for<R: Wait + Clock, T: Ticker>(rt: &R, ticker: &mut T, tick: Tick) -> (T::Due, bool)
-    requires { IfSome (T.waited ticker.old) (λ ticks. length ticks < 54) }
+    requires { IfSome (T.waited ticker.old) (λ ticks. length ticks < TICKS) }
     ensures due { T.due_tick result.0 ≡ tick }
     ensures waited { T.waited ticker.new ≡ and_then_told (T.waited ticker.old) ((tick, result.1) ∷ []) }
     ensures paced { T.paced ticker.new ≡ T.paced ticker.old }
@@ -81,7 +81,7 @@ pub fn run_clock<R: Wait + Clock, T: Ticker>(
     requires clock { desk_caller desk ≡ 8 }
     requires no_calls { (entries_of desk ≡ replicate 28 []) × (cash_of desk ≡ []) }
     requires ticks { IfSome (T.waited ticker.old) (λ ticks. ticks ≡ []) }
-    ensures made { HasMade game.now 54 result.desk }
+    ensures made { HasMade game.now TICKS result.desk }
     ensures whole { (good : ℕ) → good < 28 → map (λ p. p.1.call) (entries_at result.desk good) ≡ clock_calls game.now good }
     ensures boards { boards_of result.desk ≡ boards_of desk }
     ensures same { IsSameDesk desk result.desk }
@@ -90,7 +90,7 @@ pub fn run_clock<R: Wait + Clock, T: Ticker>(
     ensures cause { HasMissedCause (T.faults ticker.old) (T.faults ticker.new) result.missed }
 {
     let mut missed = 0;
-    for number in 1..LAST_TICK + 1 {
+    for number in 1..TICKS + 1 {
         let tick = Tick::new(number).unwrap();
         let (due, lapsed) = wait_for(rt, ticker, tick);
         clock_tick::<R, T>(rt, floor, &mut desk, game, tick, due);

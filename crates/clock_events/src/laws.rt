@@ -2,6 +2,7 @@ ghost use Rattle.std.specs.Prelude.{◌≡◌, ◌≤◌, ℕ, length};
 ghost use Rattle.std.specs.List.{All};
 ghost use Rattle.game_text.specs.Schedule as spec;
 ghost use Rattle.clock_events.specs.Laws as laws;
+ghost use Rattle.tac_base.specs.declared.limits.TheConstants.{CLOCK_CASH_ENTRIES, TICKS};
 
 use game_text::Game;
 
@@ -9,11 +10,11 @@ use game_text::Game;
 /// most one of them of each good, and each is one that the good's kind of auction has. A whole game has 480 of them, of
 /// which at most 54 are of one good.
 pub fn schedule_law(game: &Game)
-    ensures once { (tick good : ℕ) → 1 ≤ tick → tick ≤ 54 → laws.calls_of game.now tick good ≤ 1 }
-    ensures fit { (tick : ℕ) → 1 ≤ tick → tick ≤ 54 → All (laws.IsDue tick) (spec.calls_at game.now tick) }
-    ensures few { (tick : ℕ) → 1 ≤ tick → tick ≤ 54 → length (spec.calls_at game.now tick) ≤ 20 }
-    ensures whole { length (spec.schedule game.now) ≡ 480 }
-    ensures most { (good : ℕ) → length (spec.clock_calls game.now good) ≤ 54 }
+    ensures once { (tick good : ℕ) → 1 ≤ tick → tick ≤ TICKS → laws.calls_of game.now tick good ≤ 1 }
+    ensures fit { (tick : ℕ) → 1 ≤ tick → tick ≤ TICKS → All (laws.IsDue tick) (spec.calls_at game.now tick) }
+    ensures few { (tick : ℕ) → 1 ≤ tick → tick ≤ TICKS → length (spec.calls_at game.now tick) ≤ 20 }
+    ensures whole { length (spec.schedule game.now) ≡ CLOCK_CASH_ENTRIES }
+    ensures most { (good : ℕ) → length (spec.clock_calls game.now good) ≤ TICKS }
 {
     let _order = &game.order;
 }

@@ -12,7 +12,8 @@ use Rattle.draw_maker.specs.Flights.{made_flight}
 use Rattle.draw_maker.specs.ClosingOrders.{made_order}
 use Rattle.draw_maker.specs.Endowments.{made_endowment}
 use Rattle.draw_maker.specs.Clients.{trip_of, made_client, made_clients}
-use Rattle.draw_maker.specs.Games.{made_seats, game_of_words, made_game}
+use Rattle.game_text.specs.SeatWords.{numbered_seats}
+use Rattle.draw_maker.specs.Games.{game_of_words, made_game}
 use Rattle.draw_maker.proofs.DrawnWords.{after-add, take-words, drop-words, length-words, two_before, parts_within}
 use Rattle.draw_maker.proofs.WordRanges.{words_range}
 use Rattle.draw_maker.proofs.GameRanges.{game_range}
@@ -47,7 +48,7 @@ drawn words =
     let tickets = after 7 nights in
     let wishes = after 96 tickets in
     record {
-      words = made_seats;
+      words = numbered_seats;
       flights = map made_flight (parts 8 55 (next_words 440 words));
       order = made_order (next_words 7 nights);
       endow = map made_endowment (parts 8 12 (next_words 96 tickets));
@@ -70,7 +71,7 @@ game_drawn words =
 -- what is drawn in turn, each from where the one before left the generator
 pub game_in_turn : (words start nights tickets wishes : Lcg) (seats : List (List ℕ)) (flights : List FlightTerms) (order : List ℕ) (endow : List (List ℕ)) (clients : List (List Preferences))
     → start ≡ words → nights ≡ after 440 start → tickets ≡ after 7 nights → wishes ≡ after 96 tickets
-    → seats ≡ made_seats → flights ≡ map made_flight (parts 8 55 (next_words 440 start)) → order ≡ made_order (next_words 7 nights) → endow ≡ map made_endowment (parts 8 12 (next_words 96 tickets))
+    → seats ≡ numbered_seats → flights ≡ map made_flight (parts 8 55 (next_words 440 start)) → order ≡ made_order (next_words 7 nights) → endow ≡ map made_endowment (parts 8 12 (next_words 96 tickets))
     → clients ≡ map made_clients (parts 8 40 (next_words 320 wishes))
     → record { words = seats; flights = flights; order = order; endow = endow; clients = clients } ≡ game_of_words (next_words 863 words)
 game_in_turn words start nights tickets wishes seats flights order endow clients start-is nights-is tickets-is wishes-is seats-are flights-are order-is endow-is clients-are =

@@ -2,6 +2,7 @@
 use Rattle.std.specs.Prelude.{◌≡◌, ℕ, ◌≤◌, List, [], ◌∷◌, Bool, not, None, ◌⊎◌, All, codes, count_by}
 use Rattle.std.specs.Str.{bytes_eq}
 use Rattle.tac_base.specs.declared.bids.Point.{Point}
+use Rattle.tac_base.specs.declared.limits.TheConstants.{TICKS}
 use Rattle.tac_base.specs.Bids.{fault_of}
 use Rattle.text_forms.specs.Lines.{text_of}
 use Rattle.draw_maker.specs.Scripts.{bid_line}
@@ -24,5 +25,5 @@ pub record IsBidScript (count : ℕ) (text : List ℕ) : Type 0 where
   pub lines : List (List ℕ)
   pub in_lines : text ≡ text_of lines
   pub either : All (λ line. (line ≡ codes "tick") ⊎ IsBidLine line) lines
-  pub ticks : count_by is_tick lines ≤ 54
+  pub ticks : count_by is_tick lines ≤ TICKS
   pub bids : count_by (λ line. not (is_tick line)) lines ≡ count

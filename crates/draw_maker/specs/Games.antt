@@ -1,5 +1,6 @@
 -- The game that is made from a number.
-use Rattle.std.specs.Prelude.{ℕ, List, [], ◌∷◌, map, take, drop, codes}
+use Rattle.std.specs.Prelude.{ℕ, List, map, take, drop}
+use Rattle.game_text.specs.SeatWords.{numbered_seats}
 use Rattle.game_text.specs.Games.{GameFile}
 use Rattle.draw_maker.specs.Words.{generator, next_words, parts}
 use Rattle.draw_maker.specs.Flights.{made_flight}
@@ -7,14 +8,10 @@ use Rattle.draw_maker.specs.ClosingOrders.{made_order}
 use Rattle.draw_maker.specs.Endowments.{made_endowment}
 use Rattle.draw_maker.specs.Clients.{made_clients}
 
--- the seat words, for which no word is drawn
-abbrev pub made_seats : List (List ℕ)
-made_seats = codes "seat0" ∷ codes "seat1" ∷ codes "seat2" ∷ codes "seat3" ∷ codes "seat4" ∷ codes "seat5" ∷ codes "seat6" ∷ codes "seat7" ∷ []
-
--- 863 words: 55 for each flight, 7 for the closing order, 12 for each endowment and 40 for the clients of each agent
+-- the numbered seat words, for which no word is drawn, and 863 words: 55 for each flight, 7 for the closing order, 12 for each endowment and 40 for the clients of each agent
 unfoldable pub game_of_words : List ℕ → GameFile
 game_of_words words = record {
-  words = made_seats;
+  words = numbered_seats;
   flights = map made_flight (parts 8 55 words);
   order = made_order (take 7 (drop 440 words));
   endow = map made_endowment (parts 8 12 (drop 447 words));

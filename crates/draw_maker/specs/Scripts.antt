@@ -4,6 +4,7 @@ use Rattle.std.specs.List.{flat_map, range_with_len}
 use Rattle.tac_base.specs.declared.bids.Point.{Point}
 use Rattle.tac_base.specs.declared.numbers.Kind.{Kind}
 use Rattle.tac_base.specs.declared.numbers.Kind.TheVariants.{Flight, Hotel, Ticket}
+use Rattle.tac_base.specs.declared.limits.TheConstants.{TICKS}
 use Rattle.tac_base.specs.Bids.{point_at}
 use Rattle.tac_base.specs.Kinds.{kind_of}
 use Rattle.text_forms.specs.Lines.{text_of}
@@ -32,7 +33,7 @@ made_request words =
 
 -- how many ticks come before the request of this number, counted from 0: 54 in even steps
 abbrev pub ticks_before : ℕ → ℕ → ℕ
-ticks_before count i = 54 * i / count
+ticks_before count i = TICKS * i / count
 
 -- the lines that a request adds to those before it: the ticks that are due, and the request
 abbrev pub made_lines : ℕ → ℕ → List ℕ → List (List ℕ)

@@ -1,7 +1,6 @@
-ghost use Rattle.std.specs.Prelude.{◌≡◌, IsTrue};
+ghost use Rattle.std.specs.Prelude.{◌≡◌};
 ghost use Rattle.game_text.specs.Games.{IsGame};
-ghost use Rattle.game_text.specs.SeatWords.{is_seat_word};
-ghost use Rattle.draw_maker.specs.Games.{made_seats, made_game};
+ghost use Rattle.draw_maker.specs.Games.{made_game};
 
 use crate::closing_orders::draw_order;
 use crate::drawing::draw_each;
@@ -11,30 +10,6 @@ use tac_base::Client;
 
 /// The stream of the generator from which games are made.
 const GAME_STREAM: u64 = 54;
-
-/// The seat word of a text that is one.
-fn seat_word(text: &[u8]) -> SeatWord
-    requires { IsTrue (is_seat_word text.now) }
-    ensures { result ≡ text.now }
-{
-    SeatWord::new(text).unwrap()
-}
-
-/// The seat words of a made game.
-fn seat_words() -> [SeatWord; 8]
-    ensures { result ≡ made_seats }
-{
-    [
-        seat_word(b"seat0"),
-        seat_word(b"seat1"),
-        seat_word(b"seat2"),
-        seat_word(b"seat3"),
-        seat_word(b"seat4"),
-        seat_word(b"seat5"),
-        seat_word(b"seat6"),
-        seat_word(b"seat7"),
-    ]
-}
 
 /// Makes the game of a number: all but its seat words comes from the words of a PCG generator. The rule is this
 /// project's own. It takes no memory.
@@ -51,7 +26,7 @@ pub fn make_game(seed: u64) -> Game
     let mut clients = [[Client::default(); 8]; 8];
     draw_each(&mut clients, &mut generator);
     Game {
-        words: seat_words(),
+        words: SeatWord::numbered(),
         flights,
         order,
         endow,

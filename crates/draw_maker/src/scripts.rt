@@ -2,11 +2,13 @@ ghost use Rattle.std.specs.Prelude.{◌≡◌, ◌+◌, ◌-◌, ◌%◌, ◌<�
 ghost use Rattle.text_forms.specs.Lines.{text_of};
 ghost use Rattle.draw_maker.specs.BidScripts.{IsBidScript};
 ghost use Rattle.draw_maker.specs.Scripts as scripts;
+ghost use Rattle.tac_base.specs.declared.limits.TheConstants.{MADE_REQUESTS};
 
 use crate::drawing::draw_words;
 use bid_strings::print_points;
 use rand_pcg::Lcg64Xsh32;
 use std::alloc::{AllocError, Global};
+use tac_base::limits::TICKS;
 use tac_base::{Good, Kind, Memory, Point, Text, print_numeral};
 
 /// The stream of the generator from which scripts are made.
@@ -82,16 +84,16 @@ fn push_ticks(count: u32, out: &mut Vec<u8>) -> Result<(), AllocError>
 
 /// How many ticks come before the request of this number.
 fn ticks_before(count: u32, i: u32) -> u32
-    requires many { count ≤ 50000 }
+    requires many { count ≤ MADE_REQUESTS }
     requires inside { i < count }
     ensures { result ≡ scripts.ticks_before count i }
 {
-    54 * i / count
+    u32::from(TICKS) * i / count
 }
 
 /// How many ticks come between the request of this number and the one before it.
 fn new_ticks(count: u32, i: u32) -> u32
-    requires many { count ≤ 50000 }
+    requires many { count ≤ MADE_REQUESTS }
     requires inside { i < count }
     ensures { result ≡ scripts.ticks_before count i - scripts.ticks_before count (i - 1) }
 {
@@ -100,7 +102,7 @@ fn new_ticks(count: u32, i: u32) -> u32
 
 /// Appends the ticks that are due, and the request of the words. After an error the text may end within them.
 fn push_request(count: u32, i: u32, words: &[u32; 5], out: &mut Vec<u8>) -> Result<(), AllocError>
-    requires many { count ≤ 50000 }
+    requires many { count ≤ MADE_REQUESTS }
     requires inside { i < count }
     ensures { OnOk result (out.new.items ≡ out.old.items ++ text_of (scripts.made_lines count i words.now)) }
 {
@@ -113,7 +115,7 @@ fn push_request(count: u32, i: u32, words: &[u32; 5], out: &mut Vec<u8>) -> Resu
 /// in even steps. All of it comes from the words of a PCG generator, and it is the same at each call. The rule is this
 /// project's own. With no request the script is empty. `Memory` leaves nothing.
 pub fn make_script(alloc: Global, seed: u64, count: u32) -> Result<Vec<u8>, Memory>
-    requires { count ≤ 50000 }
+    requires { count ≤ MADE_REQUESTS }
     ensures exact { IfOk result (λ text. text.items ≡ scripts.made_script seed count) }
     ensures bids { IfOk result (λ text. IsBidScript count text.items) }
 {

@@ -9,7 +9,7 @@ use Rattle.game_text.specs.Flights.{IsFlight}
 use Rattle.game_text.specs.ClosingOrders.{IsOrder}
 use Rattle.game_text.specs.Endowments.{IsEndowment}
 use Rattle.game_text.specs.AgentLines.{AreClients}
-use Rattle.game_text.specs.Games.{GameFile, IsGame}
+use Rattle.game_text.specs.Games.{IsGame}
 use Rattle.game_text.specs.Schedule.{hotel_nights}
 use Rattle.game_text.specs.QuietGames.{quiet_client, quiet_flight, quiet_game}
 

@@ -1,6 +1,6 @@
 -- The quiet game: flights stay at 300 dollars, nobody has a ticket at the start, the hotels close in rising order, and each client
 -- would come on day 1 and leave on day 2, and gives 100 dollars for the better hotel and for the museum.
-use Rattle.std.specs.Prelude.{ℕ, List, [], ◌∷◌, pos, replicate}
+use Rattle.std.specs.Prelude.{[], ◌∷◌, pos, replicate}
 use Rattle.tac_base.specs.Clients.{Preferences}
 use Rattle.game_text.specs.SeatWords.{numbered_seats}
 use Rattle.game_text.specs.Flights.{FlightTerms}

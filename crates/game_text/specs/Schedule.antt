@@ -4,6 +4,7 @@ use Rattle.std.specs.Prelude.{ℕ, Bool, ◌-◌, ◌/◌, ◌%◌, ◌==◌, if
 use Rattle.std.specs.List.{list_any, enumerate_from, flat_map}
 use Rattle.tac_base.specs.declared.calls.Call.{Call}
 use Rattle.tac_base.specs.declared.calls.Call.TheVariants.{Update, Publish, Close}
+use Rattle.tac_base.specs.declared.limits.TheConstants.{TICKS}
 use Rattle.game_text.specs.Flights.{FlightTerms}
 use Rattle.game_text.specs.Games.{GameFile}
 
@@ -47,7 +48,7 @@ hotel_calls_at order tick = if tick % 6 == 0 then hotel_calls order (tick / 6) e
 -- the calls of a tick, 1 to 54
 unfoldable pub calls_at : GameFile → ℕ → List (ℕ × Call)
 calls_at game tick =
-    if tick == 54
+    if tick == TICKS
     then map closing_of closed_last
     else map (update_of tick) (enumerate_from 0 game.flights) ++ hotel_calls_at game.order tick
 

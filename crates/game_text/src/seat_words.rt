@@ -1,14 +1,20 @@
 ghost use Rattle.std.specs.Prelude.{◌≡◌, ◌≤◌, ◌<◌, ◌-◌, ◌↔◌, ◌==◌, ◌∷◌, ◌++◌, length, replicate, IsTrue, IsOk, IfOk, IfSome, IfNone, Some, None, false, if◌then◌else◌};
 ghost use Rattle.std.specs.List.{list_all, list_any};
 ghost use Rattle.std.specs.Str.{bytes_eq};
+ghost use Rattle.std.specs.Hash as fed;
+ghost use Rattle.std.specs.Cmp.{partial_equiv_from_equiv};
+ghost use Rattle.std.specs.Cmp.Lexicographic.{nat_list_eq_equiv};
+ghost use Rattle.std.specs.Cmp.Rules.{hashing};
+ghost use Rattle.std.proofs.Common.{rules};
 ghost use Rattle.game_text.specs.SeatWords as seats;
 
+use std::hash::{Hash, Hasher};
 use std::marker::Model;
 use tac_base::OutOfRange;
 use text_forms::{Reason, Words};
 
 /// The word by which an agent takes its seat: 1 to 16 bytes of `a`..`z` and `0`..`9`. The rule is this project's own.
-#[derive(Clone, Copy, Debug, PartialEq, Eq, Hash)]
+#[derive(Clone, Copy, Debug)]
 pub struct SeatWord {
     bytes: [u8; 16],
     len: u8,
@@ -28,6 +34,31 @@ impl Model for SeatWord {
     ghost inverse = { λ word. record { bytes = word ++ replicate (16 - length word) 0; len = length word } };
 
     ghost inverse_ok = { λ w h. padded_again (λ bytes len. record { bytes = bytes; len = len }) w.bytes w.len h };
+}
+
+/// Words are equal where their bytes are.
+impl PartialEq for SeatWord {
+    ghost eq = { bytes_eq };
+
+    ghost laws = { partial_equiv_from_equiv nat_list_eq_equiv };
+
+    fn eq(&self, other: &Self) -> bool {
+        self.as_slice() == other.as_slice()
+    }
+}
+
+impl Eq for SeatWord {
+    ghost laws = { nat_list_eq_equiv };
+}
+
+impl Hash for SeatWord {
+    ghost hash_input = { λ word. fed.slice fed.u8 word };
+
+    ghost respects_eq = { Prim.search (hashing, rules) };
+
+    fn hash<H: Hasher>(&self, state: &mut H) {
+        self.as_slice().hash(state);
+    }
 }
 
 fn is_seat_byte(byte: u8) -> bool

@@ -7,9 +7,9 @@ use Rattle.draw_maker.proofs.games.make_game.Goals as goal
 pub returns-clause-exact : goal.returns-clause-exact
 returns-clause-exact c =
     game_in_turn (generator c.args.seed 54) c.new-generator.result c.draw_each.new.generator c.draw_order-order.new.generator c.draw_each-2.new.generator
-    c.seat_words.result c.draw_each.new.values c.draw_order-order.result c.draw_each-2.new.values c.draw_each-3.new.values
+    c.numbered.result c.draw_each.new.values c.draw_order-order.result c.draw_each-2.new.values c.draw_each-3.new.values
     c.new-generator.ensures c.draw_each.ensures.left c.draw_order-order.ensures.left c.draw_each-2.ensures.left
-    c.seat_words.ensures c.draw_each.ensures.value c.draw_order-order.ensures.value c.draw_each-2.ensures.value c.draw_each-3.ensures.value
+    c.numbered.ensures c.draw_each.ensures.value c.draw_order-order.ensures.value c.draw_each-2.ensures.value c.draw_each-3.ensures.value
 
 pub invariant_of-result : goal.invariant_of-result
 invariant_of-result c = subst IsGame (sym (returns-clause-exact c)) (made_game_range c.args.seed)
