@@ -4,3 +4,4 @@ pub mod Logged
 pub mod SheetText
 pub mod SheetWritten
 pub mod LoggedSheet
+pub mod ScoredGames

@@ -9,3 +9,8 @@ abbrev pub Writes : List ℕ → Option (List ℕ) → Option (List ℕ) → ℕ
 Writes piece taken taken' faults faults' result = MatchResult result
     (λ _. (taken' ≡ and_then_told taken piece) × (faults' ≡ faults))
     (λ _. TakesSome taken taken' piece × Rose faults faults')
+
+-- a sink as it was before
+pub record IsUntouched (taken taken' : Option (List ℕ)) (faults faults' : ℕ) : Type 0 where
+  pub taken_same : taken' ≡ taken
+  pub faults_same : faults' ≡ faults

@@ -1,7 +1,7 @@
 // The second part of a log, of scores that are made by hand.
 ghost use Rattle.std.specs.Prelude.{◌≡◌};
 
-use crate::{LogWriteFault, write_sheet_part};
+use crate::write_sheet_part;
 use allocator::Solved;
 use bound_cert::{Cert, CertNode};
 use packages::{Package, Prices};
@@ -85,21 +85,5 @@ fn a_sheet_is_written(rt: HostRuntime) -> Result<(), Fail> {
     let mut sink = MemSink::new(alloc, 65536, 1000, Vec::new(alloc))?;
     assert_eq!(rt; write_sheet_part(alloc, &mut sink, &sheet), Ok(()));
     assert_eq!(rt; sink.bytes(), small_text(alloc)?.as_bytes());
-    Ok(())
-}
-
-#[test]
-fn a_sheet_ends_at_a_failing_write(rt: HostRuntime) -> Result<(), Fail> {
-    let alloc = rt.alloc();
-    let sheet = small_sheet(alloc)?;
-    let mut failing = Vec::new(alloc);
-    failing.push(2)?;
-    let mut sink = MemSink::new(alloc, 65536, 1000, failing)?;
-    assert_eq!(rt;
-        write_sheet_part(alloc, &mut sink, &sheet),
-        Err(LogWriteFault::Failed)
-    );
-    let due = small_text(alloc)?;
-    assert!(rt; sink.bytes().len() == 1000 && due.as_bytes().starts_with(sink.bytes()));
     Ok(())
 }

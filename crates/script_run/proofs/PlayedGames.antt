@@ -8,6 +8,7 @@ use Rattle.auction_core.specs.ClosedGame.{ClosedGame}
 use Rattle.score_sheet.specs.Sheets.{Scored}
 use Rattle.game_log.specs.LogText.{play_part}
 use Rattle.game_log.specs.SheetText.{sheet_part}
+use Rattle.game_log.specs.ScoredGames.{IsSheetOf, WritesSheet}
 use Rattle.line_protocol.specs.Heads.{Play}
 use Rattle.game_log.specs.declared.fault.LogWriteFault.TheVariants as log
 use Rattle.game_log.proofs.Writing.{some_after}
@@ -19,9 +20,9 @@ use Rattle.script_run.specs.declared.play_count.PlayCount.{PlayCount}
 use Rattle.script_run.specs.declared.playing.Played.{Played}
 use Rattle.script_run.specs.GameScripts.{judge}
 use Rattle.script_run.specs.GameRuns.{HasRun, Steps, PlaysLines}
-use Rattle.script_run.specs.GameOuts.{closed_game, first_out, play_out, IsSheetOf, IsGoodScript, IsPlayOut, IsFirstOut, PlaysScript}
+use Rattle.script_run.specs.GameOuts.{closed_game, first_out, play_out, IsGoodScript, IsPlayOut, IsFirstOut, PlaysScript}
 use Rattle.script_run.specs.OneThreadRun.{whole_game, count_of}
-use Rattle.script_run.specs.PlayedGames.{HasPlayed, PlaysToEnd, WritesSheet, WritesPlayed, first_text}
+use Rattle.script_run.specs.PlayedGames.{HasPlayed, PlaysToEnd, WritesPlayed, first_text}
 use Rattle.script_run.specs.QuietGames.{PlaysQuietly}
 use Rattle.script_run.proofs.ClosedCounts.{counted, count_closed}
 use Rattle.script_run.proofs.ScriptReading.{HasRead, stops}
@@ -36,8 +37,8 @@ pub record IsPlaying (game : GameFile) (script rest : List ℕ) (number : ℕ) (
 pub fails : (game : GameFile) (script rest line after : List ℕ) (number : ℕ) (run run' : GameRun) (fault : ScriptFault) (playing : IsPlaying game script rest number run) →
     parts_of 10 rest ≡ line ∷ parts_of 10 after → Steps game playing.lines number line run' (Err fault) → PlaysLines game script (Err fault)
 fails game script rest line after number run run' (Line at reason) playing e stepped =
-    stops judge playing.lines script rest line after number reason playing.read e stepped.1
-    ∙ ap (λ (n : ℕ). Err (n, reason)) (sym stepped.0)
+    stops judge playing.lines script rest line after number stepped.0 playing.read e stepped.3
+    ∙ (λ i. Err (sym stepped.1 i, sym stepped.2 i))
 fails game script rest line after number run run' TooLong playing e stepped = stepped
 fails game script rest line after number run run' Failed playing e stepped = stepped
 fails game script rest line after number run run' Memory playing e stepped = tt

@@ -16,40 +16,21 @@ use Rattle.auction_core.proofs.Counting.{length-part}
 use Rattle.script_run.specs.declared.hotel_lines.HotelLine.{HotelLine}
 use Rattle.script_run.specs.declared.hotel_run.HotelRun.{HotelRun}
 use Rattle.script_run.specs.HotelLines.{line_of, asked}
-use Rattle.script_run.specs.HotelScripts.{lines_of, judged, at_line, lines_from, script_of, one_hotel, script_past, entry_text, hotel_out}
+use Rattle.script_run.specs.HotelScripts.{lines_of, judged, judge, one_hotel, script_past, entry_text, hotel_out}
+use Rattle.script_run.specs.declared.fault.ScriptReason.{ScriptReason}
+use Rattle.script_run.specs.declared.fault.ScriptReason.TheVariants.{TooMany, TooManyOfCaller}
 use Rattle.script_run.specs.declared.fault.ScriptFault.{ScriptFault}
 use Rattle.script_run.specs.declared.fault.ScriptFault.TheVariants.{Line, TooLong, Failed, Memory}
 use Rattle.script_run.specs.HotelRuns.{called, HasRun, Steps}
 use Rattle.script_run.specs.HotelOuts.{RunsLines}
+use Rattle.script_run.proofs.ScriptReading.{HasRead, stops}
 
--- the run has come to the end of some lines, and those that are left follow them in the script
+-- some lines of a script were run
 pub record IsRunning (script rest : List ℕ) (run : HotelRun) : Type 0 where
   pub lines : List HotelLine
+  pub number : ℕ
   pub ran : HasRun lines run
-  pub left : lines_from lines (parts_of 10 rest) ≡ script_of script
-
--- a part that is not the last is a line
-pub line_first : (lines : List HotelLine) (part : List ℕ) (parts : List (List ℕ)) → length parts ≢ 0 →
-    lines_from lines (part ∷ parts) ≡ at_line (length lines + 1) (judged lines (line_of part)) (λ line. lines_from (line ∷ lines) parts)
-line_first lines part [] some = absurd (some refl)
-line_first lines part (next ∷ parts) some = refl
-
-some_part : (bytes : List ℕ) → length (parts_of 10 bytes) ≢ 0
-some_part bytes e = let count = length-slice_split (λ b. b == 10) bytes in omega (arith, count, e)
-
--- the next line of what is left is a good one
-pub goes_on : (lines : List HotelLine) (rest line after : List ℕ) (asked : HotelLine) → parts_of 10 rest ≡ line ∷ parts_of 10 after →
-    judged lines (line_of line) ≡ Ok asked → lines_from lines (parts_of 10 rest) ≡ lines_from (asked ∷ lines) (parts_of 10 after)
-goes_on lines rest line after asked e good =
-    ap (lines_from lines) e ∙ line_first lines line (parts_of 10 after) (some_part after)
-    ∙ ap (λ (r : Result HotelLine ℕ). at_line (length lines + 1) r (λ l. lines_from (l ∷ lines) (parts_of 10 after))) good
-
--- the next line of what is left is a bad one
-pub stops : (lines : List HotelLine) (rest line after : List ℕ) (reason : ℕ) → parts_of 10 rest ≡ line ∷ parts_of 10 after →
-    judged lines (line_of line) ≡ Err reason → lines_from lines (parts_of 10 rest) ≡ Err (length lines + 1, reason)
-stops lines rest line after reason e bad =
-    ap (lines_from lines) e ∙ line_first lines line (parts_of 10 after) (some_part after)
-    ∙ ap (λ (r : Result HotelLine ℕ). at_line (length lines + 1) r (λ l. lines_from (l ∷ lines) (parts_of 10 after))) bad
+  pub read : HasRead judge lines script rest number
 
 -- a script's history has an entry for each line
 pub length-script_past : (lines : List HotelLine) → length (script_past lines) ≡ length lines
@@ -59,14 +40,14 @@ length-script_past (line ∷ lines) = ap suc (length-script_past lines)
 -- ---- the auction of some lines
 
 -- a line that is no line too many leaves its caller a call
-pub has_room : (lines : List HotelLine) (read : Result HotelLine ℕ) (line : HotelLine) → judged lines read ≡ Ok line → lines_of lines (asked line).0 < cap (asked line).0
+pub has_room : (lines : List HotelLine) (read : Result HotelLine ScriptReason) (line : HotelLine) → judged lines read ≡ Ok line → lines_of lines (asked line).0 < cap (asked line).0
 has_room lines (Err reason) line good = absurd cc
 has_room lines (Ok first) line good = by_tests (nat_le 8256 (length lines)) (nat_le (cap (asked first).0) (lines_of lines (asked first).0)) refl good
   where
     below : (n m : ℕ) → nat_le n m ≡ false → m < n
     below n m h = grind (arith, nat_tests)
 
-    by_tests : (a b : Bool) → nat_le (cap (asked first).0) (lines_of lines (asked first).0) ≡ b → ◌≡◌ {A = Result HotelLine ℕ} (cond a (Err 4) (cond b (Err 5) (Ok first))) (Ok line) →
+    by_tests : (a b : Bool) → nat_le (cap (asked first).0) (lines_of lines (asked first).0) ≡ b → ◌≡◌ {A = Result HotelLine ScriptReason} (cond a (Err TooMany) (cond b (Err TooManyOfCaller) (Ok first))) (Ok line) →
         lines_of lines (asked line).0 < cap (asked line).0
     by_tests true b is h = absurd cc
     by_tests false true is h = absurd cc
@@ -128,8 +109,9 @@ newest_trades history next e position trades is at found =
 pub fails : (script rest line after : List ℕ) (run run' : HotelRun) (fault : ScriptFault) (running : IsRunning script rest run) →
     parts_of 10 rest ≡ line ∷ parts_of 10 after → Steps running.lines line run' (Err fault) → RunsLines script (Err fault)
 fails script rest line after run run' (Line number reason) running e stepped =
-    sym running.left ∙ stops running.lines rest line after reason e stepped.1
-    ∙ ap (λ (n : ℕ). Err (n, reason)) (sym stepped.0)
+    let why = stepped.0 in
+    stops judge running.lines script rest line after running.number why running.read e stepped.3
+    ∙ (λ i. Err ((running.read.at ∙ sym stepped.1) i, sym stepped.2 i))
 fails script rest line after run run' TooLong running e stepped = stepped
 fails script rest line after run run' Failed running e stepped = stepped
 fails script rest line after run run' Memory running e stepped = tt

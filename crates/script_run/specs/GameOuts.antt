@@ -3,11 +3,13 @@ use Rattle.std.specs.Prelude.{◌≡◌, ℕ, ◌<◌, ◌≤◌, ◌⊎◌, Lis
 use Rattle.tac_io.specs.Counts.{Rose}
 use Rattle.tac_io.specs.Told.{and_then_told, TakesSome}
 use Rattle.game_text.specs.Games.{GameFile}
+use Rattle.tac_base.specs.declared.limits.TheConstants.{TEXT_BYTES}
 use Rattle.auction_core.specs.ClosedGame.{ClosedGame}
-use Rattle.score_sheet.specs.Settlement.{settlement_of}
-use Rattle.score_sheet.specs.Sheets.{Scored, IsSheet}
+use Rattle.score_sheet.specs.Sheets.{Scored}
 use Rattle.game_log.specs.LogText.{play_part}
 use Rattle.game_log.specs.SheetText.{sheet_part}
+use Rattle.game_log.specs.ScoredGames.{IsSheetOf}
+use Rattle.game_log.specs.Written.{IsUntouched}
 use Rattle.line_protocol.specs.Heads.{Play}
 use Rattle.script_run.specs.declared.game_lines.GameLine.{GameLine}
 use Rattle.script_run.specs.declared.fault.ScriptFault.{ScriptFault}
@@ -15,7 +17,6 @@ use Rattle.script_run.specs.declared.fault.ScriptFault.TheVariants.{Line, TooLon
 use Rattle.script_run.specs.declared.play_count.PlayCount.{PlayCount}
 use Rattle.script_run.specs.GameScripts.{game_script}
 use Rattle.script_run.specs.OneThreadRun.{replies, closed_of, whole_game, count_of}
-use Rattle.script_run.specs.HotelOuts.{longest_script, IsUntouched}
 
 -- the histories of a whole game by the lines of a script, the last line first
 abbrev pub closed_game : GameFile → List GameLine → ClosedGame
@@ -29,18 +30,14 @@ first_out game lines = replies game lines ++ play_part Play (closed_game game li
 abbrev pub play_out : GameFile → List GameLine → List Scored → List ℕ
 play_out game lines sheet = first_out game lines ++ sheet_part sheet
 
--- the scores of a game: of the goods and the dollars that its histories leave to each agent
-abbrev pub IsSheetOf : GameFile → ClosedGame → List Scored → Type 0
-IsSheetOf game closed sheet = IsSheet game (settlement_of closed.auctions) sheet
-
 -- a script that is not too long, and whose lines are good
 pub record IsGoodScript (script : List ℕ) (lines : List GameLine) : Type 0 where
-  pub within : length script ≤ longest_script
+  pub within : length script ≤ TEXT_BYTES
   pub good : game_script script ≡ Ok lines
 
 -- a script that is not too long, and its first bad line with the first reason
 pub record IsBadScript (script : List ℕ) (line reason : ℕ) : Type 0 where
-  pub within : length script ≤ longest_script
+  pub within : length script ≤ TEXT_BYTES
   pub bad : game_script script ≡ Err (line, reason)
 
 -- the text of a game by a script, with some sheet of the game
@@ -69,7 +66,7 @@ abbrev pub PlaysScript : GameFile → List ℕ → Option (List ℕ) → Option 
 PlaysScript game script taken taken' faults faults' (Ok count) =
     (text : List ℕ) × IsPlayOut game script text × IsCount game script count × (taken' ≡ and_then_told taken text) × (faults' ≡ faults)
 PlaysScript game script taken taken' faults faults' (Err (Line line reason)) = IsBadScript script line reason × IsUntouched taken taken' faults faults'
-PlaysScript game script taken taken' faults faults' (Err TooLong) = (longest_script < length script) × IsUntouched taken taken' faults faults'
+PlaysScript game script taken taken' faults faults' (Err TooLong) = (TEXT_BYTES < length script) × IsUntouched taken taken' faults faults'
 PlaysScript game script taken taken' faults faults' (Err Failed) =
     (text : List ℕ) × (IsFirstOut game script text ⊎ IsPlayOut game script text) × TakesSome taken taken' text × Rose faults faults'
 PlaysScript game script taken taken' faults faults' (Err Memory) =

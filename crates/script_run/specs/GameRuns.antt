@@ -5,6 +5,8 @@ use Rattle.script_run.specs.declared.game_lines.GameLine.{GameLine}
 use Rattle.script_run.specs.declared.game_run.GameRun.{GameRun}
 use Rattle.script_run.specs.declared.fault.ScriptFault.{ScriptFault}
 use Rattle.script_run.specs.declared.fault.ScriptFault.TheVariants.{Line, TooLong, Failed, Memory}
+use Rattle.script_run.specs.declared.fault.ScriptReason.{ScriptReason}
+use Rattle.script_run.specs.ScriptLines.{number_of}
 use Rattle.script_run.specs.GameScripts.{judge, game_script}
 use Rattle.script_run.specs.GameCounts.{Counts}
 use Rattle.script_run.specs.OneThreadRun.{played, replies}
@@ -19,7 +21,7 @@ pub record HasRun (game : GameFile) (lines : List GameLine) (run : GameRun) : Ty
 -- a line after others was played, or is bad, or there was no memory for its text
 abbrev pub Steps : GameFile → List GameLine → ℕ → List ℕ → GameRun → Result (Unit {0}) ScriptFault → Type 0
 Steps game lines number line run (Ok done) = (asked : GameLine) × (judge lines line ≡ Ok asked) × HasRun game (asked ∷ lines) run
-Steps game lines number line run (Err (Line line_number reason)) = (line_number ≡ number) × (judge lines line ≡ Err reason)
+Steps game lines number line run (Err (Line line_number reason)) = (why : ScriptReason) × (line_number ≡ number) × (reason ≡ number_of why) × (judge lines line ≡ Err why)
 Steps game lines number line run (Err TooLong) = ⊥
 Steps game lines number line run (Err Failed) = ⊥
 Steps game lines number line run (Err Memory) = ⊤

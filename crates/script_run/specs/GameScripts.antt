@@ -1,9 +1,12 @@
 -- Game scripts: which are played.
 use Rattle.std.specs.Prelude.{ℕ, ◌==◌, ◌&&◌, Bool, true, false, nat_le, if◌then◌else◌, List, count_by, Result, Ok, Err}
 use Rattle.std.specs.List.{list_any}
+use Rattle.tac_base.specs.declared.limits.TheConstants.{TICKS, SESSION_LINES}
 use Rattle.line_protocol.specs.declared.asking.Request.{Request}
 use Rattle.line_protocol.specs.declared.asking.Request.TheVariants.{Quit}
 use Rattle.line_protocol.specs.declared.asking.RequestFault.{RequestFault}
+use Rattle.script_run.specs.declared.fault.ScriptReason.{ScriptReason}
+use Rattle.script_run.specs.declared.fault.ScriptReason.TheVariants.{Ended, TooMany}
 use Rattle.script_run.specs.declared.game_lines.GameLine.{GameLine}
 use Rattle.script_run.specs.declared.game_lines.GameLine.TheVariants.{Tick, Asks}
 use Rattle.script_run.specs.ScriptLines.{BadLine, lines_of_text}
@@ -38,21 +41,21 @@ lines_of lines agent = count_by (is_of agent) lines
 abbrev pub has_quit : List GameLine → ℕ → Bool
 has_quit lines agent = list_any (quits agent) lines
 
--- A line after others, where its agent has not ended its session, 2, and where there are not too many: 54 ticks, or 65,536 lines of
--- its agent, 4.
-abbrev pub limited : List GameLine → GameLine → Result GameLine ℕ
-limited lines Tick = if nat_le 54 (ticks_of lines) then Err 4 else Ok Tick
+-- A line after others, where its agent has not ended its session, and where there are not too many, of ticks or of lines of its
+-- agent.
+abbrev pub limited : List GameLine → GameLine → Result GameLine ScriptReason
+limited lines Tick = if nat_le TICKS (ticks_of lines) then Err TooMany else Ok Tick
 limited lines (Asks agent asked) =
-    if has_quit lines agent then Err 2
-    else if nat_le 65536 (lines_of lines agent) then Err 4
+    if has_quit lines agent then Err Ended
+    else if nat_le SESSION_LINES (lines_of lines agent) then Err TooMany
     else Ok (Asks agent asked)
 
 -- what a line after others asks, or the first reason why it is bad
-abbrev pub judged : List GameLine → Result GameLine ℕ → Result GameLine ℕ
+abbrev pub judged : List GameLine → Result GameLine ScriptReason → Result GameLine ScriptReason
 judged lines (Err reason) = Err reason
 judged lines (Ok line) = limited lines line
 
-abbrev pub judge : List GameLine → List ℕ → Result GameLine ℕ
+abbrev pub judge : List GameLine → List ℕ → Result GameLine ScriptReason
 judge lines line = judged lines (line_of line)
 
 -- the lines of a game script, the last line first, or the first bad line

@@ -1,5 +1,6 @@
 -- A game that one thread plays, step by step.
 use Rattle.std.specs.Prelude.{ℕ, ◌+◌, ◌==◌, Bool, false, nat_le, if◌then◌else◌, List, [], ◌∷◌, ◌++◌, length, replicate, count_by, slice_index_or, slice_set, Result, Ok, Err}
+use Rattle.tac_base.specs.declared.limits.TheConstants.{TICKS, AGENT_CALLS, CASH_READINGS}
 use Rattle.tac_base.specs.declared.calls.Call.{Call}
 use Rattle.tac_base.specs.declared.calls.Call.TheVariants as calls
 use Rattle.game_text.specs.Games.{GameFile}
@@ -63,16 +64,16 @@ reads agent (cash_calls.Read reader) = reader == agent
 abbrev pub readings_of : List CashEntry → ℕ → ℕ
 readings_of cash agent = count_by (λ e. reads agent e.call) cash
 
--- an agent's call in the auction of a good: it has 1024 there
+-- an agent's call in the auction of a good: it has so many there
 abbrev pub call_turn : GameFile → ℕ → ℕ → Call → GameState → Said × GameState
 call_turn game agent good call state =
-    if nat_le 1024 (entries_of (past_at state.pasts good) agent) then (said.Spent, state)
+    if nat_le AGENT_CALLS (entries_of (past_at state.pasts good) agent) then (said.Spent, state)
     else (said.At (length (past_at state.pasts good)) (entry_at game state.pasts agent good call).reply, called game agent good call state)
 
--- an agent's reading: it has 1024
+-- an agent's reading: it has so many
 abbrev pub cash_turn : ℕ → GameState → Said × GameState
 cash_turn agent state =
-    if nat_le 1024 (readings_of state.cash agent) then (said.Spent, state)
+    if nat_le CASH_READINGS (readings_of state.cash agent) then (said.Spent, state)
     else (said.Cash (length state.cash) (total_of state.cash agent), record { pasts = state.pasts; cash = state.cash ++ reading_of state.cash agent ∷ []; ticks = state.ticks })
 
 -- what an agent is told, and the game after it
@@ -92,8 +93,8 @@ abbrev pub clocked : GameFile → List (ℕ × Call) → GameState → GameState
 clocked game [] state = state
 clocked game ((good, call) ∷ calls) state = clocked game calls (called game clock good call state)
 
--- the calls of the next tick are made, where one of the 54 is left
+-- the calls of the next tick are made, where one is left
 abbrev pub ticked : GameFile → GameState → GameState
 ticked game state =
-    if nat_le 54 state.ticks then state
+    if nat_le TICKS state.ticks then state
     else clocked game (calls_at game (state.ticks + 1)) (record { pasts = state.pasts; cash = state.cash; ticks = state.ticks + 1 })

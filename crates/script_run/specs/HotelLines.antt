@@ -9,15 +9,17 @@ use Rattle.tac_base.specs.declared.calls.Call.TheVariants as calls
 use Rattle.text_forms.specs.Words.{words_of}
 use Rattle.bid_strings.specs.BidForm.{points_of, judged}
 use Rattle.tac_base.specs.Goods.{clock}
+use Rattle.script_run.specs.declared.fault.ScriptReason.{ScriptReason}
+use Rattle.script_run.specs.declared.fault.ScriptReason.TheVariants.{Form, Points}
 use Rattle.script_run.specs.declared.hotel_lines.HotelLine.{HotelLine}
 use Rattle.script_run.specs.declared.hotel_lines.HotelLine.TheVariants.{Bid, Own, Publish, Close}
 
 -- a line of one word is the clock's
-abbrev pub clock_line : List ℕ → Result HotelLine ℕ
+abbrev pub clock_line : List ℕ → Result HotelLine ScriptReason
 clock_line word =
     if bytes_eq word (codes "publish") then Ok Publish
     else if bytes_eq word (codes "close") then Ok Close
-    else Err 1
+    else Err Form
 
 -- an agent is one digit `0` to `7`
 abbrev pub agent_of : List ℕ → Option ℕ
@@ -26,28 +28,28 @@ agent_of (digit ∷ []) = if nat_le 48 digit && nat_le digit 55 then Some (digit
 agent_of (digit ∷ other ∷ more) = None
 
 -- a bid of points that were read, or not
-abbrev pub bid_of : ℕ → Result (List Point) BidFault → Result HotelLine ℕ
-bid_of agent (Err fault) = Err 2
+abbrev pub bid_of : ℕ → Result (List Point) BidFault → Result HotelLine ScriptReason
+bid_of agent (Err fault) = Err Points
 bid_of agent (Ok points) = Ok (Bid agent points)
 
 -- a line of an agent, a word and points
-abbrev pub bid_line : Option ℕ → List ℕ → List ℕ → Result HotelLine ℕ
-bid_line None keyword points = Err 1
-bid_line (Some agent) keyword points = if bytes_eq keyword (codes "bid") then bid_of agent (judged (points_of points)) else Err 1
+abbrev pub bid_line : Option ℕ → List ℕ → List ℕ → Result HotelLine ScriptReason
+bid_line None keyword points = Err Form
+bid_line (Some agent) keyword points = if bytes_eq keyword (codes "bid") then bid_of agent (judged (points_of points)) else Err Form
 
 -- a line of an agent and a word
-abbrev pub own_line : Option ℕ → List ℕ → Result HotelLine ℕ
-own_line None keyword = Err 1
-own_line (Some agent) keyword = if bytes_eq keyword (codes "own") then Ok (Own agent) else Err 1
+abbrev pub own_line : Option ℕ → List ℕ → Result HotelLine ScriptReason
+own_line None keyword = Err Form
+own_line (Some agent) keyword = if bytes_eq keyword (codes "own") then Ok (Own agent) else Err Form
 
-abbrev pub line_of_words : List (List ℕ) → Result HotelLine ℕ
-line_of_words [] = Err 1
+abbrev pub line_of_words : List (List ℕ) → Result HotelLine ScriptReason
+line_of_words [] = Err Form
 line_of_words (word ∷ []) = clock_line word
 line_of_words (agent ∷ keyword ∷ []) = own_line (agent_of agent) keyword
 line_of_words (agent ∷ keyword ∷ word ∷ words) = bid_line (agent_of agent) keyword (join_with_byte 32 (word ∷ words))
 
--- what a line asks, or the reason why it is bad in itself: 1 where it has no form, 2 where its points are refused
-unfoldable pub line_of : List ℕ → Result HotelLine ℕ
+-- what a line asks, or the reason why it is bad in itself
+unfoldable pub line_of : List ℕ → Result HotelLine ScriptReason
 line_of line = line_of_words (words_of line)
 
 -- the caller and the call of a line

@@ -2,27 +2,29 @@
 use Rattle.std.specs.Prelude.{◌≡◌, ℕ, ◌<◌, ◌≤◌, ⊤, List, [], length, Result, Ok, Err, Option}
 use Rattle.tac_io.specs.Counts.{Rose}
 use Rattle.tac_io.specs.Told.{and_then_told, TakesSome}
+use Rattle.tac_base.specs.declared.limits.TheConstants.{TEXT_BYTES}
 use Rattle.script_run.specs.declared.hotel_lines.HotelLine.{HotelLine}
 use Rattle.script_run.specs.declared.fault.ScriptFault.{ScriptFault}
 use Rattle.script_run.specs.declared.fault.ScriptFault.TheVariants.{Line, TooLong, Failed, Memory}
 use Rattle.script_run.specs.declared.hotel_run.HotelRun.{HotelRun}
+use Rattle.game_log.specs.Written.{IsUntouched}
 use Rattle.script_run.specs.HotelScripts.{script_of, hotel_out}
 use Rattle.script_run.specs.HotelRuns.{HasRun}
 
--- the most bytes of a script
+-- the most bytes of a script, under another name
 abbrev pub longest_script : ℕ
-longest_script = 67108864
+longest_script = TEXT_BYTES
 
 -- the text is that of a script with good lines
 pub record IsOut (script text : List ℕ) : Type 0 where
-  pub within : length script ≤ longest_script
+  pub within : length script ≤ TEXT_BYTES
   pub lines : List HotelLine
   pub good : script_of script ≡ Ok lines
   pub due : text ≡ hotel_out lines
 
 -- the first bad line of a script, with its first reason
 pub record IsBad (script : List ℕ) (line reason : ℕ) : Type 0 where
-  pub within : length script ≤ longest_script
+  pub within : length script ≤ TEXT_BYTES
   pub bad : script_of script ≡ Err (line, reason)
 
 -- no line was run yet, or there was no memory to begin
@@ -41,16 +43,11 @@ RunsLines script (Err TooLong) = ⊥
 RunsLines script (Err Failed) = ⊥
 RunsLines script (Err Memory) = ⊤
 
--- a sink as it was before
-pub record IsUntouched (taken taken' : Option (List ℕ)) (faults faults' : ℕ) : Type 0 where
-  pub taken_same : taken' ≡ taken
-  pub faults_same : faults' ≡ faults
-
 -- what was answered and written of a script: its whole text, or the first bytes of it where a write failed, or nothing
 abbrev pub RunsScript : List ℕ → Option (List ℕ) → Option (List ℕ) → ℕ → ℕ → Result (Unit {0}) ScriptFault → Type 0
 RunsScript script taken taken' faults faults' (Ok done) =
     (text : List ℕ) × IsOut script text × (taken' ≡ and_then_told taken text) × (faults' ≡ faults)
 RunsScript script taken taken' faults faults' (Err (Line line reason)) = IsBad script line reason × IsUntouched taken taken' faults faults'
-RunsScript script taken taken' faults faults' (Err TooLong) = (longest_script < length script) × IsUntouched taken taken' faults faults'
+RunsScript script taken taken' faults faults' (Err TooLong) = (TEXT_BYTES < length script) × IsUntouched taken taken' faults faults'
 RunsScript script taken taken' faults faults' (Err Failed) = (text : List ℕ) × IsOut script text × TakesSome taken taken' text × Rose faults faults'
 RunsScript script taken taken' faults faults' (Err Memory) = IsUntouched taken taken' faults faults'

@@ -7,8 +7,9 @@ use Rattle.script_run.specs.declared.hotel_lines.HotelLine.{HotelLine}
 use Rattle.script_run.specs.declared.hotel_run.HotelRun.{HotelRun}
 use Rattle.script_run.specs.declared.fault.ScriptFault.{ScriptFault}
 use Rattle.script_run.specs.declared.fault.ScriptFault.TheVariants.{Line, TooLong, Failed, Memory}
-use Rattle.script_run.specs.HotelLines.{line_of}
-use Rattle.script_run.specs.HotelScripts.{judged, one_hotel, script_past, hotel_out}
+use Rattle.script_run.specs.declared.fault.ScriptReason.{ScriptReason}
+use Rattle.script_run.specs.ScriptLines.{number_of}
+use Rattle.script_run.specs.HotelScripts.{judge, one_hotel, script_past, hotel_out}
 use Rattle.script_run.specs.LineCounts.{Counts}
 
 -- an auction with the entry of a call more
@@ -27,8 +28,8 @@ Runs run = (lines : List HotelLine) × HasRun lines run
 
 -- a line after others was run, or is bad, or there was no memory for its text
 abbrev pub Steps : List HotelLine → List ℕ → HotelRun → Result (Unit {0}) ScriptFault → Type 0
-Steps lines line run (Ok done) = (asked : HotelLine) × (judged lines (line_of line) ≡ Ok asked) × HasRun (asked ∷ lines) run
-Steps lines line run (Err (Line number reason)) = (number ≡ length lines + 1) × (judged lines (line_of line) ≡ Err reason)
+Steps lines line run (Ok done) = (asked : HotelLine) × (judge lines line ≡ Ok asked) × HasRun (asked ∷ lines) run
+Steps lines line run (Err (Line number reason)) = (why : ScriptReason) × (number ≡ length lines + 1) × (reason ≡ number_of why) × (judge lines line ≡ Err why)
 Steps lines line run (Err TooLong) = ⊥
 Steps lines line run (Err Failed) = ⊥
 Steps lines line run (Err Memory) = ⊤

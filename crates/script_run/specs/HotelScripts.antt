@@ -1,12 +1,15 @@
 -- Hotel scripts: which are run, and what is written of their run.
 use Rattle.std.specs.Prelude.{ℕ, ◌+◌, ◌==◌, nat_le, if◌then◌else◌, List, [], ◌∷◌, ◌++◌, length, map, count_by, replicate, pos, Result, Ok, Err, false}
 use Rattle.std.specs.List.{flat_map}
-use Rattle.text_forms.specs.Words.{parts_of}
+use Rattle.tac_base.specs.declared.limits.TheConstants.{AUCTION_ENTRIES}
 use Rattle.auction_rules.specs.Setup.{Setup}
 use Rattle.auction_rules.specs.declared.rules.Rules.TheVariants.{Hotel as HotelRules}
 use Rattle.auction_rules.specs.History.{Entry}
 use Rattle.auction_rules.specs.Legal.{past_of, cap}
+use Rattle.script_run.specs.declared.fault.ScriptReason.{ScriptReason}
+use Rattle.script_run.specs.declared.fault.ScriptReason.TheVariants.{TooMany, TooManyOfCaller}
 use Rattle.script_run.specs.declared.hotel_lines.HotelLine.{HotelLine}
+use Rattle.script_run.specs.ScriptLines.{BadLine, lines_of_text}
 use Rattle.script_run.specs.HotelLines.{line_of, asked}
 use Rattle.game_log.specs.LogText.{trade_line}
 use Rattle.script_run.specs.Replies.{reply_line}
@@ -16,37 +19,24 @@ abbrev pub lines_of : List HotelLine → ℕ → ℕ
 lines_of lines caller = count_by (λ line. (asked line).0 == caller) lines
 
 -- a line after others, where there are not too many: of the script, or of its caller
-abbrev pub limited : List HotelLine → HotelLine → Result HotelLine ℕ
+abbrev pub limited : List HotelLine → HotelLine → Result HotelLine ScriptReason
 limited lines line =
-    if nat_le 8256 (length lines) then Err 4
-    else if nat_le (cap (asked line).0) (lines_of lines (asked line).0) then Err 5
+    if nat_le AUCTION_ENTRIES (length lines) then Err TooMany
+    else if nat_le (cap (asked line).0) (lines_of lines (asked line).0) then Err TooManyOfCaller
     else Ok line
 
--- what a line after others asks, or the first reason why it is bad
-abbrev pub judged : List HotelLine → Result HotelLine ℕ → Result HotelLine ℕ
+-- what was read of a line after others, where it may stand there
+abbrev pub judged : List HotelLine → Result HotelLine ScriptReason → Result HotelLine ScriptReason
 judged lines (Err reason) = Err reason
 judged lines (Ok line) = limited lines line
 
--- the number of the first bad line, with its first reason
-abbrev pub BadLine : Type 0
-BadLine = ℕ × ℕ
+-- what a line after others asks, or the first reason why it is bad
+abbrev pub judge : List HotelLine → List ℕ → Result HotelLine ScriptReason
+judge lines line = judged lines (line_of line)
 
--- what follows of a good line, or the reason with the line's number
-abbrev pub at_line : ℕ → Result HotelLine ℕ → (HotelLine → Result (List HotelLine) BadLine) → Result (List HotelLine) BadLine
-at_line number (Err reason) follows = Err (number, reason)
-at_line number (Ok line) follows = follows line
-
--- the lines of the parts of a text that was cut at its line ends, the last line first, after the lines before; or the first bad line.
--- Nothing may stand after the last line end
-abbrev pub lines_from : List HotelLine → List (List ℕ) → Result (List HotelLine) BadLine
-lines_from lines [] = Ok lines
-lines_from lines (last ∷ []) = if length last == 0 then Ok lines else Err (length lines + 1, 3)
-lines_from lines (part ∷ next ∷ parts) =
-    at_line (length lines + 1) (judged lines (line_of part)) (λ line. lines_from (line ∷ lines) (next ∷ parts))
-
--- the lines of a script, the last line first, or the first bad line
+-- the lines of a hotel script, the last line first, or the first bad line
 abbrev pub script_of : List ℕ → Result (List HotelLine) BadLine
-script_of text = lines_from [] (parts_of 10 text)
+script_of text = lines_of_text judge text
 
 -- the hotel of a script: the first night of Shoreline Shanties with 16 rooms, quotes that are not live and no endowments
 abbrev pub one_hotel : Setup

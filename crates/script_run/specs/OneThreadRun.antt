@@ -1,6 +1,7 @@
 -- A game that one thread plays by the lines of a script, and what is written of it.
 use Rattle.std.specs.Prelude.{ℕ, zero, suc, ◌-◌, List, [], ◌∷◌, ◌++◌, length, map, reverse, sum_by, decimal, codes}
 use Rattle.std.specs.List.{enumerate_from}
+use Rattle.tac_base.specs.declared.limits.TheConstants.{TICKS}
 use Rattle.game_text.specs.Games.{GameFile}
 use Rattle.auction_rules.specs.History.{Entry}
 use Rattle.auction_rules.specs.Effects.{all_trades}
@@ -43,7 +44,7 @@ ticked_often game (suc n) state = ticked game (ticked_often game n state)
 
 -- the game after a script's lines and the ticks that are left
 abbrev pub whole_game : GameFile → List GameLine → GameState
-whole_game game lines = ticked_often game (54 - (played game lines).ticks) (played game lines)
+whole_game game lines = ticked_often game (TICKS - (played game lines).ticks) (played game lines)
 
 -- the auction of a good with its past
 abbrev pub auction_with : GameFile → ℕ × List Entry → AuctionHistory

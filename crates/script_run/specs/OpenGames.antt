@@ -1,5 +1,6 @@
 -- What a contract sees of a game that is played, and what is so of every such game.
 use Rattle.std.specs.Prelude.{◌≡◌, ℕ, ◌≤◌, List, map, reverse}
+use Rattle.tac_base.specs.declared.limits.TheConstants.{TICKS}
 use Rattle.game_text.specs.Games.{GameFile}
 use Rattle.trade_ledger.specs.declared.cash_calls.CashEntry.{CashEntry}
 use Rattle.auction_rules.specs.Setup.{Setup}
@@ -29,7 +30,7 @@ all_setups game = map (λ good. setup_of good game) all_goods
 abbrev pub state_of : List AuctionHistory → List CashEntry → ℕ → GameState
 state_of auctions cash ticks = record { pasts = pasts_of auctions; cash = cash; ticks = ticks }
 
--- the auctions are those of the game's goods in order, and the game has 54 ticks
+-- the auctions are those of the game's goods in order, and no more ticks were made than a game has
 pub record IsOpen (game : GameFile) (auctions : List AuctionHistory) (ticks : ℕ) : Type 0 where
   pub setups : setups_of auctions ≡ all_setups game
-  pub few : ticks ≤ 54
+  pub few : ticks ≤ TICKS

@@ -3,20 +3,19 @@ use Rattle.std.specs.Prelude.{◌≡◌, ℕ, ◌<◌, ◌⊎◌, ⊤, List, ◌
 use Rattle.tac_io.specs.Counts.{Rose}
 use Rattle.tac_io.specs.Told.{and_then_told, TakesSome}
 use Rattle.game_text.specs.Games.{GameFile}
+use Rattle.tac_base.specs.declared.limits.TheConstants.{TEXT_BYTES}
 use Rattle.auction_core.specs.ClosedGame.{ClosedGame}
 use Rattle.score_sheet.specs.Sheets.{Scored}
 use Rattle.game_log.specs.LogText.{play_part}
 use Rattle.game_log.specs.SheetText.{sheet_part}
+use Rattle.game_log.specs.ScoredGames.{IsSheetOf}
 use Rattle.line_protocol.specs.Heads.{Play}
-use Rattle.game_log.specs.declared.fault.LogWriteFault.{LogWriteFault}
-use Rattle.game_log.specs.declared.fault.LogWriteFault.TheVariants as log
 use Rattle.script_run.specs.declared.game_lines.GameLine.{GameLine}
 use Rattle.script_run.specs.declared.fault.ScriptFault.{ScriptFault}
 use Rattle.script_run.specs.declared.fault.ScriptFault.TheVariants.{Line, TooLong, Failed, Memory}
 use Rattle.script_run.specs.declared.playing.Played.{Played}
 use Rattle.script_run.specs.OneThreadRun.{replies}
-use Rattle.script_run.specs.HotelOuts.{longest_script, IsUntouched}
-use Rattle.script_run.specs.GameOuts.{closed_game, IsGoodScript, IsBadScript, IsSheetOf}
+use Rattle.script_run.specs.GameOuts.{closed_game, IsGoodScript, IsBadScript}
 
 -- the game by these lines was played to its end
 pub record HasPlayed (game : GameFile) (lines : List GameLine) (played : Played) : Type 0 where
@@ -27,17 +26,9 @@ pub record HasPlayed (game : GameFile) (lines : List GameLine) (played : Played)
 abbrev pub PlaysToEnd : GameFile → List ℕ → Result Played ScriptFault → Type 0
 PlaysToEnd game script (Ok played) = (lines : List GameLine) × IsGoodScript script lines × HasPlayed game lines played
 PlaysToEnd game script (Err (Line line reason)) = IsBadScript script line reason
-PlaysToEnd game script (Err TooLong) = longest_script < length script
+PlaysToEnd game script (Err TooLong) = TEXT_BYTES < length script
 PlaysToEnd game script (Err Failed) = ⊥
 PlaysToEnd game script (Err Memory) = ⊤
-
--- the second part of the log was written with some sheet of the game, or not all of it, or there was no memory for it
-abbrev pub WritesSheet : GameFile → ClosedGame → Option (List ℕ) → Option (List ℕ) → ℕ → ℕ → Result (Unit {0}) LogWriteFault → Type 0
-WritesSheet game closed taken taken' faults faults' (Ok done) =
-    (sheet : List Scored) × IsSheetOf game closed sheet × (taken' ≡ and_then_told taken (sheet_part sheet)) × (faults' ≡ faults)
-WritesSheet game closed taken taken' faults faults' (Err log.Failed) =
-    (sheet : List Scored) × IsSheetOf game closed sheet × TakesSome taken taken' (sheet_part sheet) × Rose faults faults'
-WritesSheet game closed taken taken' faults faults' (Err log.Memory) = IsUntouched taken taken' faults faults'
 
 -- what is written before the sheet
 abbrev pub first_text : Played → List ℕ

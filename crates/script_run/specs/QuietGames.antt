@@ -1,7 +1,9 @@
 -- What playing a game script without writing answers.
 use Rattle.std.specs.Prelude.{◌≡◌, ℕ, ◌<◌, ⊤, List, length, Result, Ok, Err}
 use Rattle.game_text.specs.Games.{GameFile}
+use Rattle.tac_base.specs.declared.limits.TheConstants.{TEXT_BYTES}
 use Rattle.score_sheet.specs.Sheets.{Scored}
+use Rattle.game_log.specs.ScoredGames.{IsSheetOf}
 use Rattle.script_run.specs.declared.game_lines.GameLine.{GameLine}
 use Rattle.script_run.specs.declared.fault.QuietFault.{QuietFault}
 use Rattle.script_run.specs.declared.fault.QuietFault.TheVariants.{Line, TooLong, Memory}
@@ -9,8 +11,7 @@ use Rattle.script_run.specs.declared.fault.ScriptFault.{ScriptFault}
 use Rattle.script_run.specs.declared.fault.ScriptFault.TheVariants as faults
 use Rattle.script_run.specs.declared.play_count.PlayCount.{PlayCount}
 use Rattle.script_run.specs.OneThreadRun.{whole_game, count_of}
-use Rattle.script_run.specs.HotelOuts.{longest_script}
-use Rattle.script_run.specs.GameOuts.{closed_game, IsGoodScript, IsBadScript, IsSheetOf}
+use Rattle.script_run.specs.GameOuts.{closed_game, IsGoodScript, IsBadScript}
 
 -- the count and some sheet of the game by a script
 pub record IsSummary (game : GameFile) (script : List ℕ) (count : PlayCount) (sheet : List Scored) : Type 0 where
@@ -23,7 +24,7 @@ pub record IsSummary (game : GameFile) (script : List ℕ) (count : PlayCount) (
 abbrev pub PlaysQuietly : GameFile → List ℕ → Result (PlayCount × List Scored) QuietFault → Type 0
 PlaysQuietly game script (Ok played) = IsSummary game script played.0 played.1
 PlaysQuietly game script (Err (Line line reason)) = IsBadScript script line reason
-PlaysQuietly game script (Err TooLong) = longest_script < length script
+PlaysQuietly game script (Err TooLong) = TEXT_BYTES < length script
 PlaysQuietly game script (Err Memory) = ⊤
 
 -- a fault that comes where nothing is written, and what it is told as

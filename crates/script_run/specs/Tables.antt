@@ -1,5 +1,6 @@
 -- The counts that are kept beside a game that is played.
 use Rattle.std.specs.Prelude.{◌≡◌, ℕ, ◌+◌, ◌≤◌, ◌==◌, List, length, sum_by, count_by, take, slice_index}
+use Rattle.tac_base.specs.declared.limits.TheConstants.{TICKS, AGENT_CALLS, CASH_READINGS}
 use Rattle.tac_base.specs.declared.calls.Call.{Call}
 use Rattle.game_text.specs.Games.{GameFile}
 use Rattle.tac_base.specs.Goods.{clock}
@@ -25,14 +26,14 @@ pub record HasClockRoom (game : GameFile) (state : GameState) (left : List (ℕ 
   pub each : (good : ℕ) → entries_of (past_at state.pasts good) clock + count_by (λ call. call.0 == good) left ≤ state.ticks
   pub all : made state.pasts clock + length left ≤ due game state.ticks
 
--- the agents' calls and readings are counted, and no more than 1024 each; each post in the cash history is that of an entry
+-- the agents' calls and readings are counted, and no more than each has; each post in the cash history is that of an entry
 pub record AreCounted (game : GameFile) (state : GameState) (counts : CallCounts) (read : List ℕ) : Type 0 where
   pub goods : length state.pasts ≡ 28
-  pub ticks : state.ticks ≤ 54
+  pub ticks : state.ticks ≤ TICKS
   pub calls : (agent good : ℕ) → agent ≤ 7 → good ≤ 27 → count_at counts agent good ≡ entries_of (past_at state.pasts good) agent
-  pub few_calls : (agent good : ℕ) → agent ≤ 7 → entries_of (past_at state.pasts good) agent ≤ 1024
+  pub few_calls : (agent good : ℕ) → agent ≤ 7 → entries_of (past_at state.pasts good) agent ≤ AGENT_CALLS
   pub readings : (agent : ℕ) → agent ≤ 7 → slice_index read agent ≡ readings_of state.cash agent
-  pub few_readings : (agent : ℕ) → agent ≤ 7 → readings_of state.cash agent ≤ 1024
+  pub few_readings : (agent : ℕ) → agent ≤ 7 → readings_of state.cash agent ≤ CASH_READINGS
   pub no_reading : readings_of state.cash clock ≡ 0
   pub posted : (caller : ℕ) → length (part (λ e. e.caller) state.cash caller) ≤ made state.pasts caller + readings_of state.cash caller
   pub clock_each : (good : ℕ) → entries_of (past_at state.pasts good) clock ≤ state.ticks

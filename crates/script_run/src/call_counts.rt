@@ -2,12 +2,13 @@
 ghost use Rattle.std.specs.Prelude.{◌≡◌, ℕ, ◌+◌, ◌<◌, ◌≤◌, ◌==◌, ◌&&◌, if◌then◌else◌, slice_index};
 ghost use Rattle.script_run.specs.CallCounts.{count_at};
 
+ghost use Rattle.tac_base.specs.declared.limits.TheConstants.{AGENT_CALLS};
 use tac_base::{Agent, Good};
 
 /// How many calls an agent has made in the auction of each good.
 #[derive(Clone, Copy)]
 pub(crate) struct GoodCounts {
-    calls: [u16; 28],
+    calls: [u32; 28],
 }
 
 /// How many calls each agent has made in the auction of each good.
@@ -25,7 +26,7 @@ impl GoodCounts {
     }
 
     /// How many calls were made in the auction of the good.
-    fn count(&self, good: Good) -> u16
+    fn count(&self, good: Good) -> u32
         ensures { result ≡ slice_index self.now.calls good }
     {
         self.calls[usize::from(good.get())]
@@ -33,7 +34,7 @@ impl GoodCounts {
 
     /// Counts a call.
     fn add(&mut self, good: Good)
-        requires { slice_index self.old.calls good < 1024 }
+        requires { slice_index self.old.calls good < AGENT_CALLS }
         ensures { (place : ℕ) → place ≤ 27 → slice_index self.new.calls place ≡ slice_index self.old.calls place + (if good == place then 1 else 0) }
     {
         self.calls[usize::from(good.get())] += 1;
@@ -51,7 +52,7 @@ impl CallCounts {
     }
 
     /// How many calls the agent has made in the auction of the good.
-    pub(crate) fn count(&self, agent: Agent, good: Good) -> u16
+    pub(crate) fn count(&self, agent: Agent, good: Good) -> u32
         ensures { result ≡ count_at self.now agent good }
     {
         self.of_agent[usize::from(agent.get())].count(good)
@@ -59,7 +60,7 @@ impl CallCounts {
 
     /// Counts a call.
     pub(crate) fn add(&mut self, agent: Agent, good: Good)
-        requires { count_at self.old agent good < 1024 }
+        requires { count_at self.old agent good < AGENT_CALLS }
         ensures { (other place : ℕ) → other ≤ 7 → place ≤ 27 →
             count_at self.new other place ≡ count_at self.old other place + (if (agent == other) && (good == place) then 1 else 0) }
     {

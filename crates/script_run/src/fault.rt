@@ -1,5 +1,40 @@
 // Why a script was not run.
+ghost use Rattle.std.specs.Prelude.{◌≡◌};
+ghost use Rattle.script_run.specs.ScriptLines.{number_of};
+
 use thiserror::Error;
+
+/// Why a line of a script is bad. Its number is what a script's fault shows.
+#[derive(Clone, Copy, Debug, PartialEq, Eq)]
+pub enum ScriptReason {
+    /// 1: the line has none of the forms of its script.
+    Form,
+    /// 2 of a hotel script: the points of a bid are refused.
+    Points,
+    /// 2 of a game script: its agent ended its session before.
+    Ended,
+    /// 3: the last line has no line end.
+    NoLineEnd,
+    /// 4: one line too many, of a hotel script; of the ticks or of its agent, in a game script.
+    TooMany,
+    /// 5: one line too many of its caller, in a hotel script.
+    TooManyOfCaller,
+}
+
+impl ScriptReason {
+    /// Its number, 1 to 5.
+    pub fn number(self) -> u8
+        ensures { result ≡ number_of self }
+    {
+        match self {
+            ScriptReason::Form => 1,
+            ScriptReason::Points | ScriptReason::Ended => 2,
+            ScriptReason::NoLineEnd => 3,
+            ScriptReason::TooMany => 4,
+            ScriptReason::TooManyOfCaller => 5,
+        }
+    }
+}
 
 /// Why a script was not run, or not to its end.
 #[derive(Clone, Copy, Debug, PartialEq, Eq, Error)]

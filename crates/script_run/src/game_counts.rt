@@ -3,15 +3,11 @@ ghost use Rattle.std.specs.Prelude.{◌≡◌, ◌≤◌, [], ◌∷◌, List, M
 ghost use Rattle.script_run.specs.GameScripts as scripts;
 ghost use Rattle.script_run.specs.declared.game_lines.GameLine.{GameLine};
 
+use crate::ScriptReason;
 use crate::game_lines::{GameLine, line_of};
 use line_protocol::{Request, RequestFault};
 use tac_base::Agent;
-
-/// The ticks of a game.
-const TICKS: u8 = 54;
-
-/// The most lines of an agent.
-const MOST_LINES: u32 = 65_536;
+use tac_base::limits::{SESSION_LINES, TICKS};
 
 /// How many ticks there were, how many lines of each agent, and which agents ended their sessions.
 #[derive(Drop)]
@@ -42,7 +38,7 @@ impl GameCounts {
     }
 
     /// What a line asks, which is counted, or the first reason why it is bad.
-    pub(crate) fn judge(&mut self, line: &[u8]) -> Result<GameLine, u8>
+    pub(crate) fn judge(&mut self, line: &[u8]) -> Result<GameLine, ScriptReason>
         ensures { (lines : List GameLine) → Counts lines self.old →
             MatchResult result
             (λ asked. (scripts.judge lines line.now ≡ Ok asked) × Counts (asked ∷ lines) self.new)
@@ -54,8 +50,8 @@ impl GameCounts {
         }
     }
 
-    /// Counts a line where it may stand here, or gives the reason: 2 or 4.
-    fn admit(&mut self, line: GameLine) -> Result<GameLine, u8>
+    /// Counts a line where it may stand here, or gives the reason.
+    fn admit(&mut self, line: GameLine) -> Result<GameLine, ScriptReason>
         ensures { (lines : List GameLine) → Counts lines self.old →
             MatchResult result
             (λ admitted. (scripts.limited lines line ≡ Ok admitted) × Counts (admitted ∷ lines) self.new)
@@ -68,7 +64,7 @@ impl GameCounts {
     }
 
     /// Counts a line where it may stand here, or gives the reason.
-    fn count(&mut self, line: &GameLine) -> Result<(), u8>
+    fn count(&mut self, line: &GameLine) -> Result<(), ScriptReason>
         ensures { (lines : List GameLine) → Counts lines self.old →
             MatchResult result
             (λ _. (scripts.limited lines line.now ≡ Ok line.now) × Counts (line.now ∷ lines) self.new)
@@ -81,21 +77,21 @@ impl GameCounts {
     }
 
     /// Counts a tick, where one is left.
-    fn count_tick(&mut self) -> Result<(), u8>
+    fn count_tick(&mut self) -> Result<(), ScriptReason>
         ensures { (lines : List GameLine) → Counts lines self.old →
             MatchResult result
             (λ _. (scripts.limited lines GameLine.Tick ≡ Ok GameLine.Tick) × Counts (GameLine.Tick ∷ lines) self.new)
             (λ reason. scripts.limited lines GameLine.Tick ≡ Err reason) }
     {
         if self.ticks >= TICKS {
-            return Err(4);
+            return Err(ScriptReason::TooMany);
         }
         self.ticks += 1;
         Ok(())
     }
 
     /// Counts a line of an agent that has lines left and has not ended its session.
-    fn count_line(&mut self, agent: Agent, asked: &Result<Request, RequestFault>) -> Result<(), u8>
+    fn count_line(&mut self, agent: Agent, asked: &Result<Request, RequestFault>) -> Result<(), ScriptReason>
         ensures { (lines : List GameLine) → Counts lines self.old →
             MatchResult result
             (λ _. (scripts.limited lines (GameLine.Asks agent asked.now) ≡ Ok (GameLine.Asks agent asked.now)) × Counts (GameLine.Asks agent asked.now ∷ lines) self.new)
@@ -103,11 +99,11 @@ impl GameCounts {
     {
         let place = usize::from(agent.get());
         if self.has_quit[place] {
-            return Err(2);
+            return Err(ScriptReason::Ended);
         }
         let count = self.of_agent[place];
-        if count >= MOST_LINES {
-            return Err(4);
+        if count >= SESSION_LINES {
+            return Err(ScriptReason::TooMany);
         }
         self.of_agent[place] = count + 1;
         self.has_quit[place] = is_quit(asked);

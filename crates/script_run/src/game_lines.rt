@@ -2,12 +2,11 @@
 ghost use Rattle.std.specs.Prelude.{◌≡◌, ◌∷◌, []};
 ghost use Rattle.script_run.specs.GameLines as lines;
 
+use crate::ScriptReason;
 use crate::hotel_lines::agent_of_digit;
 use line_protocol::{Request, RequestFault, read_request};
 use tac_base::Agent;
-
-/// The most bytes of what an agent asks.
-const LONGEST_REQUEST: usize = 512;
+use tac_base::limits::LINE_BYTES;
 
 /// What a line asks.
 #[derive(Debug, Drop)]
@@ -22,14 +21,14 @@ pub enum GameLine {
 }
 
 /// What an agent asks.
-fn asks_of(agent: Option<Agent>, request: &[u8]) -> Result<GameLine, u8>
+fn asks_of(agent: Option<Agent>, request: &[u8]) -> Result<GameLine, ScriptReason>
     ensures { result ≡ lines.asks_of agent request.now }
 {
     let Some(agent) = agent else {
-        return Err(1);
+        return Err(ScriptReason::Form);
     };
-    if request.len() > LONGEST_REQUEST {
-        return Err(1);
+    if request.len() > LINE_BYTES as usize {
+        return Err(ScriptReason::Form);
     }
     Ok(GameLine::Asks {
         agent,
@@ -38,18 +37,18 @@ fn asks_of(agent: Option<Agent>, request: &[u8]) -> Result<GameLine, u8>
 }
 
 /// A line of an agent, a space and what it asks.
-fn agent_line(line: &[u8]) -> Result<GameLine, u8>
+fn agent_line(line: &[u8]) -> Result<GameLine, ScriptReason>
     ensures { result ≡ lines.agent_line line.now }
 {
     match line {
         [digit, b' ', request @ ..] => asks_of(agent_of_digit(*digit), request),
-        _ => Err(1),
+        _ => Err(ScriptReason::Form),
     }
 }
 
-/// What a line asks, or the reason why it is bad in itself: 1.
+/// What a line asks, or the reason why it is bad in itself: its form.
 #[tactic(auto, unfolding(crate::specs::GameLines::line_of))]
-pub(crate) fn line_of(line: &[u8]) -> Result<GameLine, u8>
+pub(crate) fn line_of(line: &[u8]) -> Result<GameLine, ScriptReason>
     ensures { result ≡ lines.line_of line.now }
 {
     if line == b"tick".as_slice() {

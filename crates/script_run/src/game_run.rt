@@ -76,7 +76,7 @@ impl<'a> GameRun<'a> {
             Err(reason) => {
                 return Err(ScriptFault::Line {
                     line: number,
-                    reason,
+                    reason: reason.number(),
                 });
             }
         };

@@ -4,6 +4,7 @@ ghost use Rattle.bid_strings.specs.BidForm.{points_of, judged};
 ghost use Rattle.auction_core.specs.Calls.{IsFit};
 ghost use Rattle.script_run.specs.HotelLines as lines;
 
+use crate::ScriptReason;
 use bid_strings::read_points;
 use tac_base::{Agent, Call, Caller, Points};
 use text_forms::Words;
@@ -49,7 +50,7 @@ impl HotelLine {
 }
 
 // A line of one word.
-fn clock_line(word: &[u8]) -> Result<HotelLine, u8>
+fn clock_line(word: &[u8]) -> Result<HotelLine, ScriptReason>
     ensures { result ≡ lines.clock_line word.now }
 {
     if word == b"publish".as_slice() {
@@ -57,7 +58,7 @@ fn clock_line(word: &[u8]) -> Result<HotelLine, u8>
     } else if word == b"close".as_slice() {
         Ok(HotelLine::Close)
     } else {
-        Err(1)
+        Err(ScriptReason::Form)
     }
 }
 
@@ -81,51 +82,51 @@ pub(crate) fn agent_of_digit(digit: u8) -> Option<Agent>
 }
 
 // The bid of a text of points.
-fn bid_of(agent: Agent, text: &[u8]) -> Result<HotelLine, u8>
+fn bid_of(agent: Agent, text: &[u8]) -> Result<HotelLine, ScriptReason>
     ensures { result ≡ lines.bid_of agent (judged (points_of text.now)) }
 {
     match read_points(text) {
         Ok(points) => Ok(HotelLine::Bid { agent, points }),
-        Err(_) => Err(2),
+        Err(_) => Err(ScriptReason::Points),
     }
 }
 
 // A line of an agent and a word.
-fn own_line(agent: Option<Agent>, keyword: &[u8]) -> Result<HotelLine, u8>
+fn own_line(agent: Option<Agent>, keyword: &[u8]) -> Result<HotelLine, ScriptReason>
     ensures { result ≡ lines.own_line agent keyword.now }
 {
     let Some(agent) = agent else {
-        return Err(1);
+        return Err(ScriptReason::Form);
     };
     if keyword == b"own".as_slice() {
         Ok(HotelLine::Own { agent })
     } else {
-        Err(1)
+        Err(ScriptReason::Form)
     }
 }
 
 // A line of an agent, a word and points.
-fn bid_line(agent: Option<Agent>, keyword: &[u8], points: &[u8]) -> Result<HotelLine, u8>
+fn bid_line(agent: Option<Agent>, keyword: &[u8], points: &[u8]) -> Result<HotelLine, ScriptReason>
     ensures { result ≡ lines.bid_line agent keyword.now points.now }
 {
     let Some(agent) = agent else {
-        return Err(1);
+        return Err(ScriptReason::Form);
     };
     if keyword == b"bid".as_slice() {
         bid_of(agent, points)
     } else {
-        Err(1)
+        Err(ScriptReason::Form)
     }
 }
 
-/// What a line asks, or the reason why it is bad in itself: 1 or 2.
+/// What a line asks, or the reason why it is bad in itself: its form or its points.
 #[tactic(auto, unfolding(crate::specs::HotelLines::line_of))]
-pub(crate) fn line_of(line: &[u8]) -> Result<HotelLine, u8>
+pub(crate) fn line_of(line: &[u8]) -> Result<HotelLine, ScriptReason>
     ensures { result ≡ lines.line_of line.now }
 {
     let mut words = Words::new(line);
     let Some(first) = words.next() else {
-        return Err(1);
+        return Err(ScriptReason::Form);
     };
     let Some(keyword) = words.next() else {
         return clock_line(first);

@@ -17,6 +17,7 @@ use crate::replies::reply_line;
 use auction_core::Auction;
 use game_log::trade_line;
 use std::alloc::{AllocError, Global};
+ghost use Rattle.tac_base.specs.declared.limits.TheConstants.{AUCTION_ENTRIES};
 use tac_base::{Good, Memory, Reply, Trade};
 use turn_lock::Kept;
 
@@ -101,7 +102,7 @@ impl HotelRun {
     /// How many lines were run.
     pub(crate) fn lines(&self) -> u32
         ensures value { (lines : List HotelLine) → HasRun lines self.now → result ≡ length lines }
-        ensures few { result ≤ 8256 }
+        ensures few { result ≤ AUCTION_ENTRIES }
     {
         self.counts.all()
     }
@@ -117,7 +118,7 @@ impl HotelRun {
             Err(reason) => {
                 return Err(ScriptFault::Line {
                     line: position + 1,
-                    reason,
+                    reason: reason.number(),
                 });
             }
         };

@@ -2,14 +2,12 @@
 ghost use Rattle.std.specs.Prelude.{◌≡◌, ◌≤◌, length};
 ghost use Rattle.script_run.specs.HotelOuts.{RunsScript, RunsLines, Begins};
 
-use crate::ScriptFault;
 use crate::hotel_run::HotelRun;
+use crate::{ScriptFault, ScriptReason};
 use std::alloc::Global;
+use tac_base::limits::TEXT_BYTES;
 use tac_io::{Sink, write_all};
 use text_forms::cut;
-
-/// The most bytes of a script.
-pub(crate) const LONGEST_SCRIPT: usize = 67_108_864;
 
 /// The hotel before the first line.
 fn begun(alloc: Global) -> Result<HotelRun, ScriptFault>
@@ -36,7 +34,7 @@ fn run_lines(alloc: Global, script: &[u8]) -> Result<HotelRun, ScriptFault>
     } else {
         Err(ScriptFault::Line {
             line: run.lines() + 1,
-            reason: 3,
+            reason: ScriptReason::NoLineEnd.number(),
         })
     }
 }
@@ -50,7 +48,7 @@ pub fn run_hotel_script<K: Sink>(
 ) -> Result<(), ScriptFault>
     ensures { RunsScript text.now (K.taken sink.old) (K.taken sink.new) (K.faults sink.old) (K.faults sink.new) result }
 {
-    if text.len() > LONGEST_SCRIPT {
+    if text.len() > TEXT_BYTES as usize {
         return Err(ScriptFault::TooLong);
     }
     let run = run_lines(alloc, text)?;

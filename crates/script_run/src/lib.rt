@@ -17,12 +17,12 @@ mod playing;
 mod replies;
 mod table;
 
-pub use fault::{QuietFault, ScriptFault};
+pub use fault::{QuietFault, ScriptFault, ScriptReason};
 pub use game_lines::GameLine;
 pub use hotel_lines::HotelLine;
 pub use hotel_script::run_hotel_script;
 pub use play_count::PlayCount;
-pub use playing::{play, play_quiet, write_scores};
+pub use playing::{play, play_quiet};
 
 #[cfg(test)]
 mod game_tests;

@@ -1,28 +1,27 @@
 // How many lines of a script there were.
 ghost use Rattle.std.specs.Prelude.{◌≡◌, ◌≤◌, ◌<◌, [], ◌∷◌, List, length, MatchResult, Ok, Err};
 ghost use Rattle.auction_rules.specs.Legal.{cap};
-ghost use Rattle.script_run.specs.HotelLines.{line_of};
-ghost use Rattle.script_run.specs.HotelScripts.{judged, limited};
+ghost use Rattle.script_run.specs.HotelScripts.{judge, limited};
+ghost use Rattle.tac_base.specs.declared.limits.TheConstants.{AUCTION_ENTRIES};
 
+use crate::ScriptReason;
 use crate::hotel_lines::{HotelLine, line_of};
 use tac_base::Caller;
-
-/// The most lines of a script: those that all callers may have.
-const MOST_LINES: u32 = 8256;
+use tac_base::limits::{AGENT_CALLS, AUCTION_ENTRIES, CLOCK_CALLS};
 
 /// How many lines there were, in all and of each caller.
 #[derive(Drop)]
 pub(crate) struct LineCounts {
     all: u32,
     of_caller: [u32; 9],
-    ghost few: { all ≤ 8256 },
+    ghost few: { all ≤ AUCTION_ENTRIES },
 }
 
 /// The most lines of a caller: those of an agent, or of the clock.
 fn most_lines(caller: Caller) -> u32
     ensures { result ≡ cap caller }
 {
-    if caller.get() == 8 { 64 } else { 1024 }
+    if caller.get() == 8 { CLOCK_CALLS } else { AGENT_CALLS }
 }
 
 impl LineCounts {
@@ -40,17 +39,17 @@ impl LineCounts {
     /// How many lines there were.
     pub(crate) fn all(&self) -> u32
         ensures value { (lines : List HotelLine) → Counts lines self.now → result ≡ length lines }
-        ensures few { result ≤ 8256 }
+        ensures few { result ≤ AUCTION_ENTRIES }
     {
         self.all
     }
 
     /// What a line asks, which is counted, or the first reason why it is bad.
-    pub(crate) fn judge(&mut self, line: &[u8]) -> Result<HotelLine, u8>
+    pub(crate) fn judge(&mut self, line: &[u8]) -> Result<HotelLine, ScriptReason>
         ensures { (lines : List HotelLine) → Counts lines self.old →
             MatchResult result
-            (λ asked. (judged lines (line_of line.now) ≡ Ok asked) × Counts (asked ∷ lines) self.new)
-            (λ reason. judged lines (line_of line.now) ≡ Err reason) }
+            (λ asked. (judge lines line.now ≡ Ok asked) × Counts (asked ∷ lines) self.new)
+            (λ reason. judge lines line.now ≡ Err reason) }
     {
         match line_of(line) {
             Ok(line) => self.admit(line),
@@ -58,20 +57,20 @@ impl LineCounts {
         }
     }
 
-    /// Counts a line where there are not too many, or gives the reason: 4 or 5.
-    fn admit(&mut self, line: HotelLine) -> Result<HotelLine, u8>
+    /// Counts a line where there are not too many, or gives the reason.
+    fn admit(&mut self, line: HotelLine) -> Result<HotelLine, ScriptReason>
         ensures { (lines : List HotelLine) → Counts lines self.old →
             MatchResult result
             (λ admitted. (limited lines line ≡ Ok admitted) × Counts (admitted ∷ lines) self.new)
             (λ reason. limited lines line ≡ Err reason) }
     {
-        if self.all >= MOST_LINES {
-            return Err(4);
+        if self.all >= AUCTION_ENTRIES {
+            return Err(ScriptReason::TooMany);
         }
         let caller = line.caller();
         let count = self.of_caller[caller.get() as usize];
         if count >= most_lines(caller) {
-            return Err(5);
+            return Err(ScriptReason::TooManyOfCaller);
         }
         self.of_caller[caller.get() as usize] = count + 1;
         self.all += 1;

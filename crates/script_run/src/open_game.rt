@@ -17,15 +17,13 @@ use auction_core::{Auction, Closed, Struck};
 use game_text::Game;
 use std::alloc::Global;
 use std::marker::Model;
+use tac_base::limits::TICKS;
 use tac_base::{Agent, Board, Call, Caller, Good, Memory, Reply, Tick};
 use trade_ledger::{CashBook, CashCall};
 use turn_lock::Kept;
 
 /// The goods of a game.
 const GOODS: u8 = 28;
-
-/// The ticks of a game.
-const TICKS: u8 = 54;
 
 /// A game with its 28 auctions, its cash book, and how many ticks were made.
 #[derive(Drop)]
@@ -149,7 +147,7 @@ impl<'a> OpenGame<'a> {
     /// How many ticks were made.
     pub(crate) fn ticks(&self) -> u8
         ensures value { result ≡ self.now.state.ticks }
-        ensures few { result ≤ 54 }
+        ensures few { result ≤ TICKS }
     {
         self.ticks
     }
@@ -160,8 +158,8 @@ impl<'a> OpenGame<'a> {
         ensures pasts { self.new.state.pasts ≡ self.old.state.pasts }
         ensures cash { self.new.state.cash ≡ self.old.state.cash }
         ensures tick { MatchOption result
-            ((54 ≤ self.old.state.ticks) × (self.new.state.ticks ≡ self.old.state.ticks))
-            (λ tick. (self.old.state.ticks < 54) × (tick ≡ self.old.state.ticks + 1) × (self.new.state.ticks ≡ tick)) }
+            ((TICKS ≤ self.old.state.ticks) × (self.new.state.ticks ≡ self.old.state.ticks))
+            (λ tick. (self.old.state.ticks < TICKS) × (tick ≡ self.old.state.ticks + 1) × (self.new.state.ticks ≡ tick)) }
     {
         if self.ticks >= TICKS {
             return None;

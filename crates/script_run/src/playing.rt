@@ -1,22 +1,21 @@
 // A game that is played from a script.
-ghost use Rattle.std.specs.Prelude.{◌≡◌, ◌≤◌, length, IfOk};
+ghost use Rattle.std.specs.Prelude.{◌≡◌, ◌≤◌, length};
 ghost use Rattle.game_log.specs.Written.{Writes};
-ghost use Rattle.script_run.specs.GameOuts.{IsSheetOf, PlaysScript};
+ghost use Rattle.script_run.specs.GameOuts.{PlaysScript};
 ghost use Rattle.script_run.specs.GameRuns.{PlaysLines};
-ghost use Rattle.script_run.specs.PlayedGames.{PlaysToEnd, WritesSheet, WritesPlayed, first_text};
+ghost use Rattle.script_run.specs.PlayedGames.{PlaysToEnd, WritesPlayed, first_text};
 ghost use Rattle.script_run.specs.QuietGames.{PlaysQuietly, IsQuietFault, quiet_of};
 
-use crate::fault::{QuietFault, ScriptFault};
+use crate::fault::{QuietFault, ScriptFault, ScriptReason};
 use crate::game_run::GameRun;
-use crate::hotel_script::LONGEST_SCRIPT;
 use crate::play_count::{PlayCount, counted};
 use auction_core::Closed;
-use game_log::{LogHead, LogWriteFault, write_play_part, write_sheet_part};
+use game_log::{LogHead, LogWriteFault, score_game, write_play_part, write_scores};
 use game_text::Game;
-use score_sheet::{Sheet, settle, sheet};
+use score_sheet::Sheet;
 use std::alloc::Global;
 use std::thread::Threads;
-use tac_base::Memory;
+use tac_base::limits::TEXT_BYTES;
 use tac_io::{Failed, Sink, write_all};
 use text_forms::cut;
 
@@ -29,7 +28,7 @@ pub(crate) struct Played {
 
 /// The game after all lines of a script.
 fn play_lines<'a>(alloc: Global, game: &'a Game, script: &[u8]) -> Result<GameRun<'a>, ScriptFault>
-    requires { length script.now ≤ 67108864 }
+    requires { length script.now ≤ TEXT_BYTES }
     ensures { PlaysLines game.now script.now result }
 {
     let Ok(mut run) = GameRun::begin(alloc, game) else {
@@ -47,7 +46,7 @@ fn play_lines<'a>(alloc: Global, game: &'a Game, script: &[u8]) -> Result<GameRu
     } else {
         Err(ScriptFault::Line {
             line: number,
-            reason: 3,
+            reason: ScriptReason::NoLineEnd.number(),
         })
     }
 }
@@ -56,7 +55,7 @@ fn play_lines<'a>(alloc: Global, game: &'a Game, script: &[u8]) -> Result<GameRu
 fn play_to_end(alloc: Global, game: &Game, script: &[u8]) -> Result<Played, ScriptFault>
     ensures { PlaysToEnd game.now script.now result }
 {
-    if script.len() > LONGEST_SCRIPT {
+    if script.len() > TEXT_BYTES as usize {
         return Err(ScriptFault::TooLong);
     }
     match play_lines(alloc, game, script) {
@@ -68,18 +67,6 @@ fn play_to_end(alloc: Global, game: &Game, script: &[u8]) -> Result<Played, Scri
     }
 }
 
-/// The scores of a game whose calls are over.
-fn scored<R: Threads + Sync>(
-    rt: &R,
-    alloc: Global,
-    game: &Game,
-    closed: &Closed,
-) -> Result<Sheet, Memory>
-    ensures { IfOk result (IsSheetOf game.now closed.now) }
-{
-    sheet(rt, alloc, game, &settle(closed))
-}
-
 /// Writes the replies of a game and the first part of its log.
 fn write_first<K: Sink>(sink: &mut K, played: &Played) -> Result<(), Failed>
     ensures { Writes (first_text played.now) (K.taken sink.old) (K.taken sink.new) (K.faults sink.old) (K.faults sink.new) result }
@@ -87,23 +74,6 @@ fn write_first<K: Sink>(sink: &mut K, played: &Played) -> Result<(), Failed>
     match write_all(sink, played.replies.as_slice()) {
         Ok(()) => write_play_part(sink, &LogHead::Play, &played.closed),
         Err(failed) => Err(failed),
-    }
-}
-
-/// Scores a game whose calls are over, and writes the second part of its log. After `Failed` its first bytes were written, but not all, and
-/// after `Memory` nothing.
-pub fn write_scores<R: Threads + Sync, K: Sink>(
-    rt: &R,
-    alloc: Global,
-    game: &Game,
-    closed: &Closed,
-    sink: &mut K,
-) -> Result<(), LogWriteFault>
-    ensures { WritesSheet game.now closed.now (K.taken sink.old) (K.taken sink.new) (K.faults sink.old) (K.faults sink.new) result }
-{
-    match scored(rt, alloc, game, closed) {
-        Ok(sheet) => write_sheet_part(alloc, sink, &sheet),
-        Err(_) => Err(LogWriteFault::Memory),
     }
 }
 
@@ -176,7 +146,7 @@ pub fn play_quiet<R: Threads + Sync>(
         Ok(played) => played,
         Err(fault) => return Err(quiet(fault)),
     };
-    match scored(rt, alloc, game, &played.closed) {
+    match score_game(rt, alloc, game, &played.closed) {
         Ok(sheet) => Ok((counted(&played.closed), sheet)),
         Err(_) => Err(QuietFault::Memory),
     }

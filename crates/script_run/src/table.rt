@@ -14,16 +14,8 @@ use game_text::Game;
 use line_protocol::{Request, RequestFault, Said};
 use std::alloc::Global;
 use std::marker::Model;
+use tac_base::limits::{AGENT_CALLS, CASH_READINGS, TICKS};
 use tac_base::{Agent, Call, Caller, Good, Memory, Tick};
-
-/// The most calls of an agent in one auction, refused ones included.
-const MOST_CALLS: u16 = 1024;
-
-/// The most readings of its cash by an agent.
-const MOST_READINGS: u16 = 1024;
-
-/// The ticks of a game.
-const TICKS: u8 = 54;
 
 /// The most calls of the clock at a tick.
 const MOST_TICK_CALLS: u8 = 20;
@@ -33,7 +25,7 @@ const MOST_TICK_CALLS: u8 = 20;
 pub(crate) struct Table<'a> {
     open: OpenGame<'a>,
     calls: CallCounts,
-    readings: [u16; 8],
+    readings: [u32; 8],
 }
 
 impl<'a> Model for Table<'a> {
@@ -66,7 +58,7 @@ impl<'a> Table<'a> {
         ensures game { self.new.game ≡ self.old.game }
         ensures told { (result, self.new.state) ≡ call_turn self.old.game agent good call.now self.old.state }
     {
-        if self.calls.count(agent, good) >= MOST_CALLS {
+        if self.calls.count(agent, good) >= AGENT_CALLS {
             return Said::Spent;
         }
         self.calls.add(agent, good);
@@ -81,7 +73,7 @@ impl<'a> Table<'a> {
     {
         let place = usize::from(agent.get());
         let count = self.readings[place];
-        if count >= MOST_READINGS {
+        if count >= CASH_READINGS {
             return Said::Spent;
         }
         self.readings[place] = count + 1;
@@ -155,7 +147,7 @@ impl<'a> Table<'a> {
     /// Makes the ticks that are left.
     pub(crate) fn finish(&mut self)
         ensures game { self.new.game ≡ self.old.game }
-        ensures state { self.new.state ≡ ticked_often self.old.game (54 - self.old.state.ticks) self.old.state }
+        ensures state { self.new.state ≡ ticked_often self.old.game (TICKS - self.old.state.ticks) self.old.state }
     {
         for _made in 0..TICKS - self.open.ticks() {
             self.tick();

@@ -27,6 +27,7 @@ use Rattle.line_protocol.specs.declared.asking.RequestFault.{RequestFault}
 use Rattle.line_protocol.specs.Requests.{◌>>=◌, good_of, with_points, request_of_words, request_of}
 use Rattle.draw_maker.specs.Scripts.{bid_line}
 use Rattle.draw_maker.specs.BidScripts.{is_tick, IsBidLine, IsBidScript}
+use Rattle.script_run.specs.declared.fault.ScriptReason.{ScriptReason}
 use Rattle.script_run.specs.declared.game_lines.GameLine.{GameLine}
 use Rattle.script_run.specs.declared.game_lines.GameLine.TheVariants.{Tick, Asks}
 use Rattle.script_run.specs.HotelLines.{agent_of}
@@ -218,7 +219,7 @@ reads (line ∷ rest) before all quiet ticks few =
     let others = reads rest (one.0 ∷ before) all.1 (λ agent. has_quit_more one.0 before agent (one.1.quiet agent) (quiet agent)) (omega (arith, ticks, counted, same)) (omega (arith, few)) in (
       others.0,
       line_first judge before line (rest ++ [] ∷ []) (some_left rest)
-          ∙ (ap (λ (r : Result GameLine ℕ). at_line (length before + 1) r (λ l. lines_from judge (l ∷ before) (rest ++ [] ∷ []))) one.1.good
+          ∙ (ap (λ (r : Result GameLine ScriptReason). at_line (length before + 1) r (λ l. lines_from judge (l ∷ before) (rest ++ [] ∷ []))) one.1.good
           ∙ others.1),
     )
 

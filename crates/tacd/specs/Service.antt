@@ -12,7 +12,7 @@ use Rattle.score_sheet.specs.Sheets.{Scored}
 use Rattle.line_protocol.specs.Heads.{Head, Play, Serve, head_of}
 use Rattle.game_log.specs.LogText.{play_part}
 use Rattle.game_log.specs.SheetText.{log_text}
-use Rattle.script_run.specs.GameOuts.{IsSheetOf}
+use Rattle.game_log.specs.ScoredGames.{IsSheetOf}
 use Rattle.game_run.specs.LinkStates.{LinkState}
 use Rattle.game_run.specs.Outcomes.{IsEnd, IsNotPlayed}
 use Rattle.tacd.specs.declared.answer.Played.{Played}

@@ -1,6 +1,7 @@
-use Rattle.std.proofs.Common.{sym, ◌∙◌}
 use Rattle.std.proofs.lemmas.Result.{err_from_is_err_and}
-use Rattle.script_run.proofs.Running.{goes_on, fails}
+use Rattle.script_run.specs.HotelScripts.{judge}
+use Rattle.script_run.proofs.ScriptReading.{goes_on}
+use Rattle.script_run.proofs.Running.{fails}
 use Rattle.script_run.proofs.hotel_script.run_lines.Goals as goal
 
 pub returns-in_err-step : goal.returns-in_err-step
@@ -16,8 +17,9 @@ loop-line-preserved c =
     let stepped = c.in_ok-step.ensures running.lines running.ran in
     record {
       lines = _;
+      number = _;
       ran = stepped.2;
-      left = sym (goes_on running.lines c.loop-line.rest.now c.in-Some.line.now c.in-Some.after.now stepped.0 c.in-Some.ensures.parts stepped.1) ∙ running.left;
+      read = goes_on judge running.lines c.args.script.now c.loop-line.rest.now c.in-Some.line.now c.in-Some.after.now running.number stepped.0 running.read c.in-Some.ensures.parts c.in-Some.ensures.len stepped.1;
     }
 
 pub step-requires : goal.step-requires

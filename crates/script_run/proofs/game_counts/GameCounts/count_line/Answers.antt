@@ -14,7 +14,7 @@ returns c lines is =
     let inside' : c.from-place.result < length self.has_quit = search rules in
     let going : get_or self.has_quit c.from-place.result false ≡ false = c.if-self-place.false in
     let going' = subst (λ (n : ℕ). get_or self.has_quit n false ≡ false) place going in
-    let few : get_or self.of_agent c.args.agent 0 < 65536 = subst (λ (n : ℕ). get_or self.of_agent n 0 < 65536) place c.if-count-ge-MOST_LINES.false in
+    let few : get_or self.of_agent c.args.agent 0 < 65536 = subst (λ (n : ℕ). get_or self.of_agent n 0 < 65536) place c.if-count-ge-SESSION_LINES.false in
     let few' : lines_of lines c.args.agent < 65536 = subst (λ (n : ℕ). n < 65536) (is.each c.args.agent low) few in (
       limited_line lines c.args.agent c.args.asked.now (sym (is.ended c.args.agent low) ∙ going') few',
       subst (λ (s : ℕ × Bool). Counts (Asks c.args.agent c.args.asked.now ∷ lines) (record { ticks = self.ticks; of_agent = set self.of_agent s.0 (get_or self.of_agent s.0 0 + 1); has_quit = set self.has_quit s.0 s.1 }))

@@ -13,7 +13,7 @@ use Rattle.script_run.proofs.table.Table.call.Goals as goal
 pub call-position-requires-clause-cash_room : goal.call-position-requires-clause-cash_room
 call-position-requires-clause-cash_room c =
     let t = c.self.inside in
-    let few : count_at t.calls c.args.agent c.args.good < 1024 = omega (arith, c.count.ensures, c.if-count-ge-MOST_CALLS.false) in
+    let few : count_at t.calls c.args.agent c.args.good < 1024 = omega (arith, c.count.ensures, c.if-count-ge-AGENT_CALLS.false) in
     let low : c.args.agent ≤ 7 = search rules in
     let there : c.args.good ≤ 27 = search rules in
     subst (λ (n : ℕ). length (part by t.open.state.cash n) < cash_cap n) (sym c.caller.ensures)
@@ -22,7 +22,7 @@ call-position-requires-clause-cash_room c =
 pub invariant_of-self : goal.invariant_of-self
 invariant_of-self c =
     let t = c.self.inside in
-    let few : count_at t.calls c.args.agent c.args.good < 1024 = omega (arith, c.count.ensures, c.if-count-ge-MOST_CALLS.false) in
+    let few : count_at t.calls c.args.agent c.args.good < 1024 = omega (arith, c.count.ensures, c.if-count-ge-AGENT_CALLS.false) in
     let low : c.args.agent ≤ 7 = search rules in
     let there : c.args.good ≤ 27 = search rules in
     let next = counted_call t.open.game t.open.state t.calls c.add.new.self t.readings c.args.agent c.args.good c.args.call.now c.self.invariant low there few c.add.ensures in
@@ -35,7 +35,7 @@ returns-clause-told c =
     let t = c.self.inside in
     let low : c.args.agent ≤ 7 = search rules in
     let there : c.args.good ≤ 27 = search rules in
-    let few : count_at t.calls c.args.agent c.args.good < 1024 = omega (arith, c.count.ensures, c.if-count-ge-MOST_CALLS.false) in
+    let few : count_at t.calls c.args.agent c.args.good < 1024 = omega (arith, c.count.ensures, c.if-count-ge-AGENT_CALLS.false) in
     let e = c.call-position.ensures in
     told_call t.open.game t.open.state c.call-position.new.self.state c.args.agent c.args.good c.caller.result c.call-position.result.0 c.args.call.now c.call-position.result.1
     (subst (λ (n : ℕ). n < 1024) (c.self.invariant.calls c.args.agent c.args.good low there) few) c.caller.ensures e.position e.reply e.state

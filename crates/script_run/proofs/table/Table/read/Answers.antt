@@ -12,7 +12,7 @@ read-position-requires c =
     let t = c.self.inside in
     let low : c.args.agent ≤ 7 = search rules in
     let few : slice_index t.readings c.args.agent < 1024 =
-    subst (λ (n : ℕ). slice_index t.readings n < 1024) (c.from-place.ensures ∙ c.get.ensures.value) c.if-count-ge-MOST_READINGS.false in
+    subst (λ (n : ℕ). slice_index t.readings n < 1024) (c.from-place.ensures ∙ c.get.ensures.value) c.if-count-ge-CASH_READINGS.false in
     read_room t.open.game t.open.state t.calls t.readings c.args.agent c.self.invariant low few
 
 pub invariant_of-self : goal.invariant_of-self
@@ -20,7 +20,7 @@ invariant_of-self c =
     let t = c.self.inside in
     let low : c.args.agent ≤ 7 = search rules in
     let place = c.from-place.ensures ∙ c.get.ensures.value in
-    let few : slice_index t.readings c.args.agent < 1024 = subst (λ (n : ℕ). slice_index t.readings n < 1024) place c.if-count-ge-MOST_READINGS.false in
+    let few : slice_index t.readings c.args.agent < 1024 = subst (λ (n : ℕ). slice_index t.readings n < 1024) place c.if-count-ge-CASH_READINGS.false in
     let inside : c.from-place.result < length t.readings = search rules in
     let read' = set t.readings c.from-place.result (get_or t.readings c.from-place.result 0 + 1) in
     let more : (other : ℕ) → other ≤ 7 → slice_index read' other ≡ slice_index t.readings other + one_if (c.args.agent == other) =
