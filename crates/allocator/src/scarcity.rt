@@ -9,16 +9,17 @@ ghost use Rattle.allocator.specs.Scarcity.{scarcity_price};
 use dual_bound::is_used_up;
 use game_text::Account;
 use packages::{Package, Prices};
+use tac_base::limits::DUAL_PRICE;
 
 /// The price of the good of a number, 0..27, in dollars: the greatest where the packages use it up, and none otherwise.
 fn scarcity_price(account: &Account, allocation: &[Package; 8], number: u8) -> u16
     requires lawful { All IsPackage allocation.now }
     requires good { number < 28 }
     ensures value { result ≡ scarcity_price (stock_of account.now.holdings) allocation.now number }
-    ensures few { result ≤ 14001 }
+    ensures few { result ≤ DUAL_PRICE }
 {
     if is_used_up(account, allocation, number) {
-        14001
+        DUAL_PRICE
     } else {
         0
     }

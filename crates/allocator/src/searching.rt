@@ -1,6 +1,7 @@
 // The search for the best allocation, which leaves a certificate behind it.
 ghost use Rattle.std.specs.Prelude.{◌≡◌, ℕ, ◌+◌, ◌-◌, ◌<◌, ◌≤◌, ◌⊎◌, true, length, IfOk};
 ghost use Rattle.std.specs.List.{All};
+ghost use Rattle.tac_base.specs.declared.limits.TheConstants.{CERTIFICATE_DEPTH};
 ghost use Rattle.packages.specs.Packages.{IsPackage};
 ghost use Rattle.packages.specs.Bounds.{leaf_bound, stock_value};
 ghost use Rattle.packages.specs.BestTotal.{total_of, used_by};
@@ -142,7 +143,7 @@ pub(crate) fn explore(
     ensures reached { IsReached account.now best.new.allocation best.new.total }
     ensures grows { best.old.total ≤ best.new.total }
     ensures holds { IfOk result (λ node. holds account.now best.new.total (chosen choice.now) (tree_of node) ≡ true) }
-    ensures fits { IfOk result (λ node. is_tree (32 - level) (tree_of node) ≡ true) }
+    ensures fits { IfOk result (λ node. is_tree (CERTIFICATE_DEPTH - level) (tree_of node) ≡ true) }
 {
     // The proof rests on the account's ranges, which are known where it is read.
     let _holdings = &account.holdings;
@@ -187,7 +188,7 @@ fn explore_part(
     ensures reached { IsReached account.now best.new.allocation best.new.total }
     ensures grows { best.old.total ≤ best.new.total }
     ensures holds { IfOk result (λ node. holds account.now best.new.total (chosen choice.now) (tree_of node) ≡ true) }
-    ensures fits { IfOk result (λ node. is_tree (32 - level) (tree_of node) ≡ true) }
+    ensures fits { IfOk result (λ node. is_tree (CERTIFICATE_DEPTH - level) (tree_of node) ≡ true) }
 {
     // The proof rests on the account's ranges, which are known where it is read.
     let _holdings = &account.holdings;

@@ -1,5 +1,6 @@
 // The best allocation of an account.
 ghost use Rattle.std.specs.Prelude.{◌≡◌, true, IfOk, IsTrue};
+ghost use Rattle.tac_base.specs.declared.limits.TheConstants.{CERTIFICATE_DEPTH};
 ghost use Rattle.packages.specs.BestTotal.{IsBest, IsFeasible, total_of};
 ghost use Rattle.bound_cert.specs.Trees.{is_tree};
 ghost use Rattle.bound_cert.specs.Views.{tree_of};
@@ -36,7 +37,7 @@ fn explore_all(
     requires reached { IsReached account.now best.old.allocation best.old.total }
     ensures reached { IsReached account.now best.new.allocation best.new.total }
     ensures holds { IfOk result (λ root. holds account.now best.new.total all_left (tree_of root) ≡ true) }
-    ensures fits { IfOk result (λ root. is_tree 32 (tree_of root) ≡ true) }
+    ensures fits { IfOk result (λ root. is_tree CERTIFICATE_DEPTH (tree_of root) ≡ true) }
 {
     // The proof rests on the account's ranges, which are known where it is read.
     let _holdings = &account.holdings;

@@ -1,5 +1,6 @@
 -- The certificate of a text, read line by line, or the first bad line with its first reason.
 use Rattle.std.specs.Prelude.{ℕ, zero, suc, List, length, Result, Ok, Err, false, nat_lt, if◌then◌else◌}
+use Rattle.tac_base.specs.declared.limits.TheConstants.{CERTIFICATE_DEPTH, TEXT_BYTES}
 use Rattle.text_forms.specs.Lines.{Remaining, lines_from, due_of, at_line, nothing_left}
 use Rattle.text_forms.specs.Steps.{◌>>=◌}
 use Rattle.text_forms.specs.Words.{parts_of}
@@ -48,13 +49,13 @@ unfoldable pub tree_in : ℕ → Step Tree
 tree_in zero left = node_line_in left >>= λ node. last_node node.0 node.1 node.2
 tree_in (suc level) left = node_line_in left >>= λ node. node_by (tree_in level) node.1 node.2
 
--- a tree of at most 32 levels, after which no line is left
+-- a tree of at most as many levels as a certificate may have, after which no line is left
 unfoldable pub root_in : Remaining → Result Tree CertFault
 root_in left = do
-  tree ← tree_in 32 left
+  tree ← tree_in CERTIFICATE_DEPTH left
   done ← refused (nothing_left tree.1)
   Ok tree.0
 
 -- the certificate of a text, or why it is refused
 unfoldable pub cert_of : List ℕ → Result Tree CertFault
-cert_of text = if nat_lt 67108864 (length text) then Err TooLong else root_in (lines_from false 1 (parts_of 10 text))
+cert_of text = if nat_lt TEXT_BYTES (length text) then Err TooLong else root_in (lines_from false 1 (parts_of 10 text))

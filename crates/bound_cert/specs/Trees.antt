@@ -1,6 +1,7 @@
 -- The tree of a certificate.
 use Rattle.std.specs.Prelude.{ℕ, zero, suc, ◌+◌, ◌==◌, ◌&&◌, nat_lt, nat_le, Bool, true, false, List, length, IsTrue}
 use Rattle.std.specs.List.{list_all}
+use Rattle.tac_base.specs.declared.limits.TheConstants.{CERTIFICATE_DEPTH, DUAL_PRICE}
 use Rattle.packages.specs.Features.{values_of}
 
 mutual
@@ -18,9 +19,9 @@ abbrev pub count_of : Trees → ℕ
 count_of no_trees = 0
 count_of (more tree trees) = count_of trees + 1
 
--- a price for each good, none of which is above 14001
+-- a price for each good, none of which is above the highest
 abbrev pub are_prices : List ℕ → Bool
-are_prices prices = length prices == 28 && list_all (λ price. nat_le price 14001) prices
+are_prices prices = length prices == 28 && list_all (λ price. nat_le price DUAL_PRICE) prices
 
 -- a split names a client and a feature and has a child for each value of the feature, and at most so many splits stand above each leaf
 abbrev mutual
@@ -34,4 +35,4 @@ abbrev mutual
   are_trees depth (more tree trees) = is_tree depth tree && are_trees depth trees
 
 abbrev pub IsCertificate : Tree → Type 0
-IsCertificate tree = IsTrue (is_tree 32 tree)
+IsCertificate tree = IsTrue (is_tree CERTIFICATE_DEPTH tree)

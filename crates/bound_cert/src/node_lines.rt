@@ -5,6 +5,7 @@ ghost use Rattle.text_forms.specs.Words.{words_of};
 ghost use Rattle.bound_cert.specs.NodeLines as nodes;
 
 use packages::Prices;
+use tac_base::limits::DUAL_PRICE;
 use text_forms::{Column, Reason, Words, read_row};
 
 /// What the line of a node says.
@@ -26,7 +27,7 @@ fn is_leaf(line: &[u8]) -> bool
 
 /// The prices of a row.
 fn prices_of(numbers: &[i64; 28]) -> Prices
-    requires { IsTrue (list_all (λ n. rows.is_in (rows.within 0 14001) n) numbers.now) }
+    requires { IsTrue (list_all (λ n. rows.is_in (rows.within 0 DUAL_PRICE) n) numbers.now) }
     ensures { result ≡ map unsigned_abs numbers.now }
 {
     let mut dollars = [0; 28];
@@ -40,7 +41,7 @@ fn prices_of(numbers: &[i64; 28]) -> Prices
 fn leaf_columns() -> [Column; 28]
     ensures { result ≡ nodes.leaf_columns }
 {
-    [Column::within(0, 14001); 28]
+    [Column::within(0, u32::from(DUAL_PRICE)); 28]
 }
 
 /// The leaf of a line, or the first reason that applies.

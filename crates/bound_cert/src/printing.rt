@@ -1,4 +1,5 @@
 ghost use Rattle.std.specs.Prelude.{◌≡◌, ◌+◌, ◌++◌, ◌≤◌, [], ◌∷◌, pos, map, length, OnOk, IfOk, Ok};
+ghost use Rattle.tac_base.specs.declared.limits.TheConstants.{TEXT_BYTES};
 ghost use Rattle.text_forms.specs.Lines.{text_of};
 ghost use Rattle.text_forms.specs.Words.{parts_of};
 ghost use Rattle.bound_cert.specs.NodeLines.{leaf_text, split_text};
@@ -74,7 +75,7 @@ pub fn print_cert(alloc: Global, cert: &Cert) -> Result<Vec<u8>, Memory>
     // There is a line for each leaf and each split, and each line has its line end.
     ensures lines { IfOk result (λ text. length (parts_of 10 text.items) ≡ length (tree_lines (tree_of cert.now.root)) + 1) }
     // What is printed is read as the certificate again, where it is short enough to be read.
-    ensures again { IfOk result (λ text. length text.items ≤ 67108864 → cert_of text.items ≡ Ok (tree_of cert.now.root)) }
+    ensures again { IfOk result (λ text. length text.items ≤ TEXT_BYTES → cert_of text.items ≡ Ok (tree_of cert.now.root)) }
 {
     let mut out = Vec::new(alloc);
     print_node(&cert.root, &mut out)?;

@@ -10,13 +10,8 @@ use crate::node_lines::{NodeLine, node_line_of};
 use crate::trees::{Cert, CertNode};
 use packages::value_count;
 use std::alloc::Global;
+use tac_base::limits::{CERTIFICATE_DEPTH, TEXT_BYTES};
 use text_forms::{Lines, at_line};
-
-/// A certificate's text has at most so many bytes.
-const MOST_BYTES: usize = 67_108_864;
-
-/// A certificate is at most so many splits deep.
-const MOST_SPLITS: u8 = 32;
 
 /// The number of the next line, what the line says, and the lines after it.
 fn node_line_in<'a>(lines: Lines<'a>) -> Result<(u32, NodeLine, Lines<'a>), CertFault>
@@ -85,7 +80,7 @@ fn read_children<'a>(
 fn root_in(alloc: Global, lines: Lines<'_>) -> Result<CertNode, CertFault>
     ensures { IsReading tree_of result (reading.root_in lines.entry) }
 {
-    let (root, left) = read_node(alloc, MOST_SPLITS, lines)?;
+    let (root, left) = read_node(alloc, CERTIFICATE_DEPTH, lines)?;
     left.finish()?;
     Ok(root)
 }
@@ -93,9 +88,9 @@ fn root_in(alloc: Global, lines: Lines<'_>) -> Result<CertNode, CertFault>
 /// The root of the certificate of a text.
 fn root_of(alloc: Global, text: &[u8]) -> Result<CertNode, CertFault>
     ensures exact { IsReading tree_of result (reading.cert_of text.now) }
-    ensures too_long { (result ≡ Err CertFault.TooLong) ↔ (67108864 < length text.now) }
+    ensures too_long { (result ≡ Err CertFault.TooLong) ↔ (TEXT_BYTES < length text.now) }
 {
-    if text.len() > MOST_BYTES {
+    if text.len() > TEXT_BYTES as usize {
         return Err(CertFault::TooLong);
     }
     root_in(alloc, Lines::new(text))
@@ -105,11 +100,11 @@ fn root_of(alloc: Global, text: &[u8]) -> Result<CertNode, CertFault>
 pub fn read_cert(alloc: Global, text: &[u8]) -> Result<Cert, CertFault>
     // Which certificate it is, or the first bad line with its first reason, unless memory is short.
     ensures exact { IsReading (λ cert. tree_of cert.root) result (reading.cert_of text.now) }
-    ensures too_long { (result ≡ Err CertFault.TooLong) ↔ (67108864 < length text.now) }
+    ensures too_long { (result ≡ Err CertFault.TooLong) ↔ (TEXT_BYTES < length text.now) }
     // The text is the one of the certificate.
     ensures same { IfOk result (λ cert. text.now ≡ spelling (tree_of cert.root)) }
     // The text of each certificate is read as that certificate.
-    ensures only { (tree : Tree) → IsCertificate tree → length text.now ≤ 67108864 → text.now ≡ spelling tree → reading.cert_of text.now ≡ Ok tree }
+    ensures only { (tree : Tree) → IsCertificate tree → length text.now ≤ TEXT_BYTES → text.now ≡ spelling tree → reading.cert_of text.now ≡ Ok tree }
 {
     let root = root_of(alloc, text)?;
     Ok(Cert { root })

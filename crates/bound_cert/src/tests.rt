@@ -1,37 +1,22 @@
-ghost use Rattle.std.specs.Prelude.{◌≤◌};
-ghost use Rattle.tac_base.specs.Clients.{IsClient};
-
 use crate::{CertFault, check, print_cert, read_cert};
-use game_text::Account;
+use game_text::{Account, read_account};
 use std::alloc::{AllocError, Global};
 use std::test::Fail;
-use tac_base::Client;
 
-/// A client that wants days 1 to 2 and no ticket but one for alligator wrestling, of a value.
-fn wrestling_fan(value: u8) -> Client
-    requires { value ≤ 200 }
-    ensures { IsClient result }
-{
-    Client {
-        arrive: 1,
-        depart: 2,
-        premium: 50,
-        values: [value, 0, 0],
-    }
+/// The account of holdings whose clients want days 1 to 2, and two of them the ticket for alligator wrestling.
+fn account(alloc: Global, hold: &str) -> Result<Account, Fail> {
+    let text = format!(in alloc;
+        "account\nhold {hold}\nclient 0 1 2 50 100 0 0\nclient 1 1 2 50 150 0 0\n\
+        client 2 1 2 50 0 0 0\nclient 3 1 2 50 0 0 0\nclient 4 1 2 50 0 0 0\n\
+        client 5 1 2 50 0 0 0\nclient 6 1 2 50 0 0 0\nclient 7 1 2 50 0 0 0\nend\n"
+    )?;
+    Ok(read_account(text.as_bytes())?)
 }
 
-/// One seat in and one ticket that two clients want, and a seat out and a room for each of the two.
-fn one_seat() -> Account {
-    let mut clients = [wrestling_fan(0); 8];
-    clients[0] = wrestling_fan(100);
-    clients[1] = wrestling_fan(150);
-    let mut holdings = [0; 28];
-    holdings[0] = 1;
-    holdings[4] = 2;
-    holdings[8] = 2;
-    holdings[16] = 1;
-    Account { clients, holdings }
-}
+/// One seat in and one ticket, two seats out and two rooms.
+const ONE_SEAT: &str = "1 0 0 0 2 0 0 0 2 0 0 0 0 0 0 0 1 0 0 0 0 0 0 0 0 0 0 0";
+
+const NO_GOODS: &str = "0 0 0 0 0 0 0 0 0 0 0 0 0 0 0 0 0 0 0 0 0 0 0 0 0 0 0 0";
 
 /// Appends leaves of which each has one price for all goods.
 fn add_leaves(text: &mut Vec<u8>, count: u8, price: &[u8]) -> Result<(), AllocError> {
@@ -59,37 +44,26 @@ const ONE_SEAT_LEAF: &[u8] =
     b"leaf 1000 1750 1750 1750 0 1750 1750 1750 0 1750 1750 1750 1750 1750 1750 1750 150 1750 1750 1750 1750 1750 1750 1750 1750 1750 1750 1750\n";
 
 #[test]
-fn one_seat_and_one_ticket_are_worth_1150(rt: HostRuntime) -> Result<(), Fail> {
-    let account = one_seat();
-    let cert = read_cert(rt.alloc(), ONE_SEAT_LEAF)?;
-    assert!(rt; check(&account, 1150, &cert));
-    assert!(rt; !check(&account, 1149, &cert));
-    Ok(())
-}
-
-#[test]
-fn no_goods_are_worth_nothing(rt: HostRuntime) -> Result<(), Fail> {
-    let account = Account {
-        clients: [wrestling_fan(0); 8],
-        holdings: [0; 28],
-    };
+fn certificates_hold_for_what_they_bound_and_are_printed_as_read(
+    rt: HostRuntime,
+) -> Result<(), Fail> {
     let mut dear = Vec::new(rt.alloc());
     add_leaves(&mut dear, 1, b"14001")?;
-    assert!(rt; check(&account, 0, &read_cert(rt.alloc(), dear.as_slice())?));
-    let mut free = Vec::new(rt.alloc());
-    add_leaves(&mut free, 1, b"0")?;
-    let cert = read_cert(rt.alloc(), free.as_slice())?;
-    assert!(rt; !check(&account, 0, &cert));
-    assert!(rt; check(&account, 14000, &cert));
-    Ok(())
-}
-
-#[test]
-fn thirty_two_splits_are_printed_as_they_were_read(rt: HostRuntime) -> Result<(), Fail> {
-    let mut text = splits(rt.alloc(), 32)?;
-    add_leaves(&mut text, 1 + 4 * 32, b"0")?;
-    let printed = print_cert(rt.alloc(), &read_cert(rt.alloc(), text.as_slice())?)?;
-    assert_eq!(rt; printed.as_slice(), text.as_slice());
+    let mut free = splits(rt.alloc(), 32)?;
+    add_leaves(&mut free, 1 + 4 * 32, b"0")?;
+    for (hold, text, claim, holds) in [
+        (ONE_SEAT, ONE_SEAT_LEAF, 1150, true),
+        (ONE_SEAT, ONE_SEAT_LEAF, 1149, false),
+        (NO_GOODS, dear.as_slice(), 0, true),
+        (NO_GOODS, free.as_slice(), 0, false),
+        (NO_GOODS, free.as_slice(), 14000, true),
+    ] {
+        let account = account(rt.alloc(), hold)?;
+        let cert = read_cert(rt.alloc(), text)?;
+        assert_eq!(rt; check(&account, claim, &cert), holds);
+        let printed = print_cert(rt.alloc(), &cert)?;
+        assert_eq!(rt; printed.as_slice(), text);
+    }
     Ok(())
 }
 

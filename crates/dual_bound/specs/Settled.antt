@@ -1,6 +1,7 @@
 -- When no single price is worth moving.
 use Rattle.std.specs.Prelude.{◌≡◌, ℕ, ◌+◌, ◌<◌, ◌≤◌, ◌⊎◌, ℤ, Bool, false, List, Option, Some, None, set, slice_index}
 use Rattle.std.specs.Int.RustNames.{int_lt}
+use Rattle.tac_base.specs.declared.limits.TheConstants.{DUAL_PRICE}
 use Rattle.game_text.specs.Accounts.{AccountFile}
 use Rattle.packages.specs.Bounds.{Narrowing, leaf_bound}
 
@@ -17,7 +18,7 @@ IsStep price other = (price ≡ other + 50) ⊎ (price + 50 ≡ other)
 -- no price of a good, raised or lowered by 50 within the range, gives a lower leaf bound than so much
 abbrev pub IsSettledAt : AccountFile → Narrowing → List ℕ → Option ℤ → ℕ → Type 0
 IsSettledAt account left prices bound good =
-    (price : ℕ) → price ≤ 14001 → IsStep price (slice_index prices good) → is_lower (leaf_bound account left (set prices good price)) bound ≡ false
+    (price : ℕ) → price ≤ DUAL_PRICE → IsStep price (slice_index prices good) → is_lower (leaf_bound account left (set prices good price)) bound ≡ false
 
 -- no single price, raised or lowered by 50 within the range, gives a lower leaf bound
 abbrev pub IsSettled : AccountFile → Narrowing → List ℕ → Type 0

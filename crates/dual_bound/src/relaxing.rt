@@ -11,6 +11,7 @@ use crate::tableau::{Column, Entering, SMALL, Tableau};
 use crate::worths::Worths;
 use game_text::Account;
 use packages::stock;
+use tac_base::limits::DUAL_PRICE;
 
 /// At most so many columns enter.
 const MOST_STEPS: u32 = 2000;
@@ -111,7 +112,7 @@ impl Limits {
     pub(crate) fn none() -> Limits {
         Limits {
             low: [0.0; 28],
-            high: [14001.0; 28],
+            high: [f64::from(DUAL_PRICE); 28],
         }
     }
 }

@@ -7,15 +7,16 @@ use crate::tableau::{SMALL, Tableau};
 use crate::worths::Worths;
 use packages::Prices;
 use std::num::saturating_f64_to_u16;
+use tac_base::limits::DUAL_PRICE;
 
 /// At most so many prices are kept to whole dollars in turn.
 const MOST_KEPT: u32 = 56;
 
 /// The whole number below a price, at most the greatest price.
 fn whole(price: f64) -> u16
-    ensures { result ≤ 14001 }
+    ensures { result ≤ DUAL_PRICE }
 {
-    saturating_f64_to_u16(price).min(14001)
+    saturating_f64_to_u16(price).min(DUAL_PRICE)
 }
 
 /// The margin of the package of a number.
@@ -116,7 +117,7 @@ impl Tableau {
     /// The price of a good, 0..27, raised by a part of a dollar and then cut to whole dollars.
     fn price(&self, good: usize, shift: f64) -> u16
         requires { good < 28 }
-        ensures { result ≤ 14001 }
+        ensures { result ≤ DUAL_PRICE }
     {
         whole(self.rows[36][good] + shift)
     }
@@ -135,7 +136,7 @@ impl Tableau {
         ensures { IfSome result (λ good. good < 28) }
     {
         for good in 0..28 {
-            let price = self.rows[36][good].min(14001.0);
+            let price = self.rows[36][good].min(f64::from(DUAL_PRICE));
             if price - f64::from(self.price(good, SMALL)) > SMALL {
                 return Some(good);
             }

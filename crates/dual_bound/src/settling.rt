@@ -16,6 +16,7 @@ use crate::relaxing::Relaxation;
 use crate::worths::Worths;
 use game_text::Account;
 use packages::{Narrowing, Package, Prices, leaf_bound};
+use tac_base::limits::DUAL_PRICE;
 
 /// Whether a bound is lower than another, where both are there.
 fn is_lower(bound: Option<i64>, other: Option<i64>) -> bool
@@ -30,7 +31,7 @@ fn is_lower(bound: Option<i64>, other: Option<i64>) -> bool
 /// The prices with another one for a good, 0..27.
 fn with_price(prices: &Prices, good: usize, price: u16) -> Prices
     requires good { good < 28 }
-    requires price { price ≤ 14001 }
+    requires price { price ≤ DUAL_PRICE }
     ensures value { result ≡ set prices.now good price }
     ensures range { ArePrices result }
 {
@@ -49,7 +50,7 @@ fn lower_with(
     price: u16,
 ) -> Option<Prices>
     requires good { good < 28 }
-    requires price { price ≤ 14001 }
+    requires price { price ≤ DUAL_PRICE }
     ensures lower { IfSome result (λ other. settled.is_lower (leaf_bound account.now (chosen choice.now) other) bound ≡ true) }
     ensures none { IfNone result (settled.is_lower (leaf_bound account.now (chosen choice.now) (set prices.now good price)) bound ≡ false) }
 {
@@ -74,7 +75,7 @@ fn lower_at(
     ensures none { IfNone result (settled.IsSettledAt account.now (chosen choice.now) prices.now bound good) }
 {
     let price = prices.dollars[good];
-    if price <= 13951 {
+    if price <= DUAL_PRICE - 50 {
         if let Some(other) = lower_with(account, choice, prices, bound, good, price + 50) {
             return Some(other);
         }

@@ -2,6 +2,7 @@
 ghost use Rattle.std.specs.Prelude.{◌<◌, IfSome};
 
 use packages::{Package, package};
+use tac_base::limits::DUAL_PRICE;
 
 /// Differences below this are taken for errors of rounding.
 pub(crate) const SMALL: f64 = 0.0000001;
@@ -123,7 +124,11 @@ fn rank_of(column: &Column) -> usize {
 
 /// What a good costs at first, of which there are so many.
 fn first_price(stock: f64) -> f64 {
-    if stock < 0.5 { 14001.0 } else { 0.0 }
+    if stock < 0.5 {
+        f64::from(DUAL_PRICE)
+    } else {
+        0.0
+    }
 }
 
 /// The place that no row has.

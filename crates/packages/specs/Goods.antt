@@ -1,5 +1,6 @@
 -- The 28 goods as seats, rooms and tickets.
-use Rattle.std.specs.Prelude.{ℕ, ◌+◌, ◌-◌, ◌*◌, ◌/◌, ◌%◌, nat_lt, if◌then◌else◌}
+use Rattle.std.specs.Prelude.{ℕ, ◌+◌, ◌-◌, ◌/◌, ◌%◌, nat_lt, if◌then◌else◌}
+use Rattle.tac_base.specs.Goods.{inbound_flight, outbound_flight, hotel_night, ticket_night}
 
 pub data Thing : Type 0 where
   -- a seat in on a day, 1..4
@@ -13,15 +14,15 @@ pub data Thing : Type 0 where
 
 -- the number of a good
 abbrev pub good_of : Thing → ℕ
-good_of (inbound day) = day - 1
-good_of (outbound day) = day + 2
-good_of (room hotel night) = 8 + 4 * hotel + night - 1
-good_of (ticket kind night) = 16 + 4 * kind + night - 1
+good_of (inbound day) = inbound_flight day
+good_of (outbound day) = outbound_flight day
+good_of (room hotel night) = hotel_night hotel night
+good_of (ticket kind night) = ticket_night kind night
 
 -- what the good of a number is
 abbrev pub thing_of : ℕ → Thing
 thing_of good =
-    if nat_lt good 4 then inbound (good + 1)
-    else if nat_lt good 8 then outbound (good - 2)
-    else if nat_lt good 16 then room ((good - 8) / 4) ((good - 8) % 4 + 1)
-    else ticket ((good - 16) / 4) ((good - 16) % 4 + 1)
+    if nat_lt good (outbound_flight 2) then inbound (good + 1)
+    else if nat_lt good (hotel_night 0 1) then outbound (good - 2)
+    else if nat_lt good (ticket_night 0 1) then room ((good - hotel_night 0 1) / 4) ((good - hotel_night 0 1) % 4 + 1)
+    else ticket ((good - ticket_night 0 1) / 4) ((good - ticket_night 0 1) % 4 + 1)

@@ -1,8 +1,9 @@
 -- What prices are.
 use Rattle.std.specs.Prelude.{◌≡◌, ℕ, ◌≤◌, List, length}
 use Rattle.std.specs.List.{All}
+use Rattle.tac_base.specs.declared.limits.TheConstants.{DUAL_PRICE}
 
--- a price for each of the 28 goods, none of which is above 14001
+-- a price for each of the 28 goods, none of which is above the highest
 pub record ArePrices (prices : List ℕ) : Type 0 where
   pub count : length prices ≡ 28
-  pub each : All (λ price. price ≤ 14001) prices
+  pub each : All (λ price. price ≤ DUAL_PRICE) prices

@@ -1,5 +1,6 @@
 ghost use Rattle.std.specs.Prelude.{◌≡◌, ℕ, ◌<◌, ◌≤◌, ◌*◌, ◌+◌, ◌^◌, pos, negsuc, ◌≤ℤ◌, Bool, Some, slice_index, IfSome};
 ghost use Rattle.std.specs.Option.{ForSome};
+ghost use Rattle.tac_base.specs.declared.limits.TheConstants.{DUAL_PRICE, HOLDING};
 ghost use Rattle.packages.specs.declared.travel_packages.Package.{Package};
 ghost use Rattle.packages.specs.Packages.{IsPackage};
 ghost use Rattle.packages.specs.Bounds as bounds;
@@ -28,7 +29,7 @@ pub trait Narrowing {
 pub fn stock(account: &Account, good: usize) -> u32
     requires { good < 28 }
     ensures value { result ≡ stock_of account.now.holdings good }
-    ensures few { result ≤ 200000 }
+    ensures few { pos result ≤ℤ HOLDING }
 {
     let held = account.holdings[good];
     if held > 0 { held.unsigned_abs() } else { 0 }
@@ -60,7 +61,7 @@ pub fn stock_value(account: &Account, prices: &Prices) -> u64
 fn margin(client: &Client, prices: &Prices, package: &Package) -> i64
     requires { IsPackage «package».now }
     ensures value { result ≡ bounds.margin_of client.now prices.now «package».now }
-    ensures low { negsuc 126008 ≤ℤ result }
+    ensures low { negsuc (9 * DUAL_PRICE) ≤ℤ result }
     ensures high { result ≤ℤ pos 1750 }
 {
     i64::from(utility(client, package)) - i64::from(cost(prices, package))
@@ -69,10 +70,10 @@ fn margin(client: &Client, prices: &Prices, package: &Package) -> i64
 /// The greater of a margin so far and the package's margin.
 fn raised(most: Option<i64>, client: &Client, prices: &Prices, package: &Package) -> Option<i64>
     requires lawful { IsPackage «package».now }
-    requires low { ForSome most (λ n. negsuc 126008 ≤ℤ n) }
+    requires low { ForSome most (λ n. negsuc (9 * DUAL_PRICE) ≤ℤ n) }
     requires high { ForSome most (λ n. n ≤ℤ pos 1750) }
     ensures value { result ≡ bounds.greater most (Some (bounds.margin_of client.now prices.now «package».now)) }
-    ensures low { IfSome result (λ n. negsuc 126008 ≤ℤ n) }
+    ensures low { IfSome result (λ n. negsuc (9 * DUAL_PRICE) ≤ℤ n) }
     ensures high { IfSome result (λ n. n ≤ℤ pos 1750) }
 {
     let other = margin(client, prices, package);
@@ -92,7 +93,7 @@ fn best_margin<N: Narrowing>(
 ) -> Option<i64>
     requires { number < 8 }
     ensures value { result ≡ bounds.best_margin client.now prices.now (N.left narrowing.now number) }
-    ensures low { IfSome result (λ n. negsuc 126008 ≤ℤ n) }
+    ensures low { IfSome result (λ n. negsuc (9 * DUAL_PRICE) ≤ℤ n) }
     ensures high { IfSome result (λ n. n ≤ℤ pos 1750) }
 {
     let mut most = None;
@@ -111,7 +112,7 @@ fn added(bound: Option<i64>, other: Option<i64>, number: usize) -> Option<i64>
     requires number { number < 8 }
     requires low { ForSome bound (λ n. negsuc (2000000 * number) ≤ℤ n) }
     requires high { ForSome bound (λ n. n ≤ℤ pos (2 ^ 53 + 2000 * number)) }
-    requires other_low { ForSome other (λ n. negsuc 126008 ≤ℤ n) }
+    requires other_low { ForSome other (λ n. negsuc (9 * DUAL_PRICE) ≤ℤ n) }
     requires other_high { ForSome other (λ n. n ≤ℤ pos 1750) }
     ensures value { result ≡ bounds.plus bound other }
     ensures low { IfSome result (λ n. negsuc (2000000 * (number + 1)) ≤ℤ n) }

@@ -1,4 +1,5 @@
 ghost use Rattle.std.specs.Prelude.{◌≡◌, ◌<◌, ◌≤◌, ◌*◌, ◌+◌, slice_index};
+ghost use Rattle.tac_base.specs.declared.limits.TheConstants.{DUAL_PRICE};
 ghost use Rattle.packages.specs.Bounds.{cost_of};
 ghost use Rattle.packages.specs.Costs.{rooms_price, ticket_price};
 ghost use Rattle.packages.specs.Packages.{IsPackage};
@@ -10,7 +11,7 @@ use crate::travel_packages::Package;
 fn price_at(prices: &Prices, good: usize) -> u32
     requires { good < 28 }
     ensures value { result ≡ slice_index prices.now good }
-    ensures few { result ≤ 14001 }
+    ensures few { result ≤ DUAL_PRICE }
 {
     u32::from(prices.dollars[good])
 }
@@ -23,7 +24,7 @@ fn rooms_cost(prices: &Prices, hotel: u8, arrive: u8, depart: u8) -> u32
     requires later { arrive < depart }
     requires last { depart ≤ 5 }
     ensures value { result ≡ rooms_price prices.now hotel arrive depart }
-    ensures few { result ≤ 4 * 14001 }
+    ensures few { result ≤ 4 * DUAL_PRICE }
 {
     let mut total = 0;
     for night in arrive..depart {
@@ -37,7 +38,7 @@ fn ticket_cost(prices: &Prices, kind: usize, night: u8) -> u32
     requires kind { kind < 3 }
     requires night { night < 5 }
     ensures value { result ≡ ticket_price prices.now kind night }
-    ensures few { result ≤ 14001 }
+    ensures few { result ≤ DUAL_PRICE }
 {
     if night == 0 {
         0
@@ -50,7 +51,7 @@ fn ticket_cost(prices: &Prices, kind: usize, night: u8) -> u32
 pub fn cost(prices: &Prices, package: &Package) -> u32
     requires { IsPackage «package».now }
     ensures value { result ≡ cost_of prices.now «package».now }
-    ensures few { result ≤ 9 * 14001 }
+    ensures few { result ≤ 9 * DUAL_PRICE }
 {
     match package {
         Package::None => 0,

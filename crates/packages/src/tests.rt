@@ -3,6 +3,7 @@ ghost use Rattle.packages.specs.Packages.{IsPackage};
 
 use crate::{Package, Prices, cost, feature_value, package, uses, utility, value_count};
 use std::test::Fail;
+use tac_base::limits::DUAL_PRICE;
 use tac_base::{Client, Good};
 
 /// From day 2 to day 3 in Tampa Towers, with the museum on night 2.
@@ -18,7 +19,7 @@ fn museum_trip() -> Package
 }
 
 fn equal_prices(price: u16) -> Prices
-    requires { price ≤ 14001 }
+    requires { price ≤ DUAL_PRICE }
 {
     Prices {
         dollars: [price; 28],
@@ -26,33 +27,19 @@ fn equal_prices(price: u16) -> Prices
 }
 
 #[test]
-fn museum_lover_is_worth_twelve_hundred(rt: HostRuntime) {
+fn museum_trip_is_worth_1200_and_uses_four_goods(rt: HostRuntime) -> Result<(), Fail> {
     let client = Client {
         arrive: 1,
         depart: 3,
         premium: 100,
         values: [0, 0, 200],
     };
-    assert_eq!(rt; utility(&client, &museum_trip()), 1200);
-}
-
-#[test]
-fn museum_trip_uses_four_goods(rt: HostRuntime) -> Result<(), Fail> {
     let trip = museum_trip();
+    assert_eq!(rt; utility(&client, &trip), 1200);
     assert_eq!(rt; cost(&equal_prices(100), &trip), 400);
     assert_eq!(rt; uses(&trip, Good::new(13)?), 1);
     assert_eq!(rt; uses(&trip, Good::new(9)?), 0);
+    assert!(rt; feature_value(&trip, 0) == 15 && value_count(0) == 21);
+    assert!(rt; package(392).is_some() && package(393).is_none());
     Ok(())
-}
-
-#[test]
-fn museum_trip_has_value_15_of_its_feature(rt: HostRuntime) {
-    assert_eq!(rt; feature_value(&museum_trip(), 0), 15);
-    assert_eq!(rt; value_count(0), 21);
-}
-
-#[test]
-fn last_package_has_number_392(rt: HostRuntime) {
-    assert!(rt; package(392).is_some());
-    assert!(rt; package(393).is_none());
 }

@@ -1,4 +1,5 @@
-use Rattle.std.proofs.Common.{◌≡◌, ◌+◌, Some, is_some, true, false, pos, negsuc, ◌≤ℤ◌, sym, ap, ◌∙◌, arith}
+use Rattle.std.proofs.Common.{◌*◌, ◌≡◌, ◌+◌, Some, is_some, true, false, pos, negsuc, ◌≤ℤ◌, sym, ap, ◌∙◌, arith}
+use Rattle.tac_base.specs.declared.limits.TheConstants.{DUAL_PRICE}
 use Rattle.std.proofs.lemmas.Bool.{false≢true}
 use Rattle.std.specs.List.{slice_get}
 use Rattle.packages.specs.Listing.{packages}
@@ -22,7 +23,7 @@ loop-n-preserved g c =
           let most_is = w.most-is ∙ w.raised-most.ensures.value in
           record {
             rest = ap (λ m. greater m (greatest_from margin left packages (l.n + 1))) most_is ∙ step ∙ l.invariant.rest;
-            low = if_some_is (λ n. negsuc 126008 ≤ℤ n) _ _ w.most-is w.raised-most.ensures.low;
+            low = if_some_is (λ n. negsuc (9 * DUAL_PRICE) ≤ℤ n) _ _ w.most-is w.raised-most.ensures.low;
             high = if_some_is (λ n. n ≤ℤ pos 1750) _ _ w.most-is w.raised-most.ensures.high;
           }
       | in-Some+else-keeps w ↦
@@ -32,7 +33,7 @@ loop-n-preserved g c =
           let step = greatest_skips margin left packages l.n choice found fails in
           record {
             rest = ap (λ m. greater m (greatest_from margin left packages (l.n + 1))) w.most-is ∙ ap (greater l.most) step ∙ l.invariant.rest;
-            low = if_some_is (λ n. negsuc 126008 ≤ℤ n) _ _ w.most-is l.invariant.low;
+            low = if_some_is (λ n. negsuc (9 * DUAL_PRICE) ≤ℤ n) _ _ w.most-is l.invariant.low;
             high = if_some_is (λ n. n ≤ℤ pos 1750) _ _ w.most-is l.invariant.high;
           }
       | in_default w ↦ absurd (false≢true (sym (ap is_some w.in_default.is) ∙ c.package.ensures.variant.1 c.loop-n-test.true))

@@ -1,4 +1,5 @@
-use Rattle.std.proofs.Common.{◌≡◌, pos, negsuc, ◌≤ℤ◌, IfSome}
+use Rattle.std.proofs.Common.{◌*◌, ◌≡◌, pos, negsuc, ◌≤ℤ◌, IfSome}
+use Rattle.tac_base.specs.declared.limits.TheConstants.{DUAL_PRICE}
 use Rattle.packages.specs.Listing.{packages}
 use Rattle.packages.specs.Bounds.{best_margin, greater, margin_of}
 use Rattle.packages.proofs.Margins.{greatest_from}
@@ -10,6 +11,6 @@ invariant-loop-n g l =
     let margin = margin_of l.client l.prices in
     record {
       rest : greater l.most (greatest_from margin left packages l.n) ≡ best_margin l.client l.prices left;
-      low : IfSome l.most (λ n. negsuc 126008 ≤ℤ n);
+      low : IfSome l.most (λ n. negsuc (9 * DUAL_PRICE) ≤ℤ n);
       high : IfSome l.most (λ n. n ≤ℤ pos 1750);
     }
