@@ -2,23 +2,26 @@
 ghost use Rattle.std.specs.Prelude.{◌<◌, ◌≤◌};
 
 use crate::features::Features;
+use crate::tableau::place_of;
+use tac_base::Good;
 
 /// What the seats and the rooms of a trip cost.
-fn trip_charge(prices: &[f64; 37], hotel: usize, arrive: usize, depart: usize) -> f64
+fn trip_charge(prices: &[f64; 37], hotel: u8, arrive: u8, depart: u8) -> f64
     requires hotel { hotel < 2 }
     requires first { 1 ≤ arrive }
     requires later { arrive < depart }
     requires last { depart ≤ 5 }
 {
-    let mut total = prices[arrive - 1] + prices[depart + 2];
+    let mut total = prices[place_of(Good::inbound_flight(arrive))]
+        + prices[place_of(Good::outbound_flight(depart))];
     for night in arrive..depart {
-        total += prices[7 + 4 * hotel + night];
+        total += prices[place_of(Good::hotel_night(hotel, night))];
     }
     total
 }
 
 /// The days of arrival and departure of a trip, by its rank 0..9.
-fn days(rank: usize) -> (usize, usize)
+fn days(rank: u8) -> (u8, u8)
     requires { rank < 10 }
     ensures first { 1 ≤ result.0 }
     ensures later { result.0 < result.1 }
@@ -40,10 +43,13 @@ fn charge_table(prices: &[f64; 37]) -> [f64; 64] {
     let mut table = [0.0; 64];
     for trip in 0..20 {
         let (arrive, depart) = days(trip % 10);
-        table[1 + trip] = trip_charge(prices, trip / 10, arrive, depart);
+        table[1 + usize::from(trip)] = trip_charge(prices, trip / 10, arrive, depart);
     }
     for ticket in 0..12 {
-        table[25 + 8 * (ticket / 4) + ticket % 4] = prices[16 + ticket];
+        let (kind, night) = (ticket / 4, ticket % 4 + 1);
+        table[usize::from(24 + 8 * kind + night)] = prices[place_of(Good::ticket_night(
+            kind, night,
+        ))];
     }
     table
 }

@@ -2,6 +2,7 @@
 ghost use Rattle.std.specs.Prelude.{◌<◌, IfSome};
 
 use packages::{Package, package};
+use tac_base::Good;
 use tac_base::limits::DUAL_PRICE;
 
 /// Differences below this are taken for errors of rounding.
@@ -162,18 +163,26 @@ fn places_of_package(number: u16) -> [usize; 10] {
         },
     ) = package(number)
     {
-        places[1] = usize::from(arrive) - 1;
-        places[2] = usize::from(depart) + 2;
+        places[1] = place_of(Good::inbound_flight(arrive));
+        places[2] = place_of(Good::outbound_flight(depart));
         for night in arrive..depart {
-            places[2 + usize::from(night)] = 7 + 4 * usize::from(hotel) + usize::from(night);
+            places[2 + usize::from(night)] = place_of(Good::hotel_night(hotel, night));
         }
         for kind in 0..3 {
-            if nights[kind] > 0 {
-                places[7 + kind] = 15 + 4 * kind + usize::from(nights[kind]);
+            let night = nights[usize::from(kind)];
+            if night > 0 {
+                places[7 + usize::from(kind)] = place_of(Good::ticket_night(kind, night));
             }
         }
     }
     places
+}
+
+/// The place of a good in a row.
+pub(crate) fn place_of(good: Good) -> usize
+    ensures { result < 28 }
+{
+    usize::from(good.get())
 }
 
 /// What one more of a column takes by a row of the tableau.

@@ -6,14 +6,14 @@ ghost use Rattle.packages.specs.Packages.{IsPackage};
 
 use crate::prices::Prices;
 use crate::travel_packages::Package;
+use tac_base::Good;
 
-/// The price of the good of a number.
-fn price_at(prices: &Prices, good: usize) -> u32
-    requires { good < 28 }
+/// The price of a good.
+fn price_at(prices: &Prices, good: Good) -> u32
     ensures value { result ≡ slice_index prices.now good }
     ensures few { result ≤ DUAL_PRICE }
 {
-    u32::from(prices.dollars[good])
+    u32::from(prices.dollars[usize::from(good.get())])
 }
 
 /// What the rooms of a stay cost.
@@ -28,13 +28,13 @@ fn rooms_cost(prices: &Prices, hotel: u8, arrive: u8, depart: u8) -> u32
 {
     let mut total = 0;
     for night in arrive..depart {
-        total += price_at(prices, 7 + 4 * usize::from(hotel) + usize::from(night));
+        total += price_at(prices, Good::hotel_night(hotel, night));
     }
     total
 }
 
 /// What the ticket of a type costs; no night costs nothing.
-fn ticket_cost(prices: &Prices, kind: usize, night: u8) -> u32
+fn ticket_cost(prices: &Prices, kind: u8, night: u8) -> u32
     requires kind { kind < 3 }
     requires night { night < 5 }
     ensures value { result ≡ ticket_price prices.now kind night }
@@ -43,7 +43,7 @@ fn ticket_cost(prices: &Prices, kind: usize, night: u8) -> u32
     if night == 0 {
         0
     } else {
-        price_at(prices, 15 + 4 * kind + usize::from(night))
+        price_at(prices, Good::ticket_night(kind, night))
     }
 }
 
@@ -61,8 +61,8 @@ pub fn cost(prices: &Prices, package: &Package) -> u32
             depart,
             nights,
         } => {
-            price_at(prices, usize::from(*arrive) - 1)
-                + price_at(prices, usize::from(*depart) + 2)
+            price_at(prices, Good::inbound_flight(*arrive))
+                + price_at(prices, Good::outbound_flight(*depart))
                 + rooms_cost(prices, *hotel, *arrive, *depart)
                 + ticket_cost(prices, 0, nights[0])
                 + ticket_cost(prices, 1, nights[1])
