@@ -10,5 +10,5 @@ mod splits;
 #[cfg(test)]
 mod tests;
 
-pub use printing::print_solved;
+pub use printing::{append_solved, print_solved};
 pub use solving::{Solved, solve};

@@ -1,6 +1,7 @@
 // The scores of agents.
-ghost use Rattle.std.specs.Prelude.{◌≡◌, ◌<◌, ◌≤◌, pos, length, sum_by, slice_index_or, IfOk};
+ghost use Rattle.std.specs.Prelude.{◌≡◌, ◌<◌, ◌≤◌, ◌*◌, pos, unsigned_abs, length, sum_by, slice_index_or, IfOk};
 ghost use Rattle.std.specs.List.{All};
+ghost use Rattle.tac_base.specs.declared.limits.TheConstants.{HOLDING};
 ghost use Rattle.game_text.specs.Accounts.{IsHolding};
 ghost use Rattle.trade_ledger.specs.CashKeeping.{IsWithin};
 ghost use Rattle.score_sheet.specs.Score as rules;
@@ -89,7 +90,7 @@ fn all_lacking(holdings: &[i32]) -> u32
     requires few { length holdings.now ≤ 28 }
     requires range { All IsHolding holdings.now }
     ensures value { result ≡ sum_by rules.lacking holdings.now }
-    ensures bound { result ≤ 5600000 }
+    ensures bound { result ≤ 28 * unsigned_abs HOLDING }
 {
     let mut units = 0;
     for holding in holdings {
@@ -102,7 +103,7 @@ fn all_lacking(holdings: &[i32]) -> u32
 fn short(holdings: &[i32]) -> u32
     requires { AreHoldings holdings.now }
     ensures value { result ≡ rules.short_of holdings.now }
-    ensures bound { result ≤ 5600000 }
+    ensures bound { result ≤ 28 * unsigned_abs HOLDING }
 {
     all_lacking(&holdings[16..])
 }
@@ -130,7 +131,7 @@ fn cash(accounts: &Accounts, agent: usize) -> i64
 /// The score of an agent with this best total and cash that is short of so many tickets.
 fn score(best: u32, cash: i64, short: u32) -> i64
     requires cash { IsWithin 1000000000000000 cash }
-    requires short { short ≤ 5600000 }
+    requires short { short ≤ 28 * unsigned_abs HOLDING }
     ensures { result ≡ rules.score_of best cash short }
 {
     i64::from(best) + cash - 200 * i64::from(short)

@@ -1,4 +1,4 @@
-// A game of a few calls, settled and scored, and the sheet of agents that have nothing.
+// A game of a few calls, settled and scored.
 ghost use Rattle.std.specs.Prelude.{◌≡◌, ◌≤◌, IfOk};
 ghost use Rattle.auction_core.specs.Calls.{IsFit};
 
@@ -130,16 +130,5 @@ fn few_calls_are_settled_and_scored(rt: HostRuntime) -> Result<(), Fail> {
     let first = &sheet.agents[0];
     assert!(rt; first.best == 1100 && first.cash == -660 && first.short == 0);
     assert_eq!(rt; sheet.agents[1].short, 2);
-    Ok(())
-}
-
-#[test]
-fn agents_that_do_nothing_score_nothing(rt: HostRuntime) -> Result<(), Fail> {
-    let game = quiet_game(rt.alloc())?;
-    let accounts = settle(&played_game(&rt, rt.alloc(), &game, &[])?);
-    let sheet = sheet(&rt, rt.alloc(), &game, &accounts)?;
-    for agent in &sheet.agents {
-        assert!(rt; agent.best == 0 && agent.cash == 0 && agent.short == 0 && agent.score == 0);
-    }
     Ok(())
 }
