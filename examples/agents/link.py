@@ -1,9 +1,13 @@
 """A link to the server, as docs/PROTOCOL.md tells it: lines of words, one reply line for each request line."""
 
 import argparse
+import os
 import socket
+import subprocess
 import sys
+import tempfile
 import time
+from pathlib import Path
 from dataclasses import dataclass, field
 
 INBOUND = range(0, 4)  # seats in on days 1..4
@@ -30,6 +34,25 @@ def room(hotel, night):
 def ticket(kind, night):
     """A night, 1..4, of a ticket type: 0 alligator wrestling, 1 amusement park, 2 museum."""
     return 16 + 4 * kind + night - 1
+
+
+PROGRAM = os.environ.get("TAC", str(Path(__file__).resolve().parents[2] / "crates/tacd/out/tacd"))
+
+
+def solve(holdings, clients):
+    """What 28 holdings are worth to the clients at best, in dollars, by `tac solve`. None where the program is not at hand."""
+    lines = ["account", " ".join(["hold", *map(str, holdings)])]
+    for number, client in enumerate(clients):
+        lines.append(" ".join(map(str, ["client", number, client.arrive, client.depart, client.premium, *client.values])))
+    with tempfile.NamedTemporaryFile("w", suffix=".account", newline="\n") as account:
+        account.write("\n".join(lines + ["end", ""]))
+        account.flush()
+        try:
+            solved = subprocess.run([PROGRAM, "solve", account.name], stdout=subprocess.PIPE, text=True).stdout
+        except OSError:
+            return None
+    first = solved.split("\n")[0].split()
+    return int(first[1]) if first[0] == "total" else None
 
 
 def connect(host, port):

@@ -8,7 +8,7 @@ the game is over. It keeps the tickets that it has.
 import time
 from collections import Counter
 
-from link import HOTELS, Link, arguments, inbound, outbound, room
+from link import HOTELS, Link, arguments, inbound, outbound, room, solve
 
 MOST_FOR_A_SEAT = 600  # dollars
 MOST_FOR_A_ROOM = 300  # dollars
@@ -25,26 +25,37 @@ def plan(clients):
     return needs
 
 
-def main():
-    host, port, word, pause = arguments(__doc__)
-    link = Link.greet(host, port, word)
-    needs = plan(link.clients)
+def buy_seats(link, needs):
+    """Buys the seats of the plan at once, whatever they cost up to a limit."""
     for good, units in needs.items():
         if good not in HOTELS:
             link.bid(good, (units, MOST_FOR_A_SEAT))
-    standing = Counter()  # dollars
+
+
+def bid_for_rooms(link, needs, standing, most=MOST_FOR_A_ROOM):
+    """Bids for the rooms of the plan where the quote has come to what stands. `standing` has the dollars of the standing bids."""
+    for good in HOTELS:
+        quote = link.quote(good)
+        price = min(quote.ask + 50, most)
+        # A bid takes the place of the earlier one, so it is worth a call only where the quote has come to that and more can be bid.
+        if needs[good] and not quote.closed and standing[good] <= quote.ask and standing[good] < price:
+            link.bid(good, (needs[good], price))
+            standing[good] = price
+
+
+def main():
+    host, port, word, pause = arguments(__doc__)
+    link = Link.greet(host, port, word)
+    needs, standing = plan(link.clients), Counter()
+    buy_seats(link, needs)
     while not link.quote(0).closed:
-        for good in HOTELS:
-            quote = link.quote(good)
-            price = min(quote.ask + 50, MOST_FOR_A_ROOM)
-            # A bid takes the place of the earlier one, so it is worth a call only where the quote has come to that and more can be bid.
-            if needs[good] and not quote.closed and standing[good] <= quote.ask and standing[good] < price:
-                link.bid(good, (needs[good], price))
-                standing[good] = price
+        bid_for_rooms(link, needs, standing)
         time.sleep(pause)
-    bought = sum(link.own(good) for good in needs)
-    print(f"agent {link.agent} planned {sum(needs.values())} units, has {bought} of these goods, cash {link.cash()}")
+    holdings = [link.own(good) for good in range(28)]
+    bought, worth = sum(holdings[good] for good in needs), solve(holdings, link.clients)
+    print(f"agent {link.agent} planned {sum(needs.values())} units, has {bought} of these, worth {'unknown' if worth is None else worth}, cash {link.cash()}")
     link.quit()
 
 
-main()
+if __name__ == "__main__":
+    main()

@@ -1,64 +1,81 @@
 #!/usr/bin/env python3
-"""Trades tickets at its clients' values, and buys each client its trip.
+"""Buys trips as planner.py does, with a little more for rooms, and trades tickets.
 
-A ticket is worth to the agent what the keenest client without one of its type would pay for its night. It sells what it holds above
-that, and bids for what it lacks a little below. It goes through the ticket auctions again and again, 500 times at most, and then waits for
-the end of the game.
+Of each ticket type it asks what one ticket more, or one less, would change for its clients: each has one of a type, on a night of its stay.
+It bids for the night where one more brings the most, a little below that, and offers a ticket of the night where one less costs the least, a
+little above. It does so again and again, 500 times at most, and then waits for the end of the game.
 """
 
 import time
 from collections import Counter
 
-from link import HOTELS, Link, arguments, inbound, outbound, room, ticket
+from link import Link, arguments, ticket
+from planner import bid_for_rooms, buy_seats, plan
 
+MOST_FOR_A_ROOM = 350  # dollars
 MARGIN = 10  # dollars that it wants to gain by a trade
-MOST_ROUNDS = 500  # an agent has 1024 calls in each auction, and a round takes two of a ticket's
+MOST_ROUNDS = 500  # an agent has 1024 calls in each auction, and a round takes at most two of a ticket's
+NIGHTS = range(1, 5)
 
 
-def values_of(clients, kind, night):
-    """What clients whose stay has the night give for a ticket of the type, the keenest first."""
-    return sorted((client.values[kind] for client in clients if night in client.nights()), reverse=True)
+def value(clients, kind, held):
+    """What the tickets of a type, so many of each night, are worth to the clients: the keenest come first, and others make room for them."""
+    places = [night for night in NIGHTS for _ in range(held[night])]
+    users = [None] * len(places)
+
+    def seat(client, tried):
+        for place, night in enumerate(places):
+            if night in client.nights() and place not in tried:
+                tried.add(place)
+                if users[place] is None or seat(users[place], tried):
+                    users[place] = client
+                    return True
+        return False
+
+    return sum(client.values[kind] for client in sorted(clients, key=lambda client: -client.values[kind]) if seat(client, set()))
 
 
-def offer(link, kind, night):
-    """Bids for one ticket more, and offers the last one that it holds."""
-    good = ticket(kind, night)
-    held = link.own(good)
-    values = values_of(link.clients, kind, night)
-    points = []
-    if 0 <= held < len(values) and values[held] > MARGIN:
-        points.append((1, values[held] - MARGIN))
-    if held > 0:
-        kept = values[held - 1] if held <= len(values) else 0
-        points.append((-1, kept + MARGIN))
-    if points:
-        link.bid(good, *points)
+def trade(link, kind, standing):
+    """Bids for one ticket of the type, and offers one. `standing` has the points of each bid, and what was held when it was made."""
+    held = {night: max(0, link.own(ticket(kind, night))) for night in NIGHTS}
+    now = value(link.clients, kind, held)
+    gain = {night: value(link.clients, kind, held | {night: held[night] + 1}) - now for night in NIGHTS}
+    loss = {night: now - value(link.clients, kind, held | {night: held[night] - 1}) for night in NIGHTS if held[night] > 0}
+    buys, sells = max(gain, key=gain.get), min(loss, key=loss.get, default=None)
+    for night in NIGHTS:
+        points = []
+        if night == buys and gain[night] > MARGIN:
+            points.append((1, gain[night] - MARGIN))
+        if night == sells:
+            points.append((-1, loss[night] + MARGIN))
+        good = ticket(kind, night)
+        if (held[night], points) == standing.get(good, (held[night], [])):
+            continue  # nothing of it was traded since, and nothing is to be changed
+        if points:
+            link.bid(good, *points)
+        else:
+            link.ask(f"withdraw {good}")  # where all of it was traded, this is refused and changes nothing
+        standing[good] = held[night], points
 
 
 def main():
     host, port, word, pause = arguments(__doc__)
     link = Link.greet(host, port, word)
-    seats = Counter()
-    for client in link.clients:
-        seats[inbound(client.arrive)] += 1
-        seats[outbound(client.depart)] += 1
-    for good, units in seats.items():
-        link.bid(good, (units, 500))
-    rooms = Counter(room(0, night) for client in link.clients for night in client.nights())
-    for good, units in rooms.items():
-        link.bid(good, (units, 150))
+    needs, standing, offers = plan(link.clients), Counter(), {}
+    buy_seats(link, needs)
     rounds = 0
     while not link.quote(0).closed:
+        bid_for_rooms(link, needs, standing, MOST_FOR_A_ROOM)
         if rounds < MOST_ROUNDS:
             for kind in range(3):
-                for night in range(1, 5):
-                    offer(link, kind, night)
+                trade(link, kind, offers)
         rounds += 1
         time.sleep(pause)
-    got = sum(link.own(good) for good in HOTELS)
-    tickets = [link.own(ticket(kind, night)) for kind in range(3) for night in range(1, 5)]
-    print(f"agent {link.agent} began with {sum(link.endow)} tickets, has {sum(tickets)} and {got} rooms, cash {link.cash()}")
+    bought = sum(link.own(good) for good in needs)
+    tickets = sum(link.own(ticket(kind, night)) for kind in range(3) for night in NIGHTS)
+    print(f"agent {link.agent} has {bought} of {sum(needs.values())} units, had {sum(link.endow)} tickets, has {tickets}, cash {link.cash()}")
     link.quit()
 
 
-main()
+if __name__ == "__main__":
+    main()

@@ -23,4 +23,5 @@ def main():
     link.quit()
 
 
-main()
+if __name__ == "__main__":
+    main()
