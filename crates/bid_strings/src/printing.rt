@@ -1,11 +1,12 @@
 ghost use Rattle.std.specs.Prelude.{◌≡◌, ◌+◌, ◌≤◌, ◌++◌, length};
 ghost use Rattle.bid_strings.specs.Spelling.{spelling, point_text, next_text};
 
+use tac_base::limits::{BID_POINTS, REPLY_TEXT};
 use tac_base::{Point, Text, print_numeral, print_signed};
 
 /// Appends the text of a point.
 fn print_point(point: &Point, out: &mut Text)
-    requires { length out.old + 43 ≤ 640 }
+    requires { length out.old + 43 ≤ REPLY_TEXT }
     ensures value { out.new ≡ out.old ++ point_text point.now }
     ensures len { length out.new ≤ length out.old + 12 }
 {
@@ -18,7 +19,7 @@ fn print_point(point: &Point, out: &mut Text)
 
 /// Appends the text of the next point.
 fn print_next(count: usize, point: &Point, out: &mut Text)
-    requires { length out.old + 44 ≤ 640 }
+    requires { length out.old + 44 ≤ REPLY_TEXT }
     ensures value { out.new ≡ out.old ++ next_text count point.now }
     ensures len { length out.new ≤ length out.old + 13 }
 {
@@ -31,8 +32,8 @@ fn print_next(count: usize, point: &Point, out: &mut Text)
 /// Appends the one spelling of at most 16 points, in their order, where 256 bytes are free. Without points it is `()`,
 /// which is read as no bid.
 pub fn print_points(points: &[Point], out: &mut Text)
-    requires count { length points.now ≤ 16 }
-    requires room { length out.old + 256 ≤ 640 }
+    requires count { length points.now ≤ BID_POINTS }
+    requires room { length out.old + 256 ≤ REPLY_TEXT }
     ensures value { out.new ≡ out.old ++ spelling points.now }
     ensures len { length out.new ≤ length out.old + 256 }
 {

@@ -101,4 +101,4 @@ client_again agent client wants small few is =
 pub client_line : (most agent client : ℕ) (wants : Preferences) → 102 ≤ most → agent ≤ 255 → client ≤ 255 → IsClient wants → IsLine most (client_text agent client wants)
 client_line most agent client wants room small few is =
     let count = client_count agent client wants is in
-    row_line most 99 (codes "lient") client_columns (client_numbers agent client wants) (lacks_from 10 (codes "client") refl) refl (omega (arith, count)) refl count (client_range agent client wants small few is)
+    row_line most 99 (codes "lient") client_columns (client_numbers agent client wants) (lacks_from 10 (codes "client") refl) refl (omega (arith, count)) refl refl count (client_range agent client wants small few is)

@@ -55,4 +55,4 @@ endow_again agent endow small is =
 pub endow_line : (most agent : ℕ) (endow : List ℕ) → 161 ≤ most → agent ≤ 255 → IsEndowment endow → IsLine most (endow_text agent endow)
 endow_line most agent endow room small is =
     let count = endow_count agent endow is in
-    row_line most 101 (codes "ndow") endow_columns (pos agent ∷ map pos endow) (lacks_from 10 (codes "endow") refl) refl (omega (arith, count)) refl count (endow_range agent endow small is)
+    row_line most 101 (codes "ndow") endow_columns (pos agent ∷ map pos endow) (lacks_from 10 (codes "endow") refl) refl (omega (arith, count)) refl refl count (endow_range agent endow small is)

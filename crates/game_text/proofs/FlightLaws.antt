@@ -107,4 +107,4 @@ flight_again good flight small is =
 pub flight_line : (good : ℕ) (flight : FlightTerms) → good ≤ 255 → IsFlight flight → IsLine 678 (flight_text good flight)
 flight_line good flight small is =
     let count = flight_count good flight is in
-    row_line 678 102 (codes "light") flight_columns (flight_numbers good flight) (lacks_from 10 (codes "flight") refl) refl (omega (arith, count)) refl count (flight_range good flight small is)
+    row_line 678 102 (codes "light") flight_columns (flight_numbers good flight) (lacks_from 10 (codes "flight") refl) refl (omega (arith, count)) refl refl count (flight_range good flight small is)

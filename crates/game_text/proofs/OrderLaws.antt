@@ -37,4 +37,4 @@ order_again order is =
 pub order_line : (order : List ℕ) → IsOrder order → IsLine 678 (order_text order)
 order_line order is =
     let count = order_count order is in
-    row_line 678 99 (codes "lose") order_columns (map pos order) (lacks_from 10 (codes "close") refl) refl (omega (arith, count)) refl count (order_range order is)
+    row_line 678 99 (codes "lose") order_columns (map pos order) (lacks_from 10 (codes "close") refl) refl (omega (arith, count)) refl refl count (order_range order is)

@@ -6,6 +6,7 @@ use Rattle.tac_base.specs.declared.limits.TheConstants.{HOLDING, TEXT_BYTES}
 use Rattle.text_forms.specs.declared.lines.BadLine.{BadLine}
 use Rattle.text_forms.specs.declared.lines.Reason.{Reason}
 use Rattle.text_forms.specs.declared.rows.Column.{Column}
+use Rattle.text_forms.specs.declared.rows.Digits.TheVariants.{Ten}
 use Rattle.text_forms.specs.Words.{parts_of}
 use Rattle.text_forms.specs.Lines.{Remaining, lines_from, nothing_left, AreLeft}
 use Rattle.text_forms.specs.Rows.{row, row_text}
@@ -39,7 +40,7 @@ title_of line = row (codes "account") [] line >>= nothing_from
 
 -- the line of the holdings
 abbrev pub hold_column : Column
-hold_column = record { signed = true; low = neg_ℤ HOLDING; high = HOLDING }
+hold_column = record { signed = true; digits = Ten; low = neg_ℤ HOLDING; high = HOLDING }
 
 unfoldable pub hold_of : List ℕ → Result (List ℤ) Reason
 hold_of line = row (codes "hold") (replicate 28 hold_column) line

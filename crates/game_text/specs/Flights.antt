@@ -3,6 +3,7 @@ use Rattle.std.specs.Prelude.{◌≡◌, ℕ, ◌≤◌, ◌==◌, if◌then◌e
 use Rattle.text_forms.specs.declared.lines.Reason.{Reason}
 use Rattle.text_forms.specs.declared.lines.Reason.TheVariants.{NotDue}
 use Rattle.text_forms.specs.declared.rows.Column.{Column}
+use Rattle.text_forms.specs.declared.rows.Digits.TheVariants.{Ten}
 use Rattle.text_forms.specs.Rows.{within, row, row_text, AllBetween}
 use Rattle.text_forms.specs.Steps.{◌>>=◌}
 
@@ -26,7 +27,7 @@ abbrev pub any : Column
 any = within 0 4294967295
 
 abbrev pub bound_column : Column
-bound_column = record { signed = true; low = negsuc 9; high = pos 30 }
+bound_column = record { signed = true; digits = Ten; low = negsuc 9; high = pos 30 }
 
 abbrev pub flight_columns : List Column
 flight_columns = any ∷ within 250 400 ∷ bound_column ∷ replicate 53 any

@@ -10,7 +10,7 @@ use crate::headers::{end_at, title_of};
 use std::marker::Model;
 use tac_base::Client;
 use tac_base::limits::{HOLDING, TEXT_BYTES};
-use text_forms::{BadLine, Column, Lines, Part, Reason, at_line, read_row, repeat};
+use text_forms::{BadLine, Column, Digits, Lines, Part, Reason, at_line, read_row, repeat};
 
 /// An agent's clients and its holdings of the goods. The ranges are this project's own.
 #[derive(Clone, Copy, Debug, PartialEq, Eq)]
@@ -39,6 +39,7 @@ fn hold_columns() -> [Column; 28]
 {
     [Column {
         signed: true,
+        digits: Digits::Ten,
         low: -i64::from(HOLDING),
         high: i64::from(HOLDING),
     }; 28]

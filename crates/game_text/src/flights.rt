@@ -5,7 +5,7 @@ ghost use Rattle.text_forms.specs.Rows as rows;
 
 use crate::numbers::{dollars_at, is_due, signed_at};
 use std::marker::Model;
-use text_forms::{Column, Reason, read_row};
+use text_forms::{Column, Digits, Reason, read_row};
 
 /// How the price of a flight goes: the game description's flight rule, with draws that the file hands in.
 #[derive(Clone, Copy, Debug, PartialEq, Eq)]
@@ -58,6 +58,7 @@ fn flight_columns() -> [Column; 56]
     columns[1] = Column::within(250, 400);
     columns[2] = Column {
         signed: true,
+        digits: Digits::Ten,
         low: -10,
         high: 30,
     };

@@ -120,6 +120,7 @@ unfolding said_of
 fault_again faults.Syntax = refl
 fault_again faults.NoSuchAuction = refl
 fault_again (faults.Bid fault) = bid_fault_again fault
+fault_again faults.Memory = refl
 
 said_again : (said : Said) → IsSaid said → said_of (said_text said) ≡ Some said
 unfolding said_of

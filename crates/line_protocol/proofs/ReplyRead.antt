@@ -271,9 +271,12 @@ unplaced_is (keyword ∷ words) said h =
           | inl is ↦ two_words (codes "no") keyword (codes "auction") words (Fault faults.NoSuchAuction) said is.0 is.1 (record { range = tt; text = refl })
           | inr h ↦ elim (either_way (bytes_eq keyword (codes "toolong")) (ended TooLong words) _ said h) [
             | inl is ↦ two_words (codes "no") keyword (codes "toolong") words TooLong said is.0 is.1 (record { range = tt; text = refl })
-            | inr h ↦ elim (either_way (bytes_eq keyword (codes "bid")) (bid_fault_of words) None said h) [
-              | inl is ↦ subst (λ (w : List ℕ). IsSaidText (join_with_byte 32 (codes "no" ∷ w ∷ words)) said) (sym (is_word keyword (codes "bid") is.0)) (bid_fault_is words said is.1)
-              | inr e ↦ absurd cc
+            | inr h ↦ elim (either_way (bytes_eq keyword (codes "memory")) (ended (Fault faults.Memory) words) _ said h) [
+              | inl is ↦ two_words (codes "no") keyword (codes "memory") words (Fault faults.Memory) said is.0 is.1 (record { range = tt; text = refl })
+              | inr h ↦ elim (either_way (bytes_eq keyword (codes "bid")) (bid_fault_of words) None said h) [
+                | inl is ↦ subst (λ (w : List ℕ). IsSaidText (join_with_byte 32 (codes "no" ∷ w ∷ words)) said) (sym (is_word keyword (codes "bid") is.0)) (bid_fault_is words said is.1)
+                | inr e ↦ absurd cc
+              ]
             ]
           ]
         ]

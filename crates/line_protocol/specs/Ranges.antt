@@ -3,28 +3,29 @@ use Rattle.std.specs.Prelude.{◌≡◌, ℕ, ◌^◌, ◌≤◌, ◌<◌, ⊤, 
 use Rattle.tac_base.specs.declared.calls.Reply.{Reply}
 use Rattle.tac_base.specs.declared.calls.Reply.TheVariants.{Taken, Own, Sold, Done, Closed, WrongCall, NoBid, Sell, SelfCross, BelowQuote}
 use Rattle.tac_base.specs.Bids.{left_fault}
+use Rattle.tac_base.specs.declared.limits.TheConstants.{CASH_DIGITS, POSITION, SHOWN_HOLDING, SHOWN_PRICE}
 use Rattle.line_protocol.specs.declared.saying.Said.{Said}
 use Rattle.line_protocol.specs.declared.saying.Said.TheVariants.{At, Cash, Quote, Spent, Fault, TooLong, Bye}
 use Rattle.line_protocol.specs.Replies.{said_text}
 
--- numbers of units are at most 255, prices 10001, and a holding at most 1000000 in size; standing points keep the limits of a bid
+-- numbers of units have eight bits, prices and holdings are those that are shown; standing points keep the limits of a bid
 abbrev pub IsReply : Reply → Type 0
 IsReply (Taken bought sold) = (bought ≤ 255) × (sold ≤ 255)
-IsReply (Own holding left) = (unsigned_abs holding ≤ 1000000) × (left_fault left ≡ None)
-IsReply (Sold units price) = (units ≤ 255) × (price ≤ 10001)
+IsReply (Own holding left) = (unsigned_abs holding ≤ unsigned_abs SHOWN_HOLDING) × (left_fault left ≡ None)
+IsReply (Sold units price) = (units ≤ 255) × (price ≤ SHOWN_PRICE)
 IsReply Done = ⊤
 IsReply Closed = ⊤
 IsReply WrongCall = ⊤
 IsReply NoBid = ⊤
 IsReply Sell = ⊤
 IsReply SelfCross = ⊤
-IsReply (BelowQuote need at offered) = (need ≤ 255) × (at ≤ 10001) × (offered ≤ 255)
+IsReply (BelowQuote need at offered) = (need ≤ 255) × (at ≤ SHOWN_PRICE) × (offered ≤ 255)
 
--- positions and counts are below 2 to the 24th, and cash has at most 18 digits
+-- positions and counts are those that texts name, and cash has at most 18 digits
 abbrev pub IsSaid : Said → Type 0
-IsSaid (At position reply) = (position ≤ 16777215) × IsReply reply
-IsSaid (Cash position dollars) = (position ≤ 16777215) × (unsigned_abs dollars < 10 ^ 18)
-IsSaid (Quote board) = (board.count ≤ 16777215) × (board.bid ≤ 10001) × (board.ask ≤ 10001)
+IsSaid (At position reply) = (position ≤ POSITION) × IsReply reply
+IsSaid (Cash position dollars) = (position ≤ POSITION) × (unsigned_abs dollars < 10 ^ CASH_DIGITS)
+IsSaid (Quote board) = (board.count ≤ POSITION) × (board.bid ≤ SHOWN_PRICE) × (board.ask ≤ SHOWN_PRICE)
 IsSaid Spent = ⊤
 IsSaid (Fault fault) = ⊤
 IsSaid TooLong = ⊤

@@ -45,6 +45,7 @@ abbrev pub fault_words : RequestFault → List (List ℕ)
 fault_words faults.Syntax = codes "no" ∷ codes "syntax" ∷ []
 fault_words faults.NoSuchAuction = codes "no" ∷ codes "auction" ∷ []
 fault_words (faults.Bid fault) = codes "no" ∷ codes "bid" ∷ decimal (fault_number fault) ∷ []
+fault_words faults.Memory = codes "no" ∷ codes "memory" ∷ []
 
 -- whether an auction is closed
 abbrev pub state_word : Bool → List ℕ

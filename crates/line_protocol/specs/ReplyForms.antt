@@ -8,6 +8,7 @@ use Rattle.tac_base.specs.declared.bids.BidFault.TheVariants as bid_faults
 use Rattle.tac_base.specs.declared.calls.Reply.{Reply}
 use Rattle.tac_base.specs.declared.calls.Reply.TheVariants.{Taken, Own, Sold, Done, Closed, WrongCall, NoBid, Sell, SelfCross, BelowQuote}
 use Rattle.tac_base.specs.Numerals.{numeral, signed_numeral}
+use Rattle.tac_base.specs.declared.limits.TheConstants.{CASH_DIGITS, POSITION, SHOWN_HOLDING, SHOWN_PRICE}
 use Rattle.text_forms.specs.Words.{words_of}
 use Rattle.bid_strings.specs.BidForm.{points_of, judged}
 use Rattle.line_protocol.specs.declared.asking.RequestFault.TheVariants as faults
@@ -39,7 +40,7 @@ next_within limit [] = None
 next_within limit (word ∷ words) = within limit word >>= λ number. Some (number, words)
 
 abbrev pub small_holding : ℤ → Option ℤ
-small_holding holding = if nat_le (unsigned_abs holding) 1000000 then Some holding else None
+small_holding holding = if nat_le (unsigned_abs holding) (unsigned_abs SHOWN_HOLDING) then Some holding else None
 
 -- a holding
 abbrev pub holding_of : List ℕ → Option ℤ
@@ -48,7 +49,7 @@ holding_of word = signed_numeral 10 word >>= small_holding
 -- `@` and a position
 abbrev pub place_of : List ℕ → Option ℕ
 place_of [] = None
-place_of (first ∷ number) = if first == 64 then within 16777215 number else None
+place_of (first ∷ number) = if first == 64 then within POSITION number else None
 
 -- ---- replies
 
@@ -64,10 +65,10 @@ abbrev pub taken_of : List (List ℕ) → Option Reply
 taken_of words = next_within 255 words >>= λ bought. next_within 255 bought.1 >>= λ sold. ended (Taken bought.0 sold.0) sold.1
 
 abbrev pub sold_of : List (List ℕ) → Option Reply
-sold_of words = next_within 255 words >>= λ units. next_within 10001 units.1 >>= λ price. ended (Sold units.0 price.0) price.1
+sold_of words = next_within 255 words >>= λ units. next_within SHOWN_PRICE units.1 >>= λ price. ended (Sold units.0 price.0) price.1
 
 abbrev pub below_of : List (List ℕ) → Option Reply
-below_of words = next_within 255 words >>= λ need. next_within 10001 need.1 >>= λ at. next_within 255 at.1 >>= λ offered. ended (BelowQuote need.0 at.0 offered.0) offered.1
+below_of words = next_within 255 words >>= λ need. next_within SHOWN_PRICE need.1 >>= λ at. next_within 255 at.1 >>= λ offered. ended (BelowQuote need.0 at.0 offered.0) offered.1
 
 -- a holding and the rest of the line
 abbrev pub own_of : List (List ℕ) → Option Reply
@@ -101,7 +102,7 @@ reply_of keyword words =
 
 abbrev pub cash_of : ℕ → List (List ℕ) → Option Said
 cash_of position [] = None
-cash_of position (word ∷ words) = signed_numeral 18 word >>= λ dollars. ended (Cash position dollars) words
+cash_of position (word ∷ words) = signed_numeral CASH_DIGITS word >>= λ dollars. ended (Cash position dollars) words
 
 abbrev pub state_of : List ℕ → Option Bool
 state_of word =
@@ -115,7 +116,7 @@ next_state (word ∷ words) = state_of word >>= λ closed. Some (closed, words)
 
 abbrev pub quote_of : ℕ → List (List ℕ) → Option Said
 quote_of count words =
-    next_within 10001 words >>= λ bid. next_within 10001 bid.1 >>= λ ask. next_state ask.1 >>= λ closed.
+    next_within SHOWN_PRICE words >>= λ bid. next_within SHOWN_PRICE bid.1 >>= λ ask. next_state ask.1 >>= λ closed.
     ended (Quote (record { count = count; bid = bid.0; ask = ask.0; closed = closed.0 })) closed.1
 
 -- what stands after a position
@@ -146,6 +147,7 @@ unplaced_of (keyword ∷ words) =
     else if bytes_eq keyword (codes "syntax") then ended (Fault faults.Syntax) words
     else if bytes_eq keyword (codes "auction") then ended (Fault faults.NoSuchAuction) words
     else if bytes_eq keyword (codes "toolong") then ended TooLong words
+    else if bytes_eq keyword (codes "memory") then ended (Fault faults.Memory) words
     else if bytes_eq keyword (codes "bid") then bid_fault_of words
     else None
 

@@ -31,4 +31,7 @@ pub enum RequestFault {
     /// The points are refused.
     #[error("the points are refused: {0}")]
     Bid(BidFault),
+    /// There was no memory to read the line. A line of words is never answered so.
+    #[error("there was no memory to read the line")]
+    Memory,
 }

@@ -7,11 +7,12 @@ ghost use Rattle.line_protocol.specs.Replies.{place, state_word, fault_number, f
 
 use crate::{RequestFault, Said};
 use bid_strings::print_points;
+use tac_base::limits::{LINE_BYTES, REPLY_TEXT};
 use tac_base::{BidFault, Board, Left, Reply, Text, print_numeral, print_signed};
 
 /// Appends a space and a number.
 fn print_number(n: u32, out: &mut Text)
-    requires { length out.old + 21 ≤ 640 }
+    requires { length out.old + 21 ≤ REPLY_TEXT }
     ensures value { out.new ≡ out.old ++ 32 ∷ decimal n }
     ensures len { length out.new ≤ length out.old + 21 }
 {
@@ -21,7 +22,7 @@ fn print_number(n: u32, out: &mut Text)
 
 /// Appends a space and a number that may have a sign.
 fn print_signed_number(n: i64, out: &mut Text)
-    requires { length out.old + 21 ≤ 640 }
+    requires { length out.old + 21 ≤ REPLY_TEXT }
     ensures value { out.new ≡ out.old ++ 32 ∷ signed_decimal n }
     ensures len { length out.new ≤ length out.old + 21 }
 {
@@ -31,7 +32,7 @@ fn print_signed_number(n: i64, out: &mut Text)
 
 /// Appends `@` and a position.
 fn print_place(position: u32, out: &mut Text)
-    requires { length out.old + 21 ≤ 640 }
+    requires { length out.old + 21 ≤ REPLY_TEXT }
     ensures value { out.new ≡ out.old ++ place position }
     ensures len { length out.new ≤ length out.old + 21 }
 {
@@ -41,7 +42,7 @@ fn print_place(position: u32, out: &mut Text)
 
 /// Appends a space and the standing points.
 fn print_left(left: &Left, out: &mut Text)
-    requires { length out.old + 257 ≤ 640 }
+    requires { length out.old + 257 ≤ REPLY_TEXT }
     ensures value { out.new ≡ out.old ++ 32 ∷ spelling left.now }
     ensures len { length out.new ≤ length out.old + 257 }
     ensures one_line { IsOneLine (spelling left.now) }
@@ -53,7 +54,7 @@ fn print_left(left: &Left, out: &mut Text)
 /// Appends the text of a reply without its position, as a log shows it, where 288 bytes are free. It takes at most 288
 /// of them, and none of them is a line end.
 pub fn print_answer(reply: &Reply, out: &mut Text)
-    requires { length out.old + 288 ≤ 640 }
+    requires { length out.old + 288 ≤ REPLY_TEXT }
     ensures value { out.new ≡ out.old ++ reply_text reply.now }
     ensures len { length out.new ≤ length out.old + 288 }
     ensures one_line { IsOneLine (reply_text reply.now) }
@@ -104,7 +105,7 @@ fn number_of(fault: BidFault) -> u32
 
 /// Appends the text of a request's fault.
 fn print_fault(fault: RequestFault, out: &mut Text)
-    requires { length out.old + 32 ≤ 640 }
+    requires { length out.old + 32 ≤ REPLY_TEXT }
     ensures value { out.new ≡ out.old ++ join_with_byte 32 (fault_words fault) }
     ensures len { length out.new ≤ length out.old + 32 }
     ensures one_line { IsOneLine (join_with_byte 32 (fault_words fault)) }
@@ -116,6 +117,7 @@ fn print_fault(fault: RequestFault, out: &mut Text)
             out.push_bytes(b"no bid");
             print_number(number_of(fault), out);
         }
+        RequestFault::Memory => out.push_bytes(b"no memory"),
     }
 }
 
@@ -130,7 +132,7 @@ fn state_of(closed: bool) -> &'static [u8]
 
 /// Appends the text of a board.
 fn print_board(board: &Board, out: &mut Text)
-    requires { length out.old + 128 ≤ 640 }
+    requires { length out.old + 128 ≤ REPLY_TEXT }
     ensures value { out.new ≡ out.old ++ said_text (Quote board.now) }
     ensures len { length out.new ≤ length out.old + 128 }
     ensures one_line { IsOneLine (said_text (Quote board.now)) }
@@ -146,9 +148,9 @@ fn print_board(board: &Board, out: &mut Text)
 /// Appends the line of what is said, without its line end, where 512 bytes are free. It takes at most 512 of them,
 /// and none of them is a line end. The lines are our own.
 pub fn print_reply(said: &Said, out: &mut Text)
-    requires { length out.old + 512 ≤ 640 }
+    requires { length out.old + LINE_BYTES ≤ REPLY_TEXT }
     ensures value { out.new ≡ out.old ++ said_text said.now }
-    ensures len { length (said_text said.now) ≤ 512 }
+    ensures len { length (said_text said.now) ≤ LINE_BYTES }
     ensures one_line { IsOneLine (said_text said.now) }
 {
     match said {

@@ -5,15 +5,9 @@ ghost use Rattle.line_protocol.specs.Ranges.{IsSaidText};
 
 use crate::{RequestFault, Said};
 use bid_strings::read_points;
+use tac_base::limits::{CASH_DIGITS, POSITION, SHOWN_HOLDING, SHOWN_PRICE};
 use tac_base::{BidFault, Board, Left, Reply, read_numeral, read_signed};
 use text_forms::Words;
-
-/// The highest position of an entry that is read, and the most entries of a quote.
-const LAST_POSITION: u64 = 16_777_215;
-/// The highest price that is read, in dollars: one above the highest price of a bid.
-const HIGHEST_PRICE: u64 = 10_001;
-/// The most units that are read.
-const MOST_UNITS: u64 = 255;
 
 /// The value, where no word is left.
 fn ended<T: Drop>(value: T, mut words: Words<'_>) -> Option<T>
@@ -48,15 +42,15 @@ fn next_within<'a>(mut words: Words<'a>, limit: u64) -> Option<(u64, Words<'a>)>
 fn next_units<'a>(words: Words<'a>) -> Option<(u8, Words<'a>)>
     ensures { result ≡ forms.next_within 255 words.entry }
 {
-    let (units, words) = next_within(words, MOST_UNITS)?;
+    let (units, words) = next_within(words, u64::from(u8::MAX))?;
     Some((units as u8, words))
 }
 
 /// A price in dollars, and the words after it.
 fn next_price<'a>(words: Words<'a>) -> Option<(u16, Words<'a>)>
-    ensures { result ≡ forms.next_within 10001 words.entry }
+    ensures { result ≡ forms.next_within SHOWN_PRICE words.entry }
 {
-    let (price, words) = next_within(words, HIGHEST_PRICE)?;
+    let (price, words) = next_within(words, u64::from(SHOWN_PRICE))?;
     Some((price as u16, words))
 }
 
@@ -65,7 +59,7 @@ fn holding_of(word: &[u8]) -> Option<i32>
     ensures { result ≡ forms.holding_of word.now }
 {
     let holding = read_signed(word, 10)?;
-    if -1_000_000 <= holding && holding <= 1_000_000 {
+    if -i64::from(SHOWN_HOLDING) <= holding && holding <= i64::from(SHOWN_HOLDING) {
         Some(holding as i32)
     } else {
         None
@@ -82,7 +76,7 @@ fn place_of(word: &[u8]) -> Option<u32>
             if *first != b'@' {
                 return None;
             }
-            let position = number_within(number, LAST_POSITION)?;
+            let position = number_within(number, u64::from(POSITION))?;
             Some(position as u32)
         }
     }
@@ -187,7 +181,7 @@ fn cash_of(position: u32, mut words: Words<'_>) -> Option<Said>
     ensures { result ≡ forms.cash_of position words.entry }
 {
     let word = words.next()?;
-    let dollars = read_signed(word, 18)?;
+    let dollars = read_signed(word, CASH_DIGITS)?;
     ended(Said::Cash(position, dollars), words)
 }
 
@@ -280,6 +274,8 @@ fn unplaced_of(mut words: Words<'_>) -> Option<Said>
         ended(Said::Fault(RequestFault::NoSuchAuction), words)
     } else if keyword == b"toolong".as_slice() {
         ended(Said::TooLong, words)
+    } else if keyword == b"memory".as_slice() {
+        ended(Said::Fault(RequestFault::Memory), words)
     } else if keyword == b"bid".as_slice() {
         bid_fault_of(words)
     } else {

@@ -1,40 +1,31 @@
 use crate::{Request, RequestFault, Said, print_reply, read_reply, read_request};
-use bid_strings::print_points;
 use std::test::Fail;
-use tac_base::{BidFault, Board, Reply, Text, print_numeral};
-
-/// The auction and the points of a bid, or nothing.
-fn bid_of(request: &Request) -> Text {
-    let mut text = Text::new();
-    if let Request::Bid { good, points } = request {
-        print_numeral(u64::from(good.get()), &mut text);
-        text.push(b' ');
-        print_points(points.as_slice(), &mut text);
-    }
-    text
-}
+use tac_base::{BidFault, Board, Good, Point, Reply, Text};
 
 #[test]
-fn a_bid_is_read(rt: HostRuntime) -> Result<(), Fail> {
-    let request = read_request(b"bid 24 ((2 70))")?;
-    assert_eq!(rt; bid_of(&request).as_slice(), b"24 ((2 70))".as_slice());
-    Ok(())
-}
-
-#[test]
-fn the_first_fault_of_a_line_is_told(rt: HostRuntime) {
+fn the_first_fault_of_a_line_is_told(rt: HostRuntime) -> Result<(), Fail> {
     for (line, fault) in [
-        (&b"bid 28 ((1 1))"[..], RequestFault::NoSuchAuction),
         (&b"bid 28 x"[..], RequestFault::NoSuchAuction),
         (&b"own 99999"[..], RequestFault::NoSuchAuction),
         (&b"own 100000"[..], RequestFault::Syntax),
-        (&b"bid 5"[..], RequestFault::Syntax),
         (&b"own 05"[..], RequestFault::Syntax),
         (&b"quit "[..], RequestFault::Syntax),
         (&b"bid 5 "[..], RequestFault::Bid(BidFault::Syntax)),
     ] {
         assert_eq!(rt; read_request(line).err(), Some(fault));
     }
+    if let Request::Bid { good, points } = read_request(b"bid 24 ((2 70))")? {
+        assert_eq!(rt; good, Good::new(24)?);
+        assert_eq!(rt;
+            points.as_slice(),
+            [Point {
+                units: 2,
+                price: 70
+            }]
+            .as_slice()
+        );
+    }
+    Ok(())
 }
 
 /// The line of what is said.
@@ -51,17 +42,6 @@ fn replies_are_printed_as_the_agents_are_told(rt: HostRuntime) {
             Said::At(1, Reply::Taken { bought: 1, sold: 0 }),
             &b"@1 taken 1 0"[..],
         ),
-        (
-            Said::At(
-                1,
-                Reply::Sold {
-                    units: 15,
-                    price: 0,
-                },
-            ),
-            &b"@1 sold 15 0"[..],
-        ),
-        (Said::At(2, Reply::Done), &b"@2 done"[..]),
         (
             Said::At(
                 3,
@@ -87,6 +67,7 @@ fn replies_are_printed_as_the_agents_are_told(rt: HostRuntime) {
             Said::Fault(RequestFault::Bid(BidFault::ZeroUnits)),
             &b"no bid 5"[..],
         ),
+        (Said::Fault(RequestFault::Memory), &b"no memory"[..]),
     ] {
         assert_eq!(rt; printed(&said).as_slice(), line);
     }
@@ -110,20 +91,14 @@ fn each_reply_is_read_at_the_ends_of_its_ranges(rt: HostRuntime) {
         &b"@16777215 own 1000000 ((-1 10000) (1 1) (1 1) (1 1) (1 1) (1 1) (1 1) (1 1) (1 1) (1 1) (1 1) (1 1) (1 1) (1 1) (1 1) (1 10000))"[..],
         &b"@0 cash -999999999999999999"[..],
         &b"@16777215 cash 999999999999999999"[..],
-        &b"@0 quote 10001 0 open"[..],
         &b"@16777215 quote 0 10001 closed"[..],
-        &b"@0 no closed"[..],
-        &b"@0 no wrongcall"[..],
         &b"@0 no nobid"[..],
-        &b"@0 no sell"[..],
-        &b"@0 no selfcross"[..],
         &b"@0 no belowquote 255 10001 255"[..],
         &b"no spent"[..],
         &b"no syntax"[..],
-        &b"no auction"[..],
-        &b"no bid 1"[..],
         &b"no bid 5"[..],
         &b"no toolong"[..],
+        &b"no memory"[..],
         &b"bye"[..],
     ] {
         assert_eq!(rt; read_and_printed(line).as_slice(), line);

@@ -1,6 +1,7 @@
 pub mod Parts
 pub mod Joins
 pub mod Stepping
+pub mod BlockSteps
 pub mod Repeats
 pub mod RowLoops
 pub mod Columns

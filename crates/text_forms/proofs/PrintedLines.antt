@@ -1,9 +1,9 @@
 -- Lines that are printed are cut again, and none of them is taken for a comment.
-use Rattle.std.proofs.Common.{◌≡◌, ◌≢◌, ℕ, suc, ◌+◌, ◌*◌, ◌^◌, ◌<◌, ◌≤◌, Bool, true, false, not, ◌&&◌, eqb, List, [], ◌∷◌, ◌++◌, length, map, drop, refl, ap, ◌∙◌, append_assoc, arith, ℤ, pos, negsuc, lit<}
+use Rattle.std.proofs.Common.{◌≡◌, ◌≢◌, ℕ, suc, ◌+◌, ◌*◌, ◌^◌, ◌<◌, ◌≤◌, Bool, true, false, not, ◌&&◌, eqb, List, [], ◌∷◌, ◌++◌, length, map, drop, refl, ap, ◌∙◌, append_assoc, arith, ℤ, pos, negsuc, lit<, subst}
 use Rattle.std.specs.Prelude.{slice_index, unsigned_abs}
 use Rattle.std.specs.Fmt.{signed_decimal}
 use Rattle.std.specs.List.{list_all, join_with_byte, All, AllByRecursion}
-use Rattle.std.proofs.lemmas.Bool.{eq-eqb}
+use Rattle.std.proofs.lemmas.Bool.{eq-eqb, eqb-true}
 use Rattle.std.proofs.lemmas.Fmt.{length-decimal-le}
 use Rattle.std.proofs.lemmas.List.{length-map, length-append}
 use Rattle.std.proofs.lemmas.List.Concat.{flat_map-cons}
@@ -14,7 +14,7 @@ use Rattle.text_forms.specs.declared.rows.Column.{Column}
 use Rattle.text_forms.specs.Words.{parts_of}
 use Rattle.text_forms.specs.Lines.{NumberedLine, Remaining, is_comment, lines_from, text_of, AreLeft}
 use Rattle.text_forms.specs.Steps.{lines_of_parts}
-use Rattle.text_forms.specs.Rows.{is_in, all_in, row_text}
+use Rattle.text_forms.specs.Rows.{most_digits, is_in, all_in, row_text}
 use Rattle.text_forms.proofs.Joins.{parts_more}
 use Rattle.text_forms.proofs.RowLaws.{is_column, number_tiny, numbers_lack}
 
@@ -72,19 +72,27 @@ number_short : (number : ℤ) → unsigned_abs number < 10 ^ 10 → length (sign
 number_short (pos n) small = let len = length-decimal-le 10 n (lit< tt) small (omega (arith, small)) in omega (arith, len)
 number_short (negsuc n) small = let len = length-decimal-le 10 (suc n) (lit< tt) small (omega (arith, small)) in omega (arith, len)
 
-numbers_short : (columns : List Column) (numbers : List ℤ) → list_all is_column columns ≡ true → length numbers ≡ length columns → all_in columns numbers ≡ true → AllByRecursion (λ word. length word ≤ 11) (map signed_decimal numbers)
-numbers_short columns [] c len h = tt
-numbers_short [] (number ∷ numbers) c len h = absurd (omega (arith, len))
-numbers_short (column ∷ columns) (number ∷ numbers) c len h =
-    let cs = both_true (is_column column) (list_all is_column columns) c in
-    let hs = both_true (is_in column number) (all_in columns numbers) h in
-    (number_short number (number_tiny column number cs.0 hs.0), numbers_short columns numbers cs.1 (omega (arith, len)) hs.1)
+-- a column of numerals of at most ten digits
+abbrev pub is_narrow : Column → Bool
+is_narrow column = eqb (most_digits column.digits) 10
 
-pub row_line : (most first : ℕ) (rest : List ℕ) (columns : List Column) (numbers : List ℤ) → Lacks 10 (first ∷ rest) → eqb first 35 ≡ false → length (first ∷ rest) + 12 * length numbers ≤ most → list_all is_column columns ≡ true → length numbers ≡ length columns → all_in columns numbers ≡ true → IsLine most (row_text (first ∷ rest) numbers)
-row_line most first rest columns numbers lacks other few c len h = record {
+narrow_tiny : (digits n : ℕ) → eqb digits 10 ≡ true → n < 10 ^ digits → n < 10 ^ 10
+narrow_tiny digits n narrow small = subst (λ (d : ℕ). n < 10 ^ d) (eqb-true _ _ narrow) small
+
+numbers_short : (columns : List Column) (numbers : List ℤ) → list_all is_column columns ≡ true → list_all is_narrow columns ≡ true → length numbers ≡ length columns → all_in columns numbers ≡ true → AllByRecursion (λ word. length word ≤ 11) (map signed_decimal numbers)
+numbers_short columns [] c narrow len h = tt
+numbers_short [] (number ∷ numbers) c narrow len h = absurd (omega (arith, len))
+numbers_short (column ∷ columns) (number ∷ numbers) c narrow len h =
+    let cs = both_true (is_column column) (list_all is_column columns) c in
+    let ns = both_true (is_narrow column) (list_all is_narrow columns) narrow in
+    let hs = both_true (is_in column number) (all_in columns numbers) h in
+    (number_short number (narrow_tiny (most_digits column.digits) (unsigned_abs number) ns.0 (number_tiny column number cs.0 hs.0)), numbers_short columns numbers cs.1 ns.1 (omega (arith, len)) hs.1)
+
+pub row_line : (most first : ℕ) (rest : List ℕ) (columns : List Column) (numbers : List ℤ) → Lacks 10 (first ∷ rest) → eqb first 35 ≡ false → length (first ∷ rest) + 12 * length numbers ≤ most → list_all is_column columns ≡ true → list_all is_narrow columns ≡ true → length numbers ≡ length columns → all_in columns numbers ≡ true → IsLine most (row_text (first ∷ rest) numbers)
+row_line most first rest columns numbers lacks other few c narrow len h = record {
   lacks = join_lacks 10 ((first ∷ rest) ∷ map signed_decimal numbers) refl (lacks, numbers_lack columns numbers c len h 10 (lit< tt));
   kept = starts_kept first rest (map signed_decimal numbers) other;
-  short = let all = join_short 11 (first ∷ rest) (map signed_decimal numbers) (numbers_short columns numbers c len h) in omega (arith, all, few, length-map numbers signed_decimal);
+  short = let all = join_short 11 (first ∷ rest) (map signed_decimal numbers) (numbers_short columns numbers c narrow len h) in omega (arith, all, few, length-map numbers signed_decimal);
 }
 
 -- ---- lines with numbers ahead

@@ -1,5 +1,5 @@
 -- A row that is read is its numbers, printed, and numbers that are printed are read again.
-use Rattle.std.proofs.Common.{◌≡◌, ℕ, ◌^◌, ◌<◌, Bool, true, false, cond, not, ◌&&◌, ◌||◌, eqb, List, [], ◌∷◌, Option, Some, None, Result, Ok, Err, length, map, refl, sym, ap, ◌∙◌, arith, ℤ, pos, negsuc, lit<, lit≤, eq-eqb, ◌≤ℤ◌}
+use Rattle.std.proofs.Common.{◌≡◌, ℕ, ◌+◌, ◌^◌, ◌<◌, ◌≤◌, Bool, true, false, cond, not, ◌&&◌, ◌||◌, eqb, List, [], ◌∷◌, Option, Some, None, Result, Ok, Err, length, map, refl, sym, ap, ◌∙◌, arith, ℤ, pos, negsuc, lit<, lit≤, eq-eqb, ◌≤ℤ◌}
 use Rattle.std.specs.Prelude.{option_map, unsigned_abs, int_le}
 use Rattle.std.specs.Fmt.{signed_decimal}
 use Rattle.std.specs.List.{list_all, join_with_byte, AllByRecursion}
@@ -16,67 +16,90 @@ use Rattle.tac_base.proofs.Signed.{Lacks, signed_is, signed_again, positive_is, 
 use Rattle.text_forms.specs.declared.lines.Reason.{Reason}
 use Rattle.text_forms.specs.declared.lines.Reason.TheVariants.{Keyword, WordCount, OutOfRange}
 use Rattle.text_forms.specs.declared.rows.Column.{Column}
+use Rattle.text_forms.specs.declared.rows.Digits.{Digits}
+use Rattle.text_forms.specs.declared.rows.Digits.TheVariants.{Ten, Eighteen}
 use Rattle.text_forms.specs.Words.{words_of}
-use Rattle.text_forms.specs.Rows.{number_of, followed_by, numbers_of, is_in, all_in, in_range, row_of_words, row, row_text}
+use Rattle.text_forms.specs.Rows.{most_digits, number_of, followed_by, numbers_of, is_in, all_in, in_range, row_of_words, row, row_text}
 use Rattle.text_forms.proofs.Joins.{joined_parts}
 use Rattle.text_forms.proofs.Columns.{in_column, passes}
 
--- a column of numbers of at most ten digits, without a sign where it has no negative number
-abbrev pub is_column : Column → Bool
-is_column column = (column.signed || int_le (pos 0) column.low) && (int_le (negsuc 9999999998) column.low && int_le column.high (pos 9999999999))
+-- one below the greatest number of a numeral
+abbrev pub widest : Digits → ℕ
+widest Ten = 9999999998
+widest Eighteen = 999999999999999998
 
-number_by : (signed : Bool) (word : List ℕ) (number : ℤ) → cond signed (signed_numeral 10 word) (option_map pos (numeral 10 word)) ≡ Some number → word ≡ signed_decimal number
-number_by true word number h = signed_is 10 word number (lit≤ tt) h
-number_by false word number h =
-    let o = positive_is (numeral 10 word) number h in
-    let small : o.0 < 10 ^ 18 = short_value 10 word o.0 (lit≤ tt) o.1 in
-    ap (λ (w : List ℕ). w) (numeral_is 10 word o.0 o.1 (omega (arith, small))).0 ∙ ap signed_decimal (sym o.2)
+-- a column of numbers that its numerals can write, without a sign where it has no negative number
+abbrev pub is_column : Column → Bool
+is_column column = (column.signed || int_le (pos 0) column.low) && (int_le (negsuc (widest column.digits)) column.low && int_le column.high (pos (widest column.digits + 1)))
+
+few_digits : (digits : Digits) → most_digits digits ≤ 18
+few_digits Ten = lit≤ tt
+few_digits Eighteen = lit≤ tt
+
+number_by : (digits : ℕ) (signed : Bool) (word : List ℕ) (number : ℤ) → digits ≤ 18 → cond signed (signed_numeral digits word) (option_map pos (numeral digits word)) ≡ Some number → word ≡ signed_decimal number
+number_by digits true word number few h = signed_is digits word number few h
+number_by digits false word number few h =
+    let o = positive_is (numeral digits word) number h in
+    let small : o.0 < 10 ^ 18 = short_value digits word o.0 few o.1 in
+    ap (λ (w : List ℕ). w) (numeral_is digits word o.0 o.1 (omega (arith, small))).0 ∙ ap signed_decimal (sym o.2)
 
 number_is : (column : Column) (word : List ℕ) (number : ℤ) → number_of column word ≡ Some number → word ≡ signed_decimal number
-number_is column word number h = number_by column.signed word number h
+number_is column word number h = number_by (most_digits column.digits) column.signed word number (few_digits column.digits) h
 
-number_back : (signed : Bool) (number : ℤ) → unsigned_abs number < 10 ^ 10 → (signed ≡ false → pos 0 ≤ℤ number) → cond signed (signed_numeral 10 (signed_decimal number)) (option_map pos (numeral 10 (signed_decimal number))) ≡ Some number
-number_back true number small whole = signed_again 10 number (omega (arith, small)) (length-decimal-le 10 (unsigned_abs number) (lit< tt) small (omega (arith, small)))
-number_back false (pos n) small whole = rw (numeral_again 10 n (omega (arith, small)) (length-decimal-le 10 n (lit< tt) small (omega (arith, small)))) refl
-number_back false (negsuc n) small whole = absurd (let h = whole refl in omega (arith, ints, h))
+-- a number that is below a power of ten has its numeral
+number_back : (digits : ℕ) (signed : Bool) (number : ℤ) → 0 < digits → unsigned_abs number < 10 ^ digits → unsigned_abs number < 2 ^ 64 → (signed ≡ false → pos 0 ≤ℤ number) → cond signed (signed_numeral digits (signed_decimal number)) (option_map pos (numeral digits (signed_decimal number))) ≡ Some number
+number_back digits true number some small whole sign = signed_again digits number whole (length-decimal-le digits (unsigned_abs number) some small whole)
+number_back digits false (pos n) some small whole sign = rw (numeral_again digits n whole (length-decimal-le digits n some small whole)) refl
+number_back digits false (negsuc n) some small whole sign = absurd (let h = sign refl in omega (arith, ints, h))
 
-abs_small : (z : ℤ) → negsuc 9999999998 ≤ℤ z → z ≤ℤ pos 9999999999 → unsigned_abs z < 10 ^ 10
-abs_small (pos n) low high = omega (arith, ints)
-abs_small (negsuc n) low high = omega (arith, ints)
+abs_small : (digits : Digits) (z : ℤ) → negsuc (widest digits) ≤ℤ z → z ≤ℤ pos (widest digits + 1) → unsigned_abs z < 10 ^ most_digits digits
+abs_small Ten (pos n) low high = omega (arith, ints)
+abs_small Ten (negsuc n) low high = omega (arith, ints)
+abs_small Eighteen (pos n) low high = omega (arith, ints)
+abs_small Eighteen (negsuc n) low high = omega (arith, ints)
 
 either_true : (a b : Bool) → a || b ≡ true → a ≡ false → b ≡ true
 either_true true b h e = absurd cc
 either_true false b h e = h
 
-pub number_tiny : (column : Column) (number : ℤ) → is_column column ≡ true → is_in column number ≡ true → unsigned_abs number < 10 ^ 10
+at_least : (a b c : ℤ) → a ≤ℤ b → b ≤ℤ c → a ≤ℤ c
+at_least a b c low high = search (arith, ints)
+
+-- what the limits of a column say of it
+record IsWithinWidth (column : Column) : Type 0 where
+  sign : column.signed || int_le (pos 0) column.low ≡ true
+  low : negsuc (widest column.digits) ≤ℤ column.low
+  high : column.high ≤ℤ pos (widest column.digits + 1)
+
+within_width : (column : Column) → is_column column ≡ true → IsWithinWidth column
+within_width column c =
+    let limits = both_true (column.signed || int_le (pos 0) column.low) (int_le (negsuc (widest column.digits)) column.low && int_le column.high (pos (widest column.digits + 1))) c in
+    let ends = both_true (int_le (negsuc (widest column.digits)) column.low) (int_le column.high (pos (widest column.digits + 1))) limits.1 in
+    record { sign = limits.0; low = passes (negsuc (widest column.digits)) column.low ends.0; high = passes column.high (pos (widest column.digits + 1)) ends.1 }
+
+pub number_tiny : (column : Column) (number : ℤ) → is_column column ≡ true → is_in column number ≡ true → unsigned_abs number < 10 ^ most_digits column.digits
 number_tiny column number c h =
-    let limits = both_true (column.signed || int_le (pos 0) column.low) (int_le (negsuc 9999999998) column.low && int_le column.high (pos 9999999999)) c in
-    let ends = both_true (int_le (negsuc 9999999998) column.low) (int_le column.high (pos 9999999999)) limits.1 in
-    let low = passes (negsuc 9999999998) column.low ends.0 in
-    let high = passes column.high (pos 9999999999) ends.1 in
+    let width = within_width column c in
     let i = in_column column number h in
-    let above = i.low in
-    let below = i.high in
-    let over : negsuc 9999999998 ≤ℤ number = search (arith, ints) in
-    let under : number ≤ℤ pos 9999999999 = search (arith, ints) in
-    abs_small number over under
+    abs_small column.digits number (at_least _ _ _ width.low i.low) (at_least _ _ _ i.high width.high)
+
+short_abs : (digits : Digits) (n : ℕ) → n < 10 ^ most_digits digits → n < 2 ^ 64
+short_abs Ten n small = omega (arith, small)
+short_abs Eighteen n small = omega (arith, small)
+
+some_digit : (digits : Digits) → 0 < most_digits digits
+some_digit Ten = lit< tt
+some_digit Eighteen = lit< tt
 
 number_small : (column : Column) (number : ℤ) → is_column column ≡ true → is_in column number ≡ true → unsigned_abs number < 2 ^ 64
-number_small column number c h = let tiny = number_tiny column number c h in omega (arith, tiny)
+number_small column number c h = short_abs column.digits (unsigned_abs number) (number_tiny column number c h)
 
 number_again : (column : Column) (number : ℤ) → is_column column ≡ true → is_in column number ≡ true → number_of column (signed_decimal number) ≡ Some number
 number_again column number c h =
-    let limits = both_true (column.signed || int_le (pos 0) column.low) (int_le (negsuc 9999999998) column.low && int_le column.high (pos 9999999999)) c in
-    let ends = both_true (int_le (negsuc 9999999998) column.low) (int_le column.high (pos 9999999999)) limits.1 in
-    let low = passes (negsuc 9999999998) column.low ends.0 in
-    let high = passes column.high (pos 9999999999) ends.1 in
+    let width = within_width column c in
     let i = in_column column number h in
-    let above = i.low in
-    let below = i.high in
-    let over : negsuc 9999999998 ≤ℤ number = search (arith, ints) in
-    let under : number ≤ℤ pos 9999999999 = search (arith, ints) in
-    number_back column.signed number (abs_small number over under)
-    (λ e. let least = passes (pos 0) column.low (either_true column.signed (int_le (pos 0) column.low) limits.0 e) in search (arith, ints))
+    number_back (most_digits column.digits) column.signed number (some_digit column.digits) (number_tiny column number c h) (number_small column number c h)
+    (λ e. at_least _ _ _ (passes (pos 0) column.low (either_true column.signed (int_le (pos 0) column.low) width.sign e)) i.low)
 
 -- ---- all numbers of a row
 

@@ -1,5 +1,5 @@
 -- The lines of a text with their numbers.
-use Rattle.std.specs.Prelude.{◌≡◌, ℕ, ◌+◌, ◌==◌, ◌&&◌, if◌then◌else◌, List, [], ◌∷◌, ◌++◌, map, Bool, true, false, Result, Ok, Err}
+use Rattle.std.specs.Prelude.{◌≡◌, ℕ, zero, suc, ◌+◌, ◌==◌, ◌&&◌, if◌then◌else◌, List, [], ◌∷◌, ◌++◌, map, Bool, true, false, Result, Ok, Err, Option, Some, None, option_map}
 use Rattle.std.specs.List.{flat_map}
 use Rattle.text_forms.specs.declared.lines.Reason.{Reason}
 use Rattle.text_forms.specs.declared.lines.Reason.TheVariants.{Keyword, WordCount, Spelling, OutOfRange, NotDue, Repeated, TextEnd}
@@ -69,6 +69,24 @@ nothing_in left (line ∷ lines) = Err (record { line = line.number; reason = Te
 
 abbrev pub nothing_left : Remaining → Result (Unit {0}) BadLine
 nothing_left left = nothing_in left left.lines
+
+-- the bytes of a line with its end before those of the lines after it
+abbrev pub after_line : List ℕ → List ℕ × Remaining → List ℕ × Remaining
+after_line line block = (line ++ 10 ∷ block.0, block.1)
+
+-- the next lines, so many, where they stand one under another from a number: no line that is left out stands among them
+abbrev pub block_in : ℕ → ℕ → Remaining → List NumberedLine → Option (List ℕ × Remaining)
+block_in number zero left lines = Some ([], record left { lines = lines })
+block_in number (suc count) left [] = None
+block_in number (suc count) left (line ∷ lines) = if line.number == number then option_map (after_line line.bytes) (block_in (number + 1) count left lines) else None
+
+abbrev pub first_number : List NumberedLine → ℕ
+first_number [] = 0
+first_number (line ∷ lines) = line.number
+
+-- the bytes of the next lines with their ends, so many, and the lines after them
+abbrev pub block_of : ℕ → Remaining → Option (List ℕ × Remaining)
+block_of count left = block_in (first_number left.lines) count left left.lines
 
 -- the reason for which a line is bad, with its number
 abbrev pub at_line : {A : Type 0} → ℕ → Result A Reason → Result A BadLine

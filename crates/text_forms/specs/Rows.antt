@@ -6,16 +6,24 @@ use Rattle.std.specs.Str.{bytes_eq}
 use Rattle.tac_base.specs.Numerals.{numeral, signed_numeral}
 use Rattle.text_forms.specs.declared.lines.Reason.{Reason}
 use Rattle.text_forms.specs.declared.lines.Reason.TheVariants.{Keyword, WordCount, Spelling, OutOfRange}
+use Rattle.tac_base.specs.declared.limits.TheConstants.{CASH_DIGITS}
 use Rattle.text_forms.specs.declared.rows.Column.{Column}
+use Rattle.text_forms.specs.declared.rows.Digits.{Digits}
+use Rattle.text_forms.specs.declared.rows.Digits.TheVariants.{Ten, Eighteen}
 use Rattle.text_forms.specs.Words.{words_of}
 
--- a numeral in a range
-abbrev pub within : ℕ → ℕ → Column
-within low high = record { signed = false; low = pos low; high = pos high }
+-- the most digits of a numeral
+abbrev pub most_digits : Digits → ℕ
+most_digits Ten = 10
+most_digits Eighteen = CASH_DIGITS
 
--- the number that a word is in a column: a numeral of at most ten digits, signed or not
+-- a numeral of at most ten digits in a range
+abbrev pub within : ℕ → ℕ → Column
+within low high = record { signed = false; digits = Ten; low = pos low; high = pos high }
+
+-- the number that a word is in a column: a numeral of at most so many digits, signed or not
 abbrev pub number_of : Column → List ℕ → Option ℤ
-number_of column word = if column.signed then signed_numeral 10 word else option_map pos (numeral 10 word)
+number_of column word = if column.signed then signed_numeral (most_digits column.digits) word else option_map pos (numeral (most_digits column.digits) word)
 
 -- a number before others
 abbrev pub followed_by : Option ℤ → Option (List ℤ) → Option (List ℤ)

@@ -11,6 +11,6 @@ mod words;
 
 pub use lines::{BadLine, Ending, Lines, NumberedLine, Reason, at_line};
 pub use printing::{PrintedPart, print_parts};
-pub use rows::{Column, print_row, read_row};
+pub use rows::{Column, Digits, print_row, read_row};
 pub use steps::{Part, repeat};
 pub use words::{Words, count_parts, cut};

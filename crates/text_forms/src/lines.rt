@@ -1,4 +1,5 @@
-ghost use Rattle.std.specs.Prelude.{◌≡◌, ◌+◌, ◌^◌, ◌<◌, ◌&&◌, length, true, false};
+ghost use Rattle.std.specs.Prelude.{◌≡◌, ℕ, ◌+◌, ◌^◌, ◌<◌, ◌≤◌, ◌&&◌, length, true, false, Some, None, IfSome, MatchOption};
+ghost use Rattle.text_forms.specs.Blocks.{IsKept, block_at};
 ghost use Rattle.text_forms.specs.Lines as lines;
 ghost use Rattle.text_forms.specs.Words.{parts_of};
 
@@ -139,29 +140,54 @@ impl<'a> Lines<'a> {
     pub fn next(self) -> Result<(NumberedLine<'a>, Lines<'a>), Ending>
         ensures { result ≡ lines.next_of self.entry }
     {
-        let mut number = self.number;
-        let mut rest = self.rest;
-        while let Some((line, after)) = cut(rest, b'\n') {
-            if !is_skipped(self.skips_comments, line) {
-                return Ok((
-                    NumberedLine {
-                        number,
-                        bytes: line,
-                    },
-                    Lines {
-                        skips_comments: self.skips_comments,
-                        number: number + 1,
-                        rest: after,
-                    },
-                ));
-            }
-            number += 1;
-            rest = after;
+        let (number, rest) = past_comments(self.skips_comments, self.number, self.rest);
+        match cut(rest, b'\n') {
+            None => Err(Ending {
+                line: number,
+                whole: rest.is_empty(),
+            }),
+            Some((line, after)) => Ok((
+                NumberedLine {
+                    number,
+                    bytes: line,
+                },
+                Lines {
+                    skips_comments: self.skips_comments,
+                    number: number + 1,
+                    rest: after,
+                },
+            )),
         }
-        Err(Ending {
-            line: number,
-            whole: rest.is_empty(),
-        })
+    }
+
+    /// The same lines once more, to look at the next line and go back.
+    pub fn again(&self) -> Lines<'a>
+        ensures { result ≡ self.now }
+    {
+        Lines {
+            skips_comments: self.skips_comments,
+            number: self.number,
+            rest: self.rest,
+        }
+    }
+
+    /// The bytes of the next `count` lines with their line ends, and the lines after them. There are none where fewer
+    /// whole lines are left, or where a line that is left out stands among them.
+    pub fn block(self, count: u32) -> Option<(&'a [u8], Lines<'a>)>
+        ensures { MatchOption result (lines.block_of count self.entry ≡ None) (λ found. lines.block_of count self.entry ≡ Some (found.0.now, found.1)) }
+    {
+        let (number, text) = past_comments(self.skips_comments, self.number, self.rest);
+        match take_lines(self.skips_comments, text, count) {
+            None => None,
+            Some((block, rest)) => Some((
+                block,
+                Lines {
+                    skips_comments: self.skips_comments,
+                    number: number + count,
+                    rest,
+                },
+            )),
+        }
     }
 
     /// The next line and those after it; a text that ends here ends too early.
@@ -193,6 +219,46 @@ impl<'a> Lines<'a> {
             }),
         }
     }
+}
+
+/// What is left of a text, with the number of its first line, after the lines at its head that are left out.
+fn past_comments(skips_comments: bool, number: u32, text: &[u8]) -> (u32, &[u8])
+    requires { number + length text.now < 2 ^ 32 }
+    ensures same { lines.lines_from skips_comments result.0 (parts_of 10 result.1.now) ≡ lines.lines_from skips_comments number (parts_of 10 text.now) }
+    ensures kept { IsKept skips_comments (parts_of 10 result.1.now) }
+    ensures small { result.0 + length result.1.now < 2 ^ 32 }
+{
+    let mut number = number;
+    let mut rest = text;
+    while let Some((line, after)) = cut(rest, b'\n') {
+        if !is_skipped(skips_comments, line) {
+            return (number, rest);
+        }
+        number += 1;
+        rest = after;
+    }
+    (number, rest)
+}
+
+/// The bytes of so many lines with their line ends, and what stands after them. There are none where fewer whole lines
+/// stand there, or one of them is left out.
+fn take_lines(skips_comments: bool, text: &[u8], count: u32) -> Option<(&[u8], &[u8])>
+    ensures lines { (number : ℕ) → MatchOption result (block_at skips_comments number count text.now ≡ None) (λ found. block_at skips_comments number count text.now ≡ Some (found.0.now, lines.lines_from skips_comments (number + count) (parts_of 10 found.1.now))) }
+    ensures small { IfSome result (λ found. count + length found.1.now ≤ length text.now) }
+{
+    let mut rest = text;
+    let mut due = count;
+    while due > 0 {
+        let Some((line, after)) = cut(rest, b'\n') else {
+            return None;
+        };
+        if is_skipped(skips_comments, line) {
+            return None;
+        }
+        rest = after;
+        due -= 1;
+    }
+    Some((&text[..text.len() - rest.len()], rest))
 }
 
 /// Whether a line is empty or begins with `#`.

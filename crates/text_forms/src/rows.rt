@@ -5,23 +5,48 @@ ghost use Rattle.text_forms.specs.Words.{words_of};
 
 use crate::{Reason, Words};
 use std::alloc::AllocError;
+use tac_base::limits::CASH_DIGITS;
 use tac_base::{Text, print_signed, read_numeral, read_signed};
 
-/// What a number in a row may be: a numeral of at most ten digits, with a sign or without, in a range.
+/// How many digits a numeral of a row may have.
+#[derive(Clone, Copy, Debug, PartialEq, Eq)]
+pub enum Digits {
+    /// At most ten.
+    Ten,
+    /// At most 18, as an amount of cash.
+    Eighteen,
+}
+
+impl Digits {
+    /// The most digits.
+    pub fn most(self) -> u8
+        ensures value { result ≡ rows.most_digits self }
+        ensures bound { result ≤ CASH_DIGITS }
+    {
+        match self {
+            Digits::Ten => 10,
+            Digits::Eighteen => CASH_DIGITS,
+        }
+    }
+}
+
+/// What a number in a row may be: a numeral of at most so many digits, with a sign or without, in a range.
 #[derive(Clone, Copy, Debug, PartialEq, Eq)]
 pub struct Column {
     pub signed: bool,
+    pub digits: Digits,
     pub low: i64,
     pub high: i64,
 }
 
 impl Column {
-    /// A numeral in a range.
+    /// A numeral of at most ten digits without a sign, in a range.
     pub fn within(low: u32, high: u32) -> Self
         ensures { result ≡ rows.within low high }
     {
         Column {
             signed: false,
+            digits: Digits::Ten,
             low: i64::from(low),
             high: i64::from(high),
         }
@@ -33,9 +58,9 @@ fn number_of(column: &Column, word: &[u8]) -> Option<i64>
     ensures { result ≡ rows.number_of column.now word.now }
 {
     if column.signed {
-        read_signed(word, 10)
+        read_signed(word, column.digits.most())
     } else {
-        match read_numeral(word, 10) {
+        match read_numeral(word, column.digits.most()) {
             None => None,
             Some(number) => Some(number as i64),
         }

@@ -1,12 +1,12 @@
 use Rattle.std.proofs.Common.{◌≡◌, ◌+◌, ◌^◌, ◌<◌, length}
 use Rattle.text_forms.specs.Lines.{lines_from}
 use Rattle.text_forms.specs.Words.{parts_of}
-use Rattle.text_forms.proofs.lines.Lines.next.Given as goal
+use Rattle.text_forms.proofs.lines.past_comments.Given as goal
 
 abbrev pub invariant-loop-line : goal.invariant-loop-line
 invariant-loop-line l = record {
   small : l.number + length l.rest < 2 ^ 32;
-  left : lines_from l.self-inside.skips_comments l.number (parts_of 10 l.rest) ≡ l.fn.self;
+  left : lines_from l.skips_comments l.number (parts_of 10 l.rest) ≡ lines_from l.skips_comments l.number-2 (parts_of 10 l.text);
 }
 
 abbrev pub decreases-loop-line : goal.decreases-loop-line

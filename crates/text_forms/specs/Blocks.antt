@@ -1,0 +1,14 @@
+-- Lines that stand one under another, as a text's bytes give them.
+use Rattle.std.specs.Prelude.{◌≡◌, ℕ, ◌&&◌, List, [], ◌∷◌, Bool, false, Option}
+use Rattle.text_forms.specs.Words.{parts_of}
+use Rattle.text_forms.specs.Lines.{Remaining, is_comment, lines_from, block_in}
+
+-- the first line is not left out
+abbrev pub IsKept : Bool → List (List ℕ) → Type 0
+IsKept skips [] = Unit {0}
+IsKept skips (rest ∷ []) = Unit {0}
+IsKept skips (line ∷ next ∷ parts) = false ≡ (skips && is_comment line)
+
+-- the next lines of a text whose first line has this number
+abbrev pub block_at : Bool → ℕ → ℕ → List ℕ → Option (List ℕ × Remaining)
+block_at skips number count text = block_in number count (lines_from skips number (parts_of 10 text)) (lines_from skips number (parts_of 10 text)).lines
