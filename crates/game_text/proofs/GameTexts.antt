@@ -15,8 +15,10 @@ use Rattle.game_text.specs.ClosingOrders.{order_text}
 use Rattle.game_text.specs.Endowments.{IsEndowment, endow_text}
 use Rattle.game_text.specs.ClientLines.{client_text}
 use Rattle.game_text.specs.AgentLines.{AreClients, AreAgents, client_lines, agents_lines}
-use Rattle.game_text.specs.Games.{GameFile, agents_of, IsGame, game_lines, spelling, game_in, game_of}
+use Rattle.game_text.specs.Games.{GameFile, nights_of, agents_of, IsGame, game_lines, spelling, game_in, game_of}
+use Rattle.game_text.specs.HotelNights.{night_lines}
 use Rattle.game_text.proofs.FlightLaws.{flight_line}
+use Rattle.game_text.proofs.HotelNightLaws.{nights_are_lines, few_nights}
 use Rattle.game_text.proofs.OrderLaws.{order_line}
 use Rattle.game_text.proofs.EndowmentLaws.{endow_line}
 use Rattle.game_text.proofs.ClientLaws.{client_line}
@@ -35,17 +37,18 @@ agents_are_lines agents are =
 
 pub game_is_lines : (game : GameFile) → IsGame game → AllByRecursion (IsLine 678) (game_lines game)
 game_is_lines game is = (
-  header_line,
+  header_line game.version is.version_low is.version_high,
   (
     seats_line game.words is.words,
     lines_append 678 (lines_of_parts (one_line flight_text) 0 game.flights) _ (parts_lines (one_line flight_text) IsFlight 678 8 (λ i flight less ok. (flight_line i flight (omega (arith, less)) ok, tt)) game.flights 0 (omega (arith, is.flight_count)) is.flights) (
       order_line game.order is.order,
-      lines_append 678 (agents_lines (agents_of game)) (codes "end" ∷ []) (agents_are_lines (agents_of game) is.agents) (end_line, tt),
+      lines_append 678 (night_lines game.version (nights_of game)) _ (nights_are_lines game.version is.version_low is.version_high (nights_of game) is.nights)
+      (lines_append 678 (agents_lines (agents_of game)) (codes "end" ∷ []) (agents_are_lines (agents_of game) is.agents) (end_line, tt)),
     ),
   ),
 )
 
--- ---- there are 84
+-- ---- there are at most 86
 
 agents_count : (agents : Agents) → AreAgents agents → length (agents_lines agents) ≡ 72
 agents_count agents are =
@@ -54,12 +57,14 @@ agents_count agents are =
     let c = count_parts client_lines AreClients 8 each agents.clients 0 are.clients in
     omega (arith, e, c, are.endow_count, are.client_count, length-append (lines_of_parts (one_line endow_text) 0 agents.endow) (lines_of_parts client_lines 0 agents.clients))
 
-line_count : (game : GameFile) → IsGame game → length (game_lines game) ≡ 84
+line_count : (game : GameFile) → IsGame game → length (game_lines game) ≤ 86
 line_count game is =
     let f = count_parts (one_line flight_text) IsFlight 1 (λ i x h. refl) game.flights 0 is.flights in
     let a = agents_count (agents_of game) is.agents in
+    let nights = night_lines game.version (nights_of game) in
+    let few = few_nights game.version is.version_low is.version_high (nights_of game) in
     let last = agents_lines (agents_of game) ++ codes "end" ∷ [] in
-    omega (arith, f, a, is.flight_count, length-append (lines_of_parts (one_line flight_text) 0 game.flights) (order_text game.order ∷ last), length-append (agents_lines (agents_of game)) (codes "end" ∷ []))
+    omega (arith, f, a, few, is.flight_count, length-append (lines_of_parts (one_line flight_text) 0 game.flights) (order_text game.order ∷ (nights ++ last)), length-append nights last, length-append (agents_lines (agents_of game)) (codes "end" ∷ []))
 
 -- ---- reading it
 

@@ -1,5 +1,5 @@
 -- The first line, the last line and the line of the seat words.
-use Rattle.std.proofs.Common.{◌≡◌, ℕ, ◌≤◌, ◌<◌, true, false, ◌&&◌, eqb, ltb, List, [], ◌∷◌, Ok, length, refl, sym, ap, ◌∙◌, subst, arith, ℤ, lit<, lit≤, eq-eqb}
+use Rattle.std.proofs.Common.{◌≡◌, ◌⊎◌, inl, inr, ℕ, ◌≤◌, ◌<◌, Bool, true, false, cond, ◌&&◌, eqb, ltb, List, [], ◌∷◌, Ok, Err, length, refl, sym, ap, ◌∙◌, subst, arith, ℤ, lit<, lit≤, eq-eqb}
 use Rattle.std.specs.Prelude.{codes, nat_le}
 use Rattle.std.specs.List.{list_all, join_with_byte, AllByRecursion}
 use Rattle.std.specs.Str.{bytes_eq}
@@ -16,28 +16,43 @@ use Rattle.text_forms.proofs.Joins.{joined_parts}
 use Rattle.text_forms.proofs.RowLaws.{row_is, same_word}
 use Rattle.text_forms.proofs.PrintedLines.{IsLine, lacks_from, join_lacks, join_short, starts_kept}
 use Rattle.text_forms.proofs.Reading.{bind_ok, ok_is}
-use Rattle.game_text.specs.Headers.{header_of_words, header_of, nothing_from, end_of}
+use Rattle.game_text.specs.Headers.{header_of_words, header_of, header_text, nothing_from, end_of}
 use Rattle.game_text.specs.SeatWords.{is_seat_byte, is_seat_word, are_distinct, seats_of_words, seats_of, seats_text, AreSeats}
-use Rattle.game_text.proofs.Choices.{chosen, passed}
+use Rattle.game_text.proofs.Choices.{passed}
+use Rattle.game_text.proofs.Versions.{by_version}
 
 -- ---- the first line and the last
 
-header_words : (words : List (List ℕ)) (u : Unit {0}) → header_of_words words ≡ Ok u → words ≡ codes "tac" ∷ codes "1" ∷ []
-header_words [] u e = absurd cc
-header_words (first ∷ []) u e = let a = passed (bytes_eq first (codes "tac")) Keyword _ u e in absurd cc
-header_words (first ∷ second ∷ []) u e =
-    let a = passed (bytes_eq first (codes "tac")) Keyword _ u e in
-    let b = chosen (bytes_eq second (codes "1") && true) tt Keyword u a.1 in
-    let c = both_true (bytes_eq second (codes "1")) true b.0 in
-    ap (λ (w : List ℕ). w ∷ second ∷ []) (same_word first (codes "tac") a.0) ∙ ap (λ (w : List ℕ). codes "tac" ∷ w ∷ []) (same_word second (codes "1") c.0)
-header_words (first ∷ second ∷ third ∷ words) u e =
-    let a = passed (bytes_eq first (codes "tac")) Keyword _ u e in
-    let b = passed (eqb (length (second ∷ third ∷ words)) 1) WordCount _ u a.1 in
+which_version : (first second : Bool) (version : ℕ) → cond first (Ok 1) (cond second (Ok 2) (Err Keyword)) ≡ Ok version → ((first ≡ true) × (1 ≡ version)) ⊎ ((second ≡ true) × (2 ≡ version))
+which_version true second version e = inl (refl, ok_is {E = Reason} 1 version e)
+which_version false true version e = inr (refl, ok_is {E = Reason} 2 version e)
+which_version false false version e = absurd cc
+
+-- the first line of a version
+pub record IsHeader (line : List ℕ) (version : ℕ) : Type 0 where
+  pub text : line ≡ header_text version
+  pub low : 1 ≤ version
+  pub high : version ≤ 2
+
+of_version : (word : List ℕ) (version : ℕ) → ((bytes_eq word (codes "1") ≡ true) × (1 ≡ version)) ⊎ ((bytes_eq word (codes "2") ≡ true) × (2 ≡ version)) → IsHeader (join_with_byte 32 (codes "tac" ∷ word ∷ [])) version
+of_version word version (inl p) = subst (IsHeader (join_with_byte 32 (codes "tac" ∷ word ∷ []))) p.1 (record { text = ap (λ (w : List ℕ). join_with_byte 32 (codes "tac" ∷ w ∷ [])) (same_word word (codes "1") p.0); low = lit≤ tt; high = lit≤ tt })
+of_version word version (inr p) = subst (IsHeader (join_with_byte 32 (codes "tac" ∷ word ∷ []))) p.1 (record { text = ap (λ (w : List ℕ). join_with_byte 32 (codes "tac" ∷ w ∷ [])) (same_word word (codes "2") p.0); low = lit≤ tt; high = lit≤ tt })
+
+header_words : (words : List (List ℕ)) (version : ℕ) → header_of_words words ≡ Ok version → IsHeader (join_with_byte 32 words) version
+header_words [] version e = absurd cc
+header_words (first ∷ []) version e = let a = passed (bytes_eq first (codes "tac")) Keyword _ version e in absurd cc
+header_words (first ∷ second ∷ []) version e =
+    let a = passed (bytes_eq first (codes "tac")) Keyword _ version e in
+    let which = which_version (bytes_eq second (codes "1")) (bytes_eq second (codes "2")) version a.1 in
+    subst (λ (w : List ℕ). IsHeader (join_with_byte 32 (w ∷ second ∷ [])) version) (sym (same_word first (codes "tac") a.0)) (of_version second version which)
+header_words (first ∷ second ∷ third ∷ words) version e =
+    let a = passed (bytes_eq first (codes "tac")) Keyword _ version e in
+    let b = passed (eqb (length (second ∷ third ∷ words)) 1) WordCount _ version a.1 in
     absurd (let n = eqb-true (length (second ∷ third ∷ words)) 1 b.0 in omega (arith, n))
 
-pub header_is : (line : List ℕ) (u : Unit {0}) → header_of line ≡ Ok u → line ≡ codes "tac 1"
+pub header_is : (line : List ℕ) (version : ℕ) → header_of line ≡ Ok version → IsHeader line version
 unfolding header_of
-header_is line u e = sym (join_with_byte-slice_split 32 line) ∙ ap (join_with_byte 32) (header_words (words_of line) u e)
+header_is line version e = subst (λ (l : List ℕ). IsHeader l version) (join_with_byte-slice_split 32 line) (header_words (words_of line) version e)
 
 pub nothing_more : (numbers : List ℤ) → length numbers ≡ 0 → numbers ≡ []
 nothing_more [] len = refl
@@ -50,16 +65,18 @@ end_is line u e =
     let r = row_is (codes "end") [] line a.0 a.1 in
     r.text ∙ ap (row_text (codes "end")) (nothing_more a.0 r.count)
 
-pub header_again : header_of (codes "tac 1") ≡ Ok tt
+pub header_again : (version : ℕ) → 1 ≤ version → version ≤ 2 → header_of (header_text version) ≡ Ok version
 unfolding header_of
-header_again = refl
+header_again version low high = by_version (λ v. header_of (header_text v) ≡ Ok v) version low high refl refl
 
 pub end_again : end_of (codes "end") ≡ Ok tt
 unfolding end_of row
 end_again = refl
 
-pub header_line : IsLine 678 (codes "tac 1")
-header_line = record { lacks = lacks_from 10 (codes "tac 1") refl; kept = refl; short = lit≤ tt }
+pub header_line : (version : ℕ) → 1 ≤ version → version ≤ 2 → IsLine 678 (header_text version)
+header_line version low high =
+    by_version (λ v. IsLine 678 (header_text v)) version low high (record { lacks = lacks_from 10 (codes "tac 1") refl; kept = refl; short = lit≤ tt })
+    (record { lacks = lacks_from 10 (codes "tac 2") refl; kept = refl; short = lit≤ tt })
 
 pub end_line : IsLine 678 (codes "end")
 end_line = record { lacks = lacks_from 10 (codes "end") refl; kept = refl; short = lit≤ tt }

@@ -2,6 +2,8 @@ pub mod Choices
 pub mod FlightLaws
 pub mod EndowmentLaws
 pub mod OrderLaws
+pub mod Versions
+pub mod HotelNightLaws
 pub mod ClientLaws
 pub mod HeaderLaws
 pub mod AgentLaws

@@ -1,5 +1,5 @@
 -- The quiet game is in its ranges.
-use Rattle.std.proofs.Common.{◌≡◌, ℕ, ◌≤◌, List, [], ◌∷◌, pos, refl, lit<, lit≤}
+use Rattle.std.proofs.Common.{◌≡◌, false, ℕ, ◌≤◌, List, [], ◌∷◌, pos, refl, lit<, lit≤}
 use Rattle.std.specs.Prelude.{map, replicate}
 use Rattle.std.proofs.lemmas.List.Elements.{All-nil, All-cons, All-replicate}
 use Rattle.tac_base.specs.Clients.{IsClient}
@@ -11,6 +11,7 @@ use Rattle.game_text.specs.Endowments.{IsEndowment}
 use Rattle.game_text.specs.AgentLines.{AreClients}
 use Rattle.game_text.specs.Games.{IsGame}
 use Rattle.game_text.specs.Schedule.{hotel_nights}
+use Rattle.game_text.proofs.HotelNightLaws.{plain_are}
 use Rattle.game_text.specs.QuietGames.{quiet_client, quiet_flight, quiet_game}
 
 pub seats : AreSeats numbered_seats
@@ -48,10 +49,13 @@ client =
 pub game : IsGame quiet_game
 unfolding quiet_game
 game = record {
+  version_low = lit≤ tt;
+  version_high = lit≤ tt;
   words = seats;
   flight_count = refl;
   flights = All-replicate IsFlight 8 quiet_flight flight;
   order = nights;
+  nights = plain_are;
   agents = record {
     endow_count = refl;
     endow = All-replicate IsEndowment 8 (replicate 12 0) nothing;
@@ -62,6 +66,6 @@ game = record {
 
 -- the quiet game of its words and its closing order
 pub made : (words : List (List ℕ)) (order : List ℕ) → words ≡ numbered_seats → order ≡ hotel_nights
-    → record { words = words; flights = replicate 8 quiet_flight; order = order; endow = replicate 8 (replicate 12 0); clients = replicate 8 (replicate 8 quiet_client) } ≡ quiet_game
+    → record { version = 1; words = words; flights = replicate 8 quiet_flight; order = order; rooms = replicate 8 16; live = false; endow = replicate 8 (replicate 12 0); clients = replicate 8 (replicate 8 quiet_client) } ≡ quiet_game
 unfolding quiet_game
 made words order named rising = rw (named, rising) refl

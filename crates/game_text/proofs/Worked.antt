@@ -1,6 +1,7 @@
 -- Refused lines and texts, one for each reason, evaluated by the definitions.
-use Rattle.std.proofs.Common.{◌≡◌, ◌∷◌, [], Ok, Err, refl}
+use Rattle.std.proofs.Common.{◌≡◌, true, false, ◌∷◌, [], length, slice_get, Some, Ok, Err, refl}
 use Rattle.std.specs.Prelude.{codes}
+use Rattle.std.specs.Fmt.{digits}
 use Rattle.tac_base.specs.Numerals.{numeral}
 use Rattle.text_forms.specs.declared.lines.Reason.TheVariants.{Keyword, WordCount, Spelling, OutOfRange, NotDue, Repeated}
 use Rattle.text_forms.specs.Rows.{row}
@@ -11,7 +12,9 @@ use Rattle.game_text.specs.ClosingOrders.{order_of}
 use Rattle.game_text.specs.Endowments.{endow_of}
 use Rattle.game_text.specs.ClientLines.{client_of}
 use Rattle.game_text.specs.Headers.{header_of, end_of}
-use Rattle.game_text.specs.Games.{game_in, game_of}
+use Rattle.game_text.specs.HotelNights.{rooms_of, quotes_of}
+use Rattle.game_text.specs.Games.{upgraded, game_lines, game_in, game_of}
+use Rattle.game_text.specs.QuietGames.{quiet_game}
 
 -- ---- where the text ends
 
@@ -41,9 +44,17 @@ earlier_bad_line_is_the_one = refl
 
 -- ---- the first line
 
-other_version : header_of (codes "tac 2") ≡ Err Keyword
+first_version : header_of (codes "tac 1") ≡ Ok 1
 unfolding header_of
-other_version = refl
+first_version = refl
+
+second_version : header_of (codes "tac 2") ≡ Ok 2
+unfolding header_of
+second_version = refl
+
+third_version : header_of (codes "tac 3") ≡ Err Keyword
+unfolding header_of
+third_version = refl
 
 no_version : header_of (codes "tac") ≡ Err WordCount
 unfolding header_of
@@ -106,6 +117,54 @@ no_hotel = refl
 equal_hotels : order_of (codes "close 8 9 10 11 12 13 14 14") ≡ Err Repeated
 unfolding order_of row numeral
 equal_hotels = refl
+
+-- ---- the hotel nights
+
+no_room : rooms_of (codes "rooms 0 16 16 16 16 16 16 16") ≡ Err OutOfRange
+unfolding rooms_of row numeral
+no_room = refl
+
+most_rooms : rooms_of (codes "rooms 1 16 16 16 16 16 16 64") ≡ Ok (1 ∷ 16 ∷ 16 ∷ 16 ∷ 16 ∷ 16 ∷ 16 ∷ 64 ∷ [])
+unfolding rooms_of row numeral
+most_rooms = refl
+
+too_many_rooms : rooms_of (codes "rooms 16 16 16 16 16 16 16 65") ≡ Err OutOfRange
+unfolding rooms_of row numeral
+too_many_rooms = refl
+
+seven_nights : rooms_of (codes "rooms 16 16 16 16 16 16 16") ≡ Err WordCount
+unfolding rooms_of row
+seven_nights = refl
+
+live_quotes : quotes_of (codes "quotes live") ≡ Ok true
+unfolding quotes_of
+live_quotes = refl
+
+quotes_by_the_minute : quotes_of (codes "quotes minute") ≡ Ok false
+unfolding quotes_of
+quotes_by_the_minute = refl
+
+quotes_at_odd_times : quotes_of (codes "quotes often") ≡ Err Spelling
+unfolding quotes_of
+quotes_at_odd_times = refl
+
+space_after_quotes : quotes_of (codes "quotes live ") ≡ Err WordCount
+unfolding quotes_of
+space_after_quotes = refl
+
+-- ---- a game of version 1 as one of version 2
+
+two_more_lines : length (game_lines (upgraded quiet_game)) ≡ 86
+unfolding quiet_game
+two_more_lines = refl
+
+rooms_are_written : slice_get (game_lines (upgraded quiet_game)) 11 ≡ Some (codes "rooms 16 16 16 16 16 16 16 16")
+unfolding quiet_game digits
+rooms_are_written = refl
+
+quotes_are_written : slice_get (game_lines (upgraded quiet_game)) 12 ≡ Some (codes "quotes minute")
+unfolding quiet_game
+quotes_are_written = refl
 
 -- ---- endowments
 

@@ -1,5 +1,5 @@
 -- The game file.
-use Rattle.std.specs.Prelude.{◌≡◌, ℕ, nat_lt, if◌then◌else◌, List, [], ◌∷◌, ◌++◌, true, Result, Ok, Err, length, codes}
+use Rattle.std.specs.Prelude.{◌≡◌, ℕ, ◌≤◌, Bool, nat_lt, if◌then◌else◌, List, [], ◌∷◌, ◌++◌, true, Result, Ok, Err, length, codes}
 use Rattle.std.specs.List.{All}
 use Rattle.tac_base.specs.Clients.{Preferences}
 use Rattle.tac_base.specs.declared.limits.TheConstants.{GAME_BYTES}
@@ -15,26 +15,42 @@ use Rattle.game_text.specs.Flights.{FlightTerms, IsFlight, flight_of, flight_tex
 use Rattle.game_text.specs.ClosingOrders.{IsOrder, order_of, order_text}
 use Rattle.game_text.specs.declared.agents.Agents.{Agents}
 use Rattle.game_text.specs.AgentLines.{AreAgents, agents_in, agents_lines}
-use Rattle.game_text.specs.Headers.{header_of, end_of}
+use Rattle.game_text.specs.declared.hotel_nights.HotelNights.{HotelNights}
+use Rattle.game_text.specs.HotelNights.{AreNights, nights_in, night_lines}
+use Rattle.game_text.specs.Headers.{header_of, header_text, end_of}
 
 -- what a game file says
 pub record GameFile : Type 0 where
+  pub version : ℕ
   pub words : List (List ℕ)
   pub flights : List FlightTerms
   pub order : List ℕ
+  pub rooms : List ℕ
+  pub live : Bool
   pub endow : List (List ℕ)
   pub clients : List (List Preferences)
+
+-- what it says of the hotel nights
+abbrev pub nights_of : GameFile → HotelNights
+nights_of game = record { rooms = game.rooms; live = game.live }
 
 -- what it says of the agents
 abbrev pub agents_of : GameFile → Agents
 agents_of game = record { endow = game.endow; clients = game.clients }
 
+-- the same game as one of version 2
+abbrev pub upgraded : GameFile → GameFile
+upgraded game = record game { version = 2 }
+
 -- a game in its ranges
 pub record IsGame (game : GameFile) : Type 0 where
+  pub version_low : 1 ≤ game.version
+  pub version_high : game.version ≤ 2
   pub words : AreSeats game.words
   pub flight_count : length game.flights ≡ 8
   pub flights : All IsFlight game.flights
   pub order : IsOrder game.order
+  pub nights : AreNights game.version (nights_of game)
   pub agents : AreAgents (agents_of game)
 
 -- ---- the lines of a game
@@ -42,11 +58,12 @@ pub record IsGame (game : GameFile) : Type 0 where
 -- the canonical lines
 abbrev pub game_lines : GameFile → List (List ℕ)
 game_lines game =
-    codes "tac 1" ∷ seats_text game.words ∷ []
+    header_text game.version ∷ seats_text game.words ∷ []
     ++ (lines_of_parts (one_line flight_text) 0 game.flights
     ++ (order_text game.order ∷ []
+    ++ (night_lines game.version (nights_of game)
     ++ (agents_lines (agents_of game)
-    ++ codes "end" ∷ [])))
+    ++ codes "end" ∷ []))))
 
 -- the canonical text
 abbrev pub spelling : GameFile → List ℕ
@@ -68,10 +85,11 @@ game_in left = do
   words ← read_by seats_of header.1
   flights ← repeat 8 0 flight_part words.1
   order ← read_by order_of flights.1
-  agents ← agents_in order.1
+  nights ← nights_in header.0 order.1
+  agents ← agents_in nights.1
   end ← read_by end_of agents.1
   done ← nothing_left end.1
-  Ok (record { words = words.0; flights = flights.0; order = order.0; endow = agents.0.endow; clients = agents.0.clients })
+  Ok (record { version = header.0; words = words.0; flights = flights.0; order = order.0; rooms = nights.0.rooms; live = nights.0.live; endow = agents.0.endow; clients = agents.0.clients })
 
 -- the game of a text, or why it is refused
 unfoldable pub game_of : List ℕ → Result GameFile GameFault

@@ -3,6 +3,7 @@ pub mod SeatWords
 pub mod Padding
 pub mod Flights
 pub mod ClosingOrders
+pub mod HotelNights
 pub mod Endowments
 pub mod ClientLines
 pub mod Headers

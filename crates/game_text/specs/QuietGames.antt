@@ -1,6 +1,6 @@
 -- The quiet game: flights stay at 300 dollars, nobody has a ticket at the start, the hotels close in rising order, and each client
 -- would come on day 1 and leave on day 2, and gives 100 dollars for the better hotel and for the museum.
-use Rattle.std.specs.Prelude.{[], ◌∷◌, pos, replicate}
+use Rattle.std.specs.Prelude.{[], ◌∷◌, false, pos, replicate}
 use Rattle.tac_base.specs.Clients.{Preferences}
 use Rattle.game_text.specs.SeatWords.{numbered_seats}
 use Rattle.game_text.specs.Flights.{FlightTerms}
@@ -16,9 +16,12 @@ quiet_client = record { arrive = 1; depart = 2; premium = 100; values = 0 ∷ 0 
 
 unfoldable pub quiet_game : GameFile
 quiet_game = record {
+  version = 1;
   words = numbered_seats;
   flights = replicate 8 quiet_flight;
   order = hotel_nights;
+  rooms = replicate 8 16;
+  live = false;
   endow = replicate 8 (replicate 12 0);
   clients = replicate 8 (replicate 8 quiet_client);
 }

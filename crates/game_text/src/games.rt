@@ -9,6 +9,7 @@ use crate::agents::{Agents, agents_in};
 use crate::closing_orders::order_of;
 use crate::flights::flight_of;
 use crate::headers::{end_at, header_of};
+use crate::hotel_nights::{HotelNights, nights_in};
 use crate::seat_words::seats_of;
 use crate::{FlightLine, GameFault, SeatWord};
 use std::marker::Model;
@@ -19,12 +20,18 @@ use text_forms::{BadLine, Lines, Part, at_line, repeat};
 /// What a game file says. The ranges are those of the game description; the form of the file is this project's own.
 #[derive(Debug, Drop)]
 pub struct Game {
+    /// The version of the file's form, 1 or 2. In a game of version 1 each hotel night has 16 rooms and quotes are not live.
+    pub version: u8,
     /// The word of each agent's seat, all different.
     pub words: [SeatWord; 8],
     /// The flights, by good 0..7.
     pub flights: [FlightLine; 8],
     /// The hotel nights, goods 8..15, in the order in which they close.
     pub order: [Good; 8],
+    /// How many rooms each hotel night has, by good 8..15: 1..64.
+    pub rooms: [u8; 8],
+    /// Whether a hotel's quote changes with each bid that is taken, and not by the minute alone.
+    pub live: bool,
     /// How many of the tickets 16..27 each agent has at the start, 0..16 of each.
     pub endow: [[u8; 12]; 8],
     /// The clients of each agent.
@@ -36,18 +43,27 @@ impl Model for Game {
 
     ghost Value = { GameFile };
 
-    ghost view = { λ g. record { words = g.words; flights = g.flights; order = g.order; endow = g.endow; clients = g.clients } };
+    ghost view = { λ g. record { version = g.version; words = g.words; flights = g.flights; order = g.order; rooms = g.rooms; live = g.live; endow = g.endow; clients = g.clients } };
 
-    ghost invariant = { λ g. IsGame (record { words = g.words; flights = g.flights; order = g.order; endow = g.endow; clients = g.clients }) };
+    ghost invariant = { λ g. IsGame (record { version = g.version; words = g.words; flights = g.flights; order = g.order; rooms = g.rooms; live = g.live; endow = g.endow; clients = g.clients }) };
+}
+
+impl Game {
+    /// The same game as one of version 2.
+    pub fn upgraded(self) -> Game
+        ensures { result ≡ games.upgraded self }
+    {
+        Game { version: 2, ..self }
+    }
 }
 
 /// Reads the first line.
-fn header_at(lines: Lines<'_>) -> Result<((), Lines<'_>), BadLine>
+fn header_at(lines: Lines<'_>) -> Result<(u8, Lines<'_>), BadLine>
     ensures { result ≡ steps.read_by headers.header_of lines.entry }
 {
     let (line, left) = lines.due()?;
-    at_line(line.number(), header_of(line.bytes()))?;
-    Ok(((), left))
+    let version = at_line(line.number(), header_of(line.bytes()))?;
+    Ok((version, left))
 }
 
 /// Reads the line of the seat words.
@@ -89,18 +105,22 @@ fn order_at(lines: Lines<'_>) -> Result<([Good; 8], Lines<'_>), BadLine>
 fn game_in(lines: Lines<'_>) -> Result<Game, BadLine>
     ensures { result ≡ games.game_in lines.entry }
 {
-    let (_, left) = header_at(lines)?;
+    let (version, left) = header_at(lines)?;
     let (words, left) = seats_at(left)?;
     let mut flights = [FlightLine::default(); 8];
     let left = repeat(&Flights, &mut flights, left)?;
     let (order, left) = order_at(left)?;
+    let (HotelNights { rooms, live }, left) = nights_in(version, left)?;
     let (Agents { endow, clients }, left) = agents_in(left)?;
     let (_, left) = end_at(left)?;
     left.finish()?;
     Ok(Game {
+        version,
         words,
         flights,
         order,
+        rooms,
+        live,
         endow,
         clients,
     })
@@ -116,7 +136,7 @@ fn game_of(text: &[u8]) -> Result<Game, GameFault>
     Ok(game_in(Lines::without_comments(text))?)
 }
 
-/// Reads a game file, version 1. It takes no memory.
+/// Reads a game file, version 1 or 2. It takes no memory.
 pub fn read_game(text: &[u8]) -> Result<Game, GameFault>
     // Which game it is, or the first bad line with its first reason.
     ensures exact { result ≡ games.game_of text.now }

@@ -1,13 +1,27 @@
-ghost use Rattle.std.specs.Prelude.{◌≡◌};
+ghost use Rattle.std.specs.Prelude.{◌≡◌, ◌∷◌, ◌++◌, [], OnOk};
 ghost use Rattle.game_text.specs.Accounts as accounts;
 ghost use Rattle.game_text.specs.Headers as headers;
 ghost use Rattle.text_forms.specs.Steps as steps;
 
+use std::alloc::AllocError;
 use text_forms::{BadLine, Lines, Reason, Words, at_line, read_row};
 
-/// Tests the first line.
+/// The version of the first line's second word.
+fn version_of(word: &[u8]) -> Result<u8, Reason>
+    ensures { result ≡ headers.version_of word.now }
+{
+    if word == b"1".as_slice() {
+        Ok(1)
+    } else if word == b"2".as_slice() {
+        Ok(2)
+    } else {
+        Err(Reason::Keyword)
+    }
+}
+
+/// The version of the first line, or the first reason that applies.
 #[tactic(auto, unfolding(crate::specs::Headers::header_of))]
-pub(crate) fn header_of(line: &[u8]) -> Result<(), Reason>
+pub(crate) fn header_of(line: &[u8]) -> Result<u8, Reason>
     ensures { result ≡ headers.header_of line.now }
 {
     let mut words = Words::new(line);
@@ -23,9 +37,19 @@ pub(crate) fn header_of(line: &[u8]) -> Result<(), Reason>
     let Some(version) = words.next() else {
         return Err(Reason::WordCount);
     };
-    if version != b"1".as_slice() {
-        return Err(Reason::Keyword);
-    }
+    version_of(version)
+}
+
+/// Appends the first line of a game file of this version. After an error the text may end within it.
+pub(crate) fn print_header(version: u8, out: &mut Vec<u8>) -> Result<(), AllocError>
+    ensures { OnOk result (out.new.items ≡ out.old.items ++ (headers.header_text version ++ 10 ∷ [])) }
+{
+    let line = if version == 2 {
+        b"tac 2\n"
+    } else {
+        b"tac 1\n"
+    };
+    out.extend_from_slice(line)?;
     Ok(())
 }
 

@@ -11,6 +11,7 @@ mod fault;
 mod flights;
 mod games;
 mod headers;
+mod hotel_nights;
 mod numbers;
 mod printing;
 mod quiet;

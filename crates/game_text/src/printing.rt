@@ -8,6 +8,8 @@ ghost use Rattle.game_text.specs.Flights as flights;
 ghost use Rattle.game_text.specs.Games as games;
 ghost use Rattle.game_text.specs.SeatWords as seats;
 
+use crate::headers::print_header;
+use crate::hotel_nights::print_nights;
 use crate::{FlightLine, Game, SeatWord};
 use std::alloc::{AllocError, Global};
 use tac_base::{Client, Good, Memory};
@@ -150,17 +152,18 @@ fn print_lines(game: &Game, out: &mut Vec<u8>) -> Result<(), AllocError>
     ensures range { OnOk result (games.IsGame game.now) }
     ensures text { OnOk result (out.new.items ≡ out.old.items ++ games.spelling game.now) }
 {
-    out.extend_from_slice(b"tac 1\n")?;
+    print_header(game.version, out)?;
     print_seats(&game.words, out)?;
     print_parts(&Flights, &game.flights, out)?;
     print_row(out, b"close", &order_numbers(&game.order))?;
+    print_nights(game.version, &game.rooms, game.live, out)?;
     print_parts(&Endowments, &game.endow, out)?;
     print_parts(&AllClients, &game.clients, out)?;
     out.extend_from_slice(b"end\n")?;
     Ok(())
 }
 
-/// The canonical text of a game, version 1.
+/// The canonical text of a game, in the form of its version.
 pub fn print_game(alloc: Global, game: &Game) -> Result<Vec<u8>, Memory>
     ensures text { IfOk result (λ text. text.items ≡ games.spelling game.now) }
     // What is printed is read as the game again.

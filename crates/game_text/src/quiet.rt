@@ -25,9 +25,12 @@ impl Default for Game {
             values: [0, 0, 100],
         };
         Game {
+            version: 1,
             words: SeatWord::numbered(),
             flights: [flight; 8],
             order: Good::hotels(),
+            rooms: [16; 8],
+            live: false,
             endow: [[0; 12]; 8],
             clients: [[client; 8]; 8],
         }

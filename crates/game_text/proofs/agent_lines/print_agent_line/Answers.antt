@@ -7,7 +7,7 @@ use Rattle.game_text.proofs.agent_lines.print_agent_line.Goals as goal
 pub returns-then-n-eq0 : goal.returns-then-n-eq0
 returns-then-n-eq0 c =
     let fields = c.game.inside in
-    let game : GameFile = record { words = fields.words; flights = fields.flights; order = fields.order; endow = fields.endow; clients = fields.clients } in
+    let game : GameFile = record { version = fields.version; words = fields.words; flights = fields.flights; order = fields.order; rooms = fields.rooms; live = fields.live; endow = fields.endow; clients = fields.clients } in
     let old = c.args.out.now in
     let new = c.print_endowment.new.out in
     let first = endow_appended game c.get-who.result old new c.game.invariant c.get-who.ensures.range c.print_endowment.ensures.text in
@@ -19,7 +19,7 @@ returns-then-n-eq0 c =
 pub returns-else-n-eq0 : goal.returns-else-n-eq0
 returns-else-n-eq0 c =
     let fields = c.game.inside in
-    let game : GameFile = record { words = fields.words; flights = fields.flights; order = fields.order; endow = fields.endow; clients = fields.clients } in
+    let game : GameFile = record { version = fields.version; words = fields.words; flights = fields.flights; order = fields.order; rooms = fields.rooms; live = fields.live; endow = fields.endow; clients = fields.clients } in
     let old = c.args.out.now in
     let new = c.print_client.new.out in
     let who = c.get-who.result in

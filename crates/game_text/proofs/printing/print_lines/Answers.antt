@@ -3,27 +3,30 @@ use Rattle.std.specs.Prelude.{codes}
 use Rattle.text_forms.specs.Lines.{text_of}
 use Rattle.text_forms.specs.Steps.{lines_of_parts, one_line}
 use Rattle.text_forms.specs.Rows.{row_text}
+use Rattle.game_text.specs.Headers.{header_text}
+use Rattle.game_text.specs.HotelNights.{night_lines}
 use Rattle.game_text.specs.SeatWords.{seats_text}
 use Rattle.game_text.specs.Flights.{flight_text}
 use Rattle.game_text.specs.ClosingOrders.{order_text}
 use Rattle.game_text.specs.Endowments.{endow_text}
 use Rattle.game_text.specs.AgentLines.{client_lines}
-use Rattle.game_text.specs.Games.{GameFile, spelling}
+use Rattle.game_text.specs.Games.{GameFile, nights_of, spelling}
 use Rattle.game_text.proofs.PrintedGames.{in_parts, spelled}
 use Rattle.game_text.proofs.printing.print_lines.Goals as goal
 
 pub returns-clause-text : goal.returns-clause-text
 returns-clause-text c =
     let fields = c.game.inside in
-    let game : GameFile = record { words = fields.words; flights = fields.flights; order = fields.order; endow = fields.endow; clients = fields.clients } in
+    let game : GameFile = record { version = fields.version; words = fields.words; flights = fields.flights; order = fields.order; rooms = fields.rooms; live = fields.live; endow = fields.endow; clients = fields.clients } in
     let old = c.args.out.now.items in
-    let parts = in_parts old (codes "tac 1\n") (seats_text game.words ++ 10 ∷ []) (text_of (lines_of_parts (one_line flight_text) 0 game.flights)) (order_text game.order ++ 10 ∷ []) (text_of (lines_of_parts (one_line endow_text) 0 game.endow)) (text_of (lines_of_parts client_lines 0 game.clients)) (codes "end\n") c.extend_from_slice.new.self.items c.print_seats.new.out.items c.print_parts.new.out.items c.print_row.new.out.items c.print_parts-2.new.out.items c.print_parts-3.new.out.items c.extend_from_slice-2.new.self.items
-    c.in_ok-extend_from_slice.ensures.items
+    let parts = in_parts old (header_text game.version ++ 10 ∷ []) (seats_text game.words ++ 10 ∷ []) (text_of (lines_of_parts (one_line flight_text) 0 game.flights)) (order_text game.order ++ 10 ∷ []) (text_of (night_lines game.version (nights_of game))) (text_of (lines_of_parts (one_line endow_text) 0 game.endow)) (text_of (lines_of_parts client_lines 0 game.clients)) (codes "end\n") c.print_header.new.out.items c.print_seats.new.out.items c.print_parts.new.out.items c.print_row.new.out.items c.print_nights.new.out.items c.print_parts-2.new.out.items c.print_parts-3.new.out.items c.extend_from_slice.new.self.items
+    c.in_ok-print_header.ensures
     c.in_ok-print_seats.ensures
     c.in_ok-print_parts.ensures
     (c.in_ok-print_row.ensures ∙ ap (λ (ns : List ℤ). c.print_parts.new.out.items ++ (row_text (codes "close") ns ++ 10 ∷ [])) c.order_numbers.ensures)
+    c.in_ok-print_nights.ensures
     c.in_ok-print_parts-2.ensures
     c.in_ok-print_parts-3.ensures
-    c.in_ok-extend_from_slice-2.ensures.items
+    c.in_ok-extend_from_slice.ensures.items
     in
-    subst (λ (g : GameFile). c.extend_from_slice-2.new.self.items ≡ old ++ spelling g) c.game.view_is (parts ∙ ap (λ (t : List ℕ). old ++ t) (sym (spelled game)))
+    subst (λ (g : GameFile). c.extend_from_slice.new.self.items ≡ old ++ spelling g) c.game.view_is (parts ∙ ap (λ (t : List ℕ). old ++ t) (sym (spelled game)))
