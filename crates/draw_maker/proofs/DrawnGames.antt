@@ -1,6 +1,6 @@
 -- What is made of words that are drawn in turn.
 use Rattle.std.proofs.Common.{◌≡◌, ℕ, ◌+◌, ◌%◌, ◌<◌, List, map, take, drop, refl, sym, ap, ◌∙◌, lit<, arith, ℤ, pos, ◌-ℤ◌, to_z, of_z, w8}
-use Rattle.std.specs.Prelude.{slice_index}
+use Rattle.std.specs.Prelude.{false, replicate, slice_index}
 use Rattle.std.proofs.Math.Nat.{mod-lt}
 use Rattle.std.proofs.lemmas.Int.{ints, to_z-of_z, to_z_pos}
 use Rattle.rand_pcg.specs.Lcg.{Lcg}
@@ -48,9 +48,12 @@ drawn words =
     let tickets = after 7 nights in
     let wishes = after 96 tickets in
     record {
+      version = 1;
       words = numbered_seats;
       flights = map made_flight (parts 8 55 (next_words 440 words));
       order = made_order (next_words 7 nights);
+      rooms = replicate 8 16;
+      live = false;
       endow = map made_endowment (parts 8 12 (next_words 96 tickets));
       clients = map made_clients (parts 8 40 (next_words 320 wishes));
     }
@@ -73,7 +76,7 @@ pub game_in_turn : (words start nights tickets wishes : Lcg) (seats : List (List
     → start ≡ words → nights ≡ after 440 start → tickets ≡ after 7 nights → wishes ≡ after 96 tickets
     → seats ≡ numbered_seats → flights ≡ map made_flight (parts 8 55 (next_words 440 start)) → order ≡ made_order (next_words 7 nights) → endow ≡ map made_endowment (parts 8 12 (next_words 96 tickets))
     → clients ≡ map made_clients (parts 8 40 (next_words 320 wishes))
-    → record { words = seats; flights = flights; order = order; endow = endow; clients = clients } ≡ game_of_words (next_words 863 words)
+    → record { version = 1; words = seats; flights = flights; order = order; rooms = replicate 8 16; live = false; endow = endow; clients = clients } ≡ game_of_words (next_words 863 words)
 game_in_turn words start nights tickets wishes seats flights order endow clients start-is nights-is tickets-is wishes-is seats-are flights-are order-is endow-is clients-are =
     rw (seats-are, flights-are, order-is, endow-is, clients-are, wishes-is, tickets-is, nights-is, start-is) (game_drawn words)
 

@@ -1,5 +1,5 @@
 -- A game that is made of words is in the ranges of the game file.
-use Rattle.std.proofs.Common.{◌≡◌, ℕ, ◌%◌, ◌<◌, List, length, drop, take, get_or, refl, lit<, arith}
+use Rattle.std.proofs.Common.{◌≡◌, ℕ, ◌%◌, ◌<◌, List, length, drop, take, get_or, refl, lit<, lit≤, arith}
 use Rattle.std.specs.Prelude.{slice_index}
 use Rattle.std.proofs.Math.Nat.{mod-lt}
 use Rattle.std.proofs.lemmas.Int.{ints}
@@ -10,6 +10,7 @@ use Rattle.game_text.specs.Flights.{IsFlight}
 use Rattle.game_text.specs.Endowments.{IsEndowment}
 use Rattle.tac_base.specs.Clients.{IsClient}
 use Rattle.game_text.specs.AgentLines.{AreClients, AreAgents}
+use Rattle.game_text.proofs.HotelNightLaws.{plain_are}
 use Rattle.game_text.specs.Games.{IsGame, agents_of}
 use Rattle.draw_maker.specs.Words.{parts}
 use Rattle.draw_maker.specs.Flights.{made_flight}
@@ -66,9 +67,12 @@ unfolding game_of_words
 game_range words count range =
     let flights = parts_range 8 55 words (omega (arith, count)) range in
     record {
+      version_low = lit≤ tt;
+      version_high = lit≤ tt;
       words = record { count = refl; form = refl; apart = refl };
       flight_count = omega (arith, length-map (parts 8 55 words) made_flight, length-parts 8 55 words);
       flights = All-map IsFlight made_flight (parts 8 55 words) (All-weaker (IsPart 55) (λ p. IsFlight (made_flight p)) flight_range (parts 8 55 words) flights);
       order = order_range (take 7 (drop 440 words));
+      nights = plain_are;
       agents = agents_range words count range;
     }

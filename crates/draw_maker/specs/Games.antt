@@ -1,5 +1,5 @@
 -- The game that is made from a number.
-use Rattle.std.specs.Prelude.{ℕ, List, map, take, drop}
+use Rattle.std.specs.Prelude.{ℕ, List, false, map, replicate, take, drop}
 use Rattle.game_text.specs.SeatWords.{numbered_seats}
 use Rattle.game_text.specs.Games.{GameFile}
 use Rattle.draw_maker.specs.Words.{generator, next_words, parts}
@@ -11,9 +11,12 @@ use Rattle.draw_maker.specs.Clients.{made_clients}
 -- the numbered seat words, for which no word is drawn, and 863 words: 55 for each flight, 7 for the closing order, 12 for each endowment and 40 for the clients of each agent
 unfoldable pub game_of_words : List ℕ → GameFile
 game_of_words words = record {
+  version = 1;
   words = numbered_seats;
   flights = map made_flight (parts 8 55 words);
   order = made_order (take 7 (drop 440 words));
+  rooms = replicate 8 16;
+  live = false;
   endow = map made_endowment (parts 8 12 (drop 447 words));
   clients = map made_clients (parts 8 40 (drop 543 words));
 }

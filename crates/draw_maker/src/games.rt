@@ -11,7 +11,7 @@ use tac_base::Client;
 /// The stream of the generator from which games are made.
 const GAME_STREAM: u64 = 54;
 
-/// Makes the game of a number: all but its seat words comes from the words of a PCG generator. The rule is this
+/// Makes the game of a number, of version 1: all but its seat words comes from the words of a PCG generator. The rule is this
 /// project's own. It takes no memory.
 pub fn make_game(seed: u64) -> Game
     ensures exact { result ≡ made_game seed }
@@ -26,9 +26,12 @@ pub fn make_game(seed: u64) -> Game
     let mut clients = [[Client::default(); 8]; 8];
     draw_each(&mut clients, &mut generator);
     Game {
+        version: 1,
         words: SeatWord::numbered(),
         flights,
         order,
+        rooms: [16; 8],
+        live: false,
         endow,
         clients,
     }
