@@ -43,7 +43,7 @@ game_is_lines game is = (
     lines_append 678 (lines_of_parts (one_line flight_text) 0 game.flights) _ (parts_lines (one_line flight_text) IsFlight 678 8 (λ i flight less ok. (flight_line i flight (omega (arith, less)) ok, tt)) game.flights 0 (omega (arith, is.flight_count)) is.flights) (
       order_line game.order is.order,
       lines_append 678 (night_lines game.version (nights_of game)) _ (nights_are_lines game.version is.version_low is.version_high (nights_of game) is.nights)
-      (lines_append 678 (agents_lines (agents_of game)) (codes "end" ∷ []) (agents_are_lines (agents_of game) is.agents) (end_line, tt)),
+          (lines_append 678 (agents_lines (agents_of game)) (codes "end" ∷ []) (agents_are_lines (agents_of game) is.agents) (end_line, tt)),
     ),
   ),
 )

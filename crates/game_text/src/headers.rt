@@ -44,11 +44,7 @@ pub(crate) fn header_of(line: &[u8]) -> Result<u8, Reason>
 pub(crate) fn print_header(version: u8, out: &mut Vec<u8>) -> Result<(), AllocError>
     ensures { OnOk result (out.new.items ≡ out.old.items ++ (headers.header_text version ++ 10 ∷ [])) }
 {
-    let line = if version == 2 {
-        b"tac 2\n"
-    } else {
-        b"tac 1\n"
-    };
+    let line = if version == 2 { b"tac 2\n" } else { b"tac 1\n" };
     out.extend_from_slice(line)?;
     Ok(())
 }

@@ -5,11 +5,16 @@ use std::alloc::{AllocError, Global};
 use std::test::Fail;
 use tac_base::{Agent, Text};
 
-/// A game in which each flight stays at 300 dollars, nobody has a ticket and all clients want the same,
-/// with one line of its clients given.
-fn quiet_game(alloc: Global, first_client: &[u8]) -> Result<Vec<u8>, AllocError> {
+/// The text of the quiet game, with its first line, the lines after its closing order and the line of its first client given.
+fn game_text(
+    alloc: Global,
+    header: &[u8],
+    nights: &[u8],
+    first_client: &[u8],
+) -> Result<Vec<u8>, AllocError> {
     let mut text = Vec::new(alloc);
-    text.extend_from_slice(b"tac 1\nwords seat0 seat1 seat2 seat3 seat4 seat5 seat6 seat7\n")?;
+    text.extend_from_slice(header)?;
+    text.extend_from_slice(b"words seat0 seat1 seat2 seat3 seat4 seat5 seat6 seat7\n")?;
     for good in b'0'..b'8' {
         text.extend_from_slice(b"flight ")?;
         text.push(good)?;
@@ -20,6 +25,7 @@ fn quiet_game(alloc: Global, first_client: &[u8]) -> Result<Vec<u8>, AllocError>
         text.push(b'\n')?;
     }
     text.extend_from_slice(b"close 8 9 10 11 12 13 14 15\n")?;
+    text.extend_from_slice(nights)?;
     for agent in b'0'..b'8' {
         text.extend_from_slice(b"endow ")?;
         text.push(agent)?;
@@ -30,9 +36,7 @@ fn quiet_game(alloc: Global, first_client: &[u8]) -> Result<Vec<u8>, AllocError>
         for client in b'0'..b'8' {
             if agent != b'0' || client != b'0' {
                 text.extend_from_slice(b"client ")?;
-                text.push(agent)?;
-                text.push(b' ')?;
-                text.push(client)?;
+                text.extend_from_slice(&[agent, b' ', client])?;
                 text.extend_from_slice(b" 1 2 100 0 0 100\n")?;
             }
         }
@@ -43,42 +47,79 @@ fn quiet_game(alloc: Global, first_client: &[u8]) -> Result<Vec<u8>, AllocError>
 
 const FIRST_CLIENT: &[u8] = b"client 0 0 1 2 100 0 0 100\n";
 
+const PLAIN_NIGHTS: &[u8] = b"rooms 16 16 16 16 16 16 16 16\nquotes minute\n";
+
 #[test]
-fn canonical_text_is_shown_as_it_is(rt: HostRuntime) -> Result<(), Fail> {
-    let text = quiet_game(rt.alloc(), FIRST_CLIENT)?;
-    let shown = print_game(rt.alloc(), &read_game(text.as_slice())?)?;
-    assert_eq!(rt; shown.as_slice(), text.as_slice());
+fn quiet_game_is_read_shown_and_upgraded(rt: HostRuntime) -> Result<(), Fail> {
+    let alloc = rt.alloc();
+    let text = game_text(alloc, b"tac 1\n", b"", FIRST_CLIENT)?;
+    let quiet = print_game(alloc, &Game::default())?;
+    assert_eq!(rt; quiet.as_slice(), text.as_slice());
+    let commented = game_text(alloc, b"# game\n\ntac 1\n", b"# nights\n", FIRST_CLIENT)?;
+    let game = read_game(commented.as_slice())?;
+    assert_eq!(rt; print_game(alloc, &game)?.as_slice(), text.as_slice());
+    let second = game_text(alloc, b"tac 2\n", PLAIN_NIGHTS, FIRST_CLIENT)?;
+    let upgraded = print_game(alloc, &game.upgraded())?;
+    assert_eq!(rt; upgraded.as_slice(), second.as_slice());
+    assert_eq!(rt; upgraded.iter().filter(|byte| **byte == b'\n').count(), 86);
     Ok(())
 }
 
 #[test]
-fn comment_is_not_shown(rt: HostRuntime) -> Result<(), Fail> {
-    let text = quiet_game(rt.alloc(), FIRST_CLIENT)?;
-    let mut commented = Vec::new(rt.alloc());
-    commented.extend_from_slice(b"# game\n")?;
-    commented.extend_from_slice(text.as_slice())?;
-    let shown = print_game(rt.alloc(), &read_game(commented.as_slice())?)?;
-    assert_eq!(rt; shown.as_slice(), text.as_slice());
-    Ok(())
-}
-
-#[test]
-fn fields_are_those_of_the_lines(rt: HostRuntime) -> Result<(), Fail> {
-    let text = quiet_game(rt.alloc(), b"client 0 0 2 5 150 10 20 200\n")?;
+fn rooms_and_live_quotes_are_those_of_the_lines(rt: HostRuntime) -> Result<(), Fail> {
+    let nights = b"rooms 1 16 16 16 16 16 16 64\nquotes live\n";
+    let text = game_text(rt.alloc(), b"tac 2\n", nights, FIRST_CLIENT)?;
     let game = read_game(text.as_slice())?;
-    assert_eq!(rt; game.words[3].as_slice(), b"seat3".as_slice());
-    let flight = &game.flights[7];
-    assert_eq!(rt; flight.first, 300);
-    assert_eq!(rt; flight.bound, 10);
-    assert_eq!(rt; flight.draws, [10; 53]);
-    assert_eq!(rt; game.order[0].get(), 8);
-    assert_eq!(rt; game.order[7].get(), 15);
-    assert_eq!(rt; game.endow[7], [0; 12]);
-    let client = &game.clients[0][0];
-    assert_eq!(rt; client.arrive, 2);
-    assert_eq!(rt; client.depart, 5);
-    assert_eq!(rt; client.premium, 150);
-    assert_eq!(rt; client.values, [10, 20, 200]);
+    assert_eq!(rt; (game.version, game.live), (2, true));
+    assert_eq!(rt; game.rooms, [1, 16, 16, 16, 16, 16, 16, 64]);
+    let shown = print_game(rt.alloc(), &game.upgraded())?;
+    assert_eq!(rt; shown.as_slice(), text.as_slice());
+    Ok(())
+}
+
+#[test]
+fn first_bad_line_of_a_game_is_told(rt: HostRuntime) -> Result<(), Fail> {
+    let alloc = rt.alloc();
+    for (header, nights, first_client, line, reason) in [
+        (b"tac 3\n".as_slice(), PLAIN_NIGHTS, FIRST_CLIENT, 1, 1),
+        (b"tac 1\n", b"", b"client 0 0 2 2 100 0 0 100\n", 20, 4),
+        (b"tac 1\n", PLAIN_NIGHTS, FIRST_CLIENT, 12, 1),
+        (b"tac 2\n", b"", FIRST_CLIENT, 12, 1),
+        (
+            b"tac 2\n",
+            b"rooms 0 16 16 16 16 16 16 16\nquotes live\n",
+            FIRST_CLIENT,
+            12,
+            4,
+        ),
+        (
+            b"tac 2\n",
+            b"rooms 1 16 16 16 16 16 16 16\nquotes often\n",
+            FIRST_CLIENT,
+            13,
+            3,
+        ),
+    ] {
+        let text = game_text(alloc, header, nights, first_client)?;
+        let refused = read_game(text.as_slice()).err();
+        assert_eq!(rt; refused, Some(GameFault::Line { line, reason }));
+    }
+    Ok(())
+}
+
+#[test]
+fn limit_is_a_mebibyte(rt: HostRuntime) -> Result<(), Fail> {
+    let mut text = vec![in rt.alloc(); b'\n'; 1_048_576]?;
+    let refused = read_game(text.as_slice()).err();
+    assert_eq!(rt;
+        refused,
+        Some(GameFault::Line {
+            line: 1_048_577,
+            reason: 7
+        })
+    );
+    text.push(b'\n')?;
+    assert_eq!(rt; read_game(text.as_slice()).err(), Some(GameFault::TooLong));
     Ok(())
 }
 
@@ -93,7 +134,12 @@ fn agent_line(game: &Game, agent: Agent, n: u8) -> Text
 
 #[test]
 fn lines_of_an_agent_are_those_of_the_game(rt: HostRuntime) -> Result<(), Fail> {
-    let text = quiet_game(rt.alloc(), b"client 0 0 2 5 150 10 20 200\n")?;
+    let text = game_text(
+        rt.alloc(),
+        b"tac 1\n",
+        b"",
+        b"client 0 0 2 5 150 10 20 200\n",
+    )?;
     let game = read_game(text.as_slice())?;
     let [first, .., last] = Agent::all();
     let endowment = agent_line(&game, first, 0);
@@ -110,42 +156,6 @@ fn lines_of_an_agent_are_those_of_the_game(rt: HostRuntime) -> Result<(), Fail> 
     assert_eq!(rt; client.as_slice(), b"client 0 1 1 2 100 0 0 100".as_slice());
     let client = agent_line(&game, last, 8);
     assert_eq!(rt; client.as_slice(), b"client 7 7 1 2 100 0 0 100".as_slice());
-    Ok(())
-}
-
-#[test]
-fn departure_on_the_day_of_arrival_is_refused(rt: HostRuntime) -> Result<(), Fail> {
-    let text = quiet_game(rt.alloc(), b"client 0 0 2 2 100 0 0 100\n")?;
-    let refused = read_game(text.as_slice()).err();
-    assert_eq!(rt;
-        refused,
-        Some(GameFault::Line {
-            line: 20,
-            reason: 4
-        })
-    );
-    Ok(())
-}
-
-#[test]
-fn empty_file_ends_before_its_first_line(rt: HostRuntime) {
-    let refused = read_game(b"").err();
-    assert_eq!(rt; refused, Some(GameFault::Line { line: 1, reason: 7 }));
-}
-
-#[test]
-fn limit_is_a_mebibyte(rt: HostRuntime) -> Result<(), Fail> {
-    let mut text = vec![in rt.alloc(); b'\n'; 1_048_576]?;
-    let refused = read_game(text.as_slice()).err();
-    assert_eq!(rt;
-        refused,
-        Some(GameFault::Line {
-            line: 1_048_577,
-            reason: 7
-        })
-    );
-    text.push(b'\n')?;
-    assert_eq!(rt; read_game(text.as_slice()).err(), Some(GameFault::TooLong));
     Ok(())
 }
 
