@@ -55,7 +55,7 @@ rooms_again rooms are =
 rooms_line : (rooms : List ℕ) → AreRooms rooms → IsLine 678 (rooms_text rooms)
 rooms_line rooms are =
     let count = rooms_count rooms are in
-    row_line 678 114 (codes "ooms") room_columns (map pos rooms) (lacks_from 10 (codes "rooms") refl) refl (omega (arith, count)) refl count (rooms_range rooms are)
+    row_line 678 114 (codes "ooms") room_columns (map pos rooms) (lacks_from 10 (codes "rooms") refl) refl (omega (arith, count)) refl refl count (rooms_range rooms are)
 
 -- ---- the quotes
 
