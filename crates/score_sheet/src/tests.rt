@@ -4,48 +4,13 @@ ghost use Rattle.auction_core.specs.Calls.{IsFit};
 
 use crate::{Accounts, settle, sheet};
 use auction_core::{Auction, Closed};
-use game_text::{Game, read_game};
-use std::alloc::{AllocError, Global};
+use game_text::Game;
+use std::alloc::Global;
 use std::process::Abort;
 use std::test::Fail;
 use tac_base::{Call, Caller, Good, Point, Points};
 use trade_ledger::CashBook;
 use turn_lock::Kept;
-
-/// Appends lines that begin with the same word and a number 0..7.
-fn add_lines(text: &mut Vec<u8>, word: &[u8], rest: &[u8]) -> Result<(), AllocError> {
-    for number in b'0'..b'8' {
-        text.extend_from_slice(word)?;
-        text.push(number)?;
-        text.extend_from_slice(rest)?;
-    }
-    Ok(())
-}
-
-/// The game in which each flight stays at 300 dollars, nobody has a ticket, and each client wants days 1 to 2 and a museum.
-fn quiet_game(alloc: Global) -> Result<Game, Fail> {
-    let mut text = Vec::new(alloc);
-    text.extend_from_slice(b"tac 1\nwords seat0 seat1 seat2 seat3 seat4 seat5 seat6 seat7\n")?;
-    for good in b'0'..b'8' {
-        text.extend_from_slice(&[b'f', b'l', b'i', b'g', b'h', b't', b' ', good])?;
-        text.extend_from_slice(b" 300 10")?;
-        for _ in 0..53u8 {
-            text.extend_from_slice(b" 10")?;
-        }
-        text.push(b'\n')?;
-    }
-    text.extend_from_slice(b"close 8 9 10 11 12 13 14 15\n")?;
-    add_lines(&mut text, b"endow ", b" 0 0 0 0 0 0 0 0 0 0 0 0\n")?;
-    for agent in b'0'..b'8' {
-        add_lines(
-            &mut text,
-            &[b'c', b'l', b'i', b'e', b'n', b't', b' ', agent, b' '],
-            b" 1 2 100 0 0 100\n",
-        )?;
-    }
-    text.extend_from_slice(b"end\n")?;
-    Ok(read_game(text.as_slice())?)
-}
 
 /// The good and the agent of a bid, and the units and the price of its one point.
 type Bid = (u8, u8, i8, u16);
@@ -103,7 +68,7 @@ fn played_game(rt: &impl Abort, alloc: Global, game: &Game, bids: &[Bid]) -> Res
 /// Agent 0 flies both ways, gets a room for nothing and buys one of the two tickets that agent 1 sells without having them.
 #[test]
 fn few_calls_are_settled_and_scored(rt: HostRuntime) -> Result<(), Fail> {
-    let game = quiet_game(rt.alloc())?;
+    let game = Game::default();
     let bids = [
         (0, 0, 1, 300),
         (4, 0, 1, 300),
