@@ -19,7 +19,7 @@ def free_port():
 
 
 # The guard is a shell at the other end of a pipe. It is told each group of processes that begins and ends, and when the pipe ends, since the
-# script has, it kills those that are left.
+# script has, it ends those that are left: it asks first, so that they can end what they started elsewhere, and a second later kills.
 GUARD = """
 trap '' INT TERM HUP
 groups=' '
@@ -29,6 +29,9 @@ while read -r sign group; do
         -) groups="${groups%% "$group" *} ${groups#* "$group" }" ;;
     esac
 done
+left=
+for group in $groups; do kill -s TERM -- "-$group" 2> /dev/null && left=yes; done
+[ -z "$left" ] || sleep 1
 for group in $groups; do kill -s KILL -- "-$group" 2> /dev/null; done
 """
 
