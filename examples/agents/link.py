@@ -36,7 +36,10 @@ def ticket(kind, night):
     return 16 + 4 * kind + night - 1
 
 
-PROGRAM = os.environ.get("TAC", str(Path(__file__).resolve().parents[2] / "crates/tacd/out/tacd"))
+def program():
+    """The file of tac: what the variable TAC says, or the built one where this file lies in a clone."""
+    built = [place / "crates/tacd/out/tacd" for place in Path(__file__).resolve().parents]
+    return os.environ.get("TAC") or next((str(file) for file in built if file.exists()), "tac")
 
 
 def solve(holdings, clients):
@@ -48,11 +51,10 @@ def solve(holdings, clients):
         account.write("\n".join(lines + ["end", ""]))
         account.flush()
         try:
-            solved = subprocess.run([PROGRAM, "solve", account.name], stdout=subprocess.PIPE, text=True).stdout
+            solved = subprocess.run([program(), "solve", account.name], stdout=subprocess.PIPE, stderr=subprocess.DEVNULL, text=True).stdout
         except OSError:
             return None
-    first = solved.split("\n")[0].split()
-    return int(first[1]) if first[0] == "total" else None
+    return int(solved.split()[1]) if solved.startswith("total ") else None
 
 
 def connect(host, port):
