@@ -41,15 +41,18 @@ class Game:
         self.script = Path(self.place.name, "script")
         self.file = Path(file) if file else Path(self.place.name, "game")
         self.given = file is not None
-        self.possible_agents = []
+        self.possible_agents = self.shown()[1][1:] if self.given else [f"seat{seat}" for seat in range(8)]
         self.agents = []
+
+    def shown(self):
+        """The lines of the game file, each in words."""
+        return [line.split() for line in run("show", self.file).splitlines()]
 
     def reset(self, seed=None, options=None):
         """Begins the game of the file, or one that is made from a seed."""
         if not self.given:
             self.file.write_text(run("make", 0 if seed is None else seed))
-        lines = [line.split() for line in run("show", self.file).splitlines()]
-        self.possible_agents = lines[1][1:]
+        lines = self.shown()
         self.agents = list(self.possible_agents)
         self.ticks, self.lines, self.replies, self.log = 0, [], 0, None
         infos = {agent: {"endow": [], "clients": []} for agent in self.agents}
@@ -63,6 +66,8 @@ class Game:
 
     def step(self, actions):
         """Asks the requests, and lets a tick pass."""
+        if not self.agents:
+            raise ValueError("no game is played: reset it")
         asked = [(agent, request) for agent in actions for request in actions[agent]]
         for agent, request in asked:
             if agent not in self.agents or request == "quit" or "\n" in request:
