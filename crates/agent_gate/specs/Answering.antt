@@ -1,5 +1,6 @@
 -- What a turn does with the agent's desk.
 use Rattle.std.specs.Prelude.{⊤, ◌≡◌, ℕ, ◌<◌, ◌≤◌, [], ◌∷◌, ◌++◌, length, Some}
+use Rattle.tac_base.specs.declared.limits.TheConstants.{AGENT_CALLS, CASH_READINGS}
 use Rattle.tac_base.specs.declared.calls.Call.{Call}
 use Rattle.line_protocol.specs.declared.saying.Said.{Said}
 use Rattle.line_protocol.specs.declared.saying.Said.TheVariants as said
@@ -26,11 +27,11 @@ said_of_reading cash_outcomes.Spent = said.Spent
 -- what a turn may be, by what the desk did and saw before it
 abbrev pub IsDue : Desk → Turn → Type 0
 IsDue before (Called request good position entry posted) =
-    (call_of request ≡ Some (good, entry.call)) × (good < 28) × (length (entries_at before good) < 1024) × (seen_at before good ≤ position)
+    (call_of request ≡ Some (good, entry.call)) × (good < 28) × (length (entries_at before good) < AGENT_CALLS) × (seen_at before good ≤ position)
 IsDue before (CallDenied request good) =
-    ((call : Call) × (call_of request ≡ Some (good, call))) × (good < 28) × (length (entries_at before good) ≡ 1024)
-IsDue before (CashRead position dollars) = count_readings (cash_of before) < 1024
-IsDue before CashDenied = count_readings (cash_of before) ≡ 1024
+    ((call : Call) × (call_of request ≡ Some (good, call))) × (good < 28) × (length (entries_at before good) ≡ AGENT_CALLS)
+IsDue before (CashRead position dollars) = count_readings (cash_of before) < CASH_READINGS
+IsDue before CashDenied = count_readings (cash_of before) ≡ CASH_READINGS
 IsDue before (Quoted good board) = (good < 28) × (seen_at before good ≤ board.count)
 IsDue before (Refused fault) = ⊤
 IsDue before Skipped = ⊤

@@ -1,6 +1,7 @@
 -- How a link's lines are answered, and why its session ends.
 use Rattle.std.specs.Prelude.{◌≡◌, ℕ, ◌<◌, ◌≤◌, ◌⊎◌, List, [], ◌∷◌, ◌++◌, true, false, Result, Option, length, map}
 use Rattle.std.specs.List.{flat_map}
+use Rattle.tac_base.specs.declared.limits.TheConstants.{SESSION_LINES}
 use Rattle.tac_io.specs.Counts.{Rose}
 use Rattle.tac_io.specs.Told.{and_then_told, TakesSome}
 use Rattle.tac_io.specs.declared.line_got.LineGot.{LineGot}
@@ -36,12 +37,12 @@ IsCutOff text welcome turns sent sent' lines =
 abbrev pub EndsBy : Cause → (Said → List ℕ) → List ℕ → List Turn → List (LineGot × List ℕ) → Type 0 → Option (List ℕ) → Option (List ℕ) → ℕ → Type 0
 EndsBy causes.Quit text welcome turns rest at_end sent sent' lines = (has_left turns ≡ true) × IsWhole text welcome turns sent sent' lines
 EndsBy causes.End text welcome turns rest at_end sent sent' lines =
-    (has_left turns ≡ false) × (length turns < 65536) × (rest ≡ (gots.End, []) ∷ []) × at_end × IsWhole text welcome turns sent sent' lines
+    (has_left turns ≡ false) × (length turns < SESSION_LINES) × (rest ≡ (gots.End, []) ∷ []) × at_end × IsWhole text welcome turns sent sent' lines
 EndsBy causes.ReadFault text welcome turns rest at_end sent sent' lines =
-    (has_left turns ≡ false) × (length turns < 65536) × (rest ≡ (gots.End, []) ∷ []) × IsWhole text welcome turns sent sent' lines
+    (has_left turns ≡ false) × (length turns < SESSION_LINES) × (rest ≡ (gots.End, []) ∷ []) × IsWhole text welcome turns sent sent' lines
 EndsBy causes.WriteFault text welcome turns rest at_end sent sent' lines = IsCutOff text welcome turns sent sent' lines
 EndsBy causes.Budget text welcome turns rest at_end sent sent' lines =
-    (has_left turns ≡ false) × ((length turns ≡ 65536) ⊎ ((length turns < 65536) × (rest ≡ (gots.Budget, []) ∷ []))) × IsWhole text welcome turns sent sent' lines
+    (has_left turns ≡ false) × ((length turns ≡ SESSION_LINES) ⊎ ((length turns < SESSION_LINES) × (rest ≡ (gots.Budget, []) ∷ []))) × IsWhole text welcome turns sent sent' lines
 
 -- a fault of a read is why a session ends exactly where the count of the link's reads rose, and so of writes
 abbrev pub HasSessionCause : ℕ → ℕ → ℕ → ℕ → Cause → Type 0
@@ -59,6 +60,6 @@ pub record IsServed (may_answer : List ℕ → Result Request RequestFault → T
   pub rest : List (LineGot × List ℕ)
   pub from : answers ≡ read ++ rest
   pub items : AreItems may_answer read (map item_of turns)
-  pub few : length turns ≤ 65536
+  pub few : length turns ≤ SESSION_LINES
   pub lawful : AreLawful turns
   pub end : EndsBy cause text welcome turns rest at_end sent sent' lines

@@ -1,5 +1,6 @@
 -- One turn of a session: a line is read, answered, and its reply is sent.
-use Rattle.std.specs.Prelude.{◌≡◌, ◌≢◌, ℕ, ◌+◌, ◌^◌, ◌≤◌, List, ◌∷◌, [], ◌++◌, Result, Ok, Err, Option, Some, None}
+use Rattle.std.specs.Prelude.{◌≡◌, ◌≢◌, ℕ, ◌+◌, ◌≤◌, List, ◌∷◌, [], ◌++◌, Result, Ok, Err, Option, Some, None}
+use Rattle.tac_base.specs.declared.limits.TheConstants.{LINK_BYTES}
 use Rattle.tac_io.specs.HeldBytes.{Held}
 use Rattle.tac_io.specs.LineAnswers.{Answers}
 use Rattle.tac_io.specs.Told.{and_then_told, TakesSome}
@@ -38,7 +39,7 @@ pub record TakesNext (may_answer : List ℕ → Result Request RequestFault → 
     (taken taken' left left' : Option (List ℕ)) (count count' : ℕ) (before after : Desk) (result : Result Said Cause) : Type 0 where
   pub got : LineGot
   pub answer : Answers old new taken taken' left left' count count' got
-  pub within : count' ≤ 2 ^ 26
+  pub within : count' ≤ LINK_BYTES
   pub asked : IsAsked may_answer got new.line before after result
 
 -- What came of a turn: its reply was sent whole, and it was `bye` where the agent left; or it was not sent whole; or no line came.
@@ -57,7 +58,7 @@ pub record HasTurn {T : Type 0} (may_answer : List ℕ → Result Request Reques
     (taken taken' left left' sent sent' : Option (List ℕ)) (count count' : ℕ) (before after : Desk) (result : Result T Cause) : Type 0 where
   pub got : LineGot
   pub answer : Answers old new taken taken' left left' count count' got
-  pub within : count' ≤ 2 ^ 26
+  pub within : count' ≤ LINK_BYTES
   pub turned : IsTurned may_answer text got new.line before after sent sent' result
 
 -- a turn changes a count of faults only where it ends the session for it

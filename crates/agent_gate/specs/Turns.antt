@@ -1,6 +1,7 @@
 -- The turns of a session: each is an item with its answer, and with what it left in the auctions and in the cash history.
 use Rattle.std.specs.Prelude.{⊤, ◌≡◌, ℕ, ◌+◌, ◌<◌, ◌≤◌, ◌==◌, if◌then◌else◌, List, [], ◌∷◌, Bool, true, false, ℤ, Option, Some, None, Ok, Err, All, length, map, take, slice_get}
 use Rattle.std.specs.List.{filter_map, flat_map, count_by, list_any}
+use Rattle.tac_base.specs.declared.limits.TheConstants.{AGENT_CALLS, CASH_READINGS}
 use Rattle.tac_base.specs.declared.calls.Board.{Board}
 use Rattle.tac_base.specs.declared.calls.Call.{Call}
 use Rattle.tac_base.specs.declared.calls.Call.TheVariants as calls
@@ -122,14 +123,14 @@ told_length good turn = 0
 abbrev pub GoesOn : ℕ → ℕ → List Turn → Type 0
 GoesOn good count past = All (λ turn. told_length good turn ≤ count) past
 
--- What a turn may be after those before it. An agent has 1024 calls at each good and 1024 readings; a position or a count that is told
+-- What a turn may be after those before it. The calls of an agent at each good and its readings are limited; a position or a count that is told
 -- goes on from all that was told before.
 abbrev pub IsLawful : List Turn → Turn → Type 0
 IsLawful past (Called request good position entry posted) =
-    (call_of request ≡ Some (good, entry.call)) × (good < 28) × (length (made_at good past) < 1024) × GoesOn good position past
-IsLawful past (CallDenied request good) = ((call : Call) × (call_of request ≡ Some (good, call))) × (good < 28) × (length (made_at good past) ≡ 1024)
-IsLawful past (CashRead position dollars) = count_by is_reading past < 1024
-IsLawful past CashDenied = count_by is_reading past ≡ 1024
+    (call_of request ≡ Some (good, entry.call)) × (good < 28) × (length (made_at good past) < AGENT_CALLS) × GoesOn good position past
+IsLawful past (CallDenied request good) = ((call : Call) × (call_of request ≡ Some (good, call))) × (good < 28) × (length (made_at good past) ≡ AGENT_CALLS)
+IsLawful past (CashRead position dollars) = count_by is_reading past < CASH_READINGS
+IsLawful past CashDenied = count_by is_reading past ≡ CASH_READINGS
 IsLawful past (Quoted good board) = (good < 28) × GoesOn good board.count past
 IsLawful past (Refused fault) = ⊤
 IsLawful past Skipped = ⊤

@@ -17,10 +17,8 @@ use line_protocol::Cause;
 use std::sync::Wait;
 use std::time::Clock;
 use tac_base::Agent;
+use tac_base::limits::SESSION_LINES;
 use tac_io::{Lines, Link};
-
-/// How many lines a session answers, at most.
-const MOST_LINES: u32 = 65_536;
 
 /// What a session leaves.
 #[derive(Drop)]
@@ -34,7 +32,7 @@ pub struct SessionEnd<L> {
 
 /// How many replies were sent whole, where the session ends so in the turn after so many.
 fn whole(before: u32, cause: Cause) -> u32
-    requires { before < MOST_LINES }
+    requires { before < SESSION_LINES }
     ensures { result ≡ count_whole before cause }
 {
     match cause {
@@ -71,7 +69,7 @@ pub fn run_session<R: Wait + Clock, L: Link, D: Dialect>(
             cause: Cause::WriteFault,
         };
     };
-    for answered in 0..MOST_LINES {
+    for answered in 0..SESSION_LINES {
         if let Err(cause) = turn(rt, floor, dialect, &mut desk, &mut lines) {
             return SessionEnd {
                 desk,
@@ -84,7 +82,7 @@ pub fn run_session<R: Wait + Clock, L: Link, D: Dialect>(
     SessionEnd {
         desk,
         link: lines.into_link(),
-        lines: MOST_LINES,
+        lines: SESSION_LINES,
         cause: Cause::Budget,
     }
 }

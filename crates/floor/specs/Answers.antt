@@ -1,5 +1,6 @@
 -- What each call of a desk answers and adds.
 use Rattle.std.specs.Prelude.{⊤, ◌≡◌, ℕ, ◌+◌, ◌<◌, ◌≤◌, List, [], ◌∷◌, ◌++◌, length, reverse, slice_set, Some, None}
+use Rattle.tac_base.specs.declared.limits.TheConstants.{AGENT_CALLS, CASH_READINGS}
 use Rattle.tac_base.specs.declared.calls.Call.{Call}
 use Rattle.tac_base.specs.declared.calls.Call.TheVariants.{Bid, Update, Publish, Close}
 use Rattle.tac_base.specs.declared.bids.Points.{Points}
@@ -50,10 +51,10 @@ pub record IsAnswered (before after : Desk) (good : ℕ) (asked : Call) (positio
   pub legal : Legal setup (earlier ++ entry ∷ [])
   pub ruled : entry ≡ entry_of setup (reverse earlier) (desk_caller before) asked
 
--- an agent's call at a good is spent, and changes nothing, exactly where the desk made 1024 calls there before
+-- an agent's call at a good is spent, and changes nothing, exactly where the desk made all its calls there before
 abbrev pub IsOutcome : Desk → Desk → ℕ → Call → Outcome → Type 0
-IsOutcome before after good asked Spent = (length (entries_at before good) ≡ 1024) × (after ≡ before)
-IsOutcome before after good asked (At position reply) = (length (entries_at before good) < 1024) × IsAnswered before after good asked position reply
+IsOutcome before after good asked Spent = (length (entries_at before good) ≡ AGENT_CALLS) × (after ≡ before)
+IsOutcome before after good asked (At position reply) = (length (entries_at before good) < AGENT_CALLS) × IsAnswered before after good asked position reply
 
 -- a bid that is not spent is taken, where no refusal of the rules applies to it after the entries before it
 abbrev pub TakesLawfulBid : Desk → Desk → ℕ → Points → Outcome → Type 0
@@ -69,10 +70,10 @@ pub record IsRead (before after : Desk) (position : ℕ) (entry : CashEntry) : T
   pub boards : boards_of after ≡ boards_of before
   pub same : IsSameDesk before after
 
--- a reading is spent, and changes nothing, exactly where the desk made 1024 readings before
+-- a reading is spent, and changes nothing, exactly where the desk made all its readings before
 abbrev pub IsCashOutcome : Desk → Desk → CashOutcome → Type 0
-IsCashOutcome before after cash_outcomes.Spent = (count_readings (cash_of before) ≡ 1024) × (after ≡ before)
-IsCashOutcome before after (cash_outcomes.At position dollars) = (count_readings (cash_of before) < 1024)
+IsCashOutcome before after cash_outcomes.Spent = (count_readings (cash_of before) ≡ CASH_READINGS) × (after ≡ before)
+IsCashOutcome before after (cash_outcomes.At position dollars) = (count_readings (cash_of before) < CASH_READINGS)
     × IsRead before after position (record { caller = desk_caller before; call = Read (desk_caller before); reply = Cash dollars })
 
 -- a board of a good was seen, which is not shorter than what the desk had seen there, and nothing else is changed

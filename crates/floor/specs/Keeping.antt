@@ -1,6 +1,7 @@
 -- What is so of every desk and every floor.
 use Rattle.std.specs.Prelude.{◌≡◌, ℕ, ◌+◌, ◌<◌, ◌≤◌, not, List, map, length, replicate, count_by, sum_by, slice_index_or, [], ◌++◌, All}
 use Rattle.std.specs.List.Sorted.{IsStrictlyIncreasing}
+use Rattle.tac_base.specs.declared.limits.TheConstants.{CASH_READINGS}
 use Rattle.tac_base.specs.declared.calls.Board.{Board}
 use Rattle.auction_rules.specs.History.{Entry}
 use Rattle.tac_base.specs.Goods.{clock}
@@ -27,14 +28,14 @@ abbrev pub count_entries : List (List (ℕ × Entry)) → ℕ
 count_entries entries = sum_by (λ row. length row) entries
 
 -- The desk of a caller has a pass of the caller at each of 28 auctions. Calls made and turns left make up the cap. It counts its
--- readings, at most 1024, of which the clock makes none; and each post that is due is made.
+-- readings, a limited number, of which the clock makes none; and each post that is due is made.
 pub record IsKept (caller : ℕ) (callers lefts : List ℕ) (entries : List (List (ℕ × Entry))) (cash_left : ℕ) (cash : List (ℕ × CashEntry)) (count : ℕ) : Type 0 where
   pub goods : length entries ≡ 28
   pub own : callers ≡ replicate 28 caller
   pub capped : (good : ℕ) → good < 28 → slice_index_or lefts good 0 + length (slice_index_or entries good []) ≡ cap caller
   pub cash_capped : cash_left + length cash ≡ cash_cap caller
   pub counted : count ≡ count_readings cash
-  pub few : count ≤ 1024
+  pub few : count ≤ CASH_READINGS
   pub clock_reads_nothing : caller ≡ clock → count ≡ 0
   pub posted : IsPosted entries cash
 

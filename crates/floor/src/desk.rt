@@ -8,12 +8,10 @@ use crate::outcomes::{CashOutcome, Outcome};
 use auction_core::{Auction, Struck};
 use std::sync::Wait;
 use std::time::Clock;
+use tac_base::limits::{CASH_READINGS, CLOCK_CALLS, CLOCK_CASH_ENTRIES};
 use tac_base::{Agent, Board, Call, Caller, Good, Points, Reply};
 use trade_ledger::CashBook;
 use turn_lock::Pass;
-
-/// The most readings of its cash that an agent may make.
-const READINGS: u32 = 1_024;
 
 /// The right of one caller to call at all auctions of a floor and at its cash book. It knows its own entries so far, each of whose
 /// trades it has posted.
@@ -144,7 +142,7 @@ impl Desk {
         ensures same { IsSameDesk self.old self.new }
         ensures posted { IsPosted (entries_of self.new) (cash_of self.new) }
     {
-        if self.readings == READINGS {
+        if self.readings == CASH_READINGS {
             return CashOutcome::Spent;
         }
         let agent = Agent::new(self.cash.caller().get()).unwrap();
@@ -175,8 +173,8 @@ impl Desk {
         requires own { desk_ids self.old ≡ floor_ids floor.now }
         requires clock { desk_caller self.old ≡ 8 }
         requires call { IsClockCall call.now }
-        requires left { length (entries_at self.old good) < 64 }
-        requires all_left { count_entries (entries_of self.old) < 480 }
+        requires left { length (entries_at self.old good) < CLOCK_CALLS }
+        requires all_left { count_entries (entries_of self.old) < CLOCK_CASH_ENTRIES }
         ensures answered { IsAnswered self.old self.new good call.now result.0 result.1 }
         ensures posted { IsPosted (entries_of self.new) (cash_of self.new) }
     {

@@ -15,6 +15,7 @@ use crate::growing::add;
 use auction_core::Auction;
 use game_text::Game;
 use std::alloc::Global;
+use tac_base::limits::{AGENT_CALLS, AGENT_CASH_ENTRIES, CLOCK_CALLS, CLOCK_CASH_ENTRIES};
 use tac_base::{Good, Memory};
 use trade_ledger::CashBook;
 use turn_lock::{Pass, TurnLock};
@@ -23,11 +24,31 @@ use turn_lock::{Pass, TurnLock};
 const CALLERS: usize = 9;
 
 /// How many calls each caller may make in an auction: the agents, and then the clock.
-const CALLS: [u32; 9] = [1024, 1024, 1024, 1024, 1024, 1024, 1024, 1024, 64];
+const CALLS: [u32; 9] = [
+    AGENT_CALLS,
+    AGENT_CALLS,
+    AGENT_CALLS,
+    AGENT_CALLS,
+    AGENT_CALLS,
+    AGENT_CALLS,
+    AGENT_CALLS,
+    AGENT_CALLS,
+    CLOCK_CALLS,
+];
 
-/// How many calls each caller may make of the cash book: an agent a post for each of its calls of auctions and 1,024 readings, and the
-/// clock a post for each of its 480 calls.
-const CASH_CALLS: [u32; 9] = [29696, 29696, 29696, 29696, 29696, 29696, 29696, 29696, 480];
+/// How many calls each caller may make of the cash book: an agent a post for each of its calls of auctions and its
+/// readings, and the clock a post for each of its calls.
+const CASH_CALLS: [u32; 9] = [
+    AGENT_CASH_ENTRIES,
+    AGENT_CASH_ENTRIES,
+    AGENT_CASH_ENTRIES,
+    AGENT_CASH_ENTRIES,
+    AGENT_CASH_ENTRIES,
+    AGENT_CASH_ENTRIES,
+    AGENT_CASH_ENTRIES,
+    AGENT_CASH_ENTRIES,
+    CLOCK_CASH_ENTRIES,
+];
 
 /// What the callers have of the auctions' passes before any is dealt.
 pub(crate) fn empty_hands(alloc: Global) -> Result<Vec<Vec<Pass<Auction>>>, Memory>

@@ -1,6 +1,7 @@
 -- How links are admitted, in the order in which they come. The rule is our own.
-use Rattle.std.specs.Prelude.{⊤, ◌≡◌, ℕ, ◌^◌, ◌<◌, ◌⊎◌, List, [], ◌∷◌, Bool, true, false, Option, codes, length, take, replicate}
+use Rattle.std.specs.Prelude.{⊤, ◌≡◌, ℕ, ◌<◌, ◌⊎◌, List, [], ◌∷◌, Bool, true, false, Option, codes, length, take, replicate}
 use Rattle.std.specs.List.{count_by, fold}
+use Rattle.tac_base.specs.declared.limits.TheConstants.{LINK_BYTES, LINKS}
 use Rattle.game_text.specs.Games.{GameFile}
 use Rattle.tac_io.specs.AllAnswers.{all_answers}
 use Rattle.tac_io.specs.Counts.{Rose}
@@ -36,7 +37,7 @@ first_verdict seats gots.Budget line = Lost
 
 -- the first line of a link: the bytes that were taken begin with it
 abbrev pub BeginsWith : List ℕ → LineGot → List ℕ → Type 0
-BeginsWith bytes got line = (others : List (LineGot × List ℕ)) × (all_answers [] (2 ^ 26) bytes ≡ (got, line) ∷ others)
+BeginsWith bytes got line = (others : List (LineGot × List ℕ)) × (all_answers [] (LINK_BYTES) bytes ≡ (got, line) ∷ others)
 
 -- what a link is sent that gets no seat
 abbrev pub refusal_line : Verdict → List ℕ
@@ -71,9 +72,9 @@ pub record IsLost (before after : LinkState) : Type 0 where
   pub told : after.taken ≡ and_then_told before.taken bytes
   pub gave : before.left ≡ before_told bytes after.left
   pub why :
-      ((all_answers [] (2 ^ 26) bytes ≡ (gots.End, []) ∷ []) × IsAtEnd after.left × (after.reads ≡ before.reads))
-      ⊎ ((all_answers [] (2 ^ 26) bytes ≡ (gots.Budget, []) ∷ []) × (after.reads ≡ before.reads))
-      ⊎ ((all_answers [] (2 ^ 26) bytes ≡ (gots.End, []) ∷ []) × Rose before.reads after.reads)
+      ((all_answers [] (LINK_BYTES) bytes ≡ (gots.End, []) ∷ []) × IsAtEnd after.left × (after.reads ≡ before.reads))
+      ⊎ ((all_answers [] (LINK_BYTES) bytes ≡ (gots.Budget, []) ∷ []) × (after.reads ≡ before.reads))
+      ⊎ ((all_answers [] (LINK_BYTES) bytes ≡ (gots.End, []) ∷ []) × Rose before.reads after.reads)
   pub sent : after.sent ≡ before.sent
   pub writes : after.writes ≡ before.writes
 
@@ -86,9 +87,9 @@ AreAdmitted Holds seats (before ∷ befores) (verdict ∷ verdicts) (after ∷ a
     Holds seats verdict before after × AreAdmitted Holds (seats_after seats verdict) befores verdicts afters
 AreAdmitted Holds seats befores verdicts afters = ⊥
 
--- another link may be taken: fewer than 64 came, and fewer than eight have a seat
+-- another link may be taken: fewer came than are taken at most, and fewer than eight have a seat
 abbrev pub MayGoOn : List Verdict → Type 0
-MayGoOn verdicts = (length verdicts < 64) × (count_by is_seated verdicts < 8)
+MayGoOn verdicts = (length verdicts < LINKS) × (count_by is_seated verdicts < 8)
 
 -- links were taken as long as another might be, and one was there
 pub record AreAllTaken {A : Type 0} (verdicts : List Verdict) (pending : Option (List A)) : Type 0 where

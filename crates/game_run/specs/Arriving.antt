@@ -1,5 +1,6 @@
 -- Links after their first line, as admission keeps them.
-use Rattle.std.specs.Prelude.{◌≡◌, ℕ, ◌^◌, ◌<◌, ◌≤◌, List, [], ◌∷◌, ◌++◌, Bool, true, false, Option, Some, None, length, map, take, is_some, slice_get, slice_set}
+use Rattle.std.specs.Prelude.{◌≡◌, ℕ, ◌<◌, ◌≤◌, List, [], ◌∷◌, ◌++◌, Bool, true, false, Option, Some, None, length, map, take, is_some, slice_get, slice_set}
+use Rattle.tac_base.specs.declared.limits.TheConstants.{LINE_BYTES, LINK_BYTES}
 use Rattle.game_text.specs.Games.{GameFile}
 use Rattle.tac_io.specs.LineAnswers.{goes_on}
 use Rattle.tac_io.specs.LineText.{Begins}
@@ -57,9 +58,9 @@ module _ {L : Type 0} (state : L → LinkState) where
     pub gave : before.left ≡ before_told bytes (state (link_of lines)).left
     pub line : List ℕ
     pub first : Begins bytes line (held_of lines).unread
-    pub short : length line ≤ 512
+    pub short : length line ≤ LINE_BYTES
     pub counted : count_of lines ≡ length bytes
-    pub few : count_of lines ≤ 2 ^ 26
+    pub few : count_of lines ≤ LINK_BYTES
     pub seat : verdict_of seats line ≡ Seated agent
     pub sent : (state (link_of lines)).sent ≡ before.sent
     pub reads : (state (link_of lines)).reads ≡ before.reads

@@ -1,5 +1,6 @@
 -- What became of each link in a game, and in one that was not played.
-use Rattle.std.specs.Prelude.{◌≡◌, ℕ, ◌^◌, List, [], ◌∷◌, Result, Contains}
+use Rattle.std.specs.Prelude.{◌≡◌, ℕ, List, [], ◌∷◌, Result, Contains}
+use Rattle.tac_base.specs.declared.limits.TheConstants.{LINK_BYTES}
 use Rattle.game_text.specs.Games.{GameFile}
 use Rattle.auction_core.specs.ClosedGame.{ClosedGame}
 use Rattle.tac_io.specs.AllAnswers.{all_answers}
@@ -29,7 +30,7 @@ pub record IsSeated (may_answer : List ℕ → Result Request RequestFault → T
   pub gave : before.left ≡ before_told bytes after.left
   pub line : List ℕ
   pub answers : List (LineGot × List ℕ)
-  pub first : all_answers [] (2 ^ 26) bytes ≡ (gots.Line, line) ∷ answers
+  pub first : all_answers [] (LINK_BYTES) bytes ≡ (gots.Line, line) ∷ answers
   pub seat : verdict_of seats line ≡ Seated agent
   pub turns : List Turn
   pub lines : ℕ

@@ -29,7 +29,7 @@ module _ {L : Type 0} (state : L → LinkState) where
     pub admitted : AreAdmitted (RunsLink may_answer text game closed ends) (free_seats game) (map state given) verdicts (map state links)
     pub played : IsPlayedBy game verdicts ends closed
 
-  -- No game was played, since the links failed: fewer than 64 were taken, of which fewer than eight have a seat.
+  -- No game was played, since the links failed: another could be taken.
   pub record IsNotPlayed (game : GameFile) (pending pending' : Option (List L)) (links : List L) : Type 0 where
     pub given : List L
     pub from : pending ≡ before_told given pending'

@@ -1,7 +1,8 @@
 -- The room of a game, and what a game leaves at each agent's place.
-use Rattle.std.specs.Prelude.{◌≡◌, ℕ, ◌^◌, ◌-◌, ◌+◌, ◌<◌, List, [], ◌++◌, Option, Some, None, Result, Contains, false, length, filter, map, is_some, slice_index_or, vec_capacity}
+use Rattle.std.specs.Prelude.{◌≡◌, ℕ, ◌-◌, ◌+◌, ◌<◌, List, [], ◌++◌, Option, Some, None, Result, Contains, false, length, filter, map, is_some, slice_index_or, vec_capacity}
 use mathlib.Core.Option.{some}
 use lib.ListN.{get_elem?}
+use Rattle.tac_base.specs.declared.limits.TheConstants.{LINK_BYTES}
 use Rattle.game_text.specs.Games.{GameFile}
 use Rattle.tac_base.specs.Goods.{agents, clock}
 use Rattle.auction_core.specs.ClosedGame.{ClosedGame, all_goods}
@@ -56,7 +57,7 @@ module _ {L : Type 0} (state : L → LinkState) (may_answer : List ℕ → Resul
     pub gave : (state (link_of lines)).left ≡ before_told more (state link).left
     pub turns : List Turn
     pub count : ℕ
-    pub served : IsServed may_answer text (welcome_text game agent) (all_answers [] (2 ^ 26 - count_of lines + length (held_of lines).unread) ((held_of lines).unread ++ more))
+    pub served : IsServed may_answer text (welcome_text game agent) (all_answers [] (LINK_BYTES - count_of lines + length (held_of lines).unread) ((held_of lines).unread ++ more))
         (IsAtEnd (state link).left) (state (link_of lines)).sent (state link).sent turns count cause
     pub transcript : IsTranscript agent closed turns
     pub faults : HasSessionCause (state (link_of lines)).reads (state link).reads (state (link_of lines)).writes (state link).writes cause

@@ -12,10 +12,8 @@ use agent_gate::Gate;
 use game_text::Game;
 use line_protocol::Verdict;
 use tac_base::Agent;
+use tac_base::limits::LINKS;
 use tac_io::{Failed, LineGot, Lines, Link, Links};
-
-/// How many links are taken, at most.
-pub(crate) const MOST_LINKS: usize = 64;
 
 /// How many seats there are.
 const SEATS: usize = 8;
@@ -120,19 +118,19 @@ pub(crate) fn admit<N: Links>(
     requires ports { IfSome (N.ports links.old) (λ ports. ports ≡ []) }
     requires none { (arrivals.old.verdicts.items ≡ []) × (arrivals.old.spots.items ≡ []) }
     requires free { arrivals.old.lines.items ≡ replicate 8 None }
-    requires room { (vec_capacity arrivals.old.verdicts ≡ 64) × (vec_capacity arrivals.old.spots ≡ 64) }
+    requires room { (vec_capacity arrivals.old.verdicts ≡ LINKS) × (vec_capacity arrivals.old.spots ≡ LINKS) }
     ensures taken { AreTaken (λ l. record { taken = N.Link.taken l; left = N.Link.left l; sent = N.Link.sent l; reads = N.Link.faults l; writes = N.Link.write_faults l })
         game.now (N.pending links.old) (N.pending links.new) arrivals.new }
     ensures no_fewer { OnOk result (MayGoOn arrivals.new.verdicts.items → IsAtEnd (N.pending links.new)) }
     ensures more { OnErr result (MayGoOn arrivals.new.verdicts.items) }
-    ensures few { vec_len arrivals.new.spots ≤ 64 }
+    ensures few { vec_len arrivals.new.spots ≤ LINKS }
     ensures ports { N.ports links.new ≡ and_then_told (N.ports links.old) (port ∷ []) }
     ensures cause { HasCause (N.faults links.old) (N.faults links.new) result }
 {
     links.listen(port)?;
     let mut gate = Gate::new(game);
     let mut seated = 0;
-    while seated < SEATS && arrivals.verdicts.len() < MOST_LINKS {
+    while seated < SEATS && arrivals.verdicts.len() < LINKS as usize {
         let Some(link) = links.next()? else {
             return Ok(());
         };

@@ -6,19 +6,20 @@ ghost use Rattle.game_run.specs.Places.{AreFilled, AreLinksOf};
 ghost use Rattle.game_run.specs.Rooms.{IsEmptyHall, IsRoom};
 ghost use Rattle.game_run.specs.Outcomes.{HasRunCause, IsEnd, IsRunFault};
 
-use crate::admission::{MOST_LINKS, admit};
+use crate::admission::admit;
 use crate::arrivals::Arrivals;
 use crate::ending::{Ending, in_order, without_sessions};
 use crate::stage::{Over, Stage, make_stage, play_out};
 use agent_gate::Dialect;
 use auction_core::Closed;
-use line_protocol::LogHead;
 use game_text::Game;
+use line_protocol::LogHead;
 use std::alloc::Global;
 use std::sync::Wait;
 use std::thread::Threads;
 use std::time::Clock;
 use tac_base::Memory;
+use tac_base::limits::LINKS;
 use tac_io::{Lines, Link, Links, Ticker};
 
 /// A game that was played.
@@ -66,8 +67,8 @@ fn no_lines<L: Drop>(alloc: Global) -> Result<Vec<Option<Lines<L>>>, Memory>
 fn make_hall<L: Drop>(alloc: Global) -> Result<Arrivals<L>, Memory>
     ensures { IfOk result IsEmptyHall }
 {
-    let verdicts = Vec::with_capacity(alloc, MOST_LINKS)?;
-    let spots = Vec::with_capacity(alloc, MOST_LINKS)?;
+    let verdicts = Vec::with_capacity(alloc, LINKS as usize)?;
+    let spots = Vec::with_capacity(alloc, LINKS as usize)?;
     let lines = no_lines(alloc)?;
     Ok(Arrivals {
         verdicts,
@@ -82,7 +83,7 @@ fn make_room<L: Drop>(alloc: Global, game: &Game) -> Result<Room<L>, Memory>
 {
     let stage = make_stage(alloc, game)?;
     let arrivals = make_hall(alloc)?;
-    let links = Vec::with_capacity(alloc, MOST_LINKS)?;
+    let links = Vec::with_capacity(alloc, LINKS as usize)?;
     Ok(Room {
         stage,
         arrivals,

@@ -1,13 +1,14 @@
 -- All answers that a link's lines give in turn, by its bytes alone.
-use Rattle.std.specs.Prelude.{zero, suc, ⊤, ◌≡◌, ℕ, ◌+◌, ◌-◌, ◌^◌, ◌==◌, ◌++◌, List, [], ◌∷◌, length, nat_le, if◌then◌else◌, IfSome}
+use Rattle.std.specs.Prelude.{zero, suc, ⊤, ◌≡◌, ℕ, ◌+◌, ◌-◌, ◌==◌, ◌++◌, List, [], ◌∷◌, length, nat_le, if◌then◌else◌, IfSome}
 use Rattle.std.specs.declared.option.Option.{Option}
+use Rattle.tac_base.specs.declared.limits.TheConstants.{LINE_BYTES, LINK_BYTES}
 use Rattle.tac_io.specs.HeldBytes.{Held}
 use Rattle.tac_io.specs.declared.line_got.LineGot.{LineGot}
 use Rattle.tac_io.specs.declared.line_got.LineGot.TheVariants.{Line, TooLong, End, Failed, Budget}
 
 -- a line that is at its end, with its bytes, or one that is too long
 abbrev pub ended_line : List ℕ → LineGot × List ℕ
-ended_line line = if nat_le (length line) 512 then (Line, line) else (TooLong, [])
+ended_line line = if nat_le (length line) LINE_BYTES then (Line, line) else (TooLong, [])
 
 -- The answers, each with its line. The bytes `line` stand before these ones, of which `room` may be used.
 abbrev pub all_answers : List ℕ → ℕ → List ℕ → List (LineGot × List ℕ)
@@ -18,7 +19,7 @@ all_answers line (suc room) (byte ∷ bytes) =
 
 -- the answers that are still to come, where these bytes are held and left, and so many were taken
 abbrev pub answers_left : Held → List ℕ → ℕ → List (LineGot × List ℕ)
-answers_left held left count = all_answers [] (2 ^ 26 - count + length held.unread) (held.unread ++ left)
+answers_left held left count = all_answers [] (LINK_BYTES - count + length held.unread) (held.unread ++ left)
 
 -- The first of all answers is this one, with its line, and then come the others. A fault is told by no byte.
 abbrev pub IsFirst : LineGot → List ℕ → List (LineGot × List ℕ) → List (LineGot × List ℕ) → Type 0

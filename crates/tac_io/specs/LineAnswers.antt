@@ -1,6 +1,7 @@
 -- What a link gives, line by line.
-use Rattle.std.specs.Prelude.{◌≡◌, ℕ, ◌+◌, ◌≤◌, ◌<◌, ◌^◌, ◌⊎◌, List, ◌++◌, Bool, true, false, length, None, Some}
+use Rattle.std.specs.Prelude.{◌≡◌, ℕ, ◌+◌, ◌≤◌, ◌<◌, ◌⊎◌, List, ◌++◌, Bool, true, false, length, None, Some}
 use Rattle.std.specs.declared.option.Option.{Option}
+use Rattle.tac_base.specs.declared.limits.TheConstants.{LINE_BYTES, LINK_BYTES}
 use Rattle.tac_io.specs.Counts.{Rose}
 use Rattle.tac_io.specs.HeldBytes.{Held}
 use Rattle.tac_io.specs.LineText.{has_end, Begins}
@@ -11,11 +12,11 @@ use Rattle.tac_io.specs.declared.line_got.LineGot.TheVariants.{Line, TooLong, En
 -- What comes next in these bytes. `held` is what stands after it, `at_end` whether the link is at its end, and `count` how many of
 -- the link's bytes were taken. No two of the answers fit the same bytes, but for a fault and the end.
 abbrev pub IsNext : LineGot → List ℕ → Held → Type 0 → ℕ → Type 0
-IsNext Line bytes held at_end count = Begins bytes held.line held.unread × (length held.line ≤ 512)
-IsNext TooLong bytes held at_end count = (line : List ℕ) × Begins bytes line held.unread × (512 < length line)
-IsNext End bytes held at_end count = (has_end bytes ≡ false) × (count < 2 ^ 26) × at_end
-IsNext Failed bytes held at_end count = (has_end bytes ≡ false) × (count < 2 ^ 26)
-IsNext Budget bytes held at_end count = (has_end bytes ≡ false) × (count ≡ 2 ^ 26)
+IsNext Line bytes held at_end count = Begins bytes held.line held.unread × (length held.line ≤ LINE_BYTES)
+IsNext TooLong bytes held at_end count = (line : List ℕ) × Begins bytes line held.unread × (LINE_BYTES < length line)
+IsNext End bytes held at_end count = (has_end bytes ≡ false) × (count < LINK_BYTES) × at_end
+IsNext Failed bytes held at_end count = (has_end bytes ≡ false) × (count < LINK_BYTES)
+IsNext Budget bytes held at_end count = (has_end bytes ≡ false) × (count ≡ LINK_BYTES)
 
 -- What comes next in the bytes that were held and, after them, those that the call took, `more`.
 pub record Answers (old new : Held) (taken taken' left left' : Option (List ℕ)) (count count' : ℕ) (got : LineGot) : Type 0 where
@@ -35,7 +36,7 @@ HasLineCause before now Budget = now ≡ before
 
 -- the bytes that were taken decide the next answer
 abbrev pub IsDecided : List ℕ → ℕ → Type 0
-IsDecided unread count = (has_end unread ≡ true) ⊎ (count ≡ 2 ^ 26)
+IsDecided unread count = (has_end unread ≡ true) ⊎ (count ≡ LINK_BYTES)
 
 -- after this answer, if there was one, there may be another
 abbrev pub goes_on : Option LineGot → Bool
@@ -48,8 +49,8 @@ goes_on (Some Budget) = false
 
 -- a line, or one that is too long, whether its beginning was dropped or not
 abbrev pub IsKind : LineGot → Bool → ℕ → Type 0
-IsKind Line long length = (long ≡ false) × (length ≤ 512)
-IsKind TooLong long length = (long ≡ true) ⊎ (512 < length)
+IsKind Line long length = (long ≡ false) × (length ≤ LINE_BYTES)
+IsKind TooLong long length = (long ≡ true) ⊎ (LINE_BYTES < length)
 IsKind End long length = ⊥
 IsKind Failed long length = ⊥
 IsKind Budget long length = ⊥

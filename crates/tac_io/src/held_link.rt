@@ -8,7 +8,7 @@ use std::alloc::{AllocError, Global};
 use std::sync::Arc;
 use std::sync::atomic::{AtomicU64, Ordering};
 
-/// How often a read that is held up looks at the other link, at most.
+/// How often a read that is held up looks at the other link, where nothing else is said.
 const MOST_TURNS: u32 = 1_000_000_000;
 
 /// How many lines a link was sent so far. It is shared by the link and those that wait for it.
@@ -28,7 +28,8 @@ pub struct Hold {
 
 /// A link in memory. It gives stated bytes, a line in each read, and keeps those that it is sent,
 /// as many as it has room for. One of its reads may be held up until another link was sent a number
-/// of lines: it looks at that number again and again, 1,000,000,000 times at most, and then fails.
+/// of lines: it looks at that number again and again, 1,000,000,000 times if nothing else is said, and
+/// then fails.
 #[derive(Drop)]
 pub struct HeldLink {
     link: MemLink,
@@ -36,6 +37,7 @@ pub struct HeldLink {
     reads: u64,
     faults: u64,
     lines_sent: LinesSent,
+    turns: u32,
     ghost reads_answer: { (link_reads link).failing ≡ [] },
     ghost writes_answer: { (link_writes link).failing ≡ [] },
     ghost unlimited: { link_most link ≡ 2 ^ 64 - 1 },
@@ -69,8 +71,8 @@ fn line_ends(bytes: &[u8]) -> u64
 }
 
 // Looks until the other link was sent so many lines, and says whether it was.
-fn was_sent(other: &AtomicU64, lines: u64) -> bool {
-    (0..MOST_TURNS).any(|_| other.load(Ordering::SeqCst) >= lines)
+fn was_sent(other: &AtomicU64, lines: u64, turns: u32) -> bool {
+    (0..turns).any(|_| other.load(Ordering::SeqCst) >= lines)
 }
 
 impl HeldLink {
@@ -103,7 +105,16 @@ impl HeldLink {
             reads: 0,
             faults: 0,
             lines_sent,
+            turns: MOST_TURNS,
         })
+    }
+
+    /// The same link, but that its read which is held up looks `turns` times at most.
+    pub fn giving_up_after(mut self, turns: u32) -> HeldLink
+        ensures { result ≡ record self { turns = turns } }
+    {
+        self.turns = turns;
+        self
     }
 
     /// The bytes that it was sent, in order.
@@ -120,7 +131,7 @@ impl HeldLink {
     {
         self.reads = self.reads.saturating_add(1);
         match &self.hold {
-            Some(hold) if hold.read == self.reads => was_sent(&hold.other, hold.lines),
+            Some(hold) if hold.read == self.reads => was_sent(&hold.other, hold.lines, self.turns),
             _ => true,
         }
     }

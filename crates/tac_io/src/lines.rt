@@ -1,5 +1,6 @@
 // A link, line by line.
-ghost use Rattle.std.specs.Prelude.{◌≡◌, [], ◌^◌, ◌<◌, ◌≤◌, OnOk, OnErr, length, true, false, MatchBool, Some, None};
+ghost use Rattle.std.specs.Prelude.{◌≡◌, [], ◌<◌, ◌≤◌, OnOk, OnErr, length, true, false, MatchBool, Some, None};
+ghost use Rattle.tac_base.specs.declared.limits.TheConstants.{LINK_BYTES};
 ghost use Rattle.tac_io.specs.Counts.{HasCause};
 ghost use Rattle.tac_io.specs.LineAnswers.{Answers, HasLineCause, IsDecided, IsKind};
 ghost use Rattle.tac_io.specs.Told.{TakesSome, and_then_told};
@@ -7,21 +8,16 @@ ghost use Rattle.tac_io.specs.Told.{TakesSome, and_then_told};
 use crate::buffer::Buffer;
 use crate::line_got::LineGot;
 use crate::{Failed, Link};
-
-/// How many bytes are taken from a link, at most.
-const MOST_BYTES: u32 = 67_108_864;
-
-/// How many bytes a line has, at most.
-const LONGEST_LINE: usize = 512;
+use tac_base::limits::{LINE_BYTES, LINK_BYTES};
 
 // Drops what is held of a line that is too long already, and says whether it is.
 fn skips(buffer: &mut Buffer, long: bool) -> bool
     ensures skips { MatchBool result
-        ((buffer.new.unread ≡ []) × (long ≡ false → 512 < length buffer.old.unread))
+        ((buffer.new.unread ≡ []) × (long ≡ false → LINE_BYTES < length buffer.old.unread))
         ((buffer.new.unread ≡ buffer.old.unread) × (long ≡ false)) }
-    ensures room { length buffer.new.unread ≤ 512 }
+    ensures room { length buffer.new.unread ≤ LINE_BYTES }
 {
-    if long || buffer.len() > LONGEST_LINE {
+    if long || buffer.len() > LINE_BYTES as usize {
         buffer.discard();
         return true;
     }
@@ -32,7 +28,7 @@ fn skips(buffer: &mut Buffer, long: bool) -> bool
 fn kind(long: bool, length: usize) -> LineGot
     ensures { IsKind result long length }
 {
-    if long || length > LONGEST_LINE {
+    if long || length > LINE_BYTES as usize {
         LineGot::TooLong
     } else {
         LineGot::Line
@@ -41,9 +37,9 @@ fn kind(long: bool, length: usize) -> LineGot
 
 // What comes next of a link.
 fn next_line<L: Link>(link: &mut L, buffer: &mut Buffer, taken: &mut u32) -> LineGot
-    requires { taken.old ≤ 2 ^ 26 }
+    requires { taken.old ≤ LINK_BYTES }
     ensures answer { Answers buffer.old buffer.new (L.taken link.old) (L.taken link.new) (L.left link.old) (L.left link.new) taken.old taken.new result }
-    ensures budget { taken.new ≤ 2 ^ 26 }
+    ensures budget { taken.new ≤ LINK_BYTES }
     ensures decided { IsDecided buffer.old.unread taken.old → link.new ≡ link.old }
     ensures sent { L.sent link.new ≡ L.sent link.old }
     ensures cause { HasLineCause (L.faults link.old) (L.faults link.new) result }
@@ -54,11 +50,11 @@ fn next_line<L: Link>(link: &mut L, buffer: &mut Buffer, taken: &mut u32) -> Lin
         if let Some(length) = buffer.cut_line() {
             return kind(long, length);
         }
-        if *taken == MOST_BYTES {
+        if *taken == LINK_BYTES {
             return LineGot::Budget;
         }
         long = skips(buffer, long);
-        let Ok(count) = buffer.fill(link, (MOST_BYTES - *taken) as usize) else {
+        let Ok(count) = buffer.fill(link, (LINK_BYTES - *taken) as usize) else {
             return LineGot::Failed;
         };
         if count == 0 {
@@ -93,7 +89,7 @@ pub struct Lines<L> {
     // How many bytes were taken from the link.
     taken: u32,
     last: Option<LineGot>,
-    ghost budget: { taken ≤ 2 ^ 26 },
+    ghost budget: { taken ≤ LINK_BYTES },
 }
 
 impl<L: Link> Lines<L> {
@@ -129,7 +125,7 @@ impl<L: Link> Lines<L> {
             (L.left (link_of self.old)) (L.left (link_of self.new))
             (count_of self.old) (count_of self.new) result }
         ensures last { last_of self.new ≡ Some result }
-        ensures budget { count_of self.new ≤ 2 ^ 26 }
+        ensures budget { count_of self.new ≤ LINK_BYTES }
         ensures decided { IsDecided (held_of self.old).unread (count_of self.old) → link_of self.new ≡ link_of self.old }
         ensures sent { L.sent (link_of self.new) ≡ L.sent (link_of self.old) }
         ensures cause { HasLineCause (L.faults (link_of self.old)) (L.faults (link_of self.new)) result }

@@ -1,5 +1,6 @@
 // A ticker in memory.
 ghost use Rattle.std.specs.Prelude.{◌≡◌, ◌≤◌, [], None, IfOk, vec_capacity};
+ghost use Rattle.tac_base.specs.declared.limits.TheConstants.{TICKS};
 ghost use Rattle.tac_io.specs.Calls.{no_calls};
 
 use crate::Ticker;
@@ -9,6 +10,7 @@ use std::marker::Model;
 use std::rt::Clock;
 use std::sync::Wait;
 use tac_base::Tick;
+use tac_base::limits::TICKS;
 
 /// A tick that was waited for.
 #[derive(Drop)]
@@ -38,9 +40,6 @@ impl Model for MemLapse {
     ghost view = { λ lapse. lapse.tick };
 }
 
-/// How many ticks can be waited for.
-const MOST_TICKS: usize = 54;
-
 /// A ticker in memory, with room for 54 ticks. It does not wait, and lapses at stated waits.
 #[derive(Drop)]
 pub struct MemTicker {
@@ -48,7 +47,7 @@ pub struct MemTicker {
     // Each with whether it lapsed.
     waited: Vec<(Tick, bool)>,
     faults: Faults,
-    ghost room: { 54 ≤ vec_capacity waited },
+    ghost room: { TICKS ≤ vec_capacity waited },
 }
 
 impl MemTicker {
@@ -63,7 +62,7 @@ impl MemTicker {
     {
         Ok(MemTicker {
             pace: None,
-            waited: Vec::with_capacity(alloc, MOST_TICKS)?,
+            waited: Vec::with_capacity(alloc, TICKS as usize)?,
             faults: Faults::new(lapsing),
         })
     }
@@ -98,7 +97,7 @@ impl Ticker for MemTicker {
     }
 
     fn wait<R: Wait + Clock>(&mut self, _rt: &R, tick: Tick) -> Result<MemDue, MemLapse>
-        requires { length (ticker_waited self.old) < 54 }
+        requires { length (ticker_waited self.old) < TICKS }
         ensures lapses { IsErr result ↔ IsNextToFail (ticker_calls self.old) }
         ensures tick { MatchResult result (λ due. due ≡ tick) (λ lapse. lapse ≡ tick) }
         ensures waited { ticker_waited self.new ≡ ticker_waited self.old ++ (tick, is_err result) ∷ [] }

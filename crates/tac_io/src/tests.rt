@@ -35,47 +35,41 @@ fn files(alloc: Global, most_at_once: usize, failing: Vec<u64>) -> Result<MemFil
     Ok(MemFiles::new(alloc, files, most_at_once, failing)?)
 }
 
-#[test]
-fn a_file_is_read_whole_in_pieces_of_any_size(rt: HostRuntime) -> Result<(), Fail> {
-    let alloc = rt.alloc();
-    for most_at_once in [0, 1, 2, 4, 5, 6] {
-        let mut all = files(alloc, most_at_once, Vec::new(alloc))?;
-        let hello = read_file(alloc, &mut all, "hello", 5)?;
-        assert_eq!(rt;
-            hello.as_slice(),
-            b"hello".as_slice(),
-            "in pieces of {most_at_once}"
-        );
-    }
-    for most_at_once in [999, 65_536, 65_537, 1_000_000] {
-        let mut all = files(alloc, most_at_once, Vec::new(alloc))?;
-        let long = read_file(alloc, &mut all, "long", 200_000)?;
-        assert!(rt; long.len() == 200_000 && long.iter().all(|byte| *byte == 7));
-    }
-    Ok(())
-}
-
 // In pieces of two bytes `hello` takes a `select` and four reads.
 #[test]
-fn a_file_is_refused_by_its_cause(rt: HostRuntime) -> Result<(), Fail> {
+fn a_file_is_read_whole_or_refused_by_its_cause(rt: HostRuntime) -> Result<(), Fail> {
     let alloc = rt.alloc();
-    for (name, limit, failing, refusal) in [
-        ("hello", 5, 0, None),
-        ("empty", 0, 0, None),
-        ("hello", 4, 0, Some(FileFault::TooLong)),
-        ("hello", 0, 0, Some(FileFault::TooLong)),
-        ("long", 199_999, 0, Some(FileFault::TooLong)),
-        ("hell", 5, 0, Some(FileFault::Failed)),
-        ("HELLO", 5, 0, Some(FileFault::Failed)),
-        ("hello", 5, 1, Some(FileFault::Failed)),
-        ("hello", 5, 2, Some(FileFault::Failed)),
-        ("hello", 5, 5, Some(FileFault::Failed)),
-        ("hello", 5, 6, None),
+    let long = vec![in alloc; 7; 200_000]?;
+    let hello = Ok(b"hello".as_slice());
+    let failed = Err(FileFault::Failed);
+    let too_long = Err(FileFault::TooLong);
+    for (name, most_at_once, limit, failing, told) in [
+        ("hello", 0, 5, 0, hello),
+        ("hello", 1, 5, 0, hello),
+        ("hello", 4, 5, 0, hello),
+        ("hello", 5, 5, 0, hello),
+        ("hello", 6, 6, 0, hello),
+        ("long", 999, 200_000, 0, Ok(long.as_slice())),
+        ("long", 65_536, 200_000, 0, Ok(long.as_slice())),
+        ("long", 1_000_000, 200_000, 0, Ok(long.as_slice())),
+        ("empty", 2, 0, 0, Ok(b"".as_slice())),
+        ("hello", 2, 4, 0, too_long),
+        ("hello", 2, 0, 0, too_long),
+        ("long", 2, 199_999, 0, too_long),
+        ("hell", 2, 5, 0, failed),
+        ("HELLO", 2, 5, 0, failed),
+        ("hello", 2, 5, 1, failed),
+        ("hello", 2, 5, 2, failed),
+        ("hello", 2, 5, 5, failed),
+        ("hello", 2, 5, 6, hello),
     ] {
-        let mut all = files(alloc, 2, vec![in alloc; failing]?)?;
-        let read = read_file(alloc, &mut all, name, limit);
-        assert_eq!(rt; read.err(), refusal, "{name} at {limit}, call {failing}");
-        assert_eq!(rt; all.faults() == 1, refusal == Some(FileFault::Failed));
+        let mut all = files(alloc, most_at_once, vec![in alloc; failing]?)?;
+        let read = match read_file(alloc, &mut all, name, limit) {
+            Ok(bytes) => told == Ok(bytes.as_slice()),
+            Err(fault) => told == Err(fault),
+        };
+        assert!(rt; read, "{name} at {limit}, call {failing}");
+        assert_eq!(rt; all.faults() == 1, told == failed);
     }
     Ok(())
 }
@@ -103,7 +97,6 @@ fn a_text_is_written_whole_or_in_part(rt: HostRuntime) -> Result<(), Fail> {
             "{room} {most_at_once} {failing}"
         );
         assert_eq!(rt; sink.faults(), if whole { 0 } else { 1 });
-        assert!(rt; write_all(&mut sink, b"").is_ok());
     }
     Ok(())
 }
@@ -182,9 +175,9 @@ fn is_due<R: Wait + Clock, T: Ticker + Send>(rt: &R, ticker: &mut T, tick: Tick)
 fn a_ticker_lapses_at_a_stated_tick(rt: HostRuntime) -> Result<(), Fail> {
     let alloc = rt.alloc();
     let mut ticker = MemTicker::new(alloc, vec![in alloc; 2]?)?;
-    assert!(rt; is_due(&rt, &mut ticker, Tick::new(1)?));
-    assert!(rt; !is_due(&rt, &mut ticker, Tick::new(2)?));
-    assert!(rt; is_due(&rt, &mut ticker, Tick::new(3)?));
+    for tick in 1..4u8 {
+        assert_eq!(rt; is_due(&rt, &mut ticker, Tick::new(tick)?), tick != 2);
+    }
     assert_eq!(rt; ticker.faults(), 1);
     Ok(())
 }
@@ -232,6 +225,37 @@ fn two_links_wait_for_one_another(rt: HostRuntime) -> Result<(), Fail> {
     assert!(rt; one);
     assert!(rt; two);
     Ok(())
+}
+
+// The second read looks for the other link's eleventh line, so many times at most.
+#[test]
+fn a_held_read_fails_at_the_end_of_its_turns(rt: HostRuntime) -> Result<(), Fail> {
+    let alloc = rt.alloc();
+    for (other_was_sent, turns, got) in [
+        (10, 5, LineGot::Failed),
+        (11, 0, LineGot::Failed),
+        (11, 1, LineGot::Line),
+    ] {
+        let sent = Arc::new(alloc, AtomicU64::new(0))?;
+        let other = Arc::new(alloc, AtomicU64::new(other_was_sent))?;
+        let mut lines = Lines::new(held(alloc, &sent, &other)?.giving_up_after(turns));
+        assert_eq!(rt; next_two(&mut lines), Some(got));
+        assert!(rt; lines.send(b"\nok\nbye").is_ok());
+        assert_eq!(rt; sent.load(Ordering::SeqCst), 2);
+        let link = lines.into_link();
+        assert_eq!(rt; link.faults() == 1, got == LineGot::Failed);
+    }
+    Ok(())
+}
+
+// What comes after the first line.
+fn next_two<L: Link>(lines: &mut Lines<L>) -> Option<LineGot>
+    requires { goes_on (last_of lines.old) ≡ true }
+{
+    match lines.next() {
+        LineGot::Line => Some(lines.next()),
+        _ => None,
+    }
 }
 
 // Puts the next answer at the end of a text: `[LINE]`, `long`, `end`, `failed` or `budget`. Says
@@ -285,6 +309,7 @@ fn answers(
     Ok(text)
 }
 
+// In pieces of two bytes `ab\nc` takes two reads, and a third finds the end.
 #[test]
 fn a_link_gives_the_same_lines_however_its_reads_cut_them(rt: HostRuntime) -> Result<(), Fail> {
     let alloc = rt.alloc();
@@ -298,36 +323,33 @@ fn a_link_gives_the_same_lines_however_its_reads_cut_them(rt: HostRuntime) -> Re
     let mut told = b"[hello seat0][][".to_vec(alloc)?;
     told.extend_from_slice(&[b'a'; 512])?;
     told.extend_from_slice(b"]longlong[quit]end")?;
-    for most_at_once in [1, 2, 13, 511, 512, 513, 514, 1000, 1024, 9999] {
-        let answers = answers(alloc, &bytes, most_at_once, 0)?;
+    let whole = told.as_slice();
+    for (bytes, most_at_once, failing, told) in [
+        (bytes.as_slice(), 1, 0, whole),
+        (bytes.as_slice(), 2, 0, whole),
+        (bytes.as_slice(), 511, 0, whole),
+        (bytes.as_slice(), 512, 0, whole),
+        (bytes.as_slice(), 513, 0, whole),
+        (bytes.as_slice(), 514, 0, whole),
+        (bytes.as_slice(), 1024, 0, whole),
+        (bytes.as_slice(), 9999, 0, whole),
+        (b"", 2, 0, b"end"),
+        (b"", 2, 1, b"failed"),
+        (b"\n", 2, 0, b"[]end"),
+        (b"ab\nc", 2, 0, b"[ab]end"),
+        (b"ab\nc", 2, 1, b"failed"),
+        (b"ab\nc", 2, 2, b"failed"),
+        (b"ab\nc", 2, 3, b"[ab]failed"),
+        (b"ab\nc", 2, 4, b"[ab]end"),
+        (&[b'a'; 513], 1024, 0, b"end"),
+    ] {
+        let answers = answers(alloc, bytes, most_at_once, failing)?;
         assert_eq!(rt;
             answers.as_slice(),
-            told.as_slice(),
-            "in pieces of {most_at_once}"
+            told,
+            "in pieces of {most_at_once}, read {failing}"
         );
     }
-    Ok(())
-}
-
-// In pieces of two bytes `ab\nc` takes two reads, and a third finds the end.
-#[test]
-fn a_rest_without_line_end_is_dropped(rt: HostRuntime) -> Result<(), Fail> {
-    let alloc = rt.alloc();
-    for (bytes, failing, told) in [
-        ("", 0, "end"),
-        ("", 1, "failed"),
-        ("\n", 0, "[]end"),
-        ("ab\nc", 0, "[ab]end"),
-        ("ab\nc", 1, "failed"),
-        ("ab\nc", 2, "failed"),
-        ("ab\nc", 3, "[ab]failed"),
-        ("ab\nc", 4, "[ab]end"),
-    ] {
-        let answers = answers(alloc, bytes.as_bytes(), 2, failing)?;
-        assert_eq!(rt; answers.as_slice(), told.as_bytes(), "{bytes} {failing}");
-    }
-    let long = answers(alloc, &[b'a'; 513], 1024, 0)?;
-    assert_eq!(rt; long.as_slice(), b"end".as_slice());
     Ok(())
 }
 
@@ -346,7 +368,6 @@ fn bytes_are_sent_whole_or_in_part(rt: HostRuntime) -> Result<(), Fail> {
         let link = MemLink::new(alloc, Vec::new(alloc), 1, room, Vec::new(alloc), failing)?;
         let mut lines = Lines::new(link);
         let whole = lines.send(b"hello").is_ok();
-        assert!(rt; lines.send(b"").is_ok());
         let link = lines.into_link();
         assert_eq!(rt; link.sent(), sent.as_bytes());
         assert_eq!(rt; whole, sent == "hello");

@@ -3,6 +3,7 @@ ghost use Rattle.std.specs.Prelude.{◌≡◌, ◌∷◌, [], ◌<◌, List, Boo
 ghost use Rattle.std.specs.Option.{option_map};
 ghost use Rattle.std.specs.declared.option.Option.{Option};
 ghost use Rattle.std.specs.declared.option.Option.TheVariants.{Some};
+ghost use Rattle.tac_base.specs.declared.limits.TheConstants.{TICKS};
 ghost use Rattle.tac_io.specs.Counts.{HasCause};
 ghost use Rattle.tac_io.specs.Told.{and_then_told};
 
@@ -42,7 +43,7 @@ pub trait Ticker {
     /// Waits for a tick. A lapse is a fault: the wait failed, and the tick's time may be over or
     /// still to come.
     fn wait<R: Wait + Clock>(&mut self, rt: &R, tick: Tick) -> Result<Self::Due, Self::Lapse>
-        requires { IfSome (waited self.old) (λ ticks. length ticks < 54) }
+        requires { IfSome (waited self.old) (λ ticks. length ticks < TICKS) }
         ensures tick { MatchResult result
             (λ due. due_tick due ≡ tick)
             (λ lapse. lapse_tick lapse ≡ tick) }

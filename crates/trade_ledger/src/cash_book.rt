@@ -9,7 +9,6 @@ use tac_base::limits::CASH_ENTRIES;
 use tac_base::{Board, Caller, Memory, Nets, Party};
 use turn_lock::Kept;
 
-
 /// The cash history of a game, and what each party has gained in it.
 #[derive(Drop)]
 pub struct CashBook {
