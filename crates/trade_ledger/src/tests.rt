@@ -3,13 +3,13 @@ ghost use Rattle.std.specs.Thread.{IsSync};
 ghost use Rattle.turn_lock.specs.Passes.{lock_of, lock_id, caller_of, left_of, passes_of, returned_to};
 ghost use Rattle.trade_ledger.specs.CashHistory.{cash_cap};
 
-use crate::{CashBook, CashCall, CashReply, GoodBook};
+use crate::{CashBook, CashCall, CashReply};
 use std::alloc::{AllocError, Global};
 use std::sync::Wait;
 use std::test::Fail;
 use std::thread::{Threads, join};
 use std::time::Clock;
-use tac_base::{Agent, Good, Memory, Nets, Party, Trade};
+use tac_base::{Agent, Good, Memory, Nets, Party};
 use turn_lock::{Pass, TurnLock};
 
 /// A lock at a new book, with one pass of agent 0 and one of agent 1.
@@ -159,36 +159,13 @@ fn callers_take_turns_at_the_cash_book(rt: HostRuntime) -> Result<(), Fail> {
 }
 
 #[test]
-fn two_callers_post_at_once(rt: HostRuntime) -> Result<(), Fail> {
-    let book = posted(&rt, rt.alloc(), &[1000, 1000])?;
-    assert_eq!(rt; posts_of(&book, 0), Some(1000));
-    assert_eq!(rt; posts_of(&book, 1), Some(1000));
-    assert_eq!(rt; book.total(Party::house()), 2000);
-    Ok(())
-}
-
-#[test]
-fn nine_callers_post_at_once(rt: HostRuntime) -> Result<(), Fail> {
-    let book = posted(&rt, rt.alloc(), &[100; 9])?;
-    for caller in 0..9 {
-        assert_eq!(rt; posts_of(&book, caller), Some(100), "caller {caller}");
+fn callers_post_at_once(rt: HostRuntime) -> Result<(), Fail> {
+    for (limits, posts) in [([1000, 1000].as_slice(), 1000), (&[100; 9], 100)] {
+        let book = posted(&rt, rt.alloc(), limits)?;
+        for caller in 0..limits.len() {
+            assert_eq!(rt; posts_of(&book, caller as u8), Some(posts), "caller {caller}");
+        }
+        assert_eq!(rt; book.total(Party::house()), (limits.len() * posts as usize) as i64);
     }
-    assert_eq!(rt; book.total(Party::house()), 900);
-    Ok(())
-}
-
-#[test]
-fn trades_move_units(rt: HostRuntime) -> Result<(), Fail> {
-    let mut book = GoodBook::new([0, 2, 0, 0, 0, 0, 0, 0, 0]);
-    let trade = Trade {
-        buyer: Party::default(),
-        seller: Party::new(1)?,
-        good: Good::new(24)?,
-        units: 3,
-        price: 60,
-    };
-    book.apply(&trade);
-    assert_eq!(rt; book.holding(Party::default()), 3);
-    assert_eq!(rt; book.holding(Party::new(1)?), -1);
     Ok(())
 }
