@@ -92,14 +92,14 @@ impl Gate {
 #[cfg(test)]
 mod tests {
     use super::Gate;
-    use crate::quiet_game::quiet_game;
+    use game_text::Game;
     use line_protocol::Verdict;
     use std::test::Fail;
     use tac_base::Agent;
 
     #[test]
     fn verdicts_of_one_gate_in_turn(rt: HostRuntime) -> Result<(), Fail> {
-        let mut gate = Gate::new(&quiet_game(rt.alloc())?);
+        let mut gate = Gate::new(&Game::default());
         let [first, .., last] = Agent::all();
         for (line, verdict) in [
             (b"".as_slice(), Verdict::Syntax),

@@ -4,8 +4,6 @@
 mod answering;
 mod dialect;
 mod gate;
-#[cfg(test)]
-mod quiet_game;
 mod session;
 mod turns;
 mod welcome;

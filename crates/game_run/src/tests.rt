@@ -1,51 +1,17 @@
+ghost use Rattle.std.specs.Prelude.{◌≡◌, [], IfSome};
+
 use crate::{GameEnd, RunFault, run_game};
 use agent_gate::LineDialect;
-use line_protocol::LogHead;
-use game_text::{Game, read_game};
-use line_protocol::{Cause, Verdict};
-use std::alloc::{AllocError, Global};
-use std::sync::atomic::AtomicU64;
+use game_text::Game;
+use line_protocol::{Cause, LogHead, Verdict};
+use std::alloc::Global;
+use std::sync::atomic::{AtomicU64, Ordering};
 use std::sync::{Arc, Wait};
 use std::test::Fail;
 use std::thread::Threads;
 use std::time::Clock;
-use tac_base::Agent;
-use tac_io::{HeldLink, Hold, LinesSent, Link, MemLink, MemLinks, MemTicker};
-
-/// Appends lines that begin with the same words and a number 0..7.
-fn add_lines(text: &mut Vec<u8>, words: &[u8], rest: &[u8]) -> Result<(), AllocError> {
-    for number in b'0'..b'8' {
-        text.extend_from_slice(words)?;
-        text.push(number)?;
-        text.extend_from_slice(rest)?;
-    }
-    Ok(())
-}
-
-/// The game in which each flight stays at 300 dollars, nobody has a ticket, and each client wants days 1 to 2 and a museum.
-fn quiet_game(alloc: Global) -> Result<Game, Fail> {
-    let mut text = Vec::new(alloc);
-    text.extend_from_slice(b"tac 1\nwords seat0 seat1 seat2 seat3 seat4 seat5 seat6 seat7\n")?;
-    for good in b'0'..b'8' {
-        text.extend_from_slice(b"flight ")?;
-        text.push(good)?;
-        text.extend_from_slice(b" 300 10")?;
-        for _ in 0..53u8 {
-            text.extend_from_slice(b" 10")?;
-        }
-        text.push(b'\n')?;
-    }
-    text.extend_from_slice(b"close 8 9 10 11 12 13 14 15\n")?;
-    add_lines(&mut text, b"endow ", b" 0 0 0 0 0 0 0 0 0 0 0 0\n")?;
-    for agent in b'0'..b'8' {
-        let mut words = Vec::new(alloc);
-        words.extend_from_slice(b"client ")?;
-        words.extend_from_slice(&[agent, b' '])?;
-        add_lines(&mut text, words.as_slice(), b" 1 2 100 0 0 100\n")?;
-    }
-    text.extend_from_slice(b"end\n")?;
-    Ok(read_game(text.as_slice())?)
-}
+use tac_base::{Agent, Tick};
+use tac_io::{HeldLink, Hold, LinesSent, Link, MemLink, MemLinks, MemTicker, Ticker};
 
 /// A link that gives these bytes.
 fn link(alloc: Global, bytes: &[u8]) -> Result<MemLink, Fail> {
@@ -68,18 +34,19 @@ fn links(alloc: Global, given: &[&[u8]]) -> Result<Vec<MemLink>, Fail> {
     Ok(all)
 }
 
-/// A game over links. The calls of the links and of the ticker that fail are counted from 1.
-fn played<R: Threads + Sync + Wait + Clock, L: Link + Send + Drop>(
+/// The quiet game over links. The call of the links that fails is counted from 1.
+fn played<R: Threads + Sync + Wait + Clock, L: Link + Send + Drop, T: Ticker + Send>(
     rt: &R,
     alloc: Global,
     all: Vec<L>,
     failing: u64,
-    lapsing: u64,
-) -> Result<Result<GameEnd<L>, RunFault<L>>, Fail> {
-    let game = quiet_game(alloc)?;
+    ticker: &mut T,
+) -> Result<Result<GameEnd<L>, RunFault<L>>, Fail>
+    requires { IfSome (T.waited ticker.old) (λ ticks. ticks ≡ []) }
+{
+    let game = Game::default();
     let mut links = MemLinks::new(all, [failing].to_vec(alloc)?);
-    let mut ticker = MemTicker::new(alloc, [lapsing].to_vec(alloc)?)?;
-    Ok(run_game(rt, alloc, &game, 7, &LineDialect, &mut links, &mut ticker))
+    Ok(run_game(rt, alloc, &game, 7, &LineDialect, &mut links, ticker))
 }
 
 #[test]
@@ -91,7 +58,8 @@ fn links_are_admitted_in_order_and_told_why_not(rt: HostRuntime) -> Result<(), F
         b"hello seat0\n",
         b"hi\n",
     ];
-    let Ok(end) = played(&rt, alloc, links(alloc, &given)?, 0, 20)? else {
+    let mut ticker = MemTicker::new(alloc, [20].to_vec(alloc)?)?;
+    let Ok(end) = played(&rt, alloc, links(alloc, &given)?, 0, &mut ticker)? else {
         return Err("no game".into());
     };
     let first = Agent::new(0)?;
@@ -129,12 +97,13 @@ fn no_game_is_played_where_links_fail(rt: HostRuntime) -> Result<(), Fail> {
         b"hello seat3\n",
     ];
     for (failing, taken) in [(1, 0), (5, 3)] {
+        let mut ticker = MemTicker::new(alloc, Vec::new(alloc))?;
         let Err(RunFault::Links(taken_links)) = played(
             &rt,
             alloc,
             links(alloc, &given)?,
             failing,
-            0,
+            &mut ticker,
         )?
         else {
             return Err("a game".into());
@@ -145,46 +114,109 @@ fn no_game_is_played_where_links_fail(rt: HostRuntime) -> Result<(), Fail> {
     Ok(())
 }
 
-/// The link of an agent. It is sent a reply and leaves, and where it has another it leaves once that one was sent a reply.
+/// How often the wait for tick 2 looks at the lines that a link was sent.
+const MOST_LOOKS: u32 = 1_000_000_000;
+
+/// A ticker that shows the tick that is waited for. Tick 2 lapses unless a link is sent the ten lines of its welcome and a reply.
+#[derive(Drop)]
+struct MeetingTicker {
+    shown: LinesSent,
+    awaited: LinesSent,
+    lapses: u64,
+}
+
+/// Looks until the link was sent its first reply, and says whether it was.
+fn is_replied(sent: &AtomicU64) -> bool {
+    (0..MOST_LOOKS).any(|_| sent.load(Ordering::SeqCst) >= 11)
+}
+
+impl Ticker for MeetingTicker {
+    ghost use Rattle.std.specs.Prelude.{None};
+
+    type Due = Tick;
+
+    type Lapse = Tick;
+
+    ghost due_tick = { λ due. due };
+
+    ghost lapse_tick = { λ lapse. lapse };
+
+    ghost paced = { λ _. None };
+
+    ghost waited = { λ _. None };
+
+    ghost faults = { λ s. s.lapses };
+
+    fn pace(&mut self, _milliseconds: u16) {}
+
+    fn wait<R: Wait + Clock>(&mut self, _rt: &R, tick: Tick) -> Result<Tick, Tick> {
+        self.shown.store(u64::from(tick.get()), Ordering::SeqCst);
+        if tick.get() != 2 || is_replied(&self.awaited) {
+            return Ok(tick);
+        }
+        self.lapses = self.lapses.saturating_add(1);
+        Err(tick)
+    }
+
+    fn late(&mut self, lapse: Tick) -> Tick {
+        lapse
+    }
+
+    fn faults(&self) -> u64 {
+        self.lapses
+    }
+}
+
+/// The link of an agent. It is sent a reply, and asks for a quote once the count of another has come to a number.
 fn held(
     alloc: Global,
     agent: u8,
     sent: &LinesSent,
-    other: Option<&LinesSent>,
+    other: &LinesSent,
+    lines: u64,
 ) -> Result<HeldLink, Fail> {
     let mut bytes = b"hello seat".to_vec(alloc)?;
     bytes.push(b'0' + agent % 8)?;
-    bytes.extend_from_slice(b"\nown 2\nquit\n")?;
-    let hold = match other {
-        Some(other) => Some(Hold {
-            read: 3,
-            other: Arc::try_clone(other)?,
-            lines: 11,
-        }),
-        None => None,
+    bytes.extend_from_slice(b"\nown 2\nquote 0\nquit\n")?;
+    let hold = Hold {
+        read: 3,
+        other: Arc::try_clone(other)?,
+        lines,
     };
-    Ok(HeldLink::new(alloc, bytes, 1000, Arc::try_clone(sent)?, hold)?)
+    Ok(HeldLink::new(alloc, bytes, 1000, Arc::try_clone(sent)?, Some(hold))?)
 }
 
+// The agents and the clock wait for one another in a ring: each agent for the first reply to the next one, the last agent for the calls of
+// tick 1, and the clock for the first reply to agent 0. So nobody of the nine may run before or after the others.
 #[test]
-fn two_sessions_of_eight_wait_for_one_another(rt: HostRuntime) -> Result<(), Fail> {
+fn sessions_overlap(rt: HostRuntime) -> Result<(), Fail> {
     let alloc = rt.alloc();
+    let shown = Arc::new(alloc, AtomicU64::new(0))?;
     let first = Arc::new(alloc, AtomicU64::new(0))?;
-    let second = Arc::new(alloc, AtomicU64::new(0))?;
-    let others = Arc::new(alloc, AtomicU64::new(0))?;
+    let mut sent = Arc::try_clone(&first)?;
     let mut all = Vec::new(alloc);
-    all.push(held(alloc, 0, &first, Some(&second))?)?;
-    all.push(held(alloc, 1, &second, Some(&first))?)?;
-    for agent in 2..8u8 {
-        all.push(held(alloc, agent, &others, None)?)?;
+    for agent in 0..7u8 {
+        let next = Arc::new(alloc, AtomicU64::new(0))?;
+        all.push(held(alloc, agent, &sent, &next, 11)?)?;
+        sent = next;
     }
-    let Ok(end) = played(&rt, alloc, all, 0, 0)? else {
+    all.push(held(alloc, 7, &sent, &shown, 2)?)?;
+    let mut ticker = MeetingTicker {
+        shown,
+        awaited: first,
+        lapses: 0,
+    };
+    let Ok(end) = played(&rt, alloc, all, 0, &mut ticker)? else {
         return Err("no game".into());
     };
     let LogHead::Serve { ends, missed, .. } = &end.head else {
         return Err("another head".into());
     };
-    assert_eq!(rt; ends.len(), 8);
-    assert!(rt; *missed == 0 && ends.iter().all(|end| end.1 == Cause::Quit));
+    assert!(rt; ends.len() == 8 && ends.iter().all(|end| end.1 == Cause::Quit));
+    assert_eq!(rt; *missed, 0);
+    let Some(last) = end.links.get(7) else {
+        return Err("no link".into());
+    };
+    assert!(rt; !last.sent().ends_with(b"@0 quote 0 300 open\nbye\n"));
     Ok(())
 }

@@ -1,10 +1,9 @@
 use super::{SessionEnd, run_session};
 use crate::dialect::LineDialect;
-use crate::quiet_game::quiet_game;
 use floor::Floor;
 use game_text::Game;
 use line_protocol::Cause;
-use std::alloc::Global;
+use std::alloc::{AllocError, Global};
 use std::sync::Wait;
 use std::test::Fail;
 use std::time::Clock;
@@ -45,58 +44,42 @@ fn served<R: Wait + Clock>(
     Ok(run_session(rt, &floor, game, &LineDialect, desk, Lines::new(link)))
 }
 
+/// A text with more at its end.
+fn with_end(mut text: Vec<u8>, end: &[u8]) -> Result<Vec<u8>, AllocError> {
+    text.extend_from_slice(end)?;
+    Ok(text)
+}
+
 #[test]
 fn a_link_is_sent_the_welcome_and_a_line_for_each_of_its_lines(
     rt: HostRuntime,
 ) -> Result<(), Fail> {
     let alloc = rt.alloc();
-    let game = quiet_game(alloc)?;
-    let mut long = vec![in alloc; b'a'; 513]?;
-    long.extend_from_slice(b"\nquit\nown 0\n")?;
-    for (given, most_at_once, replies, cause, lines) in [
-        (
-            b"bid 0 ((1 300))\nown 0\n".as_slice(),
-            1000,
-            b"@0 taken 1 0\n@1 own 1 ()\n".as_slice(),
-            Cause::End,
-            2,
-        ),
-        (
-            b"bid 0 ((1 300))\nown 0\n",
-            1,
-            b"@0 taken 1 0\n@1 own 1 ()\n",
-            Cause::End,
-            2,
-        ),
+    let game = Game::default();
+    let at_the_limit = with_end(vec![in alloc; b'a'; 512]?, b"\n")?;
+    let too_long = with_end(vec![in alloc; b'a'; 513]?, b"\nquit\nown 0\n")?;
+    let asks = b"bid 0 ((1 300))\nown 0\n".as_slice();
+    let told = Some(b"@0 taken 1 0\n@1 own 1 ()\n".as_slice());
+    let quits = b"own 2\nquit\n".as_slice();
+    for (given, most_at_once, failing, replies, cause, lines) in [
+        (asks, 1000, (0, 0), told, Cause::End, 2),
+        (asks, 1, (0, 0), told, Cause::End, 2),
         (
             b"cash\nquote 8\nown 28\nown",
             7,
-            b"@0 cash 0\n@0 quote 0 0 open\nno auction\n",
+            (0, 0),
+            Some(b"@0 cash 0\n@0 quote 0 0 open\nno auction\n"),
             Cause::End,
             3,
         ),
-        (long.as_slice(), 1000, b"no toolong\nbye\n", Cause::Quit, 2),
-        (b"own 2", 1000, b"", Cause::End, 0),
+        (at_the_limit.as_slice(), 1000, (0, 0), Some(b"no syntax\n"), Cause::End, 1),
+        (too_long.as_slice(), 1000, (0, 0), Some(b"no toolong\nbye\n"), Cause::Quit, 2),
+        (&[b'a'; 513], 1000, (0, 0), Some(b""), Cause::End, 0),
+        (quits, 1000, (1, 0), Some(b""), Cause::ReadFault, 0),
+        (quits, 1000, (0, 1), None, Cause::WriteFault, 0),
+        (quits, 1000, (0, 3), Some(b"@0 own 0 ()\n"), Cause::WriteFault, 1),
     ] {
-        let end = served(&rt, alloc, &game, given, most_at_once, (0, 0))?;
-        let mut sent = WELCOME.to_vec(alloc)?;
-        sent.extend_from_slice(replies)?;
-        assert_eq!(rt; end.link.sent(), sent.as_slice());
-        assert!(rt; end.cause == cause && end.lines == lines);
-    }
-    Ok(())
-}
-
-#[test]
-fn a_session_ends_where_its_link_fails(rt: HostRuntime) -> Result<(), Fail> {
-    let alloc = rt.alloc();
-    let game = quiet_game(alloc)?;
-    for (failing, replies, cause, lines) in [
-        ((1, 0), Some(b"".as_slice()), Cause::ReadFault, 0),
-        ((0, 1), None, Cause::WriteFault, 0),
-        ((0, 3), Some(b"@0 own 0 ()\n"), Cause::WriteFault, 1),
-    ] {
-        let end = served(&rt, alloc, &game, b"own 2\nquit\n", 1000, failing)?;
+        let end = served(&rt, alloc, &game, given, most_at_once, failing)?;
         let mut sent = Vec::new(alloc);
         if let Some(replies) = replies {
             sent.extend_from_slice(WELCOME)?;
