@@ -7,7 +7,8 @@ ghost use Rattle.game_text.specs.ClientLines.{client_text};
 ghost use Rattle.game_text.specs.OneAgent.{lines_of_agent, agent_line};
 
 use crate::Game;
-use crate::printing::{client_numbers, endow_numbers};
+use crate::client_lines::client_numbers;
+use crate::endowments::endow_numbers;
 use tac_base::{Agent, Client, Text, print_signed};
 
 /// Appends a number after a space.

@@ -1,11 +1,16 @@
-ghost use Rattle.std.specs.Prelude.{◌≡◌, length, IsTrue};
+ghost use Rattle.std.specs.Prelude.{◌≡◌, ◌∷◌, [], length, IsTrue};
 ghost use Rattle.game_text.specs.Accounts as accounts;
+ghost use Rattle.game_text.specs.AgentLines as agents;
 ghost use Rattle.game_text.specs.ClientLines as clients;
 ghost use Rattle.text_forms.specs.Rows as rows;
 
 use crate::numbers::{byte_at, bytes_of, is_due};
+use std::alloc::AllocError;
 use tac_base::Client;
-use text_forms::{Column, Reason, read_row};
+use text_forms::{
+    BadLine, Column, Lines, Part, PrintedPart, Reason, at_line, print_parts, print_row, read_row,
+    repeat,
+};
 
 /// The numbers of a client's line: the agent, the client, the days, the premium and the values.
 fn client_columns() -> [Column; 8]
@@ -74,9 +79,79 @@ pub(crate) fn owned_of(client: u8, line: &[u8]) -> Result<Client, Reason>
 
 /// The client of a line of this agent and number, or the first reason that applies.
 #[tactic(auto, unfolding(crate::specs::ClientLines::client_of))]
-pub(crate) fn client_of(agent: u8, client: u8, line: &[u8]) -> Result<Client, Reason>
+fn client_of(agent: u8, client: u8, line: &[u8]) -> Result<Client, Reason>
     ensures { result ≡ clients.client_of agent client line.now }
 {
     let numbers = read_row(line, b"client", &client_columns())?;
     client_from(agent, client, &numbers)
+}
+
+/// The clients of an agent, each in a line of its own.
+#[derive(Drop)]
+struct AgentClients {
+    agent: u8,
+}
+
+impl Part for AgentClients {
+    type Value = Client;
+
+    ghost gives = { λ part client left. agents.client_part part.agent client left };
+
+    fn read<'a>(&self, client: u8, lines: Lines<'a>) -> Result<(Client, Lines<'a>), BadLine> {
+        let (line, left) = lines.due()?;
+        let client = at_line(line.number(), client_of(self.agent, client, line.bytes()))?;
+        Ok((client, left))
+    }
+}
+
+/// The numbers of a client's line.
+pub(crate) fn client_numbers(agent: u8, client: u8, wants: &Client) -> [i64; 8]
+    ensures { result ≡ clients.client_numbers agent client wants.now }
+{
+    [
+        i64::from(agent),
+        i64::from(client),
+        i64::from(wants.arrive),
+        i64::from(wants.depart),
+        i64::from(wants.premium),
+        i64::from(wants.values[0]),
+        i64::from(wants.values[1]),
+        i64::from(wants.values[2]),
+    ]
+}
+
+impl PrintedPart for AgentClients {
+    type Value = Client;
+
+    ghost lines = { λ part client wants. clients.client_text part.agent client wants ∷ [] };
+
+    fn print(&self, client: u8, wants: &Client, out: &mut Vec<u8>) -> Result<(), AllocError> {
+        print_row(out, b"client", &client_numbers(self.agent, client, wants))
+    }
+}
+
+/// The clients of all agents.
+#[derive(Drop)]
+pub(crate) struct AllClients;
+
+impl Part for AllClients {
+    type Value = [Client; 8];
+
+    ghost gives = { λ _ agent left. agents.agent_part agent left };
+
+    fn read<'a>(&self, agent: u8, lines: Lines<'a>) -> Result<([Client; 8], Lines<'a>), BadLine> {
+        let mut clients = [Client::default(); 8];
+        let left = repeat(&AgentClients { agent }, &mut clients, lines)?;
+        Ok((clients, left))
+    }
+}
+
+impl PrintedPart for AllClients {
+    type Value = [Client; 8];
+
+    ghost lines = { λ _ agent wants. agents.client_lines agent wants };
+
+    fn print(&self, agent: u8, wants: &[Client; 8], out: &mut Vec<u8>) -> Result<(), AllocError> {
+        print_parts(&AgentClients { agent }, wants, out)
+    }
 }

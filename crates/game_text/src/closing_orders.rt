@@ -70,3 +70,14 @@ pub(crate) fn order_of(line: &[u8]) -> Result<[Good; 8], Reason>
     let numbers = read_row(line, b"close", &[Column::within(8, 15); 8])?;
     order_from(&numbers)
 }
+
+/// The numbers of the closing order's line.
+pub(crate) fn order_numbers(order: &[Good; 8]) -> [i64; 8]
+    ensures { result ≡ map pos order.now }
+{
+    let mut numbers = [0; 8];
+    for (i, good) in order.iter().enumerate() {
+        numbers[i] = i64::from(good.get());
+    }
+    numbers
+}

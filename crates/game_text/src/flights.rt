@@ -1,11 +1,15 @@
-ghost use Rattle.std.specs.Prelude.{◌≡◌, ◌≤◌, ◌≤ℤ◌, pos, negsuc, map, length, replicate, unsigned_abs, IsTrue};
+ghost use Rattle.std.specs.Prelude.{◌≡◌, ◌≤◌, ◌≤ℤ◌, ◌∷◌, [], pos, negsuc, map, length, replicate, unsigned_abs, IsTrue};
 ghost use Rattle.std.specs.List.{list_all};
 ghost use Rattle.game_text.specs.Flights as flights;
+ghost use Rattle.game_text.specs.Games as games;
 ghost use Rattle.text_forms.specs.Rows as rows;
 
 use crate::numbers::{dollars_at, is_due, signed_at};
+use std::alloc::AllocError;
 use std::marker::Model;
-use text_forms::{Column, Digits, Reason, read_row};
+use text_forms::{
+    BadLine, Column, Digits, Lines, Part, PrintedPart, Reason, at_line, print_row, read_row,
+};
 
 /// How the price of a flight goes: the game description's flight rule, with draws that the file hands in.
 #[derive(Clone, Copy, Debug, PartialEq, Eq)]
@@ -95,7 +99,7 @@ fn flight_from(good: u8, numbers: &[i64]) -> Result<FlightLine, Reason>
 
 /// The flight of a line of this good, or the first reason that applies.
 #[tactic(auto, unfolding(crate::specs::Flights::flight_of))]
-pub(crate) fn flight_of(good: u8, line: &[u8]) -> Result<FlightLine, Reason>
+fn flight_of(good: u8, line: &[u8]) -> Result<FlightLine, Reason>
     ensures { result ≡ flights.flight_of good line.now }
 {
     let numbers = read_row(line, b"flight", &flight_columns())?;
@@ -106,5 +110,45 @@ pub(crate) fn flight_of(good: u8, line: &[u8]) -> Result<FlightLine, Reason>
 impl Default for FlightLine {
     fn default() -> Self {
         FlightLine::new(250, 10, &[0; 53])
+    }
+}
+
+/// The flights, each in a line of its own.
+#[derive(Drop)]
+pub(crate) struct Flights;
+
+impl Part for Flights {
+    type Value = FlightLine;
+
+    ghost gives = { λ _ good left. games.flight_part good left };
+
+    fn read<'a>(&self, good: u8, lines: Lines<'a>) -> Result<(FlightLine, Lines<'a>), BadLine> {
+        let (line, left) = lines.due()?;
+        let flight = at_line(line.number(), flight_of(good, line.bytes()))?;
+        Ok((flight, left))
+    }
+}
+
+/// The numbers of a flight's line.
+fn flight_numbers(good: u8, flight: &FlightLine) -> [i64; 56]
+    ensures { result ≡ flights.flight_numbers good flight.now }
+{
+    let mut numbers = [0; 56];
+    numbers[0] = i64::from(good);
+    numbers[1] = i64::from(flight.first);
+    numbers[2] = i64::from(flight.bound);
+    for (i, draw) in flight.draws.iter().enumerate() {
+        numbers[3 + i] = i64::from(*draw);
+    }
+    numbers
+}
+
+impl PrintedPart for Flights {
+    type Value = FlightLine;
+
+    ghost lines = { λ _ good flight. flights.flight_text good flight ∷ [] };
+
+    fn print(&self, good: u8, flight: &FlightLine, out: &mut Vec<u8>) -> Result<(), AllocError> {
+        print_row(out, b"flight", &flight_numbers(good, flight))
     }
 }

@@ -7,7 +7,7 @@ ghost use Rattle.text_forms.specs.Steps as steps;
 
 use crate::agents::{Agents, agents_in};
 use crate::closing_orders::order_of;
-use crate::flights::flight_of;
+use crate::flights::Flights;
 use crate::headers::{end_at, header_of};
 use crate::hotel_nights::{HotelNights, nights_in};
 use crate::seat_words::seats_of;
@@ -15,7 +15,7 @@ use crate::{FlightLine, GameFault, SeatWord};
 use std::marker::Model;
 use tac_base::limits::GAME_BYTES;
 use tac_base::{Client, Good};
-use text_forms::{BadLine, Lines, Part, at_line, repeat};
+use text_forms::{BadLine, Lines, at_line, repeat};
 
 /// What a game file says. The ranges are those of the game description; the form of the file is this project's own.
 #[derive(Debug, Drop)]
@@ -73,22 +73,6 @@ fn seats_at(lines: Lines<'_>) -> Result<([SeatWord; 8], Lines<'_>), BadLine>
     let (line, left) = lines.due()?;
     let words = at_line(line.number(), seats_of(line.bytes()))?;
     Ok((words, left))
-}
-
-/// The flights, each in a line of its own.
-#[derive(Drop)]
-struct Flights;
-
-impl Part for Flights {
-    type Value = FlightLine;
-
-    ghost gives = { λ _ good left. games.flight_part good left };
-
-    fn read<'a>(&self, good: u8, lines: Lines<'a>) -> Result<(FlightLine, Lines<'a>), BadLine> {
-        let (line, left) = lines.due()?;
-        let flight = at_line(line.number(), flight_of(good, line.bytes()))?;
-        Ok((flight, left))
-    }
 }
 
 /// Reads the line of the closing order.

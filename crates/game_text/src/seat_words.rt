@@ -1,4 +1,4 @@
-ghost use Rattle.std.specs.Prelude.{◌≡◌, ◌≤◌, ◌<◌, ◌-◌, ◌↔◌, ◌==◌, ◌∷◌, ◌++◌, length, replicate, IsTrue, IsOk, IfOk, IfSome, IfNone, Some, None, false, if◌then◌else◌};
+ghost use Rattle.std.specs.Prelude.{◌≡◌, ◌≤◌, ◌<◌, ◌-◌, ◌↔◌, ◌==◌, ◌∷◌, ◌++◌, length, replicate, IsTrue, IsOk, IfOk, IfSome, IfNone, Some, None, OnOk, [], false, if◌then◌else◌};
 ghost use Rattle.std.specs.List.{list_all, list_any};
 ghost use Rattle.std.specs.Str.{bytes_eq};
 ghost use Rattle.std.specs.Hash as fed;
@@ -8,6 +8,7 @@ ghost use Rattle.std.specs.Cmp.Rules.{hashing};
 ghost use Rattle.std.proofs.Common.{rules};
 ghost use Rattle.game_text.specs.SeatWords as seats;
 
+use std::alloc::AllocError;
 use std::hash::{Hash, Hasher};
 use std::marker::Model;
 use tac_base::OutOfRange;
@@ -210,4 +211,25 @@ pub(crate) fn seats_of(line: &[u8]) -> Result<[SeatWord; 8], Reason>
     } else {
         Err(Reason::Repeated)
     }
+}
+
+/// Appends the line of the seat words. After an error the text may end within it.
+pub(crate) fn print_seats(words: &[SeatWord; 8], out: &mut Vec<u8>) -> Result<(), AllocError>
+    ensures { OnOk result (out.new.items ≡ out.old.items ++ (seats.seats_text words.now ++ 10 ∷ [])) }
+{
+    out.extend_from_slice(b"words")?;
+    for word in words {
+        print_word(word, out)?;
+    }
+    out.push(b'\n')?;
+    Ok(())
+}
+
+/// Appends a word after a space. After an error the text may end within it.
+fn print_word(word: &SeatWord, out: &mut Vec<u8>) -> Result<(), AllocError>
+    ensures { OnOk result (out.new.items ≡ out.old.items ++ 32 ∷ word.now) }
+{
+    out.push(b' ')?;
+    out.extend_from_slice(word.as_slice())?;
+    Ok(())
 }

@@ -1,5 +1,5 @@
 use Rattle.std.proofs.Common.{◌≡◌, ◌+◌, ◌∷◌, pos, map, take, length}
-use Rattle.game_text.proofs.printing.endow_numbers.Given as goal
+use Rattle.game_text.proofs.endowments.endow_numbers.Given as goal
 
 abbrev pub invariant-loop-i : goal.invariant-loop-i
 invariant-loop-i l = record {

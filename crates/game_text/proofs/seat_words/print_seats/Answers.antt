@@ -3,7 +3,7 @@ use Rattle.std.specs.Prelude.{codes}
 use Rattle.std.specs.List.{join_with_byte}
 use Rattle.std.proofs.lemmas.List.{map-id}
 use Rattle.text_forms.proofs.RowLoops.{line_done}
-use Rattle.game_text.proofs.printing.print_seats.Goals as goal
+use Rattle.game_text.proofs.seat_words.print_seats.Goals as goal
 
 pub returns : goal.returns
 returns c =
