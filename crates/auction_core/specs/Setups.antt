@@ -1,5 +1,5 @@
 -- What a game says of an auction.
-use Rattle.std.specs.Prelude.{ℕ, ◌-◌, ◌≤◌, ⊤, false, List, ℤ, pos, ◌≤ℤ◌, map, replicate, slice_index_or}
+use Rattle.std.specs.Prelude.{ℕ, ◌-◌, ◌≤◌, ⊤, false, List, ℤ, pos, negsuc, ◌≤ℤ◌, map, replicate, slice_index_or}
 use Rattle.tac_base.specs.declared.numbers.Kind.{Kind}
 use Rattle.tac_base.specs.declared.numbers.Kind.TheVariants.{Flight, Hotel, Ticket}
 use Rattle.tac_base.specs.Kinds.{kind_of}
@@ -29,6 +29,13 @@ endow_by game good kind = replicate 8 (pos 0)
 -- the setup of the auction of a good
 abbrev pub setup_of : ℕ → GameFile → Setup
 setup_of good game = record { good = good; rules = rules_by game good (kind_of good); endow = endow_by game good (kind_of good) }
+
+-- rules of a kind of good: a flight begins at 250..400 and has a bound of -10..30, and a hotel has a room
+abbrev pub AreRulesOf : Kind → Rules → Type 0
+AreRulesOf Flight (FlightRules first bound) = (250 ≤ first) × (first ≤ 400) × (negsuc 9 ≤ℤ bound) × (bound ≤ℤ pos 30)
+AreRulesOf Hotel (HotelRules rooms live) = 1 ≤ rooms
+AreRulesOf Ticket TicketRules = ⊤
+AreRulesOf kind rules = ⊥
 
 -- rules that a game may have: a flight begins at 250..400, and a hotel has a room
 abbrev pub AreInRange : Rules → Type 0

@@ -58,10 +58,11 @@ impl Auction {
         let entries = Vec::with_capacity(alloc, ENTRIES)?;
         let trades = Vec::with_capacity(alloc, TRADES)?;
         let terms = Terms::new(good, game);
+        let book = Book::new(good, terms.rules);
         let held = GoodBook::new(terms.holdings());
         Ok(Auction {
             terms,
-            book: Book::new(good, game),
+            book,
             held,
             entries,
             trades,

@@ -1,4 +1,5 @@
 ghost use Rattle.std.specs.Prelude.{◌≡◌, ◌+◌, ◌≤◌, ◌==◌, if◌then◌else◌, [], length, List, pos, slice_index_or, Some, None};
+ghost use Rattle.tac_base.specs.Kinds.{kind_of};
 ghost use Rattle.auction_rules.specs.Setup.{Setup};
 ghost use Rattle.auction_rules.specs.History.{Entry};
 ghost use Rattle.auction_rules.specs.Board as boards;
@@ -6,13 +7,13 @@ ghost use Rattle.auction_rules.specs.Follows.{Follows};
 ghost use Rattle.auction_rules.specs.Traded.{Spends};
 ghost use Rattle.auction_core.specs.Books.{Stands, units_left, held_by};
 ghost use Rattle.auction_core.specs.Calls.{IsFit};
-ghost use Rattle.auction_core.specs.Setups.{setup_of};
+ghost use Rattle.auction_core.specs.Setups.{AreRulesOf};
 
 use crate::{flight_calls, hotel_calls, ticket_calls};
+use auction_rules::Rules;
 use flight_auction::Flight;
-use game_text::Game;
 use hotel_book::Hotel;
-use tac_base::{Agent, Board, Call, Caller, Fills, Good, Kind, Left, Reply};
+use tac_base::{Agent, Board, Call, Caller, Fills, Good, Left, Reply};
 use ticket_book::Tickets;
 use trade_ledger::GoodBook;
 
@@ -42,17 +43,15 @@ pub(crate) fn owned(held: &GoodBook, agent: Agent, left: Left) -> Reply
 }
 
 impl Book {
-    /// The book of a good in a game, in which nobody has bid.
-    pub(crate) fn new(good: Good, game: &Game) -> Book
-        ensures { Stands result (setup_of good game.now) [] }
+    /// The book of a good with its rules, in which nobody has bid.
+    pub(crate) fn new(good: Good, rules: Rules) -> Book
+        requires { AreRulesOf (kind_of good) rules }
+        ensures { (setup : Setup) → setup.good ≡ good → setup.rules ≡ rules → Stands result setup [] }
     {
-        match good.kind() {
-            Kind::Flight => {
-                let flight = &game.flights[usize::from(good.get())];
-                Book::Flight(Flight::new(good, flight.first, flight.bound))
-            }
-            Kind::Hotel => Book::Hotel(Hotel::new(good)),
-            Kind::Ticket => Book::Tickets(Tickets::new(good)),
+        match rules {
+            Rules::Flight { first, bound } => Book::Flight(Flight::new(good, first, bound)),
+            Rules::Hotel { rooms, live } => Book::Hotel(Hotel::new(good, rooms, live)),
+            Rules::Tickets => Book::Tickets(Tickets::new(good)),
         }
     }
 

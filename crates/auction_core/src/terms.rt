@@ -1,7 +1,7 @@
 ghost use Rattle.std.specs.Prelude.{◌≡◌, ◌-◌, [], pos, map, slice_index_or};
 ghost use Rattle.tac_base.specs.Kinds.{kind_of};
 ghost use Rattle.auction_core.specs.Setups as setups;
-ghost use Rattle.auction_core.specs.Setups.{setup_of, endow_by, AreInRange, AreEndowed};
+ghost use Rattle.auction_core.specs.Setups.{setup_of, endow_by, AreRulesOf, AreInRange, AreEndowed};
 ghost use Rattle.auction_core.specs.Books.{held_by};
 
 use auction_rules::Rules;
@@ -14,7 +14,7 @@ use tac_base::{Good, Kind};
 #[derive(Debug, Drop)]
 pub struct Terms {
     pub(crate) good: Good,
-    rules: Rules,
+    pub(crate) rules: Rules,
     /// How many units each agent has at first.
     endow: [i32; 8],
 }
@@ -30,6 +30,7 @@ impl Model for Terms {
 /// The rules of a good. A hotel night has 16 rooms, and its quotes are not live.
 fn rules_by(good: Good, game: &Game) -> Rules
     ensures value { result ≡ setups.rules_by game.now good (kind_of good) }
+    ensures of_kind { AreRulesOf (kind_of good) result }
     ensures range { AreInRange result }
 {
     match good.kind() {
@@ -77,6 +78,7 @@ impl Terms {
     /// What a game says of a good.
     pub(crate) fn new(good: Good, game: &Game) -> Terms
         ensures value { result ≡ setup_of good game.now }
+        ensures of_kind { AreRulesOf (kind_of good) result.rules }
         ensures range { AreInRange result.rules }
         ensures few { AreEndowed result.endow }
     {

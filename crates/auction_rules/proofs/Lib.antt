@@ -23,3 +23,4 @@ pub mod Outbids
 pub mod Quoted
 pub mod FlightPrices
 pub mod ClosingTrades
+pub mod Shown

@@ -1,4 +1,5 @@
 pub mod Units
+pub mod Shown
 pub mod Setup
 pub mod History
 pub mod Effects

@@ -1,10 +1,11 @@
 ghost use Rattle.std.specs.Prelude.{◌≡◌, ◌+◌, ◌<◌, ◌≤◌, ◌++◌, length, All};
 ghost use Rattle.tac_base.specs.Bids.{size_of};
 ghost use Rattle.auction_rules.specs.Units as spec;
+ghost use Rattle.auction_rules.specs.Shown.{shown_unit};
 ghost use Rattle.auction_rules.specs.Refusals as refusals;
 
 use arrayvec::ArrayVec;
-use tac_base::{Agent, Point, Points};
+use tac_base::{Agent, Point, Points, Unit};
 
 /// A bid, and the position in the history at which it was made.
 #[derive(Debug, Drop)]
@@ -23,6 +24,20 @@ pub struct BidUnit {
     pub price: u16,
     pub position: u32,
     pub index: u8,
+}
+
+impl BidUnit {
+    /// The unit without its side, as the books of hotels and tickets show it.
+    pub fn shown(&self) -> Unit
+        ensures { result ≡ shown_unit self.now }
+    {
+        Unit {
+            agent: self.agent,
+            price: self.price,
+            position: self.position,
+            index: self.index,
+        }
+    }
 }
 
 /// Whether some point sells.

@@ -1,5 +1,5 @@
 -- What one more entry changes of what a hotel keeps.
-use Rattle.std.proofs.Common.{◌≡◌, ℕ, ◌≤◌, Bool, true, false, List, [], ◌∷◌, length, min, refl, sym, ap, ◌∙◌, set, Option, Some, None}
+use Rattle.std.proofs.Common.{◌≡◌, ℕ, ◌≤◌, Bool, true, false, List, [], ◌∷◌, length, min, refl, sym, ap, ◌∙◌, set, subst, arith, Option, Some, None}
 use Rattle.std.specs.Prelude.{if◌then◌else◌, not, ◌&&◌, ◌||◌}
 use Rattle.tac_base.specs.declared.bids.Point.{Point}
 use Rattle.tac_base.specs.declared.calls.Trade.{Trade}
@@ -16,6 +16,7 @@ use Rattle.auction_rules.specs.declared.rules.Rules.TheVariants.{Hotel as HotelR
 use Rattle.auction_rules.specs.History.{Entry, is_closed, last_bid, last_bids, bid_units, units_of_bids, is_own}
 use Rattle.auction_rules.specs.Standing.{stand}
 use Rattle.auction_rules.specs.Ask.{ask, published}
+use Rattle.auction_rules.specs.WinningNumber.{winning, winning_number}
 use Rattle.auction_rules.specs.HotelClosing.{sold_units, closing_trades}
 use Rattle.auction_rules.specs.Refusals.{refusal, is_wrong_caller, is_wrong_place}
 use Rattle.auction_rules.specs.Follows.{Follows}
@@ -23,32 +24,41 @@ use Rattle.auction_rules.proofs.HotelUnits.{open_stand, sells_what_stands}
 use Rattle.auction_rules.proofs.Steps.{refused_entry, entry_refused, entry_admitted, refusal_refuses, follows}
 use Rattle.auction_rules.proofs.Agents.{agents_set, not_clock}
 use Rattle.auction_rules.proofs.Idle.{IsIdle, idle_refused, idle_bids, idle_published, idle_closed, wrong_follows}
-use Rattle.hotel_book.specs.Book.{HotelBook, hotel_book, StandsFor, open_refusal, book_refusal}
+use Rattle.hotel_book.specs.Book.{HotelBook, hotel_book, StandsFor, standing, with_bid, book_refusal, winner_trades}
+
+-- ---- what stands
+
+-- the units of the bids stand in an open hotel, and none in a closed one
+pub stands_is : (setup : Setup) (past : List Entry) (book : HotelBook) → StandsFor book setup past → stand setup.rules past ≡ standing book.bids book.closed
+stands_is setup past book stood =
+    ap (λ (rules : Rules). stand rules past) stood.rules ∙ by_state (is_closed past) refl
+    ∙ sym (ap (λ (b : HotelBook). standing b.bids b.closed) stood.kept)
+  where
+    by_state : (b : Bool) → is_closed past ≡ b → stand (HotelRules book.rooms book.live) past ≡ standing (last_bids past) (is_closed past)
+    by_state true h = rw h refl
+    by_state false h = open_stand book.rooms book.live past h ∙ ap (standing (last_bids past)) (sym h)
 
 -- ---- the refusal of a bid
 
-refusal_open : (rooms : ℕ) (live : Bool) (past : List Entry) (agent : ℕ) (points : List Point) → agent ≤ 7 → is_closed past ≡ false →
-    refusal (HotelRules rooms live) past agent (Bid points) ≡ open_refusal rooms (bid_units past) (published rooms live past) agent points
-refusal_open rooms live past agent points le h = let agents_bid = not_clock agent le in let stands = open_stand rooms live past h in rw (stands, h, agents_bid)
-
 refusal_is : (rooms : ℕ) (live : Bool) (past : List Entry) (agent : ℕ) (points : List Point) → agent ≤ 7 →
-    refusal (HotelRules rooms live) past agent (Bid points) ≡ book_refusal rooms (bid_units past) (published rooms live past) (is_closed past) agent points
+    refusal (HotelRules rooms live) past agent (Bid points) ≡ book_refusal (winning_number rooms live past agent) (published rooms live past) (is_closed past) points
 refusal_is rooms live past agent points le = by_state (is_closed past) refl
   where
-    by_state : (b : Bool) → is_closed past ≡ b → refusal (HotelRules rooms live) past agent (Bid points) ≡ book_refusal rooms (bid_units past) (published rooms live past) b agent points
+    by_state : (b : Bool) → is_closed past ≡ b → refusal (HotelRules rooms live) past agent (Bid points) ≡ book_refusal (winning_number rooms live past agent) (published rooms live past) b points
     by_state true h = rw h
-    by_state false h = refusal_open rooms live past agent points le h
+    by_state false h = let agents_bid = not_clock agent le in rw (h, agents_bid)
 
--- what the rules refuse, by what the book keeps
-refused_by : (setup : Setup) (past : List Entry) (book : HotelBook) (agent : ℕ) (points : List Point) → StandsFor book setup past → agent ≤ 7 →
-    refusal setup.rules past agent (Bid points) ≡ book_refusal book.rooms (units_of_bids book.bids) book.published book.closed agent points
-refused_by setup past book agent points stood le =
+-- what the rules refuse, by what the book keeps and the units that the agent would win
+refused_by : (setup : Setup) (past : List Entry) (book : HotelBook) (agent won : ℕ) (points : List Point) → StandsFor book setup past → agent ≤ 7 → won ≡ winning_number book.rooms book.live past agent →
+    refusal setup.rules past agent (Bid points) ≡ book_refusal won book.published book.closed points
+refused_by setup past book agent won points stood le wins =
     ap (λ (rules : Rules). refusal rules past agent (Bid points)) stood.rules ∙ refusal_is book.rooms book.live past agent points le
-    ∙ sym (ap (λ (b : HotelBook). book_refusal book.rooms (units_of_bids b.bids) b.published b.closed agent points) stood.kept)
+    ∙ ap (λ (n : ℕ). book_refusal n (published book.rooms book.live past) (is_closed past) points) (sym wins)
+    ∙ sym (ap (λ (b : HotelBook). book_refusal won b.published b.closed points) stood.kept)
 
-is_open : (rooms : ℕ) (units : List BidUnit) (price : ℕ) (closed : Bool) (agent : ℕ) (points : List Point) → book_refusal rooms units price closed agent points ≡ None → closed ≡ false
-is_open rooms units price true agent points h = absurd cc
-is_open rooms units price false agent points h = refl
+pub is_open : (won price : ℕ) (closed : Bool) (points : List Point) → book_refusal won price closed points ≡ None → closed ≡ false
+is_open won price true points h = absurd cc
+is_open won price false points h = refl
 
 -- ---- the calls
 
@@ -67,18 +77,18 @@ follows_refused setup past caller call book reply trades stood refused none =
 
 -- a call that hotels do not have, or that its caller may not make
 pub follows_wrong : (setup : Setup) (past : List Entry) (caller : ℕ) (call : Call) (book : HotelBook) (reply : Reply) → StandsFor book setup past →
-    (is_wrong_caller caller call || is_wrong_place (HotelRules 16 false) call) ≡ true → reply ≡ (if not (is_own call) && book.closed then Closed else WrongCall) →
+    (is_wrong_caller caller call || is_wrong_place (HotelRules book.rooms book.live) call) ≡ true → reply ≡ (if not (is_own call) && book.closed then Closed else WrongCall) →
     Follows setup past caller call reply [] (StandsFor book setup)
 follows_wrong setup past caller call book reply stood wrong replied =
-    wrong_follows setup past caller call (HotelRules 16 false) book.closed reply (StandsFor book setup) (rw stood.rules tt) wrong (ap (λ (b : HotelBook). b.closed) stood.kept) replied
+    wrong_follows setup past caller call (HotelRules book.rooms book.live) book.closed reply (StandsFor book setup) (rw stood.rules tt) wrong (ap (λ (b : HotelBook). b.closed) stood.kept) replied
     (λ e idle. idle_keeps book setup past e idle stood)
 
 -- a bid that the book refuses
-pub follows_refused_bid : (setup : Setup) (past : List Entry) (agent : ℕ) (points : List Point) (book : HotelBook) (reply : Reply) (trades : List Trade) → agent ≤ 7 →
-    StandsFor book setup past → book_refusal book.rooms (units_of_bids book.bids) book.published book.closed agent points ≡ Some reply → trades ≡ [] →
+pub follows_refused_bid : (setup : Setup) (past : List Entry) (agent won : ℕ) (points : List Point) (book : HotelBook) (reply : Reply) (trades : List Trade) → agent ≤ 7 →
+    StandsFor book setup past → won ≡ winning_number book.rooms book.live past agent → book_refusal won book.published book.closed points ≡ Some reply → trades ≡ [] →
     Follows setup past agent (Bid points) reply trades (StandsFor book setup)
-follows_refused_bid setup past agent points book reply trades le stood refused none =
-    follows_refused setup past agent (Bid points) book reply trades stood (refused_by setup past book agent points stood le ∙ refused) none
+follows_refused_bid setup past agent won points book reply trades le stood wins refused none =
+    follows_refused setup past agent (Bid points) book reply trades stood (refused_by setup past book agent won points stood le wins ∙ refused) none
 
 -- an admitted bid
 abbrev taken_entry : ℕ → List Point → Entry
@@ -97,16 +107,19 @@ same_books : (rooms : ℕ) (live : Bool) (good good' : ℕ) (bids bids' : List (
     good ≡ good' → bids ≡ bids' → price ≡ price' → closed ≡ closed' → book_of rooms live good bids price closed ≡ book_of rooms live good' bids' price' closed'
 same_books rooms live good good' bids bids' price price' closed closed' g b p c = rw (g, b, p, c)
 
-pub follows_taken : (setup : Setup) (past : List Entry) (at agent : ℕ) (points : List Point) (book : HotelBook) (bids : List (Option Placed)) (price : ℕ) (trades : List Trade) →
-    agent ≤ 7 → at ≡ length past → StandsFor book setup past → book_refusal book.rooms (units_of_bids book.bids) book.published book.closed agent points ≡ None →
-    bids ≡ set book.bids agent (Some (record { agent = agent; position = at; points = points })) →
-    price ≡ (if book.live then ask book.rooms (units_of_bids bids) else book.published) → trades ≡ [] →
-    Follows setup past agent (Bid points) (Taken 0 0) trades (StandsFor (record book { bids = bids; published = price }) setup)
-follows_taken setup past at agent points book bids price trades le here stood taken placed quoted none =
-    follows setup past agent (Bid points) (taken_entry agent points) (Taken 0 0) trades (StandsFor (record book { bids = bids; published = price }) setup)
-    (entry_admitted setup past agent (Bid points) (refused_by setup past book agent points stood le ∙ taken) ∙ rw stood.rules) refl none
-    (record { rules = stood.rules; kept = same_books book.rooms book.live _ _ _ _ _ _ _ _ good now quote closed })
+pub follows_taken : (setup : Setup) (past : List Entry) (at agent won : ℕ) (points : List Point) (book book' : HotelBook) (trades : List Trade) →
+    agent ≤ 7 → at ≡ length past → StandsFor book setup past → won ≡ winning_number book.rooms book.live past agent → book_refusal won book.published book.closed points ≡ None →
+    book' ≡ with_bid book (record { agent = agent; position = at; points = points }) → trades ≡ [] →
+    Follows setup past agent (Bid points) (Taken 0 0) trades (StandsFor book' setup)
+follows_taken setup past at agent won points book book' trades le here stood wins taken placed none =
+    follows setup past agent (Bid points) (taken_entry agent points) (Taken 0 0) trades (StandsFor book' setup)
+    (entry_admitted setup past agent (Bid points) (refused_by setup past book agent won points stood le wins ∙ taken) ∙ rw stood.rules) refl none
+    (subst (λ (b : HotelBook). StandsFor b setup (taken_entry agent points ∷ past)) (sym placed)
+    (record { rules = stood.rules; kept = same_books book.rooms book.live _ _ _ _ _ _ _ _ good now quote closed }))
   where
+    bids : List (Option Placed)
+    bids = set book.bids agent (Some (record { agent = agent; position = at; points = points }))
+
     good : book.good ≡ setup.good
     good = ap (λ (b : HotelBook). b.good) stood.kept
 
@@ -117,18 +130,18 @@ follows_taken setup past at agent points book bids price trades le here stood ta
     was = ap (λ (b : HotelBook). b.published) stood.kept
 
     now : bids ≡ last_bids (taken_entry agent points ∷ past)
-    now = placed ∙ rw (here, ap (λ (b : HotelBook). b.bids) stood.kept)
+    now = rw (here, ap (λ (b : HotelBook). b.bids) stood.kept)
         (sym (agents_set agent (Some (record { agent = agent; position = length past; points = points })) (λ (a : ℕ). last_bid a past) le))
 
     still_open : is_closed past ≡ false
-    still_open = sym closed ∙ is_open book.rooms (units_of_bids book.bids) book.published book.closed agent points taken
+    still_open = sym closed ∙ is_open won book.published book.closed points taken
 
-    quote : price ≡ published book.rooms book.live (taken_entry agent points ∷ past)
-    quote = quoted ∙ rw (now, was) (sym (published_by_bid book.rooms book.live agent points past still_open))
+    quote : (if book.live then ask book.rooms (units_of_bids bids) else book.published) ≡ published book.rooms book.live (taken_entry agent points ∷ past)
+    quote = rw (now, was) (sym (published_by_bid book.rooms book.live agent points past still_open))
 
 -- an admitted publication
 pub follows_published : (setup : Setup) (past : List Entry) (book : HotelBook) (price : ℕ) →
-    StandsFor book setup past → book.closed ≡ false → price ≡ ask book.rooms (units_of_bids book.bids) →
+    StandsFor book setup past → book.closed ≡ false → price ≡ ask book.rooms (stand setup.rules past) →
     Follows setup past clock Publish Done [] (StandsFor (record book { published = price }) setup)
 follows_published setup past book price stood not_closed priced =
     follows setup past clock Publish (record { caller = clock; call = Publish; reply = Done; trades = [] }) Done [] (StandsFor (record book { published = price }) setup)
@@ -148,18 +161,31 @@ follows_published setup past book price stood not_closed priced =
     still_open = sym closed ∙ not_closed
 
     asked : price ≡ ask book.rooms (stand (HotelRules book.rooms book.live) past)
-    asked = priced ∙ ap (λ (bs : List (Option Placed)). ask book.rooms (units_of_bids bs)) bids ∙ ap (ask book.rooms) (sym (open_stand book.rooms book.live past still_open))
+    asked = priced ∙ ap (λ (rules : Rules). ask book.rooms (stand rules past)) stood.rules
+
+-- the trades of a closing, by what each agent wins
+trades_are : (good rooms price : ℕ) (won : ℕ → ℕ) (units : List BidUnit) → price ≡ ask rooms units → ((agent : ℕ) → agent ≤ 7 → won agent ≡ winning rooms units agent) →
+    winner_trades good price won ≡ closing_trades good rooms units
+trades_are good rooms price won units priced wins =
+    rw (priced, wins 0 (omega arith), wins 1 (omega arith), wins 2 (omega arith), wins 3 (omega arith), wins 4 (omega arith), wins 5 (omega arith), wins 6 (omega arith), wins 7 (omega arith)) refl
 
 -- an admitted closing
-pub follows_closed : (setup : Setup) (past : List Entry) (book : HotelBook) (sold price : ℕ) (trades : List Trade) →
+pub follows_closed : (setup : Setup) (past : List Entry) (book : HotelBook) (sold price : ℕ) (won : ℕ → ℕ) (trades : List Trade) →
     StandsFor book setup past → book.closed ≡ false →
-    sold ≡ sold_units book.rooms (units_of_bids book.bids) → price ≡ ask book.rooms (units_of_bids book.bids) → trades ≡ closing_trades book.good book.rooms (units_of_bids book.bids) →
+    sold ≡ min book.rooms (length (stand setup.rules past)) → price ≡ ask book.rooms (stand setup.rules past) →
+    ((agent : ℕ) → agent ≤ 7 → won agent ≡ winning book.rooms (stand setup.rules past) agent) → trades ≡ winner_trades book.good price won →
     Follows setup past clock Close (Sold sold price) trades (StandsFor (record book { published = price; closed = true }) setup)
-follows_closed setup past book sold price trades stood not_closed counted priced traded =
+follows_closed setup past book sold price won trades stood not_closed counted priced wins traded =
     follows setup past clock Close (record { caller = clock; call = Close; reply = Sold sold price; trades = trades }) (Sold sold price) trades (StandsFor (record book { published = price; closed = true }) setup)
-    (rw (stood.rules, still_open, units, counted, priced, traded, good)) refl refl
+    (rw (stood.rules, still_open, counts, asked, sold_is) refl) refl refl
     (record { rules = stood.rules; kept = same_books book.rooms book.live _ _ _ _ _ _ true true good bids asked refl })
   where
+    units : List BidUnit
+    units = stand (HotelRules book.rooms book.live) past
+
+    here : stand setup.rules past ≡ units
+    here = ap (λ (rules : Rules). stand rules past) stood.rules
+
     good : book.good ≡ setup.good
     good = ap (λ (b : HotelBook). b.good) stood.kept
 
@@ -169,22 +195,13 @@ follows_closed setup past book sold price trades stood not_closed counted priced
     still_open : is_closed past ≡ false
     still_open = sym (ap (λ (b : HotelBook). b.closed) stood.kept) ∙ not_closed
 
-    units : stand (HotelRules book.rooms book.live) past ≡ units_of_bids book.bids
-    units = open_stand book.rooms book.live past still_open ∙ sym (ap units_of_bids bids)
+    asked : price ≡ ask book.rooms units
+    asked = priced ∙ ap (ask book.rooms) here
 
-    asked : price ≡ ask book.rooms (stand (HotelRules book.rooms book.live) past)
-    asked = priced ∙ ap (ask book.rooms) (sym units)
+    counts : sold ≡ sold_units book.rooms units
+    counts = counted ∙ ap (λ (us : List BidUnit). min book.rooms (length us)) here ∙ sym (sells_what_stands book.rooms book.live past)
 
--- a closing sells as many units as stand, up to the rooms, each at the ask
-pub closing_sells : (setup : Setup) (past : List Entry) (book : HotelBook) (sold price : ℕ) → StandsFor book setup past → book.closed ≡ false →
-    sold ≡ sold_units book.rooms (units_of_bids book.bids) → price ≡ ask book.rooms (units_of_bids book.bids) →
-    Sold sold price ≡ Sold (min book.rooms (length (stand setup.rules past))) (ask book.rooms (stand setup.rules past))
-closing_sells setup past book sold price stood not_closed counted priced =
-    rw (
-      counted ∙ ap (sold_units book.rooms) (sym units) ∙ sells_what_stands book.rooms book.live past,
-      priced ∙ ap (ask book.rooms) (sym units),
-      stood.rules,
-    ) refl
-  where
-    units : stand (HotelRules book.rooms book.live) past ≡ units_of_bids book.bids
-    units = open_stand book.rooms book.live past (sym (ap (λ (b : HotelBook). b.closed) stood.kept) ∙ not_closed) ∙ sym (ap units_of_bids (ap (λ (b : HotelBook). b.bids) stood.kept))
+    sold_is : trades ≡ closing_trades setup.good book.rooms units
+    sold_is =
+        traded ∙ trades_are book.good book.rooms price won units asked (λ agent le. wins agent le ∙ ap (λ (us : List BidUnit). winning book.rooms us agent) here)
+        ∙ ap (λ (g : ℕ). closing_trades g book.rooms units) good

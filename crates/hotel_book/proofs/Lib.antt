@@ -1,6 +1,8 @@
 pub mod Offers
-pub mod Prices
+pub mod Sorting
+pub mod Winners
+pub mod Bids
 pub mod Keeping
+pub mod Showing
 pub mod Owning
-pub mod Runs
 pub mod Selling

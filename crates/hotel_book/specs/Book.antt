@@ -1,15 +1,21 @@
 -- What a contract sees of a hotel auction, and the pasts that it stands for.
-use Rattle.std.specs.Prelude.{◌≡◌, ℕ, ◌+◌, max, Bool, nat_lt, if◌then◌else◌, List, Option, Some, None}
+use Rattle.std.specs.Prelude.{◌≡◌, ℕ, suc, ◌+◌, ◌≤◌, ◌==◌, max, ⊤, Bool, nat_lt, if◌then◌else◌, List, [], ◌∷◌, length, slice_set, Option, Some, None}
+use Rattle.std.specs.List.{filter_map}
 use Rattle.tac_base.specs.declared.bids.Point.{Point}
+use Rattle.tac_base.specs.declared.calls.Trade.{Trade}
 use Rattle.tac_base.specs.declared.calls.Reply.{Reply}
 use Rattle.tac_base.specs.declared.calls.Reply.TheVariants.{Closed, Sell, BelowQuote}
+use Rattle.tac_base.specs.declared.units.Unit.{Unit as ShownUnit}
+use Rattle.tac_base.specs.declared.limits.TheConstants.{BID_PRICE}
+use Rattle.tac_base.specs.Goods.{agents, house}
 use Rattle.auction_rules.specs.declared.units.Placed.{Placed}
 use Rattle.auction_rules.specs.declared.units.BidUnit.{BidUnit}
 use Rattle.auction_rules.specs.Setup.{Setup}
 use Rattle.auction_rules.specs.declared.rules.Rules.TheVariants.{Hotel as HotelRules}
-use Rattle.auction_rules.specs.History.{Entry, last_bids, is_closed}
-use Rattle.auction_rules.specs.Ask.{published}
-use Rattle.auction_rules.specs.WinningNumber.{winning}
+use Rattle.auction_rules.specs.Units.{units_of}
+use Rattle.auction_rules.specs.Shown.{AreShown}
+use Rattle.auction_rules.specs.History.{Entry, last_bids, is_closed, units_of_bids}
+use Rattle.auction_rules.specs.Ask.{published, ask}
 use Rattle.auction_rules.specs.BeatQuote.{offered}
 use Rattle.auction_rules.specs.Refusals.{sells}
 
@@ -32,18 +38,49 @@ pub record StandsFor (book : HotelBook) (setup : Setup) (past : List Entry) : Ty
   pub rules : setup.rules ≡ HotelRules book.rooms book.live
   pub kept : book ≡ hotel_book setup.good book.rooms book.live past
 
+-- each bid is of the agent in whose place it is kept, from an agent on, and has at most 16 units
+abbrev pub AreOwn : ℕ → List (Option Placed) → Type 0
+AreOwn from [] = ⊤
+AreOwn from (None ∷ bids) = AreOwn (suc from) bids
+AreOwn from (Some bid ∷ bids) = (bid.agent ≡ from) × (length (units_of bid) ≤ 16) × AreOwn (suc from) bids
+
+-- what stands of the bids: all their units in an open hotel, and nothing in a closed one
+abbrev pub standing : List (Option Placed) → Bool → List BidUnit
+standing bids closed = if closed then [] else units_of_bids bids
+
+-- the units that a hotel keeps in order are those that stand
+pub record IsKept (bids : List (Option Placed)) (closed : Bool) (units : List ShownUnit) (price : ℕ) : Type 0 where
+  pub eight : length bids ≡ 8
+  pub own : AreOwn 0 bids
+  pub shown : AreShown (standing bids closed) units
+  pub priced : price ≤ BID_PRICE
+
+-- a book with a bid in place of its agent's earlier one; where quotes are live, the ask of the units that then stand is published
+abbrev pub with_bid : HotelBook → Placed → HotelBook
+with_bid book bid =
+    let bids = slice_set book.bids bid.agent (Some bid) in
+    record book { bids = bids; published = if book.live then ask book.rooms (units_of_bids bids) else book.published }
+
 -- how many units may still be sold: 16 of each of the eight agents while the hotel is open
 abbrev pub units_left : HotelBook → ℕ
 units_left book = if book.closed then 0 else 128
 
--- the refusal of an agent's bid where these units stand, if there is one
-abbrev pub open_refusal : ℕ → List BidUnit → ℕ → ℕ → List Point → Option Reply
-open_refusal rooms units price agent points =
+-- the refusal of the bid of an agent that would win so many units, if there is one
+abbrev pub open_refusal : ℕ → ℕ → List Point → Option Reply
+open_refusal won price points =
     if sells points then Some Sell
-    else if nat_lt (offered points (price + 1)) (max 1 (winning rooms units agent))
-    then Some (BelowQuote (max 1 (winning rooms units agent)) (price + 1) (offered points (price + 1)))
+    else if nat_lt (offered points (price + 1)) (max 1 won)
+    then Some (BelowQuote (max 1 won) (price + 1) (offered points (price + 1)))
     else None
 
 -- the same, where the hotel may be closed
-abbrev pub book_refusal : ℕ → List BidUnit → ℕ → Bool → ℕ → List Point → Option Reply
-book_refusal rooms units price closed agent points = if closed then Some Closed else open_refusal rooms units price agent points
+abbrev pub book_refusal : ℕ → ℕ → Bool → List Point → Option Reply
+book_refusal won price closed points = if closed then Some Closed else open_refusal won price points
+
+-- what an agent buys that wins so many units, each at a price
+abbrev pub winner_trade : ℕ → ℕ → (ℕ → ℕ) → ℕ → Option Trade
+winner_trade good price won agent = if won agent == 0 then None else Some (record { buyer = agent; seller = house; good = good; units = won agent; price = price })
+
+-- one trade for each agent that wins a unit, in rising agent number
+abbrev pub winner_trades : ℕ → ℕ → (ℕ → ℕ) → List Trade
+winner_trades good price won = filter_map (winner_trade good price won) agents

@@ -1,59 +1,66 @@
-ghost use Rattle.std.specs.Prelude.{min, ◌≡◌, ◌≤◌, ◌||◌, [], ◌∷◌, length, List, false, IsTrue};
+ghost use Rattle.std.specs.Prelude.{min, ◌≡◌, ◌≤◌, ◌||◌, [], ◌∷◌, length, map, List, false, IsTrue};
+ghost use Rattle.std.specs.List.Sorted.{IsPermutation};
 ghost use Rattle.tac_base.specs.Kinds.{kind_of};
 ghost use Rattle.tac_base.specs.Goods.{clock};
 ghost use Rattle.auction_rules.specs.Setup.{Setup};
+ghost use Rattle.auction_rules.specs.Shown.{shown_unit};
 ghost use Rattle.auction_rules.specs.History.{Entry};
 ghost use Rattle.auction_rules.specs.Standing.{left, stand};
-ghost use Rattle.auction_rules.specs.Ask.{ask};
+ghost use Rattle.auction_rules.specs.Ask as asks;
+ghost use Rattle.auction_rules.specs.WinningNumber.{winning_number};
 ghost use Rattle.auction_rules.specs.Board.{board};
 ghost use Rattle.auction_rules.specs.Refusals.{is_wrong_caller, is_wrong_place};
 ghost use Rattle.auction_rules.specs.Legal.{entry_of};
 ghost use Rattle.auction_rules.specs.Follows.{Follows};
 ghost use Rattle.auction_rules.specs.Traded.{Spends};
-ghost use Rattle.hotel_book.specs.Book.{StandsFor, units_left};
+ghost use Rattle.hotel_book.specs.Ranked.{AreInOrder};
+ghost use Rattle.hotel_book.specs.Book.{StandsFor, units_left, with_bid};
 
 use crate::closing::fill;
-use crate::counting::{ask, sold_units, units_of};
-use crate::quotes::refusal;
+use crate::quotes::{after_bid, refusal};
+use crate::ranking::Ranking;
 use auction_rules::{Placed, Rules, wrong_reply};
 use std::marker::Model;
-use tac_base::{Agent, Board, Call, Caller, Fills, Good, Kind, Left, Points, Reply};
+use tac_base::limits::BID_PRICE;
+use tac_base::{Agent, Board, Call, Caller, Fills, Good, Kind, Left, Points, Reply, Unit};
 
-/// The rooms of a hotel on a night.
-const ROOMS: usize = 16;
-
-/// The auction of a hotel night, by the game description: its rooms go to the highest units, at the
-/// price of the sixteenth, or at 0 where fewer than 16 units stand. A bid has to beat the published
-/// price, in dollars, which is a rule after TAC; bids do not change that price. No call takes memory.
+/// The auction of a hotel night, by the game description: its rooms go to the highest units, at the price of the unit that takes the last
+/// room, or at 0 where a room is left. A bid has to beat the published price, in dollars, which is a rule after TAC. Where quotes are live,
+/// which is our own rule, each admitted bid publishes the ask; else only publications and the closing do. No call takes memory.
 #[derive(Debug, Drop)]
 pub struct Hotel {
     good: Good,
+    live: bool,
     bids: [Option<Placed>; 8],
+    ranking: Ranking,
     published: u16,
     closed: bool,
 }
 
 impl Model for Hotel {
-    ghost use Rattle.std.specs.Prelude.{◌≤◌, false};
-    ghost use Rattle.hotel_book.specs.Book.{HotelBook};
+    ghost use Rattle.hotel_book.specs.Book.{HotelBook, IsKept};
 
     ghost Value = { HotelBook };
 
-    ghost view = { λ h. record { good = h.good; rooms = 16; live = false; bids = h.bids; published = h.published; closed = h.closed } };
+    ghost view = { λ h. record { good = h.good; rooms = h.ranking.rooms; live = h.live; bids = h.bids; published = h.published; closed = h.closed } };
 
-    ghost invariant = { λ h. h.published ≤ 10000 };
+    // The ranked units are those that stand.
+    ghost invariant = { λ h. IsKept h.bids h.closed h.ranking.units h.published };
 }
 
 impl Hotel {
-    /// An open hotel in which nobody has bid. It has 16 rooms.
-    pub fn new(good: Good) -> Self
-        requires { kind_of good ≡ Kind.Hotel }
-        ensures { (setup : Setup) → setup.good ≡ good → setup.rules ≡ Rules.Hotel 16 false →
+    /// An open hotel night in which nobody has bid, with 1 to 64 rooms, and with live quotes or not.
+    pub fn new(good: Good, rooms: u8, live: bool) -> Self
+        requires kind { kind_of good ≡ Kind.Hotel }
+        requires rooms { 1 ≤ rooms }
+        ensures { (setup : Setup) → setup.good ≡ good → setup.rules ≡ Rules.Hotel rooms live →
             StandsFor result setup [] }
     {
         Hotel {
             good,
+            live,
             bids: [None, None, None, None, None, None, None, None],
+            ranking: Ranking::new(rooms),
             published: 0,
             closed: false,
         }
@@ -67,30 +74,34 @@ impl Hotel {
             Follows setup past agent (Call.Bid points.now) result fills.new (StandsFor self.new setup) }
         ensures units { Spends (units_left self.old) (units_left self.new) fills.new }
     {
-        let number = agent.get() as usize;
         fills.clear();
-        match refusal(
-            ROOMS,
-            &self.bids,
-            self.published,
-            self.closed,
-            agent,
-            points,
-        ) {
+        let won = self.ranking.winning(agent);
+        match refusal(won, self.published, self.closed, points) {
             Some(reply) => reply,
             None => {
-                self.bids[number] = Some(Placed {
-                    agent,
-                    position: at,
-                    points: points.copy(),
-                });
+                self.place(at, agent, points);
                 Reply::Taken { bought: 0, sold: 0 }
             }
         }
     }
 
+    /// Keeps an admitted bid in place of the agent's earlier one.
+    fn place(&mut self, at: u32, agent: Agent, points: &Points)
+        requires { self.old.closed ≡ false }
+        ensures { self.new ≡ with_bid self.old (record { agent = agent; position = at; points = points.now }) }
+    {
+        let number = usize::from(agent.get());
+        let bid = Placed {
+            agent,
+            position: at,
+            points: points.copy(),
+        };
+        self.ranking.replace(&bid);
+        self.bids[number] = Some(bid);
+        self.published = after_bid(self.live, self.ranking.ask(), self.published);
+    }
+
     /// The clock's publication of the ask. It is refused in a closed hotel, and changes nothing there.
-    #[tactic(auto, using(crate::proofs::Prices::ask_le))]
     pub fn publish(&mut self, at: u32) -> Reply
         ensures follows { (setup : Setup) (past : List Entry) →
             StandsFor self.old setup past → at ≡ length past →
@@ -100,13 +111,12 @@ impl Hotel {
         if self.closed {
             return Reply::Closed;
         }
-        self.published = ask(ROOMS, &units_of(&self.bids));
+        self.published = self.ranking.ask();
         Reply::Done
     }
 
     /// The clock's closing, which sells the rooms and publishes the ask. `fills` then holds its trades.
     /// It is refused in a closed hotel, and changes nothing there.
-    #[tactic(auto, using(crate::proofs::Prices::ask_le))]
     pub fn close(&mut self, at: u32, fills: &mut Fills) -> Reply
         ensures follows { (setup : Setup) (past : List Entry) →
             StandsFor self.old setup past → at ≡ length past →
@@ -114,22 +124,46 @@ impl Hotel {
         // It sells as many units as stand, up to the rooms.
         ensures sells { (setup : Setup) (past : List Entry) →
             StandsFor self.old setup past → self.old.closed ≡ false →
-            result ≡ Reply.Sold (min 16 (length (stand setup.rules past))) (ask 16 (stand setup.rules past)) }
+            result ≡ Reply.Sold (min self.old.rooms (length (stand setup.rules past))) (asks.ask self.old.rooms (stand setup.rules past)) }
         ensures units { Spends (units_left self.old) (units_left self.new) fills.new }
     {
         if self.closed {
             fills.clear();
             return Reply::Closed;
         }
-        let units = units_of(&self.bids);
-        fill(fills, self.good, ROOMS, &units);
-        let price = ask(ROOMS, &units);
+        fill(fills, self.good, &self.ranking);
+        let units = self.ranking.taken();
+        let price = self.ranking.ask();
+        self.ranking.clear();
         self.published = price;
         self.closed = true;
-        Reply::Sold {
-            units: sold_units(ROOMS, &units) as u8,
-            price,
-        }
+        Reply::Sold { units, price }
+    }
+
+    /// The standing units, the preceding one first: none in a closed hotel.
+    pub fn units(&self) -> &[Unit]
+        ensures units { (setup : Setup) (past : List Entry) →
+            StandsFor self.now setup past → IsPermutation (map shown_unit (stand setup.rules past)) result.now }
+        ensures order { (setup : Setup) (past : List Entry) → StandsFor self.now setup past → AreInOrder result.now }
+    {
+        self.ranking.units()
+    }
+
+    /// The ask of the standing units, in dollars, whether it is published or not: 0 where fewer stand than there are rooms.
+    pub fn ask(&self) -> u16
+        ensures ask { (setup : Setup) (past : List Entry) →
+            StandsFor self.now setup past → result ≡ asks.ask self.now.rooms (stand setup.rules past) }
+        ensures within { result ≤ BID_PRICE }
+    {
+        self.ranking.ask()
+    }
+
+    /// How many of the agent's standing units would be sold if the hotel closed now.
+    pub fn winning(&self, agent: Agent) -> u8
+        ensures { (setup : Setup) (past : List Entry) →
+            StandsFor self.now setup past → result ≡ winning_number self.now.rooms self.now.live past agent }
+    {
+        self.ranking.winning(agent)
     }
 
     /// The standing points of an agent, in the order of its bid: none in a closed hotel.
@@ -151,7 +185,7 @@ impl Hotel {
     /// hotel, but for `Own`, and else `WrongCall`. It changes nothing.
     #[tactic(auto, using(crate::proofs::Keeping::follows_wrong))]
     pub fn refuse(&self, caller: Caller, call: &Call) -> Reply
-        requires { IsTrue (is_wrong_caller caller call.now || is_wrong_place (Rules.Hotel 16 false) call.now) }
+        requires { IsTrue (is_wrong_caller caller call.now || is_wrong_place (Rules.Hotel self.now.rooms self.now.live) call.now) }
         ensures { (setup : Setup) (past : List Entry) → StandsFor self.now setup past →
             Follows setup past caller call.now result [] (StandsFor self.now setup) }
     {

@@ -1,17 +1,16 @@
 ghost use Rattle.std.specs.Prelude.{◌≡◌, ◌+◌, ◌<◌, ◌≤◌, ◌++◌, length};
 ghost use Rattle.std.specs.Option.{option_to_list};
-ghost use Rattle.auction_rules.specs.HotelClosing as closings;
+ghost use Rattle.hotel_book.specs.Ranked.{won, last_price};
+ghost use Rattle.hotel_book.specs.Book as spec;
 
-use crate::counting::{ask, winning};
-use auction_rules::BidUnit;
+use crate::ranking::Ranking;
 use tac_base::{Agent, Fills, Good, Party, Trade};
 
 /// What an agent buys at the closing.
-fn trade_of(good: Good, rooms: usize, all: &[BidUnit], agent: Agent) -> Option<Trade>
-    requires { length all.now ≤ 128 }
-    ensures { result ≡ closings.closing_trade good rooms all.now agent }
+fn trade_of(good: Good, ranking: &Ranking, agent: Agent) -> Option<Trade>
+    ensures { result ≡ spec.winner_trade good (last_price ranking.now.rooms ranking.now.units) (won ranking.now.rooms ranking.now.units) agent }
 {
-    let units = winning(rooms, all, agent);
+    let units = ranking.winning(agent);
     if units == 0 {
         None
     } else {
@@ -19,8 +18,8 @@ fn trade_of(good: Good, rooms: usize, all: &[BidUnit], agent: Agent) -> Option<T
             buyer: agent.party(),
             seller: Party::house(),
             good,
-            units: units as u8,
-            price: ask(rooms, all),
+            units,
+            price: ranking.ask(),
         })
     }
 }
@@ -38,12 +37,11 @@ fn push_trade(fills: &mut Fills, trade: Option<Trade>)
 }
 
 /// The trades of a closing, in place of those that stood in `fills`.
-pub(crate) fn fill(fills: &mut Fills, good: Good, rooms: usize, all: &[BidUnit])
-    requires { length all.now ≤ 128 }
-    ensures { fills.new ≡ closings.closing_trades good rooms all.now }
+pub(crate) fn fill(fills: &mut Fills, good: Good, ranking: &Ranking)
+    ensures { fills.new ≡ spec.winner_trades good (last_price ranking.now.rooms ranking.now.units) (won ranking.now.rooms ranking.now.units) }
 {
     fills.clear();
     for agent in Agent::all() {
-        push_trade(fills, trade_of(good, rooms, all, agent));
+        push_trade(fills, trade_of(good, ranking, agent));
     }
 }

@@ -1,10 +1,11 @@
-//! The auction of a hotel night, which keeps the agents' last bids and counts their units anew at each call.
+//! The auction of a hotel night, which keeps the standing units in the order of precedence, with the ask and what each agent would win.
 #![tactic(auto)]
 
 mod book;
 mod closing;
-mod counting;
+mod order;
 mod quotes;
+mod ranking;
 
 pub use book::Hotel;
 

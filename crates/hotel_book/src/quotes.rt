@@ -1,12 +1,11 @@
-ghost use Rattle.std.specs.Prelude.{◌≡◌, ◌+◌, ◌<◌, ◌≤◌, length};
+ghost use Rattle.std.specs.Prelude.{◌≡◌, ◌+◌, ◌<◌, ◌≤◌, if◌then◌else◌, length};
 ghost use Rattle.tac_base.specs.Bids.{total_size};
 ghost use Rattle.auction_rules.specs.BeatQuote as quotes;
-ghost use Rattle.auction_rules.specs.History.{units_of_bids};
 ghost use Rattle.hotel_book.specs.Book.{book_refusal};
 
-use crate::counting::{units_of, winning};
-use auction_rules::{Placed, sells};
-use tac_base::{Agent, Point, Points, Reply};
+use auction_rules::sells;
+use tac_base::limits::{BID_PRICE, BID_UNITS};
+use tac_base::{Point, Points, Reply};
 
 /// The units that a point offers at a price or more.
 fn offered_by(point: &Point, at: u16) -> u8
@@ -18,9 +17,9 @@ fn offered_by(point: &Point, at: u16) -> u8
 /// The units that the points offer at a price or more.
 #[tactic(auto, using(crate::proofs::Offers::offered_one))]
 fn offered(points: &[Point], at: u16) -> u8
-    requires { total_size points.now ≤ 16 }
+    requires { total_size points.now ≤ BID_UNITS }
     ensures value { result ≡ quotes.offered points.now at }
-    ensures few { result ≤ 16 }
+    ensures few { result ≤ BID_UNITS }
 {
     let mut total = 0;
     for point in points {
@@ -29,18 +28,10 @@ fn offered(points: &[Point], at: u16) -> u8
     total
 }
 
-/// The refusal of an agent's bid, if there is one.
-pub(crate) fn refusal(
-    rooms: usize,
-    bids: &[Option<Placed>],
-    published: u16,
-    closed: bool,
-    agent: Agent,
-    points: &Points,
-) -> Option<Reply>
-    requires bids { length bids.now ≤ 8 }
-    requires price { published ≤ 10000 }
-    ensures { result ≡ book_refusal rooms (units_of_bids bids.now) published closed agent points.now }
+/// The refusal of a bid of an agent that would win so many units, if there is one.
+pub(crate) fn refusal(won: u8, published: u16, closed: bool, points: &Points) -> Option<Reply>
+    requires { published ≤ BID_PRICE }
+    ensures { result ≡ book_refusal won published closed points.now }
 {
     if closed {
         return Some(Reply::Closed);
@@ -49,7 +40,7 @@ pub(crate) fn refusal(
     if sells(points) {
         return Some(Reply::Sell);
     }
-    let need = winning(rooms, &units_of(bids), agent).max(1) as u8;
+    let need = won.max(1);
     let at = published + 1;
     let offered = offered(points, at);
     if offered < need {
@@ -57,4 +48,11 @@ pub(crate) fn refusal(
     } else {
         None
     }
+}
+
+/// The published price after an admitted bid: where quotes are live the ask, and else the one before.
+pub(crate) fn after_bid(live: bool, ask: u16, published: u16) -> u16
+    ensures { result ≡ (if live then ask else published) }
+{
+    if live { ask } else { published }
 }

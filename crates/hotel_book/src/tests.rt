@@ -1,30 +1,20 @@
-ghost use Rattle.std.specs.Prelude.{◌≡◌, ◌<◌, ◌^◌, length, map, reverse, false, IfOk};
+ghost use Rattle.std.specs.Prelude.{◌≡◌, IfOk};
 ghost use Rattle.tac_base.specs.Kinds.{kind_of};
-ghost use Rattle.auction_rules.specs.Setup.{Setup};
-ghost use Rattle.auction_rules.specs.Legal.{past_of};
-ghost use Rattle.hotel_book.specs.Book.{StandsFor};
 
 use crate::Hotel;
-use auction_rules::Rules;
 use std::test::Fail;
-use tac_base::{Agent, Call, Fills, Good, Kind, OutOfRange, Point, Points, Reply};
+use tac_base::{Agent, Call, Caller, Fills, Good, Kind, OutOfRange, Point, Points, Reply, Unit};
 
-/// The hotel after bids, each at its place in the list.
-fn hotel_after(good: Good, bids: &[(Agent, Points)], fills: &mut Fills) -> Hotel
-    requires kind { kind_of good ≡ Kind.Hotel }
-    requires few { length bids.now < 2 ^ 32 }
-    ensures { (setup : Setup) → setup.good ≡ good → setup.rules ≡ Rules.Hotel 16 false →
-        StandsFor result setup (past_of setup (reverse (map (λ bid. (bid.0, Call.Bid bid.1)) bids.now))) }
+fn hotel_night() -> Result<Good, OutOfRange>
+    ensures { IfOk result (λ good. kind_of good ≡ Kind.Hotel) }
 {
-    let mut hotel = Hotel::new(good);
-    for (at, (agent, points)) in bids.iter().enumerate() {
-        let _ = hotel.bid(at as u32, *agent, points, fills);
-    }
-    hotel
+    Good::new(8)
 }
 
-fn one_point(agent: u8, units: i8, price: u16) -> Result<(Agent, Points), Fail> {
-    Ok((Agent::new(agent)?, Points::new(&[Point { units, price }])?))
+/// An agent's bid of one point.
+fn bid(hotel: &mut Hotel, at: u32, agent: u8, units: i8, price: u16) -> Result<Reply, Fail> {
+    let points = Points::new(&[Point { units, price }])?;
+    Ok(hotel.bid(at, Agent::new(agent)?, &points, &mut Fills::new()))
 }
 
 /// Whether the trades are these: the buyer, the units and the price of each.
@@ -37,55 +27,38 @@ fn are_sold(fills: &Fills, sales: &[(u8, u8, u16)]) -> bool {
         ) == *sale)
 }
 
-fn hotel_night() -> Result<Good, OutOfRange>
-    ensures { IfOk result (λ good. kind_of good ≡ Kind.Hotel) }
-{
-    Good::new(8)
-}
-
+/// Agent 1's three units go before the thirteen of agent 0, and two units do not replace them.
 #[test]
-fn earlier_of_equal_bids_wins(rt: HostRuntime) -> Result<(), Fail> {
+fn first_units_take_the_rooms(rt: HostRuntime) -> Result<(), Fail> {
+    let mut hotel = Hotel::new(hotel_night()?, 16, false);
     let mut fills = Fills::new();
-    let bids = [
-        one_point(0, 15, 200)?,
-        one_point(1, 1, 150)?,
-        one_point(2, 1, 150)?,
-    ];
-    let mut hotel = hotel_after(hotel_night()?, &bids, &mut fills);
+    let (second, first) = (Agent::new(0)?, Agent::new(1)?);
+    assert!(rt; matches!(bid(&mut hotel, 0, 0, 13, 100)?, Reply::Taken { .. }));
+    assert!(rt; matches!(bid(&mut hotel, 1, 1, 3, 120)?, Reply::Taken { .. }));
+    let unit = |index| Unit {
+        agent: first,
+        price: 120,
+        position: 1,
+        index,
+    };
+    let units = hotel.units();
+    assert_eq!(rt; units.len(), 16);
     assert!(rt;
-        matches!(
-            hotel.close(3, &mut fills),
-            Reply::Sold {
-                units: 16,
-                price: 150
-            }
-        )
+        units
+            .iter()
+            .zip(0..3u8)
+            .all(|(shown, index)| *shown == unit(index))
     );
-    assert!(rt; are_sold(&fills, &[(0, 15, 150), (1, 1, 150)]));
-    Ok(())
-}
+    assert_eq!(rt; hotel.ask(), 100);
+    assert_eq!(rt; hotel.winning(first), 3);
+    assert_eq!(rt; hotel.winning(second), 13);
 
-/// Two units at 150 and one at 100 against a quote of 100, where three units win.
-#[test]
-fn two_units_do_not_replace_three_that_win(rt: HostRuntime) -> Result<(), Fail> {
-    let mut fills = Fills::new();
-    let bids = [one_point(0, 13, 100)?, one_point(1, 3, 120)?];
-    let mut hotel = hotel_after(hotel_night()?, &bids, &mut fills);
     assert!(rt; matches!(hotel.publish(2), Reply::Done));
-    let list = [
-        Point {
-            units: 2,
-            price: 150,
-        },
-        Point {
-            units: 1,
-            price: 100,
-        },
-    ];
-    let reply = hotel.bid(3, Agent::new(1)?, &Points::new(&list)?, &mut fills);
+    assert_eq!(rt; hotel.board(3).ask, 100);
+    let below = bid(&mut hotel, 3, 1, 2, 150)?;
     assert!(rt;
         matches!(
-            reply,
+            below,
             Reply::BelowQuote {
                 need: 3,
                 at: 101,
@@ -93,44 +66,82 @@ fn two_units_do_not_replace_three_that_win(rt: HostRuntime) -> Result<(), Fail> 
             }
         )
     );
-    Ok(())
-}
-
-/// Agent 1's new bid comes after agent 2's, and is sold what is left.
-#[test]
-fn new_bid_takes_its_own_place_in_time(rt: HostRuntime) -> Result<(), Fail> {
-    let mut fills = Fills::new();
-    let bids = [one_point(0, 13, 100)?, one_point(1, 3, 120)?];
-    let mut hotel = hotel_after(hotel_night()?, &bids, &mut fills);
-    assert!(rt; matches!(hotel.publish(2), Reply::Done));
-    assert_eq!(rt; hotel.board(3).ask, 100);
-
-    let (agent, points) = one_point(2, 14, 101)?;
     assert!(rt;
         matches!(
-            hotel.bid(3, agent, &points, &mut fills),
-            Reply::Taken { bought: 0, sold: 0 }
+            hotel.refuse(first.caller(), &Call::Withdraw),
+            Reply::WrongCall
         )
     );
-    let (agent, points) = one_point(1, 3, 101)?;
-    assert!(rt;
-        matches!(
-            hotel.bid(4, agent, &points, &mut fills),
-            Reply::Taken { bought: 0, sold: 0 }
-        )
+    assert_eq!(rt;
+        hotel.own(first).as_slice(),
+        [Point {
+            units: 3,
+            price: 120
+        }]
+        .as_slice()
     );
-    assert_eq!(rt; hotel.own(agent).as_slice(), points.as_slice());
 
+    let closing = hotel.close(5, &mut fills);
     assert!(rt;
         matches!(
-            hotel.close(5, &mut fills),
+            closing,
             Reply::Sold {
                 units: 16,
-                price: 101
+                price: 100
             }
         )
     );
-    assert!(rt; are_sold(&fills, &[(1, 2, 101), (2, 14, 101)]));
-    assert!(rt; matches!(hotel.bid(6, agent, &points, &mut fills), Reply::Closed));
+    assert!(rt; are_sold(&fills, &[(0, 13, 100), (1, 3, 100)]));
+    assert_eq!(rt; hotel.units().len(), 0);
+    assert_eq!(rt; hotel.ask(), 0);
+    assert!(rt;
+        matches!(
+            hotel.refuse(Caller::clock(), &Call::Withdraw),
+            Reply::Closed
+        )
+    );
+    Ok(())
+}
+
+/// 64 rooms are sold at the price of the last, and in a night of one room with live quotes a bid has to beat the one before.
+#[test]
+fn rooms_are_one_to_sixty_four(rt: HostRuntime) -> Result<(), Fail> {
+    let mut hotel = Hotel::new(hotel_night()?, 64, false);
+    let mut fills = Fills::new();
+    for (agent, price) in [(0, 100), (1, 90), (2, 80), (3, 70)] {
+        let _ = bid(&mut hotel, u32::from(agent), agent, 16, price)?;
+    }
+    let closing = hotel.close(4, &mut fills);
+    assert!(rt;
+        matches!(
+            closing,
+            Reply::Sold {
+                units: 64,
+                price: 70
+            }
+        )
+    );
+    assert!(rt;
+        are_sold(
+            &fills,
+            &[(0, 16, 70), (1, 16, 70), (2, 16, 70), (3, 16, 70)]
+        )
+    );
+
+    let mut hotel = Hotel::new(hotel_night()?, 1, true);
+    let _ = bid(&mut hotel, 0, 0, 1, 50)?;
+    let below = bid(&mut hotel, 1, 1, 1, 50)?;
+    assert!(rt;
+        matches!(
+            below,
+            Reply::BelowQuote {
+                need: 1,
+                at: 51,
+                offered: 0
+            }
+        )
+    );
+    let _ = bid(&mut hotel, 2, 1, 1, 51)?;
+    assert_eq!(rt; hotel.board(3).ask, 51);
     Ok(())
 }

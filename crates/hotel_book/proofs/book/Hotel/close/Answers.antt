@@ -1,28 +1,34 @@
-use Rattle.std.proofs.Common.{arith, ◌∙◌, ap, false}
-use Rattle.auction_rules.specs.Ask.{ask}
-use Rattle.auction_rules.specs.HotelClosing.{sold_units, closing_trades}
-use Rattle.hotel_book.specs.Book.{HotelBook, StandsFor}
-use Rattle.hotel_book.proofs.Keeping.{book_of, follows_closed, closing_sells}
-use Rattle.auction_rules.proofs.Trading.{nothing_spent}
+use Rattle.std.proofs.Common.{ℕ, min, refl, sym, ap, ◌∙◌, arith}
+use Rattle.hotel_book.specs.Ranked.{won, last_price}
+use Rattle.hotel_book.specs.Book.{HotelBook, StandsFor, winner_trades}
+use Rattle.hotel_book.proofs.Keeping.{book_of, follows_closed}
+use Rattle.hotel_book.proofs.Showing.{asked, wins, as_many}
 use Rattle.hotel_book.proofs.Selling.{closing_spends}
+use Rattle.auction_rules.proofs.Trading.{nothing_spent}
 use Rattle.hotel_book.proofs.book.Hotel.close.Goals as goal
 
 pub returns-clause-follows : goal.returns-clause-follows
 returns-clause-follows c = λ setup past stood here.
-    let book : HotelBook = book_of 16 false c.self.inside.good c.self.inside.bids c.self.inside.published c.self.inside.closed in
+    let book : HotelBook = book_of c.self.inside.ranking.rooms c.self.inside.live c.self.inside.good c.self.inside.bids c.self.inside.published c.self.inside.closed in
     let kept : StandsFor book setup past = rw c.self.view_is stood in
-    follows_closed setup past book c.sold_units.result c.ask-price.result c.fill.new.fills kept c.if-self.false
-    (c.sold_units.ensures.value ∙ ap (sold_units 16) (c.deref-3.ensures.0 ∙ c.units_of-units.ensures.units))
-    (c.ask-price.ensures ∙ ap (ask 16) (c.deref-2.ensures.0 ∙ c.units_of-units.ensures.units))
-    (c.fill.ensures ∙ ap (closing_trades c.self.inside.good 16) (c.deref.ensures.0 ∙ c.units_of-units.ensures.units))
+    let units = c.self.inside.ranking.units in
+    rw c.clear-2.ensures.rooms
+    (follows_closed setup past book c.taken-units.result c.ask-price.result (won book.rooms units) c.fill.new.fills kept c.if-self.false
+    (c.taken-units.ensures.value ∙ ap (min book.rooms) (as_many setup past book units kept c.self.invariant.shown))
+    (c.ask-price.ensures.value ∙ asked setup past book units kept c.self.invariant.shown c.ask-price.ensures.sorted c.ask-price.ensures.some)
+    (λ agent le. wins setup past book units kept c.self.invariant.shown c.ask-price.ensures.sorted agent)
+    (c.fill.ensures ∙ ap (λ (price : ℕ). winner_trades c.self.inside.good price (won book.rooms units)) (sym c.ask-price.ensures.value)))
 
 pub returns-clause-sells : goal.returns-clause-sells
 returns-clause-sells c = λ setup past stood open_now.
-    let book : HotelBook = book_of 16 false c.self.inside.good c.self.inside.bids c.self.inside.published c.self.inside.closed in
+    let book : HotelBook = book_of c.self.inside.ranking.rooms c.self.inside.live c.self.inside.good c.self.inside.bids c.self.inside.published c.self.inside.closed in
     let kept : StandsFor book setup past = rw c.self.view_is stood in
-    closing_sells setup past book c.sold_units.result c.ask-price.result kept c.if-self.false
-    (c.sold_units.ensures.value ∙ ap (sold_units 16) (c.deref-3.ensures.0 ∙ c.units_of-units.ensures.units))
-    (c.ask-price.ensures ∙ ap (ask 16) (c.deref-2.ensures.0 ∙ c.units_of-units.ensures.units))
+    let units = c.self.inside.ranking.units in
+    rw (
+      ← c.self.view_is,
+      c.taken-units.ensures.value ∙ ap (min book.rooms) (as_many setup past book units kept c.self.invariant.shown),
+      c.ask-price.ensures.value ∙ asked setup past book units kept c.self.invariant.shown c.ask-price.ensures.sorted c.ask-price.ensures.some,
+    ) refl
 
 pub returns-then-self-clause-units : goal.returns-then-self-clause-units
 returns-then-self-clause-units c = nothing_spent _ _ c.clear.new.self c.clear.ensures (omega arith)
@@ -30,4 +36,4 @@ returns-then-self-clause-units c = nothing_spent _ _ c.clear.new.self c.clear.en
 pub returns-clause-units : goal.returns-clause-units
 returns-clause-units c =
     rw (← c.self.view_is, c.if-self.false)
-    (closing_spends c.self.inside.good 16 c.units_of-units.result.items c.fill.new.fills c.units_of-units.ensures.few (c.fill.ensures ∙ ap (closing_trades c.self.inside.good 16) c.deref.ensures.0))
+    (closing_spends c.self.inside.good (last_price c.self.inside.ranking.rooms c.self.inside.ranking.units) c.self.inside.ranking.rooms c.self.inside.ranking.units c.fill.new.fills c.taken-units.ensures.few c.fill.ensures)

@@ -1,12 +1,12 @@
-use Rattle.std.proofs.Common.{◌∙◌, ap, false}
-use Rattle.auction_rules.specs.Ask.{ask}
+use Rattle.std.proofs.Common.{◌∙◌}
 use Rattle.hotel_book.specs.Book.{HotelBook, StandsFor}
 use Rattle.hotel_book.proofs.Keeping.{book_of, follows_published}
+use Rattle.hotel_book.proofs.Showing.{asked}
 use Rattle.hotel_book.proofs.book.Hotel.publish.Goals as goal
 
 pub returns-clause-follows : goal.returns-clause-follows
 returns-clause-follows c = λ setup past stood here.
-    let book : HotelBook = book_of 16 false c.self.inside.good c.self.inside.bids c.self.inside.published c.self.inside.closed in
+    let book : HotelBook = book_of c.self.inside.ranking.rooms c.self.inside.live c.self.inside.good c.self.inside.bids c.self.inside.published c.self.inside.closed in
     let kept : StandsFor book setup past = rw c.self.view_is stood in
     follows_published setup past book c.ask-self-inside.result kept c.if-self.false
-    (c.ask-self-inside.ensures ∙ ap (ask 16) (c.deref.ensures.0 ∙ c.units_of.ensures.units))
+    (c.ask-self-inside.ensures.value ∙ asked setup past book c.self.inside.ranking.units kept c.self.invariant.shown c.ask-self-inside.ensures.sorted c.ask-self-inside.ensures.some)

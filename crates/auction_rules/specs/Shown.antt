@@ -1,0 +1,16 @@
+-- Units as the books of hotels and tickets show them.
+use Rattle.std.specs.Prelude.{◌≡◌, ℕ, Bool, List, sum_by}
+use Rattle.tac_base.specs.declared.units.Unit.{Unit as ShownUnit}
+use Rattle.auction_rules.specs.declared.units.BidUnit.{BidUnit}
+
+-- a unit without its side
+abbrev pub shown_unit : BidUnit → ShownUnit
+shown_unit u = record { agent = u.agent; price = u.price; position = u.position; index = u.index }
+
+-- a unit of a side
+abbrev pub on_side : Bool → ShownUnit → BidUnit
+on_side buys u = record { agent = u.agent; buys = buys; price = u.price; position = u.position; index = u.index }
+
+-- the units shown are those that stand, each once, in whatever order: however units are weighed, both weigh the same
+abbrev pub AreShown : List BidUnit → List ShownUnit → Type 0
+AreShown standing units = (weight : ShownUnit → ℕ) → sum_by weight units ≡ sum_by (λ u. weight (shown_unit u)) standing

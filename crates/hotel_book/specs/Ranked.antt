@@ -1,0 +1,43 @@
+-- The units of a hotel in their order, and what the first of them give: the ask, and what each agent wins.
+use Rattle.std.specs.Prelude.{◌≡◌, ℕ, ◌-◌, ◌≤◌, ◌==◌, ⊤, Bool, true, false, List, [], ◌∷◌, All, map, take, count_by, slice_index_or}
+use Rattle.std.specs.List.{AllByRecursion}
+use Rattle.tac_base.specs.declared.units.Unit.{Unit as ShownUnit}
+use Rattle.tac_base.specs.declared.limits.TheConstants.{BID_PRICE}
+use Rattle.tac_base.specs.Goods.{agents}
+use Rattle.auction_rules.specs.Shown.{on_side}
+use Rattle.auction_rules.specs.Precedence.{precedes}
+
+-- the first unit precedes the second; all units of a hotel buy
+abbrev pub goes_first : ShownUnit → ShownUnit → Bool
+goes_first u v = precedes (on_side true u) (on_side true v)
+
+-- each unit precedes those after it
+abbrev pub AreInOrder : List ShownUnit → Type 0
+AreInOrder [] = ⊤
+AreInOrder (u ∷ units) = AllByRecursion (λ v. goes_first u v ≡ true) units × AreInOrder units
+
+-- no unit precedes one before it
+abbrev pub AreSorted : List ShownUnit → Type 0
+AreSorted [] = ⊤
+AreSorted (u ∷ units) = AllByRecursion (λ v. goes_first v u ≡ false) units × AreSorted units
+
+-- the price of the unit that takes the last room, and 0 where a room is left
+abbrev pub last_price : ℕ → List ShownUnit → ℕ
+last_price rooms units = slice_index_or (map (λ u. u.price) units) (rooms - 1) 0
+
+-- how many of the units that take the rooms are the agent's
+abbrev pub won : ℕ → List ShownUnit → ℕ → ℕ
+won rooms units agent = count_by (λ u. u.agent == agent) (take rooms units)
+
+-- the units are in order, and the ask and the eight winning numbers are theirs
+pub record IsRanked (rooms : ℕ) (units : List ShownUnit) (ask : ℕ) (winning : List ℕ) : Type 0 where
+  pub some : 1 ≤ rooms
+  pub sorted : AreSorted units
+  pub priced : All (λ u. u.price ≤ BID_PRICE) units
+  pub asked : ask ≡ last_price rooms units
+  pub wins : winning ≡ map (won rooms units) agents
+
+-- what a contract sees of ranked units
+pub record Ranked : Type 0 where
+  pub rooms : ℕ
+  pub units : List ShownUnit

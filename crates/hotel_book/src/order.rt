@@ -1,0 +1,82 @@
+// The order of a hotel's units.
+ghost use Rattle.std.specs.Prelude.{IfSome, ◌≡◌, ◌+◌, ◌<◌, ◌≤◌, ℕ, not, ◌==◌, length, sum_by, filter, All};
+ghost use Rattle.std.specs.List.{position, position_or_len};
+ghost use Rattle.tac_base.specs.declared.units.Unit.{Unit as ShownUnit};
+ghost use Rattle.auction_rules.specs.Units.{units_of};
+ghost use Rattle.auction_rules.specs.Shown.{shown_unit};
+ghost use Rattle.hotel_book.specs.Ranked.{goes_first, AreSorted};
+
+use arrayvec::ArrayVec;
+use auction_rules::{BidUnit, Placed, push_units};
+use tac_base::Unit;
+use tac_base::limits::BID_PRICE;
+
+/// Whether the first unit precedes the second.
+fn precedes(first: &Unit, second: &Unit) -> bool
+    ensures { result ≡ goes_first first.now second.now }
+{
+    second.price < first.price
+        || (first.price == second.price
+            && (first.position < second.position
+                || (first.position == second.position && first.index < second.index)))
+}
+
+/// The place of the first unit that another one precedes.
+fn first_after(units: &[Unit], unit: &Unit) -> Option<usize>
+    ensures place { result ≡ position (goes_first unit.now) units.now }
+    ensures within { IfSome result (λ place. place < length units.now) }
+{
+    units.iter().position(|other| precedes(unit, other))
+}
+
+/// The place of the first unit that another one precedes, or the number of units where there is none.
+#[tactic(auto, using(crate::proofs::Sorting::place_at, crate::proofs::Sorting::place_at_end))]
+fn place_of(units: &[Unit], unit: &Unit) -> usize
+    ensures place { result ≡ position_or_len (goes_first unit.now) units.now }
+    ensures within { result ≤ length units.now }
+{
+    match first_after(units, unit) {
+        Some(place) => place,
+        None => units.len(),
+    }
+}
+
+/// Puts a unit in its place among units in order.
+fn put(units: &mut ArrayVec<Unit, 128>, unit: &Unit)
+    requires room { length units.old.items < 128 }
+    requires order { AreSorted units.old.items }
+    requires price { unit.now.price ≤ BID_PRICE }
+    requires prices { All (λ u. u.price ≤ BID_PRICE) units.old.items }
+    ensures len { length units.new.items ≡ length units.old.items + 1 }
+    ensures order { AreSorted units.new.items }
+    ensures prices { All (λ u. u.price ≤ BID_PRICE) units.new.items }
+    ensures units { (weight : ShownUnit → ℕ) → sum_by weight units.new.items ≡ sum_by weight units.old.items + weight unit.now }
+{
+    let place = place_of(units, unit);
+    units.insert(place, *unit);
+}
+
+/// Puts the units of a bid in their places among units in order.
+pub(crate) fn put_all(units: &mut ArrayVec<Unit, 128>, bid: &Placed)
+    requires room { length units.old.items + 16 ≤ 128 }
+    requires order { AreSorted units.old.items }
+    requires prices { All (λ u. u.price ≤ BID_PRICE) units.old.items }
+    ensures few { length (units_of bid.now) ≤ 16 }
+    ensures order { AreSorted units.new.items }
+    ensures prices { All (λ u. u.price ≤ BID_PRICE) units.new.items }
+    ensures units { (weight : ShownUnit → ℕ) →
+        sum_by weight units.new.items ≡ sum_by weight units.old.items + sum_by (λ u. weight (shown_unit u)) (units_of bid.now) }
+{
+    let mut new: ArrayVec<BidUnit, 16> = ArrayVec::new();
+    push_units(&mut new, bid);
+    for unit in new.as_slice() {
+        put(units, &unit.shown());
+    }
+}
+
+/// Takes the units of the agent that has the number out of units in order.
+pub(crate) fn take_out(units: &mut ArrayVec<Unit, 128>, number: u8)
+    ensures { units.new.items ≡ filter (λ u. not (u.agent == number)) units.old.items }
+{
+    units.retain(|unit| unit.agent.get() != number);
+}

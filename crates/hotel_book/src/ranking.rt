@@ -1,0 +1,149 @@
+// A hotel's units in their order, with the ask and the winning numbers that they give.
+ghost use Rattle.std.specs.Prelude.{◌≡◌, ◌+◌, ◌≤◌, ℕ, min, not, ◌==◌, [], length, map, sum_by, filter, count_by};
+ghost use Rattle.tac_base.specs.declared.units.Unit.{Unit as ShownUnit};
+ghost use Rattle.tac_base.specs.Goods.{agents};
+ghost use Rattle.auction_rules.specs.Units.{units_of};
+ghost use Rattle.auction_rules.specs.Shown.{shown_unit};
+ghost use Rattle.hotel_book.specs.Ranked as ranked;
+ghost use Rattle.hotel_book.specs.Ranked.{AreSorted};
+
+use crate::order::{put_all, take_out};
+use arrayvec::ArrayVec;
+use auction_rules::Placed;
+use std::marker::Model;
+use tac_base::limits::BID_PRICE;
+use tac_base::{Agent, Unit};
+
+/// The standing units of a hotel, the preceding one first, and what the first of them give: the ask, and how many rooms each agent wins.
+/// Contracts see it as its rooms and its units.
+#[derive(Debug, Drop)]
+pub(crate) struct Ranking {
+    rooms: u8,
+    units: ArrayVec<Unit, 128>,
+    ask: u16,
+    winning: [u8; 8],
+}
+
+impl Model for Ranking {
+    ghost use Rattle.hotel_book.specs.Ranked.{Ranked, IsRanked};
+
+    ghost Value = { Ranked };
+
+    ghost view = { λ r. record { rooms = r.rooms; units = r.units.items } };
+
+    ghost invariant = { λ r. IsRanked r.rooms r.units.items r.ask r.winning };
+}
+
+/// The price of the unit that takes the last room, and 0 where a room is left.
+fn last_price(rooms: u8, units: &[Unit]) -> u16
+    requires { 1 ≤ rooms }
+    ensures { result ≡ ranked.last_price rooms units.now }
+{
+    match units.get(usize::from(rooms) - 1) {
+        Some(unit) => unit.price,
+        None => 0,
+    }
+}
+
+/// How many rooms the agent that has the number takes.
+fn won(rooms: u8, units: &[Unit], number: u8) -> u8
+    ensures { result ≡ ranked.won rooms units.now number }
+{
+    units
+        .iter()
+        .take(usize::from(rooms))
+        .filter(|unit| unit.agent.get() == number)
+        .count() as u8
+}
+
+/// How many rooms each agent takes.
+fn winning_numbers(rooms: u8, units: &[Unit]) -> [u8; 8]
+    ensures { result ≡ map (ranked.won rooms units.now) agents }
+{
+    [
+        won(rooms, units, 0),
+        won(rooms, units, 1),
+        won(rooms, units, 2),
+        won(rooms, units, 3),
+        won(rooms, units, 4),
+        won(rooms, units, 5),
+        won(rooms, units, 6),
+        won(rooms, units, 7),
+    ]
+}
+
+impl Ranking {
+    /// No unit, and so many rooms.
+    pub(crate) fn new(rooms: u8) -> Ranking
+        requires { 1 ≤ rooms }
+        ensures rooms { result.rooms ≡ rooms }
+        ensures none { result.units ≡ [] }
+    {
+        Ranking {
+            rooms,
+            units: ArrayVec::new(),
+            ask: 0,
+            winning: [0; 8],
+        }
+    }
+
+    /// The units, the preceding one first.
+    pub(crate) fn units(&self) -> &[Unit]
+        ensures value { result.now ≡ self.now.units }
+        ensures sorted { AreSorted self.now.units }
+    {
+        self.units.as_slice()
+    }
+
+    /// The price of the unit that takes the last room, and 0 where a room is left.
+    pub(crate) fn ask(&self) -> u16
+        ensures value { result ≡ ranked.last_price self.now.rooms self.now.units }
+        ensures within { result ≤ BID_PRICE }
+        ensures some { 1 ≤ self.now.rooms }
+        ensures sorted { AreSorted self.now.units }
+    {
+        self.ask
+    }
+
+    /// How many rooms the agent wins.
+    pub(crate) fn winning(&self, agent: Agent) -> u8
+        ensures value { result ≡ ranked.won self.now.rooms self.now.units agent }
+        ensures agent { agent ≤ 7 }
+        ensures sorted { AreSorted self.now.units }
+    {
+        self.winning[usize::from(agent.get())]
+    }
+
+    /// How many rooms are taken.
+    pub(crate) fn taken(&self) -> u8
+        ensures value { result ≡ min self.now.rooms (length self.now.units) }
+        ensures few { length self.now.units ≤ 128 }
+    {
+        usize::from(self.rooms).min(self.units.len()) as u8
+    }
+
+    /// Puts the units of a bid in place of those that its agent had.
+    pub(crate) fn replace(&mut self, bid: &Placed)
+        requires { count_by (λ u. not (u.agent == bid.now.agent)) self.old.units + 16 ≤ 128 }
+        ensures rooms { self.new.rooms ≡ self.old.rooms }
+        ensures few { length (units_of bid.now) ≤ 16 }
+        ensures units { (weight : ShownUnit → ℕ) →
+            sum_by weight self.new.units
+            ≡ sum_by weight (filter (λ u. not (u.agent == bid.now.agent)) self.old.units) + sum_by (λ u. weight (shown_unit u)) (units_of bid.now) }
+    {
+        take_out(&mut self.units, bid.agent.get());
+        put_all(&mut self.units, bid);
+        self.ask = last_price(self.rooms, &self.units);
+        self.winning = winning_numbers(self.rooms, &self.units);
+    }
+
+    /// Takes all units out.
+    pub(crate) fn clear(&mut self)
+        ensures rooms { self.new.rooms ≡ self.old.rooms }
+        ensures none { self.new.units ≡ [] }
+    {
+        self.units.clear();
+        self.ask = 0;
+        self.winning = [0; 8];
+    }
+}
