@@ -58,7 +58,7 @@ module _ (setup : Setup) (past : List Entry) (caller : ℕ) (call : Call) where
 
   no_lower : (rules : Rules) → setup.rules ≡ rules → AreInRange rules → IsLawful setup past → NoLower rules past (e ∷ past)
   no_lower (FlightRules first bound) is range lawful = tt
-  no_lower (HotelRules rooms live) is range lawful = published_does_not_fall setup rooms live is range past caller call lawful
+  no_lower (HotelRules rooms live) is range lawful = published_does_not_fall setup rooms live is range.0 past caller call lawful
   no_lower TicketRules is range lawful = tt
 
   -- an entry that closes an auction

@@ -1,5 +1,5 @@
 -- What a game says of an auction.
-use Rattle.std.specs.Prelude.{ℕ, ◌-◌, ◌≤◌, ⊤, false, List, ℤ, pos, negsuc, ◌≤ℤ◌, map, replicate, slice_index_or}
+use Rattle.std.specs.Prelude.{ℕ, ◌-◌, ◌≤◌, ⊤, List, ℤ, pos, negsuc, ◌≤ℤ◌, map, replicate, slice_index_or}
 use Rattle.tac_base.specs.declared.numbers.Kind.{Kind}
 use Rattle.tac_base.specs.declared.numbers.Kind.TheVariants.{Flight, Hotel, Ticket}
 use Rattle.tac_base.specs.Kinds.{kind_of}
@@ -15,10 +15,14 @@ first_price game good = slice_index_or (map (λ flight. flight.first) game.fligh
 abbrev pub price_bound : GameFile → ℕ → ℤ
 price_bound game good = slice_index_or (map (λ flight. flight.bound) game.flights) good (pos 0)
 
--- the rules of a good, by its kind; a hotel night has 16 rooms, and its quotes are not live
+-- the rooms of a hotel night
+abbrev pub rooms_of : GameFile → ℕ → ℕ
+rooms_of game good = slice_index_or game.rooms (good - 8) 0
+
+-- the rules of a good, by its kind
 abbrev pub rules_by : GameFile → ℕ → Kind → Rules
 rules_by game good Flight = FlightRules (first_price game good) (price_bound game good)
-rules_by game good Hotel = HotelRules 16 false
+rules_by game good Hotel = HotelRules (rooms_of game good) game.live
 rules_by game good Ticket = TicketRules
 
 -- what the agents have of a good at first, by its kind: some tickets, and else nothing
@@ -30,17 +34,16 @@ endow_by game good kind = replicate 8 (pos 0)
 abbrev pub setup_of : ℕ → GameFile → Setup
 setup_of good game = record { good = good; rules = rules_by game good (kind_of good); endow = endow_by game good (kind_of good) }
 
--- rules of a kind of good: a flight begins at 250..400 and has a bound of -10..30, and a hotel has a room
-abbrev pub AreRulesOf : Kind → Rules → Type 0
-AreRulesOf Flight (FlightRules first bound) = (250 ≤ first) × (first ≤ 400) × (negsuc 9 ≤ℤ bound) × (bound ≤ℤ pos 30)
-AreRulesOf Hotel (HotelRules rooms live) = 1 ≤ rooms
-AreRulesOf Ticket TicketRules = ⊤
-AreRulesOf kind rules = ⊥
+-- the kind of the goods that have the rules
+abbrev pub kind_by : Rules → Kind
+kind_by (FlightRules first bound) = Flight
+kind_by (HotelRules rooms live) = Hotel
+kind_by TicketRules = Ticket
 
--- rules that a game may have: a flight begins at 250..400, and a hotel has a room
+-- rules that a game may have: a flight begins at 250..400 and has a bound of -10..30, and a hotel night has 1..64 rooms
 abbrev pub AreInRange : Rules → Type 0
-AreInRange (FlightRules first bound) = (250 ≤ first) × (first ≤ 400)
-AreInRange (HotelRules rooms live) = 1 ≤ rooms
+AreInRange (FlightRules first bound) = (250 ≤ first) × (first ≤ 400) × (negsuc 9 ≤ℤ bound) × (bound ≤ℤ pos 30)
+AreInRange (HotelRules rooms live) = (1 ≤ rooms) × (rooms ≤ 64)
 AreInRange TicketRules = ⊤
 
 -- no agent has more than 16 units at first

@@ -7,7 +7,7 @@ ghost use Rattle.auction_rules.specs.Follows.{Follows};
 ghost use Rattle.auction_rules.specs.Traded.{Spends};
 ghost use Rattle.auction_core.specs.Books.{Stands, units_left, held_by};
 ghost use Rattle.auction_core.specs.Calls.{IsFit};
-ghost use Rattle.auction_core.specs.Setups.{AreRulesOf};
+ghost use Rattle.auction_core.specs.Setups.{kind_by, AreInRange};
 
 use crate::{flight_calls, hotel_calls, ticket_calls};
 use auction_rules::Rules;
@@ -45,7 +45,8 @@ pub(crate) fn owned(held: &GoodBook, agent: Agent, left: Left) -> Reply
 impl Book {
     /// The book of a good with its rules, in which nobody has bid.
     pub(crate) fn new(good: Good, rules: Rules) -> Book
-        requires { AreRulesOf (kind_of good) rules }
+        requires kind { kind_by rules ≡ kind_of good }
+        requires range { AreInRange rules }
         ensures { (setup : Setup) → setup.good ≡ good → setup.rules ≡ rules → Stands result setup [] }
     {
         match rules {

@@ -1,7 +1,7 @@
 ghost use Rattle.std.specs.Prelude.{◌≡◌, ◌-◌, [], pos, map, slice_index_or};
 ghost use Rattle.tac_base.specs.Kinds.{kind_of};
 ghost use Rattle.auction_core.specs.Setups as setups;
-ghost use Rattle.auction_core.specs.Setups.{setup_of, endow_by, AreRulesOf, AreInRange, AreEndowed};
+ghost use Rattle.auction_core.specs.Setups.{setup_of, endow_by, kind_by, AreInRange, AreEndowed};
 ghost use Rattle.auction_core.specs.Books.{held_by};
 
 use auction_rules::Rules;
@@ -27,10 +27,10 @@ impl Model for Terms {
     ghost view = { λ t. record { good = t.good; rules = t.rules; endow = t.endow } };
 }
 
-/// The rules of a good. A hotel night has 16 rooms, and its quotes are not live.
+/// The rules of a good.
 fn rules_by(good: Good, game: &Game) -> Rules
     ensures value { result ≡ setups.rules_by game.now good (kind_of good) }
-    ensures of_kind { AreRulesOf (kind_of good) result }
+    ensures kind { kind_by result ≡ kind_of good }
     ensures range { AreInRange result }
 {
     match good.kind() {
@@ -42,8 +42,8 @@ fn rules_by(good: Good, game: &Game) -> Rules
             }
         }
         Kind::Hotel => Rules::Hotel {
-            rooms: 16,
-            live: false,
+            rooms: game.rooms[usize::from(good.get() - 8)],
+            live: game.live,
         },
         Kind::Ticket => Rules::Tickets,
     }
@@ -78,7 +78,7 @@ impl Terms {
     /// What a game says of a good.
     pub(crate) fn new(good: Good, game: &Game) -> Terms
         ensures value { result ≡ setup_of good game.now }
-        ensures of_kind { AreRulesOf (kind_of good) result.rules }
+        ensures kind { kind_by result.rules ≡ kind_of good }
         ensures range { AreInRange result.rules }
         ensures few { AreEndowed result.endow }
     {
