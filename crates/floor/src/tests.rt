@@ -6,44 +6,13 @@ ghost use Rattle.floor.specs.Floors.{floor_ids};
 use crate::growing::add;
 use crate::{CashOutcome, Desk, Floor, Outcome};
 use auction_core::{Auction, Closed};
-use draw_maker::make_game;
-use game_text::{Game, read_game};
-use std::alloc::{AllocError, Global};
+use game_text::Game;
+use std::alloc::Global;
 use std::sync::Wait;
 use std::test::Fail;
 use std::thread::{Threads, join};
 use std::time::Clock;
 use tac_base::{Call, Good, Memory, Party, Point, Points, Reply};
-
-/// The text of a game in which each flight stays at 300 dollars and nobody has a ticket.
-fn quiet_game(alloc: Global) -> Result<Vec<u8>, AllocError> {
-    let mut text = Vec::new(alloc);
-    text.extend_from_slice(b"tac 1\nwords seat0 seat1 seat2 seat3 seat4 seat5 seat6 seat7\n")?;
-    for good in b'0'..b'8' {
-        text.extend_from_slice(b"flight ")?;
-        text.push(good)?;
-        text.extend_from_slice(b" 300 10")?;
-        for _ in 0..53u8 {
-            text.extend_from_slice(b" 10")?;
-        }
-        text.push(b'\n')?;
-    }
-    text.extend_from_slice(b"close 8 9 10 11 12 13 14 15\n")?;
-    for agent in b'0'..b'8' {
-        text.extend_from_slice(b"endow ")?;
-        text.push(agent)?;
-        text.extend_from_slice(b" 0 0 0 0 0 0 0 0 0 0 0 0\n")?;
-    }
-    for agent in b'0'..b'8' {
-        for client in b'0'..b'8' {
-            text.extend_from_slice(b"client ")?;
-            text.extend_from_slice(&[agent, b' ', client])?;
-            text.extend_from_slice(b" 1 2 100 0 0 100\n")?;
-        }
-    }
-    text.extend_from_slice(b"end\n")?;
-    Ok(text)
-}
 
 /// A floor, the desks of its agents 0, 1 and 2, and that of the clock.
 fn begin_four(alloc: Global, game: &Game) -> Result<(Floor, Desk, Desk, Desk, Desk), Fail>
@@ -79,7 +48,7 @@ fn is_taken(outcome: &Outcome, at: u32, units: (u8, u8)) -> bool {
 
 #[test]
 fn tickets_are_traded_and_posted(rt: HostRuntime) -> Result<(), Fail> {
-    let game = read_game(quiet_game(rt.alloc())?.as_slice())?;
+    let game = Game::default();
     let (floor, mut first, mut second, mut third, mut clock) = begin_four(rt.alloc(), &game)?;
     let museum = Good::new(24)?;
     let sells = Points::new(&[point(-1, 60)])?;
@@ -139,7 +108,7 @@ fn call_often<R: Wait + Clock>(
 
 #[test]
 fn calls_are_spent_after_1024(rt: HostRuntime) -> Result<(), Fail> {
-    let (floor, mut desk, _second, _third, _clock) = begin_four(rt.alloc(), &make_game(7))?;
+    let (floor, mut desk, _second, _third, _clock) = begin_four(rt.alloc(), &Game::default())?;
     let museum = Good::new(24)?;
     let answered = call_often(&rt, &floor, &mut desk, museum, 1024);
     assert_eq!(rt; answered, (1024, 1024));
@@ -177,7 +146,7 @@ fn bid_at_once<R: Threads + Wait + Clock + Sync>(
     sells: &Points,
     buys: &Points,
 ) -> Result<Closed, Memory> {
-    let (floor, desks) = Floor::begin(alloc, &make_game(7))?;
+    let (floor, desks) = Floor::begin(alloc, &Game::default())?;
     let mut others = desks.into_iter();
     let first = others.next().unwrap();
     let second = others.next().unwrap();

@@ -163,9 +163,16 @@ fn callers_post_at_once(rt: HostRuntime) -> Result<(), Fail> {
     for (limits, posts) in [([1000, 1000].as_slice(), 1000), (&[100; 9], 100)] {
         let book = posted(&rt, rt.alloc(), limits)?;
         for caller in 0..limits.len() {
-            assert_eq!(rt; posts_of(&book, caller as u8), Some(posts), "caller {caller}");
+            assert_eq!(rt;
+                posts_of(&book, caller as u8),
+                Some(posts),
+                "caller {caller}"
+            );
         }
-        assert_eq!(rt; book.total(Party::house()), (limits.len() * posts as usize) as i64);
+        assert_eq!(rt;
+            book.total(Party::house()),
+            (limits.len() * posts as usize) as i64
+        );
     }
     Ok(())
 }

@@ -72,12 +72,33 @@ fn a_link_is_sent_the_welcome_and_a_line_for_each_of_its_lines(
             Cause::End,
             3,
         ),
-        (at_the_limit.as_slice(), 1000, (0, 0), Some(b"no syntax\n"), Cause::End, 1),
-        (too_long.as_slice(), 1000, (0, 0), Some(b"no toolong\nbye\n"), Cause::Quit, 2),
+        (
+            at_the_limit.as_slice(),
+            1000,
+            (0, 0),
+            Some(b"no syntax\n"),
+            Cause::End,
+            1,
+        ),
+        (
+            too_long.as_slice(),
+            1000,
+            (0, 0),
+            Some(b"no toolong\nbye\n"),
+            Cause::Quit,
+            2,
+        ),
         (&[b'a'; 513], 1000, (0, 0), Some(b""), Cause::End, 0),
         (quits, 1000, (1, 0), Some(b""), Cause::ReadFault, 0),
         (quits, 1000, (0, 1), None, Cause::WriteFault, 0),
-        (quits, 1000, (0, 3), Some(b"@0 own 0 ()\n"), Cause::WriteFault, 1),
+        (
+            quits,
+            1000,
+            (0, 3),
+            Some(b"@0 own 0 ()\n"),
+            Cause::WriteFault,
+            1,
+        ),
     ] {
         let end = served(&rt, alloc, &game, given, most_at_once, failing)?;
         let mut sent = Vec::new(alloc);
