@@ -18,13 +18,13 @@ use Rattle.game_text.specs.Flights.{FlightTerms, IsFlight, flight_of, flight_tex
 use Rattle.game_text.specs.ClosingOrders.{IsOrder, order_of, order_text}
 use Rattle.game_text.specs.AgentLines.{agents_in, agents_lines}
 use Rattle.game_text.specs.declared.hotel_nights.HotelNights.{HotelNights}
-use Rattle.game_text.specs.HotelNights.{AreNights, nights_in, night_lines}
+use Rattle.game_text.specs.HotelNights.{nights_in, night_lines}
 use Rattle.game_text.specs.Headers.{header_of, header_text, end_of}
 use Rattle.game_text.specs.Games.{GameFile, nights_of, agents_of, IsGame, game_lines, IsTextOf, flight_part, game_in, game_of}
 use Rattle.game_text.proofs.Limits.{within_limit, by_length}
 use Rattle.game_text.proofs.FlightLaws.{flight_is, flight_again}
 use Rattle.game_text.proofs.OrderLaws.{order_is, order_again}
-use Rattle.game_text.proofs.HeaderLaws.{IsHeader, header_is, header_again, end_is, end_again, seats_is, seats_again}
+use Rattle.game_text.proofs.HeaderLaws.{header_is, header_again, end_is, end_again, seats_is, seats_again}
 use Rattle.game_text.proofs.HotelNightLaws.{nights_took, nights_again}
 use Rattle.game_text.proofs.AgentLaws.{agents_took, agents_again}
 
