@@ -18,9 +18,9 @@ use Rattle.line_protocol.specs.declared.asking.RequestFault.{RequestFault}
 use Rattle.line_protocol.specs.declared.asking.RequestFault.TheVariants as faults
 use Rattle.line_protocol.specs.declared.saying.Said.{Said}
 use Rattle.line_protocol.specs.declared.saying.Said.TheVariants.{At, Cash, Quote, Spent, Fault, TooLong, Bye}
-use Rattle.line_protocol.specs.Replies.{place, reply_words, said_text, state_word, fault_number}
-use Rattle.line_protocol.specs.Ranges.{IsReply, IsSaid, IsSaidText}
-use Rattle.line_protocol.specs.ReplyForms.{placed_of, own_of, said_of_words, said_of, fault_at, state_of}
+use Rattle.line_protocol.specs.Replies.{place, reply_words, reply_text, said_text, state_word, fault_number}
+use Rattle.line_protocol.specs.Ranges.{IsReply, IsReplyText, IsSaid, IsSaidText}
+use Rattle.line_protocol.specs.ReplyForms.{placed_of, own_of, said_of_words, said_of, fault_at, state_of, answer_of_words, answer_of}
 use Rattle.line_protocol.proofs.JoinedWords.{lacks, words_before, has_words}
 use Rattle.line_protocol.proofs.Numbers.{within_again, next_again, holding_again, dollars_again}
 use Rattle.line_protocol.proofs.StandingPoints.{left_again}
@@ -134,3 +134,31 @@ said_again Bye range = refl
 
 pub text_again : (text : List ℕ) (said : Said) → IsSaidText text said → said_of text ≡ Some said
 text_again text said is = ap said_of is.text ∙ said_again said is.range
+
+-- ---- a reply alone
+
+answer_found : (reply : Reply) → IsReply reply → answer_of (reply_text reply) ≡ Some reply
+unfolding answer_of
+answer_found (Taken bought sold) range =
+    ap answer_of_words (joined_parts 32 (codes "taken") (decimal bought ∷ decimal sold ∷ []) (lacks 32 (codes "taken") refl) (number_lacks 255 bought (lit< tt) range.0, (number_lacks 255 sold (lit< tt) range.1, tt)))
+    ∙ rw (next_again 255 bought (decimal sold ∷ []) (lit< tt) range.0, next_again 255 sold [] (lit< tt) range.1) refl
+answer_found (Own holding left) range =
+    let small = range.0 in
+    ap answer_of_words (words_before (codes "own" ∷ signed_decimal holding ∷ []) (spelling left) (lacks 32 (codes "own") refl, (signed_lacks 32 holding (lit< tt) (omega (arith, small)), tt)))
+    ∙ own_again holding left range.0 range.1
+answer_found (Sold units price) range =
+    ap answer_of_words (joined_parts 32 (codes "sold") (decimal units ∷ decimal price ∷ []) (lacks 32 (codes "sold") refl) (number_lacks 255 units (lit< tt) range.0, (number_lacks 10001 price (lit< tt) range.1, tt)))
+    ∙ rw (next_again 255 units (decimal price ∷ []) (lit< tt) range.0, next_again 10001 price [] (lit< tt) range.1) refl
+answer_found Done range = refl
+answer_found Closed range = refl
+answer_found WrongCall range = refl
+answer_found NoBid range = refl
+answer_found Sell range = refl
+answer_found SelfCross range = refl
+answer_found (BelowQuote need at offered) range =
+    ap answer_of_words (joined_parts 32 (codes "no") (codes "belowquote" ∷ decimal need ∷ decimal at ∷ decimal offered ∷ []) (lacks 32 (codes "no") refl)
+    (lacks 32 (codes "belowquote") refl, (number_lacks 255 need (lit< tt) range.0, (number_lacks 10001 at (lit< tt) range.1, (number_lacks 255 offered (lit< tt) range.2, tt)))))
+    ∙ rw (next_again 255 need (decimal at ∷ decimal offered ∷ []) (lit< tt) range.0, next_again 10001 at (decimal offered ∷ []) (lit< tt) range.1, next_again 255 offered [] (lit< tt) range.2) refl
+
+pub answer_again : (text : List ℕ) (reply : Reply) → IsReplyText text reply → answer_of text ≡ Some reply
+answer_again text reply is = ap answer_of is.text ∙ answer_found reply is.range

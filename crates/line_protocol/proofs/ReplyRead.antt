@@ -6,6 +6,8 @@ use Rattle.std.specs.List.{join_with_byte}
 use Rattle.std.specs.Str.{bytes_eq}
 use Rattle.std.proofs.lemmas.Bool.{eqb-true}
 use Rattle.std.proofs.lemmas.Option.{same_Some}
+use Rattle.std.proofs.lemmas.List.Splits.{join_with_byte-slice_split}
+use Rattle.text_forms.specs.Words.{words_of}
 use Rattle.tac_base.specs.declared.bids.BidFault.{BidFault}
 use Rattle.tac_base.specs.declared.bids.BidFault.TheVariants as bid_faults
 use Rattle.tac_base.specs.declared.calls.Board.{Board}
@@ -17,8 +19,8 @@ use Rattle.line_protocol.specs.declared.asking.RequestFault.TheVariants as fault
 use Rattle.line_protocol.specs.declared.saying.Said.{Said}
 use Rattle.line_protocol.specs.declared.saying.Said.TheVariants.{At, Cash, Quote, Spent, Fault, TooLong, Bye}
 use Rattle.line_protocol.specs.Replies.{reply_text, state_word, fault_number, place}
-use Rattle.line_protocol.specs.Ranges.{IsReply, IsSaidText}
-use Rattle.line_protocol.specs.ReplyForms.{◌>>=◌, ended, next_within, holding_of, place_of, left_of, taken_of, sold_of, below_of, own_of, refusal_of, reply_of, cash_of, state_of, next_state, quote_of, placed_of, fault_at, bid_fault_of, unplaced_of, said_of_words, said_of}
+use Rattle.line_protocol.specs.Ranges.{IsReplyText, IsSaidText}
+use Rattle.line_protocol.specs.ReplyForms.{◌>>=◌, ended, next_within, holding_of, place_of, left_of, taken_of, sold_of, below_of, own_of, refusal_of, reply_of, cash_of, state_of, next_state, quote_of, placed_of, fault_at, bid_fault_of, unplaced_of, said_of_words, said_of, answer_of_words, answer_of}
 use Rattle.line_protocol.proofs.JoinedWords.{has_words}
 use Rattle.line_protocol.proofs.Numbers.{bound, ended_is, either_way, is_word, next_is, place_is, holding_is}
 use Rattle.line_protocol.proofs.OneLine.{placed}
@@ -27,11 +29,6 @@ use Rattle.line_protocol.proofs.StandingPoints.{left_is}
 -- the line of a keyword and the words after it
 abbrev pub line : List ℕ → List (List ℕ) → List ℕ
 line keyword words = join_with_byte 32 (keyword ∷ words)
-
--- a text of a reply, in range
-record IsReplyText (bytes : List ℕ) (reply : Reply) : Type 0 where
-  range : IsReply reply
-  text : bytes ≡ reply_text reply
 
 -- a word and those that follow it
 followed : {words rest others : List (List ℕ)} (word : List ℕ) → words ≡ word ∷ rest → rest ≡ others → words ≡ word ∷ others
@@ -311,3 +308,14 @@ said_is text said h =
 pub said_if : (text : List ℕ) (read : Option Said) → read ≡ said_of text → IfSome read (λ said. IsSaidText text said)
 said_if text None e = tt
 said_if text (Some said) e = said_is text said (sym e)
+
+-- ---- a reply alone
+
+answer_words : (words : List (List ℕ)) (reply : Reply) → answer_of_words words ≡ Some reply → IsReplyText (join_with_byte 32 words) reply
+answer_words [] reply h = absurd cc
+answer_words (keyword ∷ words) reply h = reply_is keyword words reply h
+
+pub answer_if : (text : List ℕ) (r : Option Reply) → r ≡ answer_of text → IfSome r (λ reply. IsReplyText text reply)
+unfolding answer_of
+answer_if text None is = tt
+answer_if text (Some reply) is = subst (λ (bytes : List ℕ). IsReplyText bytes reply) (join_with_byte-slice_split 32 text) (answer_words (words_of text) reply (sym is))

@@ -6,7 +6,7 @@ use Rattle.tac_base.specs.Bids.{left_fault}
 use Rattle.tac_base.specs.declared.limits.TheConstants.{CASH_DIGITS, POSITION, SHOWN_HOLDING, SHOWN_PRICE}
 use Rattle.line_protocol.specs.declared.saying.Said.{Said}
 use Rattle.line_protocol.specs.declared.saying.Said.TheVariants.{At, Cash, Quote, Spent, Fault, TooLong, Bye}
-use Rattle.line_protocol.specs.Replies.{said_text}
+use Rattle.line_protocol.specs.Replies.{reply_text, said_text}
 
 -- numbers of units have eight bits, prices and holdings are those that are shown; standing points keep the limits of a bid
 abbrev pub IsReply : Reply → Type 0
@@ -35,3 +35,8 @@ IsSaid Bye = ⊤
 pub record IsSaidText (line : List ℕ) (said : Said) : Type 0 where
   pub range : IsSaid said
   pub text : line ≡ said_text said
+
+-- a text is that of a reply without its position, in range
+pub record IsReplyText (bytes : List ℕ) (reply : Reply) : Type 0 where
+  pub range : IsReply reply
+  pub text : bytes ≡ reply_text reply

@@ -161,3 +161,13 @@ said_of_words (first ∷ words) =
 -- what a line tells
 unfoldable pub said_of : List ℕ → Option Said
 said_of line = said_of_words (words_of line)
+
+-- ---- a reply alone
+
+abbrev pub answer_of_words : List (List ℕ) → Option Reply
+answer_of_words [] = None
+answer_of_words (keyword ∷ words) = reply_of keyword words
+
+-- the reply of a text without a position
+unfoldable pub answer_of : List ℕ → Option Reply
+answer_of text = answer_of_words (words_of text)

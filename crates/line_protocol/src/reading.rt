@@ -1,7 +1,8 @@
 ghost use Rattle.std.specs.Prelude.{◌≡◌, ◌≤◌, Some, IfSome};
 ghost use Rattle.line_protocol.specs.declared.saying.Said.{Said};
+ghost use Rattle.tac_base.specs.declared.calls.Reply.{Reply};
 ghost use Rattle.line_protocol.specs.ReplyForms as forms;
-ghost use Rattle.line_protocol.specs.Ranges.{IsSaidText};
+ghost use Rattle.line_protocol.specs.Ranges.{IsReplyText, IsSaidText};
 
 use crate::{RequestFault, Said};
 use bid_strings::read_points;
@@ -308,4 +309,24 @@ pub fn read_reply(line: &[u8]) -> Option<Said>
     ensures only { (said : Said) → IsSaidText line.now said → result ≡ Some said }
 {
     said_of(line)
+}
+
+/// The reply of a text, over the definition of its form.
+#[tactic(auto, unfolding(crate::specs::ReplyForms::answer_of))]
+fn answer_of(text: &[u8]) -> Option<Reply>
+    ensures { result ≡ forms.answer_of text.now }
+{
+    let mut words = Words::new(text);
+    let keyword = words.next()?;
+    reply_of(keyword, words)
+}
+
+/// The reply of a text as `print_answer` appends it, without a position. There is none exactly where the text is no such text of a
+/// reply in the ranges of `read_reply`.
+pub fn read_answer(text: &[u8]) -> Option<Reply>
+    ensures exact { result ≡ forms.answer_of text.now }
+    ensures found { IfSome result (λ reply. IsReplyText text.now reply) }
+    ensures only { (reply : Reply) → IsReplyText text.now reply → result ≡ Some reply }
+{
+    answer_of(text)
 }

@@ -1,4 +1,4 @@
-use crate::{Request, RequestFault, Said, print_reply, read_reply, read_request};
+use crate::{Request, RequestFault, Said, print_reply, read_answer, read_reply, read_request};
 use std::test::Fail;
 use tac_base::{BidFault, Board, Good, Point, Reply, Text};
 
@@ -123,4 +123,5 @@ fn other_lines_are_no_replies(rt: HostRuntime) {
     ] {
         assert!(rt; read_reply(line).is_none());
     }
+    assert!(rt; read_answer(b"no nobid").is_some() && read_answer(b"cash 0").is_none());
 }
