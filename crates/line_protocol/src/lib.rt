@@ -14,7 +14,7 @@ mod tests;
 pub use admission::{Cause, Verdict};
 pub use asking::{Request, RequestFault};
 pub use head::LogHead;
-pub use printing::{print_answer, print_reply};
+pub use printing::{number_of, print_answer, print_reply};
 pub use reading::{read_answer, read_reply};
 pub use requests::{one_request, read_request};
 pub use saying::Said;

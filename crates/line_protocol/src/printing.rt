@@ -91,7 +91,7 @@ pub fn print_answer(reply: &Reply, out: &mut Text)
 }
 
 /// The number of a bid's fault, 1 to 5.
-fn number_of(fault: BidFault) -> u32
+pub fn number_of(fault: BidFault) -> u32
     ensures { result ≡ fault_number fault }
 {
     match fault {
