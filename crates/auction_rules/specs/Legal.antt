@@ -6,6 +6,7 @@ use Rattle.tac_base.specs.declared.calls.Call.{Call}
 use Rattle.tac_base.specs.declared.calls.Call.TheVariants.{Bid, Own as OwnCall, Close}
 use Rattle.tac_base.specs.declared.calls.Reply.{Reply}
 use Rattle.tac_base.specs.declared.calls.Reply.TheVariants.{Taken, Own, Sold, Done}
+use Rattle.tac_base.specs.declared.limits.TheConstants.{AGENT_CALLS, CLOCK_CALLS}
 use Rattle.tac_base.specs.Goods.{agents, clock}
 use Rattle.auction_rules.specs.Setup.{Setup}
 use Rattle.auction_rules.specs.declared.rules.Rules.{Rules}
@@ -80,7 +81,7 @@ entries_of history caller = count_by (λ e. e.caller == caller) history
 
 -- how many entries a caller may have
 abbrev pub cap : ℕ → ℕ
-cap caller = if caller == clock then 64 else 1024
+cap caller = if caller == clock then CLOCK_CALLS else AGENT_CALLS
 
 -- a history, the oldest entry first, is legal: its entries are those of the rules, of agents and the clock, and none of these has
 -- more than its cap

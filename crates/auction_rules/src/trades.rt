@@ -1,11 +1,12 @@
 ghost use Rattle.std.specs.Prelude.{◌≡◌, ◌*◌, ◌≤◌, length};
+ghost use Rattle.tac_base.specs.declared.limits.TheConstants.{ENTRY_TRADES};
 ghost use Rattle.auction_rules.specs.Effects as effects;
 
 use tac_base::Trade;
 
 /// How many units the agent that has the number, 0..7, buys in the trades, of which there are at most 128.
 pub fn bought(trades: &[Trade], number: u8) -> u32
-    requires { length trades.now ≤ 128 }
+    requires { length trades.now ≤ ENTRY_TRADES }
     ensures { result ≡ effects.bought trades.now number }
 {
     trades
@@ -17,7 +18,7 @@ pub fn bought(trades: &[Trade], number: u8) -> u32
 
 /// How many units the agent that has the number, 0..7, sells in the trades, of which there are at most 128.
 pub fn sold(trades: &[Trade], number: u8) -> u32
-    requires { length trades.now ≤ 128 }
+    requires { length trades.now ≤ ENTRY_TRADES }
     ensures { result ≡ effects.sold trades.now number }
 {
     trades

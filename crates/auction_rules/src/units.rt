@@ -1,5 +1,6 @@
 ghost use Rattle.std.specs.Prelude.{◌≡◌, ◌+◌, ◌<◌, ◌≤◌, ◌++◌, length, All};
 ghost use Rattle.tac_base.specs.Bids.{size_of};
+ghost use Rattle.tac_base.specs.declared.limits.TheConstants.{BID_PRICE, BID_UNITS};
 ghost use Rattle.auction_rules.specs.Units as spec;
 ghost use Rattle.auction_rules.specs.Shown.{shown_unit};
 ghost use Rattle.auction_rules.specs.Refusals as refusals;
@@ -51,7 +52,7 @@ pub fn sells(points: &[Point]) -> bool
 #[tactic(auto, using(crate::proofs::Blocks::block_more))]
 fn push_block<const N: usize>(out: &mut ArrayVec<BidUnit, N>, first: &BidUnit, count: u8)
     requires room { length out.old.items + count ≤ N }
-    requires numbered { first.now.index + count ≤ 16 }
+    requires numbered { first.now.index + count ≤ BID_UNITS }
     ensures units { out.new.items ≡ out.old.items ++ spec.block first.now count }
     ensures len { length out.new.items ≡ length out.old.items + count }
 {
@@ -71,7 +72,7 @@ pub fn push_point<const N: usize>(
     point: &Point,
 ) -> u8
     requires room { length out.old.items + size_of point.now ≤ N }
-    requires numbered { from + size_of point.now ≤ 16 }
+    requires numbered { from + size_of point.now ≤ BID_UNITS }
     ensures units { out.new.items ≡ out.old.items ++ spec.point_units bid.now.agent bid.now.position from point.now }
     ensures len { length out.new.items ≡ length out.old.items + result }
     ensures size { result ≡ size_of point.now }
@@ -90,10 +91,10 @@ pub fn push_point<const N: usize>(
 
 /// Appends the units of a bid, of which there are at most 16, each at a price of at most 10000.
 pub fn push_units<const N: usize>(out: &mut ArrayVec<BidUnit, N>, bid: &Placed)
-    requires { length out.old.items + 16 ≤ N }
+    requires { length out.old.items + BID_UNITS ≤ N }
     ensures units { out.new.items ≡ out.old.items ++ spec.units_of bid.now }
-    ensures len { length out.new.items ≤ length out.old.items + 16 }
-    ensures priced { All (λ u. u.price ≤ 10000) (spec.units_of bid.now) }
+    ensures len { length out.new.items ≤ length out.old.items + BID_UNITS }
+    ensures priced { All (λ u. u.price ≤ BID_PRICE) (spec.units_of bid.now) }
 {
     let mut from = 0;
     for point in bid.points.as_slice() {

@@ -1,15 +1,15 @@
 -- How many units of standing points are left to sell after sales.
 use Rattle.std.proofs.Common.{None, ℤ, ◌≡◌, ◌≢◌, ℕ, ◌+◌, ◌≤◌, Bool, true, false, cond, List, [], ◌∷◌, ◌++◌, map, refl, sym, subst, arith}
 use Rattle.std.specs.Prelude.{not, filter}
-use Rattle.std.specs.List.{AllByRecursion}
+use Rattle.std.specs.List.{All, AllByRecursion}
 use Rattle.std.proofs.lemmas.List.Elements.{All-from_recursion}
 use Rattle.std.proofs.lemmas.List.Sums.{sum_by-cons, sum_by-append}
 use Rattle.std.proofs.lemmas.List.Filters.{sum_by-filter_both}
 use Rattle.tac_base.specs.declared.bids.Point.{Point}
 use Rattle.tac_base.specs.declared.calls.Trade.{Trade}
 use Rattle.tac_base.specs.Bids.{size_of, total_size, first_fault, point_fault}
-use Rattle.tac_base.proofs.Faults.{good_point, both_none}
-use Rattle.auction_rules.specs.Traded.{traded, Spends}
+use Rattle.tac_base.proofs.Faults.{good_point, both_none, few_units}
+use Rattle.auction_rules.specs.Traded.{traded, Spends, IsShort}
 use Rattle.auction_rules.proofs.Agents.{number_same}
 use Rattle.auction_rules.proofs.Trading.{sum_by-filter-le}
 use Rattle.auction_rules.proofs.Lists.{all-filter}
@@ -93,3 +93,37 @@ placed_units agent standing points small =
 
 pub forgotten_units : (agent : ℕ) (standing : List StandingPoint) → units_standing (others_than agent standing) ≤ units_standing standing
 forgotten_units agent standing = sum_by-filter-le (λ (x : StandingPoint). size_of x.point) (λ s. not (is_of agent s)) standing
+
+-- ---- each sale is short
+
+few_each : (standing : List StandingPoint) → ((agent : ℕ) → total_size (points_of agent standing) ≤ 16) → AllByRecursion (λ s. size_of s.point ≤ 16) standing
+few_each [] few = tt
+few_each (s ∷ standing) few = (first, few_each standing later)
+  where
+    Total : Bool → ℕ → ℕ
+    Total b agent = total_size (map (λ (x : StandingPoint). x.point) (cond b (s ∷ filter (is_of agent) standing) (filter (is_of agent) standing)))
+
+    with_own : (agent : ℕ) → Total true agent ≡ size_of s.point + total_size (points_of agent standing)
+    with_own agent = sum_by-cons size_of s.point (points_of agent standing)
+
+    first : size_of s.point ≤ 16
+    first = let own : Total true s.agent ≤ 16 = subst (λ (b : Bool). Total b s.agent ≤ 16) (number_same s.agent) (few s.agent) in omega (arith, own, with_own s.agent)
+
+    rest : (b : Bool) (agent : ℕ) → Total b agent ≤ 16 → total_size (points_of agent standing) ≤ 16
+    rest true agent le = omega (arith, le, with_own agent)
+    rest false agent le = le
+
+    later : (agent : ℕ) → total_size (points_of agent standing) ≤ 16
+    later agent = rest (is_of agent s) agent (few agent)
+
+pub sales_short : (good bound_price current : ℕ) (bound : ℤ) (standing : List StandingPoint) (trades : List Trade) → IsSound bound bound_price standing → current ≤ 800 → trades ≡ sales good current standing → All IsShort trades
+unfolding HasUnits
+sales_short good bound_price current bound standing trades sound priced is =
+    subst (λ (ts : List Trade). All IsShort ts) (sym is)
+    (All-from_recursion IsShort (sales good current standing) (each (filter (reaches current) standing)
+    (all-filter HasUnits (reaches current) standing (sound_some bound bound_price standing sound))
+    (all-filter (λ s. size_of s.point ≤ 16) (reaches current) standing (few_each standing (λ agent. omega (arith, few_units 0 0 (points_of agent standing) (sound.limited agent) (omega arith)))))))
+  where
+    each : (kept : List StandingPoint) → AllByRecursion HasUnits kept → AllByRecursion (λ s. size_of s.point ≤ 16) kept → AllByRecursion IsShort (map (sale good current) kept)
+    each [] some few = tt
+    each (s ∷ kept) some few = (record { some = some.0; few = few.0; priced = omega (arith, priced) }, each kept some.1 few.1)

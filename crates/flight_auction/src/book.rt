@@ -7,7 +7,7 @@ ghost use Rattle.auction_rules.specs.Board.{board};
 ghost use Rattle.auction_rules.specs.Refusals.{is_wrong_caller, is_wrong_place};
 ghost use Rattle.auction_rules.specs.Legal.{entry_of};
 ghost use Rattle.auction_rules.specs.Follows.{Follows};
-ghost use Rattle.auction_rules.specs.Traded.{Spends};
+ghost use Rattle.auction_rules.specs.Traded.{Spends, IsShort};
 ghost use Rattle.flight_auction.specs.Book.{StandsFor, IsPaid, owned_by, units_left};
 
 use crate::prices::next_price;
@@ -15,6 +15,7 @@ use crate::sales::{StandingPoint, forget, has_points, place, points_of, sell};
 use arrayvec::ArrayVec;
 use auction_rules::{Rules, bought, sells, wrong_reply};
 use std::marker::Model;
+use tac_base::limits::BID_UNITS;
 use tac_base::{Agent, Board, Call, Caller, Fills, Good, Kind, Left, Points, Reply, Tick};
 
 /// The auction of a flight. By the game description the house sells any number of seats at a price, in
@@ -67,7 +68,8 @@ impl Flight {
         ensures follows { (setup : Setup) (past : List Entry) → StandsFor self.old setup past → at ≡ length past →
             Follows setup past agent (Call.Bid points.now) result fills.new (StandsFor self.new setup) }
         ensures paid { All (IsPaid (self.old.standing ++ owned_by agent points.now)) fills.new }
-        ensures units { Spends (units_left self.old + 16) (units_left self.new) fills.new }
+        ensures units { Spends (units_left self.old + BID_UNITS) (units_left self.new) fills.new }
+        ensures short { All IsShort fills.new }
     {
         let number = agent.get();
         fills.clear();
@@ -136,6 +138,7 @@ impl Flight {
             Follows setup past 8 (Call.Update tick draw) result fills.new (StandsFor self.new setup) }
         ensures paid { All (IsPaid self.old.standing) fills.new }
         ensures units { Spends (units_left self.old) (units_left self.new) fills.new }
+        ensures short { All IsShort fills.new }
     {
         if self.closed {
             fills.clear();

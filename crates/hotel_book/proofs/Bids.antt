@@ -1,7 +1,7 @@
 -- A new bid in place of its agent's earlier one: the units of the others stay, and there is room for its own.
 use Rattle.std.proofs.Common.{◌≡◌, ℕ, zero, suc, ◌+◌, ◌*◌, ◌<◌, ◌≤◌, Bool, true, false, cond, List, [], ◌∷◌, ◌++◌, length, set, refl, sym, ◌∙◌, arith, Option, Some, None}
-use Rattle.std.specs.Prelude.{not, ◌==◌, sum_by, count_by, filter}
-use Rattle.std.proofs.lemmas.List.Sums.{sum_by-cons, sum_by-append}
+use Rattle.std.specs.Prelude.{◌≢◌, not, ◌==◌, sum_by, count_by, filter}
+use Rattle.std.proofs.lemmas.List.Sums.{sum_by-cons, sum_by-append, sum_by-take-le, count_by-le-length}
 use Rattle.std.proofs.lemmas.Bool.Decides.{nat_tests}
 use Rattle.auction_rules.specs.declared.units.Placed.{Placed}
 use Rattle.auction_rules.specs.declared.units.BidUnit.{BidUnit}
@@ -10,7 +10,8 @@ use Rattle.auction_rules.specs.Units.{units_of}
 use Rattle.auction_rules.specs.Shown.{shown_unit, AreShown}
 use Rattle.auction_rules.specs.History.{units_of_bids}
 use Rattle.auction_rules.proofs.Standing.{Each, IsPlaced, each-placed, each-weaker}
-use Rattle.hotel_book.specs.Book.{AreOwn}
+use Rattle.hotel_book.specs.Ranked.{won}
+use Rattle.hotel_book.specs.Book.{AreOwn, standing}
 
 sum_alike : (f g : BidUnit → ℕ) (units : List BidUnit) → Each (λ u. f u ≡ g u) units → sum_by f units ≡ sum_by g units
 sum_alike f g [] h = refl
@@ -156,3 +157,67 @@ shown_replaced bids new units units' lt own shown put = λ weight.
       shown (λ u. cond (not (u.agent == new.agent)) (weight u) 0),
       weigh_replaced new.agent 0 new.agent (λ u. weight (shown_unit u)) bids new (omega arith) lt own,
     )
+
+-- ---- no agent has more than 16 units
+
+own_weigh_one : (agent : ℕ) → BidUnit → ℕ
+own_weigh_one agent u = cond (u.agent == agent) 1 0
+
+none_of_others : (agent : ℕ) (bid : Placed) → (bid.agent ≡ agent → ⊥) → sum_by (own_weigh_one agent) (units_of bid) ≡ 0
+unfolding own_weigh_one
+none_of_others agent bid differ =
+    sum_alike (own_weigh_one agent) (λ _. 0) (units_of bid) (each-weaker (λ u. u.agent ≡ bid.agent) (λ u. own_weigh_one agent u ≡ 0) (units_of bid) (λ u k. none u (λ e. differ (sym k ∙ e))) (own_agent bid))
+    ∙ sum_none (units_of bid)
+  where
+    none : (u : BidUnit) → (u.agent ≡ agent → ⊥) → cond {A = ℕ} (u.agent == agent) 1 0 ≡ 0
+    none u other = by_test (u.agent == agent) refl
+      where
+        same : (m n : ℕ) → (m == n) ≡ true → m ≡ n
+        same m n h = grind (arith, nat_tests)
+
+        by_test : (b : Bool) → (u.agent == agent) ≡ b → cond {A = ℕ} b 1 0 ≡ 0
+        by_test true is = absurd (other (same u.agent agent is))
+        by_test false is = refl
+
+few_of_bid : (agent : ℕ) (bid : Placed) → length (units_of bid) ≤ 16 → sum_by (own_weigh_one agent) (units_of bid) ≤ 16
+unfolding own_weigh_one
+few_of_bid agent bid few = omega (arith, few, count_by-le-length (λ (u : BidUnit). u.agent == agent) (units_of bid))
+
+none_later : (agent from : ℕ) (bids : List (Option Placed)) → agent < from → AreOwn from bids → sum_by (own_weigh_one agent) (units_of_bids bids) ≡ 0
+unfolding own_weigh_one
+none_later agent from [] lt own = refl
+none_later agent from (None ∷ bids) lt own = none_later agent (suc from) bids (omega arith) own
+none_later agent from (Some bid ∷ bids) lt own =
+    omega (
+      arith,
+      sum_by-append (own_weigh_one agent) (units_of bid) (units_of_bids bids),
+      none_of_others agent bid (λ e. absurd (let is = own.0 in omega (arith, lt, is, e))),
+      none_later agent (suc from) bids (omega arith) own.2,
+    )
+
+few_own : (agent from : ℕ) (bids : List (Option Placed)) → AreOwn from bids → sum_by (own_weigh_one agent) (units_of_bids bids) ≤ 16
+unfolding own_weigh_one
+few_own agent from [] own = omega arith
+few_own agent from (None ∷ bids) own = few_own agent (suc from) bids own
+few_own agent from (Some bid ∷ bids) own = by_test (agent == bid.agent) refl (few_own agent (suc from) bids own.2)
+  where
+    split : sum_by (own_weigh_one agent) (units_of bid ++ units_of_bids bids) ≡ sum_by (own_weigh_one agent) (units_of bid) + sum_by (own_weigh_one agent) (units_of_bids bids)
+    split = sum_by-append (own_weigh_one agent) (units_of bid) (units_of_bids bids)
+
+    by_test : (b : Bool) → (agent == bid.agent) ≡ b → sum_by (own_weigh_one agent) (units_of_bids bids) ≤ 16 → sum_by (own_weigh_one agent) (units_of bid ++ units_of_bids bids) ≤ 16
+    by_test true is rest =
+        let here : agent ≡ bid.agent = grind (arith, nat_tests) in
+        omega (arith, split, few_of_bid agent bid own.1, none_later agent (suc from) bids (let at = own.0 in omega (arith, here, at)) own.2)
+    by_test false is rest =
+        let other : agent ≢ bid.agent = grind (arith, nat_tests) in
+        omega (arith, split, rest, none_of_others agent bid (λ e. absurd (other (sym e))))
+
+few_standing : (agent : ℕ) (bids : List (Option Placed)) (closed : Bool) → AreOwn 0 bids → sum_by (own_weigh_one agent) (standing bids closed) ≤ 16
+few_standing agent bids true own = omega arith
+few_standing agent bids false own = few_own agent 0 bids own
+
+-- of the units that take the rooms too
+pub few_won : (rooms agent : ℕ) (bids : List (Option Placed)) (closed : Bool) (units : List ShownUnit) → AreOwn 0 bids → AreShown (standing bids closed) units → won rooms units agent ≤ 16
+unfolding own_weigh_one
+few_won rooms agent bids closed units own shown =
+    omega (arith, sum_by-take-le (λ (u : ShownUnit). cond (u.agent == agent) 1 0) units rooms, shown (λ u. cond (u.agent == agent) 1 0), few_standing agent bids closed own)

@@ -1,15 +1,16 @@
 -- How many units a closing sells.
 use Rattle.std.proofs.Common.{◌≡◌, ℕ, zero, suc, ◌+◌, ◌≤◌, Bool, true, false, cond, List, [], ◌∷◌, length, take, refl, sym, ap, ne_eqb, subst, arith}
 use Rattle.std.specs.Prelude.{◌==◌, count_by}
-use Rattle.std.specs.List.{AllByRecursion, filter_map}
+use Rattle.std.specs.List.{All, AllByRecursion, filter_map}
 use Rattle.std.proofs.lemmas.List.{length-take}
 use Rattle.std.proofs.lemmas.List.Elements.{All-from_recursion}
 use Rattle.std.proofs.lemmas.List.Sums.{sum_by-cons}
 use Rattle.std.proofs.lemmas.Bool.Decides.{nat_tests}
 use Rattle.tac_base.specs.declared.calls.Trade.{Trade}
 use Rattle.tac_base.specs.declared.units.Unit.{Unit as ShownUnit}
+use Rattle.tac_base.specs.declared.limits.TheConstants.{BID_PRICE}
 use Rattle.tac_base.specs.Goods.{agents}
-use Rattle.auction_rules.specs.Traded.{traded, Spends}
+use Rattle.auction_rules.specs.Traded.{traded, Spends, IsShort}
 use Rattle.hotel_book.specs.Ranked.{won}
 use Rattle.hotel_book.specs.Book.{winner_trade, winner_trades}
 
@@ -120,3 +121,19 @@ closing_spends good price rooms units trades few is =
       some = All-from_recursion (λ (t : Trade). 1 ≤ t.units) (winner_trades good price (won rooms units)) (some_sold good price (won rooms units) agents);
       few = omega (arith, all_sold good price (won rooms units), few_won rooms units, few);
     })
+
+-- each trade of a closing is short
+pub closing_short : (good price : ℕ) (wins : ℕ → ℕ) (trades : List Trade) → price ≤ BID_PRICE → ((agent : ℕ) → wins agent ≤ 16) → trades ≡ winner_trades good price wins → All IsShort trades
+closing_short good price wins trades priced few is =
+    subst (λ (ts : List Trade). All IsShort ts) (sym is) (All-from_recursion IsShort (winner_trades good price wins) (each agents))
+  where
+    at_least : (n : ℕ) → (n == 0) ≡ false → 1 ≤ n
+    at_least n h = grind (arith, nat_tests)
+
+    each : (owners : List ℕ) → AllByRecursion IsShort (filter_map (winner_trade good price wins) owners)
+    each [] = tt
+    each (agent ∷ owners) = by_test (wins agent == 0) refl (each owners)
+      where
+        by_test : (b : Bool) → (wins agent == 0) ≡ b → AllByRecursion IsShort (filter_map (winner_trade good price wins) owners) → AllByRecursion IsShort (filter_map (winner_trade good price wins) (agent ∷ owners))
+        by_test true is rest = rw is rest
+        by_test false is rest = rw is (record { some = at_least (wins agent) is; few = few agent; priced = priced }, rest)

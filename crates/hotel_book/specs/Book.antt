@@ -6,7 +6,7 @@ use Rattle.tac_base.specs.declared.calls.Trade.{Trade}
 use Rattle.tac_base.specs.declared.calls.Reply.{Reply}
 use Rattle.tac_base.specs.declared.calls.Reply.TheVariants.{Closed, Sell, BelowQuote}
 use Rattle.tac_base.specs.declared.units.Unit.{Unit as ShownUnit}
-use Rattle.tac_base.specs.declared.limits.TheConstants.{BID_PRICE}
+use Rattle.tac_base.specs.declared.limits.TheConstants.{BID_PRICE, BID_UNITS}
 use Rattle.tac_base.specs.Goods.{agents, house}
 use Rattle.auction_rules.specs.declared.units.Placed.{Placed}
 use Rattle.auction_rules.specs.declared.units.BidUnit.{BidUnit}
@@ -42,7 +42,7 @@ pub record StandsFor (book : HotelBook) (setup : Setup) (past : List Entry) : Ty
 abbrev pub AreOwn : ℕ → List (Option Placed) → Type 0
 AreOwn from [] = ⊤
 AreOwn from (None ∷ bids) = AreOwn (suc from) bids
-AreOwn from (Some bid ∷ bids) = (bid.agent ≡ from) × (length (units_of bid) ≤ 16) × AreOwn (suc from) bids
+AreOwn from (Some bid ∷ bids) = (bid.agent ≡ from) × (length (units_of bid) ≤ BID_UNITS) × AreOwn (suc from) bids
 
 -- what stands of the bids: all their units in an open hotel, and nothing in a closed one
 abbrev pub standing : List (Option Placed) → Bool → List BidUnit

@@ -1,4 +1,4 @@
-ghost use Rattle.std.specs.Prelude.{min, ◌≡◌, ◌≤◌, ◌||◌, [], ◌∷◌, length, map, List, false, IsTrue};
+ghost use Rattle.std.specs.Prelude.{All, min, ◌≡◌, ◌≤◌, ◌||◌, [], ◌∷◌, length, map, List, false, IsTrue};
 ghost use Rattle.std.specs.List.Sorted.{IsPermutation};
 ghost use Rattle.tac_base.specs.Kinds.{kind_of};
 ghost use Rattle.tac_base.specs.Goods.{clock};
@@ -12,7 +12,7 @@ ghost use Rattle.auction_rules.specs.Board.{board};
 ghost use Rattle.auction_rules.specs.Refusals.{is_wrong_caller, is_wrong_place};
 ghost use Rattle.auction_rules.specs.Legal.{entry_of};
 ghost use Rattle.auction_rules.specs.Follows.{Follows};
-ghost use Rattle.auction_rules.specs.Traded.{Spends};
+ghost use Rattle.auction_rules.specs.Traded.{Spends, IsShort};
 ghost use Rattle.hotel_book.specs.Ranked.{AreInOrder};
 ghost use Rattle.hotel_book.specs.Book.{StandsFor, units_left, with_bid};
 
@@ -126,6 +126,7 @@ impl Hotel {
             StandsFor self.old setup past → self.old.closed ≡ false →
             result ≡ Reply.Sold (min self.old.rooms (length (stand setup.rules past))) (asks.ask self.old.rooms (stand setup.rules past)) }
         ensures units { Spends (units_left self.old) (units_left self.new) fills.new }
+        ensures short { All IsShort fills.new }
     {
         if self.closed {
             fills.clear();
@@ -197,7 +198,7 @@ impl Hotel {
         ensures board { (setup : Setup) (past : List Entry) →
             StandsFor self.now setup past → count ≡ length past → result ≡ board setup.rules past }
         ensures no_bid { result.bid ≡ 0 }
-        ensures ask_within { result.ask ≤ 10000 }
+        ensures ask_within { result.ask ≤ BID_PRICE }
     {
         Board {
             count,

@@ -9,7 +9,7 @@ ghost use Rattle.hotel_book.specs.Ranked.{goes_first, AreSorted};
 use arrayvec::ArrayVec;
 use auction_rules::{BidUnit, Placed, push_units};
 use tac_base::Unit;
-use tac_base::limits::BID_PRICE;
+use tac_base::limits::{BID_PRICE, BID_UNITS};
 
 /// Whether the first unit precedes the second.
 fn precedes(first: &Unit, second: &Unit) -> bool
@@ -58,10 +58,10 @@ fn put(units: &mut ArrayVec<Unit, 128>, unit: &Unit)
 
 /// Puts the units of a bid in their places among units in order.
 pub(crate) fn put_all(units: &mut ArrayVec<Unit, 128>, bid: &Placed)
-    requires room { length units.old.items + 16 ≤ 128 }
+    requires room { length units.old.items + BID_UNITS ≤ 128 }
     requires order { AreSorted units.old.items }
     requires prices { All (λ u. u.price ≤ BID_PRICE) units.old.items }
-    ensures few { length (units_of bid.now) ≤ 16 }
+    ensures few { length (units_of bid.now) ≤ BID_UNITS }
     ensures order { AreSorted units.new.items }
     ensures prices { All (λ u. u.price ≤ BID_PRICE) units.new.items }
     ensures units { (weight : ShownUnit → ℕ) →

@@ -11,7 +11,7 @@ use crate::order::{put_all, take_out};
 use arrayvec::ArrayVec;
 use auction_rules::Placed;
 use std::marker::Model;
-use tac_base::limits::BID_PRICE;
+use tac_base::limits::{BID_PRICE, BID_UNITS};
 use tac_base::{Agent, Unit};
 
 /// The standing units of a hotel, the preceding one first, and what the first of them give: the ask, and how many rooms each agent wins.
@@ -124,9 +124,9 @@ impl Ranking {
 
     /// Puts the units of a bid in place of those that its agent had.
     pub(crate) fn replace(&mut self, bid: &Placed)
-        requires { count_by (λ u. not (u.agent == bid.now.agent)) self.old.units + 16 ≤ 128 }
+        requires { count_by (λ u. not (u.agent == bid.now.agent)) self.old.units + BID_UNITS ≤ 128 }
         ensures rooms { self.new.rooms ≡ self.old.rooms }
-        ensures few { length (units_of bid.now) ≤ 16 }
+        ensures few { length (units_of bid.now) ≤ BID_UNITS }
         ensures units { (weight : ShownUnit → ℕ) →
             sum_by weight self.new.units
             ≡ sum_by weight (filter (λ u. not (u.agent == bid.now.agent)) self.old.units) + sum_by (λ u. weight (shown_unit u)) (units_of bid.now) }

@@ -12,7 +12,7 @@ use Rattle.flight_auction.proofs.Limits.{sound_placed, sound_unsold, few_of_all,
 use Rattle.flight_auction.proofs.Paying.{bid_paid}
 use Rattle.flight_auction.specs.Book.{units_standing}
 use Rattle.auction_rules.proofs.Trading.{nothing_spent}
-use Rattle.flight_auction.proofs.Spending.{sales_spend, placed_units}
+use Rattle.flight_auction.proofs.Spending.{sales_short, sales_spend, placed_units}
 use Rattle.flight_auction.proofs.book.Flight.bid.Goals as goal
 
 pub returns-then-self-clause-follows : goal.returns-then-self-clause-follows
@@ -111,3 +111,14 @@ returns-clause-units c =
     (sales_spend f.good f.price f.price (units_standing f.standing.items + 16) f.bound (others_than agent f.standing.items ++ owned_by agent points) c.sell.new.standing.items c.sell.new.fills
     (sound_placed f.bound f.price f.standing.items agent points le c.as_slice-points.ensures.bid c.self.invariant) (placed_units agent f.standing.items points c.as_slice-points.ensures.small)
     (c.sell.ensures.trades ∙ ap (sales f.good f.price) placed) (c.sell.ensures.left ∙ ap (unsold f.price) placed))
+
+pub returns-clause-short : goal.returns-clause-short
+returns-clause-short c =
+    let f = c.self.inside in
+    let agent = c.args.agent in
+    let points = c.args.points.now in
+    let le : c.args.agent ≤ 7 = omega (arith, c.get-number.ensures.range, c.get-number.ensures.value) in
+    let placed = placed_is c.get-number.result agent f.standing.items c.forget.new.standing.items c.place.new.standing.items c.as_slice-points.result.now points
+    c.get-number.ensures.value c.as_slice-points.ensures.value c.forget.ensures c.place.ensures in
+    sales_short f.good f.price f.price f.bound (others_than agent f.standing.items ++ owned_by agent points) c.sell.new.fills
+    (sound_placed f.bound f.price f.standing.items agent points le c.as_slice-points.ensures.bid c.self.invariant) c.self.invariant.price_to (c.sell.ensures.trades ∙ ap (sales f.good f.price) placed)

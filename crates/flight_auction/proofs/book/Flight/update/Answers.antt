@@ -9,7 +9,7 @@ use Rattle.flight_auction.proofs.Limits.{sound_priced, sound_unsold}
 use Rattle.flight_auction.proofs.Paying.{sales_paid}
 use Rattle.flight_auction.specs.Book.{units_standing}
 use Rattle.auction_rules.proofs.Trading.{nothing_spent}
-use Rattle.flight_auction.proofs.Spending.{sales_spend}
+use Rattle.flight_auction.proofs.Spending.{sales_spend, sales_short}
 use Rattle.flight_auction.proofs.book.Flight.update.Goals as goal
 
 pub returns-then-self-clause-follows : goal.returns-then-self-clause-follows
@@ -50,3 +50,8 @@ returns-clause-units c =
     rw (← c.self.view_is)
     (sales_spend f.good f.price c.next_price-self-inside.result (units_standing f.standing.items) f.bound f.standing.items c.sell.new.standing.items c.sell.new.fills c.self.invariant (omega arith)
     c.sell.ensures.trades c.sell.ensures.left)
+
+pub returns-clause-short : goal.returns-clause-short
+returns-clause-short c =
+    let f = c.self.inside in
+    sales_short f.good f.price c.next_price-self-inside.result f.bound f.standing.items c.sell.new.fills c.self.invariant c.next_price-self-inside.ensures.to c.sell.ensures.trades

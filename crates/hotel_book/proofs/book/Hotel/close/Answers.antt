@@ -3,7 +3,8 @@ use Rattle.hotel_book.specs.Ranked.{won, last_price}
 use Rattle.hotel_book.specs.Book.{HotelBook, StandsFor, winner_trades}
 use Rattle.hotel_book.proofs.Keeping.{book_of, follows_closed}
 use Rattle.hotel_book.proofs.Showing.{asked, wins, as_many}
-use Rattle.hotel_book.proofs.Selling.{closing_spends}
+use Rattle.hotel_book.proofs.Bids.{few_won}
+use Rattle.hotel_book.proofs.Selling.{closing_spends, closing_short}
 use Rattle.auction_rules.proofs.Trading.{nothing_spent}
 use Rattle.hotel_book.proofs.book.Hotel.close.Goals as goal
 
@@ -37,3 +38,9 @@ pub returns-clause-units : goal.returns-clause-units
 returns-clause-units c =
     rw (← c.self.view_is, c.if-self.false)
     (closing_spends c.self.inside.good (last_price c.self.inside.ranking.rooms c.self.inside.ranking.units) c.self.inside.ranking.rooms c.self.inside.ranking.units c.fill.new.fills c.taken-units.ensures.few c.fill.ensures)
+
+pub returns-clause-short : goal.returns-clause-short
+returns-clause-short c =
+    closing_short c.self.inside.good (last_price c.self.inside.ranking.rooms c.self.inside.ranking.units) (won c.self.inside.ranking.rooms c.self.inside.ranking.units) c.fill.new.fills
+    (omega (arith, c.ask-price.ensures.value, c.ask-price.ensures.within))
+    (λ agent. few_won c.self.inside.ranking.rooms agent c.self.inside.bids c.self.inside.closed c.self.inside.ranking.units c.self.invariant.own c.self.invariant.shown) c.fill.ensures
