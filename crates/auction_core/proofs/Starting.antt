@@ -85,6 +85,7 @@ sound_at_first setup book held entries trades entry_room trade_room ranged endow
         stands = stands;
         held = holds;
         few = let none : traded (all_trades []) ≡ 0 = refl in omega (arith, none, first_units book setup stands);
+        loggable = tt;
       };
       stored = record { chained = tt; whole = refl; some = omega arith };
       entry_room = enough;

@@ -1,9 +1,10 @@
-ghost use Rattle.std.specs.Prelude.{◌≡◌, ◌+◌, ◌<◌, ◌≤◌, ◌++◌, [], ◌∷◌, Some, length, map, reverse, slice_get, IfOk};
+ghost use Rattle.std.specs.Prelude.{All, ◌≡◌, ◌+◌, ◌<◌, ◌≤◌, ◌++◌, [], ◌∷◌, Some, length, map, reverse, slice_get, IfOk};
 ghost use Rattle.std.specs.Option.{option_copied};
 ghost use Rattle.game_text.specs.Accounts.{IsHolding};
 ghost use Rattle.auction_rules.specs.Effects as effects;
 ghost use Rattle.auction_rules.specs.Legal.{Legal, entry_of};
 ghost use Rattle.auction_core.specs.Setups.{setup_of};
+ghost use Rattle.auction_core.specs.Loggable.{IsLoggable};
 ghost use Rattle.auction_core.specs.Stored.{IsShown};
 ghost use Rattle.auction_core.specs.Struck.{struck_of};
 
@@ -16,12 +17,10 @@ use crate::terms::Terms;
 use game_text::Game;
 use std::alloc::Global;
 use std::marker::Model;
+use tac_base::limits::AUCTION_ENTRIES;
 use tac_base::{Board, Call, Caller, Entry, Fills, Good, Memory, Party, Trade};
 use trade_ledger::GoodBook;
 use turn_lock::Kept;
-
-/// The most entries of a history: 1,024 of each agent, and 64 of the clock.
-const ENTRIES: usize = 8_256;
 
 /// The most trades of a history: 16 for each entry, and those of a hotel's closing.
 const TRADES: usize = 132_224;
@@ -38,7 +37,7 @@ pub struct Auction {
 }
 
 impl Model for Auction {
-    ghost use Rattle.std.specs.Prelude.{vec_capacity};
+    ghost use Rattle.std.specs.Prelude.{All, vec_capacity};
     ghost use Rattle.auction_core.specs.Auctions.{AuctionHistory, IsSound};
     ghost use Rattle.auction_core.specs.Stored.{stored};
 
@@ -55,7 +54,7 @@ impl Auction {
         ensures setup { IfOk result (λ auction. auction.setup ≡ setup_of good game.now) }
         ensures history { IfOk result (λ auction. auction.history ≡ []) }
     {
-        let entries = Vec::with_capacity(alloc, ENTRIES)?;
+        let entries = Vec::with_capacity(alloc, AUCTION_ENTRIES as usize)?;
         let trades = Vec::with_capacity(alloc, TRADES)?;
         let terms = Terms::new(good, game);
         let book = Book::new(good, terms.rules);
@@ -76,11 +75,12 @@ impl Auction {
         self.terms.good
     }
 
-    /// How many entries the history has, at most 8,256. It is legal.
+    /// How many entries the history has, at most 8,256. It is legal, and a log can show each entry.
     pub fn len(&self) -> u32
         ensures value { result ≡ length self.now.history }
-        ensures few { result ≤ 8256 }
+        ensures few { result ≤ AUCTION_ENTRIES }
         ensures legal { Legal self.now.setup self.now.history }
+        ensures loggable { All IsLoggable self.now.history }
     {
         self.entries.len() as u32
     }

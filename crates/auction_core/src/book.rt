@@ -1,10 +1,10 @@
-ghost use Rattle.std.specs.Prelude.{◌≡◌, ◌+◌, ◌≤◌, ◌==◌, if◌then◌else◌, [], length, List, pos, slice_index_or, Some, None};
+ghost use Rattle.std.specs.Prelude.{All, ◌≡◌, ◌+◌, ◌≤◌, ◌==◌, if◌then◌else◌, [], length, List, pos, slice_index_or, Some, None};
 ghost use Rattle.tac_base.specs.Kinds.{kind_of};
 ghost use Rattle.auction_rules.specs.Setup.{Setup};
 ghost use Rattle.auction_rules.specs.History.{Entry};
 ghost use Rattle.auction_rules.specs.Board as boards;
 ghost use Rattle.auction_rules.specs.Follows.{Follows};
-ghost use Rattle.auction_rules.specs.Traded.{Spends};
+ghost use Rattle.auction_rules.specs.Traded.{Spends, IsShort};
 ghost use Rattle.auction_core.specs.Books.{Stands, units_left, held_by};
 ghost use Rattle.auction_core.specs.Calls.{IsFit};
 ghost use Rattle.auction_core.specs.Setups.{kind_by, AreInRange};
@@ -13,6 +13,7 @@ use crate::{flight_calls, hotel_calls, ticket_calls};
 use auction_rules::Rules;
 use flight_auction::Flight;
 use hotel_book::Hotel;
+use tac_base::limits::{BID_PRICE, BID_UNITS};
 use tac_base::{Agent, Board, Call, Caller, Fills, Good, Left, Reply};
 use ticket_book::Tickets;
 use trade_ledger::GoodBook;
@@ -68,7 +69,8 @@ impl Book {
         requires { fills.old ≡ [] }
         ensures follows { (setup : Setup) (past : List Entry) → Stands self.old setup past → held.now ≡ held_by setup past → at ≡ length past →
             Follows setup past agent call.now result fills.new (Stands self.new setup) }
-        ensures units { Spends (units_left self.old + 16) (units_left self.new) fills.new }
+        ensures units { Spends (units_left self.old + BID_UNITS) (units_left self.new) fills.new }
+        ensures short { All IsShort fills.new }
     {
         match self {
             Book::Flight(flight) => flight_calls::agent_call(flight, held, at, agent, call, fills),
@@ -85,7 +87,8 @@ impl Book {
         requires fit { IsFit call.now }
         ensures follows { (setup : Setup) (past : List Entry) → Stands self.old setup past → at ≡ length past →
             Follows setup past 8 call.now result fills.new (Stands self.new setup) }
-        ensures units { Spends (units_left self.old + 16) (units_left self.new) fills.new }
+        ensures units { Spends (units_left self.old + BID_UNITS) (units_left self.new) fills.new }
+        ensures short { All IsShort fills.new }
     {
         match self {
             Book::Flight(flight) => flight_calls::clock_call(flight, at, call, fills),
@@ -106,7 +109,8 @@ impl Book {
         requires { IsFit call.now }
         ensures follows { (setup : Setup) (past : List Entry) → Stands self.old setup past → held.now ≡ held_by setup past → at ≡ length past →
             Follows setup past caller call.now result fills.new (Stands self.new setup) }
-        ensures units { Spends (units_left self.old + 16) (units_left self.new) fills.new }
+        ensures units { Spends (units_left self.old + BID_UNITS) (units_left self.new) fills.new }
+        ensures short { All IsShort fills.new }
     {
         fills.clear();
         match agent_of(caller) {
@@ -118,8 +122,8 @@ impl Book {
     /// What is shown of the auction after `count` entries.
     pub(crate) fn board(&self, count: u32) -> Board
         ensures board { (setup : Setup) (past : List Entry) → Stands self.now setup past → count ≡ length past → result ≡ boards.board setup.rules past }
-        ensures bid_within { result.bid ≤ 10000 }
-        ensures ask_within { result.ask ≤ 10000 }
+        ensures bid_within { result.bid ≤ BID_PRICE }
+        ensures ask_within { result.ask ≤ BID_PRICE }
     {
         match self {
             Book::Flight(flight) => flight.board(count),

@@ -4,6 +4,7 @@ ghost use Rattle.auction_rules.specs.Traded.{traded};
 ghost use Rattle.trade_ledger.specs.Holdings.{held_after};
 ghost use Rattle.trade_ledger.specs.CashKeeping.{IsWithin};
 
+use tac_base::limits::ENTRY_TRADES;
 use tac_base::{Nets, Trade};
 use trade_ledger::GoodBook;
 
@@ -17,7 +18,7 @@ fn cost(trade: &Trade) -> u32
 
 /// What the party with the number is paid in the trades.
 fn earned(trades: &[Trade], number: u8) -> u32
-    requires { length trades.now ≤ 128 }
+    requires { length trades.now ≤ ENTRY_TRADES }
     ensures value { result ≡ sum_by (λ t. t.units * t.price) (effects.sales_by trades.now number) }
     ensures bound { result ≤ 2139062400 }
 {
@@ -32,7 +33,7 @@ fn earned(trades: &[Trade], number: u8) -> u32
 
 /// What the party with the number pays in the trades.
 fn paid(trades: &[Trade], number: u8) -> u32
-    requires { length trades.now ≤ 128 }
+    requires { length trades.now ≤ ENTRY_TRADES }
     ensures value { result ≡ sum_by (λ t. t.units * t.price) (effects.buys_by trades.now number) }
     ensures bound { result ≤ 2139062400 }
 {
@@ -47,7 +48,7 @@ fn paid(trades: &[Trade], number: u8) -> u32
 
 /// What the party with the number gains in the trades.
 fn net(trades: &[Trade], number: u8) -> i32
-    requires { length trades.now ≤ 128 }
+    requires { length trades.now ≤ ENTRY_TRADES }
     ensures { result ≡ effects.dollars trades.now number }
 {
     earned(trades, number) as i32 - paid(trades, number) as i32
@@ -55,7 +56,7 @@ fn net(trades: &[Trade], number: u8) -> i32
 
 /// What each party gains in the trades of an entry. No more than 128 trades of 255 units at 65,535 dollars fit a number.
 pub(crate) fn nets(trades: &[Trade]) -> Nets
-    requires { length trades.now ≤ 128 }
+    requires { length trades.now ≤ ENTRY_TRADES }
     ensures { result.dollars ≡ effects.nets trades.now }
 {
     let mut dollars = [0; 9];

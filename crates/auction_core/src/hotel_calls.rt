@@ -1,13 +1,14 @@
-ghost use Rattle.std.specs.Prelude.{◌≡◌, ◌+◌, [], length, List};
+ghost use Rattle.std.specs.Prelude.{All, ◌≡◌, ◌+◌, [], length, List};
 ghost use Rattle.auction_rules.specs.Setup.{Setup};
 ghost use Rattle.auction_rules.specs.History.{Entry};
 ghost use Rattle.auction_rules.specs.Follows.{Follows};
-ghost use Rattle.auction_rules.specs.Traded.{Spends};
+ghost use Rattle.auction_rules.specs.Traded.{Spends, IsShort};
 ghost use Rattle.hotel_book.specs.Book.{StandsFor, units_left};
 ghost use Rattle.auction_core.specs.Books.{held_by};
 
 use crate::book::owned;
 use hotel_book::Hotel;
+use tac_base::limits::BID_UNITS;
 use tac_base::{Agent, Call, Caller, Fills, Reply};
 use trade_ledger::GoodBook;
 
@@ -23,7 +24,8 @@ pub(crate) fn agent_call(
     requires { fills.old ≡ [] }
     ensures follows { (setup : Setup) (past : List Entry) → StandsFor hotel.old setup past → held.now ≡ held_by setup past → at ≡ length past →
         Follows setup past agent call.now result fills.new (StandsFor hotel.new setup) }
-    ensures units { Spends (units_left hotel.old + 16) (units_left hotel.new) fills.new }
+    ensures units { Spends (units_left hotel.old + BID_UNITS) (units_left hotel.new) fills.new }
+    ensures short { All IsShort fills.new }
 {
     match call {
         Call::Bid(points) => hotel.bid(at, agent, points, fills),
@@ -39,7 +41,8 @@ pub(crate) fn clock_call(hotel: &mut Hotel, at: u32, call: &Call, fills: &mut Fi
     requires { fills.old ≡ [] }
     ensures follows { (setup : Setup) (past : List Entry) → StandsFor hotel.old setup past → at ≡ length past →
         Follows setup past 8 call.now result fills.new (StandsFor hotel.new setup) }
-    ensures units { Spends (units_left hotel.old + 16) (units_left hotel.new) fills.new }
+    ensures units { Spends (units_left hotel.old + BID_UNITS) (units_left hotel.new) fills.new }
+    ensures short { All IsShort fills.new }
 {
     match call {
         Call::Publish => hotel.publish(at),

@@ -2,6 +2,7 @@ ghost use Rattle.std.specs.Prelude.{◌≡◌, ◌+◌, ◌<◌, ◌≤◌, ◌^
 ghost use Rattle.std.specs.Option.{option_copied};
 ghost use Rattle.auction_core.specs.Stored.{entry_behind};
 
+use tac_base::limits::ENTRY_TRADES;
 use tac_base::{Call, Caller, Entry, Reply, Trade};
 
 /// The entry at a position, None past the end.
@@ -42,7 +43,7 @@ pub(crate) fn store(
     requires entry_room { vec_len entries.old < vec_capacity entries.old }
     requires trade_room { vec_len trades.old + length more.now ≤ vec_capacity trades.old }
     requires numbered { vec_len trades.old < 2 ^ 32 }
-    requires few { length more.now ≤ 128 }
+    requires few { length more.now ≤ ENTRY_TRADES }
     ensures entries { entries.new.items ≡ entries.old.items ++ entry_behind trades.old.items caller call reply more.now ∷ [] }
     ensures trades { trades.new.items ≡ trades.old.items ++ more.now }
     ensures entry_capacity { vec_capacity entries.new ≡ vec_capacity entries.old }

@@ -154,6 +154,7 @@ impl Flight {
     pub fn close(&mut self, at: u32, fills: &mut Fills) -> Reply
         ensures follows { (setup : Setup) (past : List Entry) → StandsFor self.old setup past → at ≡ length past →
             Follows setup past 8 Call.Close result fills.new (StandsFor self.new setup) }
+        ensures none { fills.new ≡ [] }
         ensures units { Spends (units_left self.old) (units_left self.new) fills.new }
     {
         fills.clear();

@@ -72,6 +72,7 @@ impl Hotel {
         ensures follows { (setup : Setup) (past : List Entry) →
             StandsFor self.old setup past → at ≡ length past →
             Follows setup past agent (Call.Bid points.now) result fills.new (StandsFor self.new setup) }
+        ensures none { fills.new ≡ [] }
         ensures units { Spends (units_left self.old) (units_left self.new) fills.new }
     {
         fills.clear();

@@ -89,11 +89,12 @@ invariant_of-self c =
     let is : c.args.caller ≤ 8 = search rules in
     let room : length (part by (stored a.entries.items a.trades.items) c.args.caller) < cap c.args.caller =
     subst (λ (h : AuctionHistory). length (part by h.history c.args.caller) < cap c.args.caller) (sym c.self.view_is) c.requires.room in
+    let few : length c.act-reply.new.fills ≤ 128 = omega (arith, ap length c.as_slice-trades.ensures.value, c.as_slice-trades.ensures.few) in
     let held_is : c.apply_all.new.held ≡ held_after a.held c.act-reply.new.fills = c.apply_all.ensures ∙ ap (held_after a.held) c.as_slice-trades.ensures.value in
     subst (λ (kept : List ℤ × List StoredEntry × List Trade × ℕ × ℕ). IsSound a.terms c.act-reply.new.self kept.0 kept.1 kept.2 kept.3 kept.4)
     (sym (λ i. (held_is i, entries_are c i, trades_are c i, c.store.ensures.entry_capacity i, c.store.ensures.trade_capacity i)))
     (sound_more a.terms a.book c.act-reply.new.self a.held a.entries.items a.trades.items (vec_capacity a.entries) (vec_capacity a.trades) c.args.caller c.args.call.now c.act-reply.result c.act-reply.new.fills c.self.invariant is room
-    (follows c) c.act-reply.ensures.units)
+    (follows c) c.act-reply.ensures.units few c.act-reply.ensures.short)
 
 pub returns-clause-legal : goal.returns-clause-legal
 returns-clause-legal c = (invariant_of-self c).kept.legal
