@@ -1,14 +1,18 @@
--- The code of a game that was told by its log.
+-- The code of a game whose log was written.
 use Rattle.std.proofs.Common.{◌≡◌, ℕ, ◌<◌, Bool, true, false, List, zero, suc, refl, sym, subst, arith, Option}
-use Rattle.std.specs.Prelude.{◌==◌, MatchBool}
+use Rattle.std.specs.Prelude.{◌==◌, MatchBool, nat_lt}
+use Rattle.std.proofs.lemmas.Bool.Decides.{nat_tests}
 use Rattle.tac_io.specs.Counts.{Rose}
 use Rattle.tac_io.specs.Told.{and_then_told, TakesSome}
 use Rattle.game_text.specs.Games.{GameFile}
 use Rattle.line_protocol.specs.Heads.{head_of}
 use Rattle.tacd.specs.declared.answer.Played.{Played}
-use Rattle.tacd.specs.Outcomes.{Outcome, Done, Lapsed, Cut, Refused}
-use Rattle.tacd.specs.Ends.{Tells}
-use Rattle.tacd.specs.Service.{IsLogOf, LogAllows, PlayedAllows, missed_of}
+use Rattle.tac_commands.specs.declared.code.Code.{Code}
+use Rattle.tac_commands.specs.declared.code.Code.TheVariants.{Success}
+use Rattle.tac_commands.specs.Codes.{number_of}
+use Rattle.tac_commands.specs.Outcomes.{Outcome, Done, Lapsed, Cut, Refused}
+use Rattle.tac_commands.specs.Ends.{Tells}
+use Rattle.tacd.specs.Service.{IsLogOf, LogAllows, PlayedAllows, lapsed_code, missed_of}
 
 abbrev missed : Played → ℕ
 missed played = missed_of (head_of played.head)
@@ -29,7 +33,7 @@ kept_by false game played text taken taken' before now code log none four told =
     (Done text, (log, none told.0), subst (λ b. MatchBool b (TakesSome taken taken' text × Rose before now) ((code ≡ 0) × (taken' ≡ and_then_told taken text) × (now ≡ before))) (sym four) told)
 
 -- the code stays where it is not 0, or no tick lapsed
-pub kept : (game : GameFile) (played : Played) (taken taken' : Option (List ℕ)) (before now code : ℕ) (outcome : Outcome) → LogAllows game played outcome → Tells outcome taken taken' before now code →
+kept : (game : GameFile) (played : Played) (taken taken' : Option (List ℕ)) (before now code : ℕ) (outcome : Outcome) → LogAllows game played outcome → Tells outcome taken taken' before now code →
     (code ≡ 0 → missed played ≡ 0) → (o : Outcome) × PlayedAllows game played o × Tells o taken taken' before now code
 kept game played taken taken' before now code (Done text) log told none = kept_by (code == 4) game played text taken taken' before now code log none refl told
 kept game played taken taken' before now code (Lapsed text) log told none = absurd log
@@ -37,9 +41,18 @@ kept game played taken taken' before now code (Cut text) first told none = (Cut 
 kept game played taken taken' before now code (Refused refusal) log told none = absurd log
 
 -- code 6 stands in the place of 0 where a tick lapsed
-pub lapsed : (game : GameFile) (played : Played) (taken taken' : Option (List ℕ)) (before now : ℕ) (outcome : Outcome) → LogAllows game played outcome → Tells outcome taken taken' before now 0 →
+lapsed : (game : GameFile) (played : Played) (taken taken' : Option (List ℕ)) (before now : ℕ) (outcome : Outcome) → LogAllows game played outcome → Tells outcome taken taken' before now 0 →
     0 < missed played → (o : Outcome) × PlayedAllows game played o × Tells o taken taken' before now 6
 lapsed game played taken taken' before now (Done text) log told some = (Lapsed text, (log, some), (refl, told.1, told.2))
 lapsed game played taken taken' before now (Lapsed text) log told some = absurd log
 lapsed game played taken taken' before now (Cut text) first told some = let is = told.0 in absurd (omega (arith, is))
 lapsed game played taken taken' before now (Refused refusal) log told some = absurd log
+
+-- so it is with the code that is given
+pub by_code : (game : GameFile) (played : Played) (taken taken' : Option (List ℕ)) (before now count : ℕ) (code : Code) (outcome : Outcome) → LogAllows game played outcome →
+    Tells outcome taken taken' before now (number_of code) → missed played ≡ count → (o : Outcome) × PlayedAllows game played o × Tells o taken taken' before now (number_of (lapsed_code code count))
+by_code game played taken taken' before now zero Success outcome log told is = kept game played taken taken' before now 0 outcome log told (λ none. is)
+by_code game played taken taken' before now (suc n) Success outcome log told is =
+    let test : nat_lt 0 (suc n) ≡ true = grind (arith, nat_tests) in
+    rw test (lapsed game played taken taken' before now outcome log told (omega (arith, is)))
+by_code game played taken taken' before now count code outcome log told is = kept game played taken taken' before now (number_of code) outcome log told (λ none. absurd (omega (arith, none)))

@@ -1,17 +1,4 @@
-pub mod Endings
 pub mod PostedCash
-pub mod OneThreadCash
-pub mod LongFiles
-pub mod Unambiguous
-pub mod CodedOutcomes
-pub mod RefusedGames
-pub mod RefusedTexts
-pub mod Completeness
-pub mod Selecting
-pub mod PlayEnds
-pub mod ReadFaults
-pub mod MadeScripts
-pub mod ServiceEnds
 pub mod WrittenLogs
 pub mod LapsedGames
 pub mod ServiceCauses

@@ -21,12 +21,12 @@ use Rattle.line_protocol.specs.declared.saying.Said.{Said}
 use Rattle.game_run.specs.LinkStates.{LinkState}
 use Rattle.game_run.specs.PlayedGame.{IsLegalGame}
 use Rattle.tacd.specs.declared.answer.Played.{Played}
-use Rattle.tacd.specs.Outcomes.{Outcome}
-use Rattle.tacd.specs.Commands.{Command, Hotel, Show, Make, Solve, Play, Trial, Serve}
-use Rattle.tacd.specs.Allowed.{Content}
-use Rattle.tacd.specs.Cash.{IsCashOfPosts}
-use Rattle.tacd.specs.Ends.{Tells}
-use Rattle.tacd.specs.Service.{LinksState, TickerState, OffService, OnService, ServesGame, ServeAllows}
+use Rattle.tac_commands.specs.Outcomes.{Outcome}
+use Rattle.tac_commands.specs.Commands.{Command, Serve, OffService, OnService}
+use Rattle.tac_commands.specs.Files.{Content}
+use Rattle.tac_commands.specs.Cash.{IsCashOfPosts}
+use Rattle.tac_commands.specs.Ends.{Tells}
+use Rattle.tacd.specs.Service.{LinksState, TickerState, ServesGame, ServeAllows, answers_by, texts_by}
 
 -- the order of the entries does not matter
 reversed : (history : List Entry) (party : ℕ) → dollars (all_trades (reverse history)) party ≡ dollars (all_trades history) party
@@ -78,25 +78,19 @@ HasCash played = IfSome played (λ p. IsCashOfPosts p.closed)
 no_game : (played : Option Played) → played ≡ None → HasCash played
 no_game played none = subst HasCash (sym none) tt
 
-module _ {L : Type 0} (state : L → LinkState) (may_answer : List ℕ → Result Request RequestFault → Type 0) (text : Said → List ℕ)
-    (links links' : LinksState L) (ticker ticker' : TickerState) (ended : Vec L) where
-  in_game : (game : GameFile) (port pace : ℕ) (played : Option Played) (outcome : Outcome) → ServesGame state may_answer text game port pace links links' ticker ticker' played ended outcome → HasCash played
-  in_game game port pace (Some played) outcome plays = cash_of_posts game played.closed plays.0.end.played.played.legal_game
-  in_game game port pace None outcome plays = tt
+module _ {L : Type 0} (state : L → LinkState) (links links' : LinksState L) (ticker ticker' : TickerState) (ended : Vec L) where
+  in_game : (may_answer : List ℕ → Result Request RequestFault → Type 0) (text : Said → List ℕ) (game : GameFile) (port pace : ℕ) (played : Option Played) (outcome : Outcome) → ServesGame state may_answer text game port pace links links' ticker ticker' played ended outcome → HasCash played
+  in_game may_answer text game port pace (Some played) outcome plays = cash_of_posts game played.closed plays.0.end.played.played.legal_game
+  in_game may_answer text game port pace None outcome plays = tt
 
-  in_service : (content : Content) (name : List ℕ) (port pace before now : ℕ) (played : Option Played) (outcome : Outcome) →
+  in_service : (may_answer : List ℕ → Result Request RequestFault → Type 0) (text : Said → List ℕ) (content : Content) (name : List ℕ) (port pace before now : ℕ) (played : Option Played) (outcome : Outcome) →
       ServeAllows state may_answer text content name port pace before now links links' ticker ticker' played ended outcome → HasCash played
-  in_service content name port pace before now played outcome (inl serves) = in_game serves.0 port pace played outcome serves.2
-  in_service content name port pace before now played outcome (inr refuses) = no_game played refuses.5
+  in_service may_answer text content name port pace before now played outcome (inl serves) = in_game may_answer text serves.0 port pace played outcome serves.2
+  in_service may_answer text content name port pace before now played outcome (inr refuses) = no_game played refuses.5
 
   pub cash_served : (command : Option Command) (content : Content) (before now out_before out_now code : ℕ) (taken taken' : Option (List ℕ)) (played : Option Played) → OffService command (played ≡ None) →
-      OnService command (λ name port pace. (outcome : Outcome) × ServeAllows state may_answer text content name port pace before now links links' ticker ticker' played ended outcome × Tells outcome taken taken' out_before out_now code) →
+      OnService command (λ name port pace form. (outcome : Outcome) × ServeAllows state (answers_by form) (texts_by form) content name port pace before now links links' ticker ticker' played ended outcome × Tells outcome taken taken' out_before out_now code) →
       HasCash played
-  cash_served None content before now out_before out_now code taken taken' played off on = no_game played off
-  cash_served (Some (Hotel script)) content before now out_before out_now code taken taken' played off on = no_game played off
-  cash_served (Some (Show game)) content before now out_before out_now code taken taken' played off on = no_game played off
-  cash_served (Some (Make seed)) content before now out_before out_now code taken taken' played off on = no_game played off
-  cash_served (Some (Solve account)) content before now out_before out_now code taken taken' played off on = no_game played off
-  cash_served (Some (Play game script)) content before now out_before out_now code taken taken' played off on = no_game played off
-  cash_served (Some (Trial seed count)) content before now out_before out_now code taken taken' played off on = no_game played off
-  cash_served (Some (Serve name port pace)) content before now out_before out_now code taken taken' played off on = in_service content name port pace before now played on.0 on.1
+  cash_served (Some (Serve name port pace form)) content before now out_before out_now code taken taken' played off on =
+      in_service (answers_by form) (texts_by form) content name port pace before now played on.0 on.1
+  cash_served command content before now out_before out_now code taken taken' played off on = no_game played off

@@ -8,8 +8,8 @@ use Rattle.game_log.specs.declared.fault.LogWriteFault.TheVariants as log
 use Rattle.game_log.proofs.Writing.{wrote_both, some_after}
 use Rattle.game_log.specs.ScoredGames.{WritesSheet}
 use Rattle.tacd.specs.declared.answer.Played.{Played}
-use Rattle.tacd.specs.declared.ends.End.TheVariants as ends
-use Rattle.tacd.specs.Ends.{EndsOrIsCut}
+use Rattle.tac_commands.specs.declared.ends.End.TheVariants as ends
+use Rattle.tac_commands.specs.Ends.{EndsOrIsCut}
 use Rattle.tacd.specs.Service.{LogAllows, first_part}
 
 module _ (game : GameFile) (played : Played) (t0 t1 t2 : Option (List ℕ)) (f0 f1 f2 : ℕ) where

@@ -1,11 +1,1 @@
-pub mod Commands
-pub mod Words
-pub mod Outcomes
-pub mod Cash
-pub mod Allowed
-pub mod Files
-pub mod Ends
-pub mod Causes
-pub mod Selected
-pub mod Trials
 pub mod Service

@@ -1,5 +1,5 @@
 -- What `serve` leaves: the game that was played, its log, the links and the ticker.
-use Rattle.std.specs.Prelude.{⊤, ◌≡◌, ℕ, ◌<◌, ◌⊎◌, List, [], ◌∷◌, Bool, Result, Option, Some, None}
+use Rattle.std.specs.Prelude.{◌≡◌, ℕ, ◌<◌, ◌⊎◌, List, [], ◌∷◌, Bool, nat_lt, if◌then◌else◌, Result, Option, Some, None}
 use Rattle.std.specs.Global.{Vec}
 use Rattle.std.specs.Option.{option_map}
 use Rattle.tac_io.specs.Counts.{Rose}
@@ -8,6 +8,8 @@ use Rattle.game_text.specs.Games.{GameFile}
 use Rattle.line_protocol.specs.declared.asking.Request.{Request}
 use Rattle.line_protocol.specs.declared.asking.RequestFault.{RequestFault}
 use Rattle.line_protocol.specs.declared.saying.Said.{Said}
+use Rattle.line_protocol.specs.Requests.{request_of}
+use Rattle.line_protocol.specs.Replies.{said_text}
 use Rattle.score_sheet.specs.Sheets.{Scored}
 use Rattle.line_protocol.specs.Heads.{Head, Play, Serve, head_of}
 use Rattle.game_log.specs.LogText.{play_part}
@@ -16,12 +18,15 @@ use Rattle.game_log.specs.ScoredGames.{IsSheetOf}
 use Rattle.game_run.specs.LinkStates.{LinkState}
 use Rattle.game_run.specs.Outcomes.{IsEnd, IsNotPlayed}
 use Rattle.tacd.specs.declared.answer.Played.{Played}
-use Rattle.tacd.specs.Allowed.{Content, IsGameFile, RefusesGame}
-use Rattle.tacd.specs.Commands.{Command}
-use Rattle.tacd.specs.Commands as commands
-use Rattle.tacd.specs.Outcomes.{Outcome, Done, Lapsed, Cut, Refused}
-use Rattle.tacd.specs.declared.refusals.Refusal.{Refusal}
-use Rattle.tacd.specs.declared.refusals.Refusal.TheVariants.{LinkFault, Memory}
+use Rattle.tac_commands.specs.declared.code.Code.{Code}
+use Rattle.tac_commands.specs.declared.code.Code.TheVariants.{Success, ClockFault}
+use Rattle.tac_commands.specs.declared.file_kinds.FileKind.TheVariants.{Game}
+use Rattle.tac_commands.specs.declared.refusals.Refusal.{Refusal}
+use Rattle.tac_commands.specs.declared.refusals.Refusal.TheVariants.{LinkFault, Memory}
+use Rattle.tac_commands.specs.declared.words.Form.{Form}
+use Rattle.tac_commands.specs.declared.words.Form.TheVariants.{Lines}
+use Rattle.tac_commands.specs.Files.{Content, IsRead, IsNotRead}
+use Rattle.tac_commands.specs.Outcomes.{Outcome, Done, Lapsed, Cut, Refused}
 
 -- ---- the text
 
@@ -54,6 +59,21 @@ PlayedAllows game played (Done text) = IsLogOf game played text × (missed_of (h
 PlayedAllows game played (Lapsed text) = IsLogOf game played text × (0 < missed_of (head_of played.head))
 PlayedAllows game played (Cut text) = text ≡ first_part played
 PlayedAllows game played (Refused refusal) = ⊥
+
+-- the code of a game that was played is that of a lapsed tick where no other applies
+abbrev pub lapsed_code : Code → ℕ → Code
+lapsed_code Success missed = if nat_lt 0 missed then ClockFault else Success
+lapsed_code code missed = code
+
+-- ---- the form of lines
+
+-- what a request line of a link may be read as
+abbrev pub answers_by : Form → List ℕ → Result Request RequestFault → Type 0
+answers_by Lines line answer = answer ≡ request_of line
+
+-- what a link is sent of what is said
+abbrev pub texts_by : Form → Said → List ℕ
+texts_by Lines said = said_text said
 
 -- ---- the links and the ticker
 
@@ -117,17 +137,5 @@ module _ {L : Type 0} (state : L → LinkState) where
   abbrev pub ServeAllows : (List ℕ → Result Request RequestFault → Type 0) → (Said → List ℕ) → Content → List ℕ → ℕ → ℕ → ℕ → ℕ
       → LinksState L → LinksState L → TickerState → TickerState → Option Played → Vec L → Outcome → Type 0
   ServeAllows may_answer text content name port pace before now links links' ticker ticker' played ended outcome =
-      ((game : GameFile) × IsGameFile content name game × ServesGame may_answer text game port pace links links' ticker ticker' played ended outcome × (now ≡ before))
-      ⊎ ((refusal : Refusal) × (outcome ≡ Refused refusal) × RefusesGame content name before now refusal × IsUnasked links links' ticker ticker' ended × (ticker'.paced ≡ ticker.paced) × (played ≡ None))
-
--- ---- the service among the commands
-
--- of the service of a game this holds
-abbrev pub OnService : Option Command → (List ℕ → ℕ → ℕ → Type 0) → Type 0
-OnService (Some (commands.Serve game port pace)) Holds = Holds game port pace
-OnService command Holds = ⊤
-
--- of every other command this holds, and where there is none
-abbrev pub OffService : Option Command → Type 0 → Type 0
-OffService (Some (commands.Serve game port pace)) Holds = ⊤
-OffService command Holds = Holds
+      ((game : GameFile) × IsRead content Game name game × ServesGame may_answer text game port pace links links' ticker ticker' played ended outcome × (now ≡ before))
+      ⊎ ((refusal : Refusal) × (outcome ≡ Refused refusal) × IsNotRead content Game name before now refusal × IsUnasked links links' ticker ticker' ended × (ticker'.paced ≡ ticker.paced) × (played ≡ None))

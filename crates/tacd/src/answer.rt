@@ -1,9 +1,11 @@
 // What a command leaves.
 ghost use Rattle.std.specs.Prelude.{◌≡◌, [], None};
+ghost use Rattle.tac_commands.specs.Codes.{number_of};
 
 use auction_core::Closed;
 use game_log::LogHead;
 use std::alloc::Global;
+use tac_commands::Code;
 
 /// A game that was played over links: what its log says of the links, and its histories.
 #[derive(Drop)]
@@ -22,13 +24,13 @@ pub struct Answer<L> {
 }
 
 /// The code alone.
-pub(crate) fn coded<L>(alloc: Global, code: u8) -> Answer<L>
-    ensures code { result.code ≡ code }
+pub(crate) fn coded<L>(alloc: Global, code: Code) -> Answer<L>
+    ensures code { result.code ≡ number_of code }
     ensures ended { result.ended.items ≡ [] }
     ensures played { result.played ≡ None }
 {
     Answer {
-        code,
+        code: code.number(),
         ended: Vec::new(alloc),
         played: None,
     }

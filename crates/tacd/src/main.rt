@@ -2,12 +2,8 @@
 #![tactic(auto)]
 
 mod answer;
-mod commands;
-mod ends;
 mod host_files;
-mod play_command;
-mod reading;
-mod refusals;
+mod running;
 mod serve_command;
 #[cfg(test)]
 mod serve_tests;
@@ -17,20 +13,17 @@ mod tcp_links;
 #[cfg(test)]
 mod tests;
 mod top;
-mod trial_command;
-mod words;
 
 ghost use Rattle.std.specs.Prelude.{◌≤◌, ◌↔◌, All, IfOk, IsTrue, string_len};
 
-use ends::{End, finish};
 use host_files::HostFiles;
-use refusals::Refusal;
 use sleep_ticker::SleepTicker;
 use std::env::Env;
 use std::io::ErrorKind;
 use std::process::ExitCode;
 use std::{env, io};
 use std_sink::StdSink;
+use tac_commands::{End, Refusal, finish};
 use tcp_links::TcpLinks;
 use top::tac;
 
@@ -66,7 +59,7 @@ fn main(rt: HostRuntime) -> ExitCode {
     let mut out = StdSink::new(io::writer(&rt));
     let words = match command_line(&rt) {
         Ok(words) => words,
-        Err(refusal) => return ExitCode::from(finish(&mut out, End::Refused(refusal))),
+        Err(refusal) => return ExitCode::from(finish(&mut out, End::Refused(refusal)).number()),
     };
     let mut files = HostFiles::new(&rt);
     let mut links = TcpLinks::new(&rt);

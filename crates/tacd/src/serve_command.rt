@@ -1,20 +1,17 @@
 // The command that serves a game over links.
 ghost use Rattle.std.specs.Prelude.{◌≡◌, ◌<◌, ◌≤◌, ◌∷◌, [], length, IfSome};
-ghost use Rattle.line_protocol.specs.Requests.{request_of};
-ghost use Rattle.line_protocol.specs.Replies.{said_text};
 ghost use Rattle.tac_io.specs.Told.{and_then_told};
-ghost use Rattle.tacd.specs.Ends.{EndsOrIsCut, Tells};
-ghost use Rattle.tacd.specs.Outcomes.{Outcome};
-ghost use Rattle.tacd.specs.Service.{LogAllows, first_part, PlayedAllows, ServeAllows, ServesGame, links_state, missed_of, ticker_state};
+ghost use Rattle.tac_commands.specs.Codes.{number_of};
+ghost use Rattle.tac_commands.specs.Ends.{EndsOrIsCut, Tells};
+ghost use Rattle.tac_commands.specs.Outcomes.{Outcome};
+ghost use Rattle.tacd.specs.Service as service;
+ghost use Rattle.tacd.specs.Service.{LogAllows, first_part, PlayedAllows, ServeAllows, ServesGame, answers_by, links_state, missed_of, texts_by, ticker_state};
 ghost use Rattle.game_run.specs.LinkStates.{link_state};
 ghost use Rattle.line_protocol.specs.Heads.{head_of};
 ghost use Rattle.game_log.specs.Written.{Writes};
 
 use crate::answer::{Answer, Played, coded};
-use crate::ends::{End, finish};
-use crate::reading::game_file;
-use crate::refusals::Refusal;
-use agent_gate::LineDialect;
+use agent_gate::{Dialect, LineDialect};
 use auction_core::Closed;
 use game_log::{LogHead, LogWriteFault, write_play_part, write_scores};
 use game_run::{GameEnd, RunFault, run_game};
@@ -23,6 +20,7 @@ use std::alloc::Global;
 use std::sync::Wait;
 use std::thread::Threads;
 use std::time::Clock;
+use tac_commands::{Code, End, Form, Refusal, finish, read_game_file};
 use tac_io::{Failed, Files, Links, Sink, Ticker};
 
 /// Writes the first part of the log of a game that was played.
@@ -62,32 +60,45 @@ fn missed(head: &LogHead) -> u8
     }
 }
 
-/// Tells a game that was played by its log, and gives the code.
-fn tell<R: Threads + Sync, K: Sink>(
+/// The code of a game that was played: that of a lapsed tick where no other applies.
+fn lapsed_code(code: Code, missed: u8) -> Code
+    ensures { result ≡ service.lapsed_code code missed }
+{
+    match code {
+        Code::Success if missed > 0 => Code::ClockFault,
+        _ => code,
+    }
+}
+
+/// Writes the log of a game that was played, and gives the code.
+fn finish_played<R: Threads + Sync, K: Sink>(
     rt: &R,
     alloc: Global,
     game: &Game,
     played: &Played,
     out: &mut K,
-) -> u8
-    ensures { (outcome : Outcome) × PlayedAllows game.now played.now outcome × Tells outcome (K.taken out.old) (K.taken out.new) (K.faults out.old) (K.faults out.new) result }
+) -> Code
+    ensures { (outcome : Outcome) × PlayedAllows game.now played.now outcome × Tells outcome (K.taken out.old) (K.taken out.new) (K.faults out.old) (K.faults out.new) (number_of result) }
 {
     let end = write_log(rt, alloc, game, played, out);
     let code = finish(out, end);
-    if code == 0 && missed(&played.head) > 0 {
-        6
-    } else {
-        code
-    }
+    lapsed_code(code, missed(&played.head))
 }
 
-/// Plays the game over the links by the ticker, with a pace in milliseconds, and tells it.
-fn serve_game<R: Threads + Sync + Wait + Clock, K: Sink, N: Links, T: Ticker + Send>(
+/// Plays the game over the links by the ticker, with a pace in milliseconds, and writes its log.
+fn serve_game<
+    R: Threads + Sync + Wait + Clock,
+    D: Dialect + Sync,
+    K: Sink,
+    N: Links,
+    T: Ticker + Send,
+>(
     rt: &R,
     alloc: Global,
     game: &Game,
     port: u16,
     pace: u16,
+    dialect: &D,
     out: &mut K,
     links: &mut N,
     ticker: &mut T,
@@ -95,13 +106,13 @@ fn serve_game<R: Threads + Sync + Wait + Clock, K: Sink, N: Links, T: Ticker + S
     requires ports { IfSome (N.ports links.old) (λ ports. ports ≡ []) }
     requires ticks { IfSome (T.waited ticker.old) (λ ticks. ticks ≡ []) }
     ensures { (outcome : Outcome)
-        × ServesGame (link_state N.Link.taken N.Link.left N.Link.sent N.Link.faults N.Link.write_faults) (λ line answer. answer ≡ request_of line) said_text
+        × ServesGame (link_state N.Link.taken N.Link.left N.Link.sent N.Link.faults N.Link.write_faults) (D.may_answer dialect.now) (D.text dialect.now)
         game.now port pace (links_state N.ports N.pending N.faults links.old) (links_state N.ports N.pending N.faults links.new)
         (ticker_state T.paced T.waited T.faults ticker.old) (ticker_state T.paced T.waited T.faults ticker.new) result.played result.ended outcome
         × Tells outcome (K.taken out.old) (K.taken out.new) (K.faults out.old) (K.faults out.new) result.code }
 {
     ticker.pace(pace);
-    match run_game(rt, alloc, game, port, &LineDialect, links, ticker) {
+    match run_game(rt, alloc, game, port, dialect, links, ticker) {
         Ok(
             GameEnd {
                 closed,
@@ -110,9 +121,9 @@ fn serve_game<R: Threads + Sync + Wait + Clock, K: Sink, N: Links, T: Ticker + S
             },
         ) => {
             let played = Played { head, closed };
-            let code = tell(rt, alloc, game, &played, out);
+            let code = finish_played(rt, alloc, game, &played, out);
             Answer {
-                code,
+                code: code.number(),
                 ended,
                 played: Some(played),
             }
@@ -120,7 +131,7 @@ fn serve_game<R: Threads + Sync + Wait + Clock, K: Sink, N: Links, T: Ticker + S
         Err(RunFault::Links(ended)) => {
             let code = finish(out, End::Refused(Refusal::LinkFault));
             Answer {
-                code,
+                code: code.number(),
                 ended,
                 played: None,
             }
@@ -132,7 +143,7 @@ fn serve_game<R: Threads + Sync + Wait + Clock, K: Sink, N: Links, T: Ticker + S
     }
 }
 
-/// Serves the game of the file of that name over links, at a port, with a pace in milliseconds, and tells it.
+/// Serves the game of the file of that name over links, at a port, with a pace in milliseconds and in a form of lines, and writes its log.
 pub(crate) fn serve<
     R: Threads + Sync + Wait + Clock,
     F: Files,
@@ -145,6 +156,7 @@ pub(crate) fn serve<
     name: &str,
     port: u16,
     pace: u16,
+    form: Form,
     files: &mut F,
     out: &mut K,
     links: &mut N,
@@ -154,15 +166,27 @@ pub(crate) fn serve<
     requires ports { IfSome (N.ports links.old) (λ ports. ports ≡ []) }
     requires ticks { IfSome (T.waited ticker.old) (λ ticks. ticks ≡ []) }
     ensures outcome { (outcome : Outcome)
-        × ServeAllows (link_state N.Link.taken N.Link.left N.Link.sent N.Link.faults N.Link.write_faults) (λ line answer. answer ≡ request_of line) said_text
+        × ServeAllows (link_state N.Link.taken N.Link.left N.Link.sent N.Link.faults N.Link.write_faults) (answers_by form) (texts_by form)
         (F.content files.old) name.now port pace (F.faults files.old) (F.faults files.new)
         (links_state N.ports N.pending N.faults links.old) (links_state N.ports N.pending N.faults links.new)
         (ticker_state T.paced T.waited T.faults ticker.old) (ticker_state T.paced T.waited T.faults ticker.new) result.played result.ended outcome
         × Tells outcome (K.taken out.old) (K.taken out.new) (K.faults out.old) (K.faults out.new) result.code }
     ensures names { F.names files.new ≡ and_then_told (F.names files.old) (name.now ∷ []) }
 {
-    match game_file(alloc, files, name) {
-        Ok(game) => serve_game(rt, alloc, &game, port, pace, out, links, ticker),
+    match read_game_file(alloc, files, name) {
+        Ok(game) => match form {
+            Form::Lines => serve_game(
+                rt,
+                alloc,
+                &game,
+                port,
+                pace,
+                &LineDialect,
+                out,
+                links,
+                ticker,
+            ),
+        },
         Err(refusal) => {
             let code = finish(out, End::Refused(refusal));
             coded(alloc, code)

@@ -1,11 +1,9 @@
 // A game over links in memory, and the system's links and ticker.
 ghost use Rattle.std.specs.Prelude.{◌≡◌, [], IfOk, IfSome};
 
-use crate::are_short;
 use crate::sleep_ticker::SleepTicker;
 use crate::tcp_links::TcpLinks;
-use crate::tests::{file, plain_game};
-use crate::top::tac;
+use crate::tests::{FIRST_CLIENT, Faults, NO_FAULT, Ran, plain_game, run_over};
 use std::alloc::Global;
 use std::io::{Read, Write};
 use std::net::TcpStream;
@@ -16,27 +14,7 @@ use std::test::Fail;
 use std::thread::Threads;
 use std::time::Instant;
 use tac_base::Tick;
-use tac_io::{
-    HeldLink, Hold, LinesSent, Link, Links, MemFiles, MemLink, MemLinks, MemSink, MemTicker, Ticker,
-};
-
-// The calls of the sink and of the links that are to fail, each counted from 1; 0 for none.
-#[derive(Clone, Copy)]
-struct Faults {
-    write: u64,
-    links: u64,
-}
-
-const NO_FAULT: Faults = Faults { write: 0, links: 0 };
-
-// What a service left: its code, what it wrote, the links that it took, and whether a game was played.
-#[derive(Drop)]
-struct Served<L> {
-    code: u8,
-    text: Vec<u8>,
-    ended: Vec<L>,
-    played: bool,
-}
+use tac_io::{HeldLink, Hold, LinesSent, Link, Links, MemLink, MemTicker, Ticker};
 
 // Serves the plain game over the links, and no tick lapses.
 fn serve<R: Threads + Sync + Wait + Clock, L: Link + Send + Drop>(
@@ -44,7 +22,7 @@ fn serve<R: Threads + Sync + Wait + Clock, L: Link + Send + Drop>(
     alloc: Global,
     given: Vec<L>,
     faults: Faults,
-) -> Result<Served<L>, Fail> {
+) -> Result<Ran<L>, Fail> {
     let mut ticker = MemTicker::new(alloc, Vec::new(alloc))?;
     serve_by(rt, alloc, given, faults, &mut ticker)
 }
@@ -56,28 +34,20 @@ fn serve_by<R: Threads + Sync + Wait + Clock, L: Link + Send + Drop, T: Ticker +
     given: Vec<L>,
     faults: Faults,
     ticker: &mut T,
-) -> Result<Served<L>, Fail>
+) -> Result<Ran<L>, Fail>
     requires { IfSome (T.waited ticker.old) (λ ticks. ticks ≡ []) }
 {
-    let mut words = Vec::new(alloc);
-    for word in ["serve", "game", "7411", "5"] {
-        words.push(String::from_str(alloc, word)?)?;
-    }
-    if !are_short(&words) {
-        return Err(Fail::from("a word is too long"));
-    }
-    let game = plain_game(alloc, "client 0 0 1 2 100 0 0 100\n")?;
-    let game = file(alloc, "game", game.as_bytes())?;
-    let mut files = MemFiles::new(alloc, vec![in alloc; game]?, 1_000_000, Vec::new(alloc))?;
-    let mut out = MemSink::new(alloc, 1_000_000, 1_000_000, vec![in alloc; faults.write]?)?;
-    let mut links = MemLinks::new(given, vec![in alloc; faults.links]?);
-    let answer = tac(rt, alloc, &words, &mut files, &mut out, &mut links, ticker);
-    Ok(Served {
-        code: answer.code,
-        text: out.bytes().to_vec(alloc)?,
-        ended: answer.ended,
-        played: answer.played.is_some(),
-    })
+    let game = plain_game(alloc, FIRST_CLIENT)?;
+    let files = [("game", game.as_bytes())];
+    run_over(
+        rt,
+        alloc,
+        "serve game 7411 5",
+        &files,
+        given,
+        ticker,
+        faults,
+    )
 }
 
 // A link that gives these bytes, as many at once as stated, has room for `room` bytes, and fails at a read and at a write; 0 for none.
@@ -99,13 +69,39 @@ fn link(
     )?)
 }
 
-// Links that give these bytes at once, in order.
-fn links(alloc: Global, given: &[&[u8]]) -> Result<Vec<MemLink>, Fail> {
+// Links that give these bytes, as many at once as stated, in order.
+fn links(alloc: Global, given: &[&[u8]], most_at_once: usize) -> Result<Vec<MemLink>, Fail> {
     let mut links = Vec::new(alloc);
     for bytes in given {
-        links.push(link(alloc, bytes, 1_000, 10_000, 0, 0)?)?;
+        links.push(link(alloc, bytes, most_at_once, 10_000, 0, 0)?)?;
     }
     Ok(links)
+}
+
+// Serves the plain game over links. Fails where the code is another, the text does not begin so, or a link was sent anything but its two
+// texts.
+fn check<R: Threads + Sync + Wait + Clock>(
+    rt: &R,
+    alloc: Global,
+    given: Vec<MemLink>,
+    faults: Faults,
+    code: u8,
+    head: &str,
+    sent: &[(&str, &str)],
+) -> Result<Ran<MemLink>, Fail> {
+    let served = serve(rt, alloc, given, faults)?;
+    if served.code != code
+        || !served.text.starts_with(head.as_bytes())
+        || served.ended.len() != sent.len()
+    {
+        return Err(Fail::from(head));
+    }
+    for (link, (first, rest)) in served.ended.iter().zip(sent) {
+        if link.sent() != format!(in alloc; "{first}{rest}")?.as_bytes() {
+            return Err(Fail::from(rest));
+        }
+    }
+    Ok(served)
 }
 
 // What four links ask: one takes a seat and leaves, one has a word of no seat, one wants the same seat, and one does not greet.
@@ -116,6 +112,9 @@ const FOUR: [&[u8]; 4] = [
     b"hi\n",
 ];
 
+// What three links ask that take seats.
+const SEATED: [&[u8]; 3] = [b"hello seat0\n", b"hello seat1\n", b"hello seat2\n"];
+
 const FOUR_HEADS: &str =
     "taclog 1\nserve\nlink 0 seated 0\nlink 1 wrongword\nlink 2 taken\nlink 3 syntax\nend 0 quit\nmissed 0\nauction 0 54\n";
 
@@ -124,29 +123,44 @@ const WELCOME: &str =
     "welcome 0\nendow 0 0 0 0 0 0 0 0 0 0 0 0 0\nclient 0 0 1 2 100 0 0 100\nclient 0 1 1 2 100 0 0 100\nclient 0 2 1 2 100 0 0 100\nclient 0 3 1 2 100 0 0 100\nclient 0 4 1 2 100 0 0 100\nclient 0 5 1 2 100 0 0 100\nclient 0 6 1 2 100 0 0 100\nclient 0 7 1 2 100 0 0 100\n";
 
 #[test]
-fn a_game_is_served_and_told(rt: HostRuntime) -> Result<(), Fail> {
+fn games_are_served_or_their_links_fail(rt: HostRuntime) -> Result<(), Fail> {
     let alloc = rt.alloc();
+    let told = [
+        (WELCOME, "bye\n"),
+        ("", "refused wrongword\n"),
+        ("", "refused taken\n"),
+        ("", "refused syntax\n"),
+    ];
     for most_at_once in [1_000, 1] {
-        let mut given = Vec::new(alloc);
-        for bytes in FOUR {
-            given.push(link(alloc, bytes, most_at_once, 10_000, 0, 0)?)?;
-        }
-        let served = serve(&rt, alloc, given, NO_FAULT)?;
-        assert_eq!(rt; served.code, 0);
+        let given = links(alloc, &FOUR, most_at_once)?;
+        let served = check(&rt, alloc, given, NO_FAULT, 0, FOUR_HEADS, &told)?;
         let text = str::from_utf8(served.text.as_slice())?;
-        assert!(rt; text.starts_with(FOUR_HEADS));
         assert!(rt; text.find("\nscore 7 0 0 0 0\n").is_some());
-        let mut ended = served.ended.into_iter();
-        for (first, rest) in [
-            (WELCOME, "bye\n"),
-            ("", "refused wrongword\n"),
-            ("", "refused taken\n"),
-            ("", "refused syntax\n"),
-        ] {
-            let link = ended.next().ok_or("four links")?;
-            assert_eq!(rt; link.sent(), format!(in alloc; "{first}{rest}")?.as_bytes());
-        }
     }
+    // The first call listens, and each later one gives a link.
+    for (failing, sent) in [(1, &[][..]), (3, &[("", "")]), (5, &[("", ""); 3])] {
+        let faults = Faults {
+            links: failing,
+            ..NO_FAULT
+        };
+        let given = links(alloc, &SEATED, 1_000)?;
+        let served = check(&rt, alloc, given, faults, 5, "fault links\n", sent)?;
+        assert!(rt; !served.played);
+    }
+    let faults = Faults {
+        write: 1,
+        ..NO_FAULT
+    };
+    let served = check(
+        &rt,
+        alloc,
+        links(alloc, &FOUR, 1_000)?,
+        faults,
+        4,
+        "",
+        &told,
+    )?;
+    assert!(rt; served.text.is_empty() && served.played);
     Ok(())
 }
 
@@ -158,22 +172,21 @@ fn a_line_has_at_most_512_bytes(rt: HostRuntime) -> Result<(), Fail> {
         (513, "\nquit\n", "no toolong\nbye\n", "quit"),
         (513, "", "", "end"),
     ] {
-        let mut bytes = b"hello seat0\n".to_vec(alloc)?;
-        for _ in 0..count {
-            bytes.push(b'a')?;
-        }
-        bytes.extend_from_slice(rest.as_bytes())?;
-        let served = serve(&rt, alloc, links(alloc, &[bytes.as_slice()])?, NO_FAULT)?;
-        assert_eq!(rt; served.code, 0);
+        let line = "a".repeat(alloc, count)?;
+        let bytes = format!(in alloc; "hello seat0\n{line}{rest}")?;
         let head = format!(in alloc;
             "taclog 1\nserve\nlink 0 seated 0\nend 0 {cause}\nmissed 0\n"
         )?;
-        assert!(rt; served.text.starts_with(head.as_bytes()));
-        assert_eq!(rt; served.ended.len(), 1);
-        assert_eq!(rt;
-            served.ended[0].sent(),
-            format!(in alloc; "{WELCOME}{sent}")?.as_bytes()
-        );
+        let given = links(alloc, &[bytes.as_bytes()], 1_000)?;
+        check(
+            &rt,
+            alloc,
+            given,
+            NO_FAULT,
+            0,
+            head.as_str(),
+            &[(WELCOME, sent)],
+        )?;
     }
     Ok(())
 }
@@ -188,65 +201,15 @@ fn count_clock(text: &[u8]) -> usize {
 #[test]
 fn at_most_64_links_are_taken(rt: HostRuntime) -> Result<(), Fail> {
     let alloc = rt.alloc();
-    let served = serve(
-        &rt,
-        alloc,
-        links(alloc, &[b"hi\n".as_slice(); 65])?,
-        NO_FAULT,
-    )?;
-    assert_eq!(rt; served.code, 0);
-    assert_eq!(rt; served.ended.len(), 64);
-    assert!(rt;
-        served
-            .ended
-            .iter()
-            .all(|link| link.sent() == b"refused syntax\n".as_slice())
-    );
     let mut head = String::from_str(alloc, "taclog 1\nserve\n")?;
     for number in 0..64 {
         write!(head, "link {number} syntax\n")?;
     }
     head.push_str("missed 0\nauction 0 54\n")?;
-    assert!(rt; served.text.starts_with(head.as_bytes()));
+    let given = links(alloc, &[b"hi\n".as_slice(); 65], 1_000)?;
+    let sent = [("", "refused syntax\n"); 64];
+    let served = check(&rt, alloc, given, NO_FAULT, 0, head.as_str(), &sent)?;
     assert_eq!(rt; count_clock(&served.text), 480);
-    Ok(())
-}
-
-#[test]
-fn no_game_is_played_where_links_fail(rt: HostRuntime) -> Result<(), Fail> {
-    let alloc = rt.alloc();
-    let three = [
-        b"hello seat0\n".as_slice(),
-        b"hello seat1\n",
-        b"hello seat2\n",
-    ];
-    // The first call listens, and each later one gives a link.
-    for (failing, taken) in [(1, 0), (3, 1), (5, 3)] {
-        let faults = Faults {
-            links: failing,
-            ..NO_FAULT
-        };
-        let served = serve(&rt, alloc, links(alloc, &three)?, faults)?;
-        assert_eq!(rt; served.code, 5);
-        assert_eq!(rt; served.text.as_slice(), b"fault links\n".as_slice());
-        assert!(rt; !served.played);
-        assert_eq!(rt; served.ended.len(), taken);
-        assert!(rt; served.ended.iter().all(|link| link.sent().is_empty()));
-    }
-    Ok(())
-}
-
-#[test]
-fn a_game_whose_log_is_not_written_was_played(rt: HostRuntime) -> Result<(), Fail> {
-    let alloc = rt.alloc();
-    let faults = Faults {
-        write: 1,
-        ..NO_FAULT
-    };
-    let served = serve(&rt, alloc, links(alloc, &FOUR)?, faults)?;
-    assert_eq!(rt; served.code, 4);
-    assert!(rt; served.text.is_empty());
-    assert!(rt; served.played);
     Ok(())
 }
 
@@ -285,7 +248,13 @@ fn the_calls_of_lapsed_ticks_are_made(rt: HostRuntime) -> Result<(), Fail> {
             lapsing.push(tick)?;
         }
         let mut ticker = MemTicker::new(alloc, lapsing)?;
-        let served = serve_by(&rt, alloc, links(alloc, &FOUR)?, NO_FAULT, &mut ticker)?;
+        let served = serve_by(
+            &rt,
+            alloc,
+            links(alloc, &FOUR, 1_000)?,
+            NO_FAULT,
+            &mut ticker,
+        )?;
         assert_eq!(rt; served.code, 6);
         let text = str::from_utf8(served.text.as_slice())?;
         let head = format!(in alloc; "\nend 0 quit\n{missed}\nauction 0 54\n")?;
@@ -348,7 +317,13 @@ fn the_pace_is_set_before_the_first_wait(rt: HostRuntime) -> Result<(), Fail> {
         pace: None,
         lapses: 0,
     };
-    let served = serve_by(&rt, alloc, links(alloc, &FOUR)?, NO_FAULT, &mut ticker)?;
+    let served = serve_by(
+        &rt,
+        alloc,
+        links(alloc, &FOUR, 1_000)?,
+        NO_FAULT,
+        &mut ticker,
+    )?;
     assert_eq!(rt; served.code, 0);
     assert!(rt; served.text.starts_with(FOUR_HEADS.as_bytes()));
     assert_eq!(rt; ticker.pace, Some(5));

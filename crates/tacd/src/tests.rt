@@ -1,5 +1,5 @@
-// The commands over the outside in memory, and the system's ends of the outside.
-ghost use Rattle.std.specs.Prelude.{◌≡◌, [], IfOk};
+// The commands over the outside in memory, and the system's files and output.
+ghost use Rattle.std.specs.Prelude.{◌≡◌, [], IfOk, IfSome};
 
 use crate::are_short;
 use crate::host_files::HostFiles;
@@ -13,105 +13,198 @@ use std::rt::Clock;
 use std::sync::Wait;
 use std::test::Fail;
 use std::thread::Threads;
-use tac_io::{Files, MemFile, MemFiles, MemLink, MemLinks, MemSink, MemTicker, Sink, read_file};
+use tac_io::{
+    Files, Link, MemFile, MemFiles, MemLink, MemLinks, MemSink, MemTicker, Sink, Ticker, read_file,
+};
 
-// What a run left: its code, and what it wrote.
+// What a run left: its code, what it wrote, the links that it took, and whether a game was played over them.
 #[derive(Drop)]
-struct Ran {
-    code: u8,
-    text: Vec<u8>,
+pub(crate) struct Ran<L> {
+    pub(crate) code: u8,
+    pub(crate) text: Vec<u8>,
+    pub(crate) ended: Vec<L>,
+    pub(crate) played: bool,
 }
 
-// The calls of the files and of the sink that are to fail, and how many bytes the sink takes at once.
+// The calls of the files, of the sink and of the links that are to fail, each counted from 1, 0 for none; and how many bytes the sink takes
+// at once.
 #[derive(Clone, Copy)]
-struct Faults {
-    read: u64,
-    write: u64,
-    most_at_once: usize,
+pub(crate) struct Faults {
+    pub(crate) read: u64,
+    pub(crate) write: u64,
+    pub(crate) links: u64,
+    pub(crate) most_at_once: usize,
 }
 
-const NO_FAULT: Faults = Faults {
+pub(crate) const NO_FAULT: Faults = Faults {
     read: 0,
     write: 0,
+    links: 0,
     most_at_once: 1_000_000,
 };
 
-// The file of that name.
-pub(crate) fn file(alloc: Global, name: &str, bytes: &[u8]) -> Result<MemFile, Fail> {
-    Ok(MemFile {
-        name: String::from_str(alloc, name)?,
-        bytes: bytes.to_vec(alloc)?,
-    })
-}
-
-// Runs the words of a line, parted by spaces, where `script` is the one file.
-fn run<R: Threads + Sync + Wait + Clock>(
-    rt: &R,
-    alloc: Global,
-    line: &str,
-    script: &[u8],
-    faults: Faults,
-) -> Result<Ran, Fail> {
-    run_over(rt, alloc, line, &[("script", script)], faults)
-}
-
-// Plays a game by a script.
-fn run_play<R: Threads + Sync + Wait + Clock>(
-    rt: &R,
-    alloc: Global,
-    game: &str,
-    script: &str,
-    faults: Faults,
-) -> Result<Ran, Fail> {
-    let files = [("game", game.as_bytes()), ("script", script.as_bytes())];
-    run_over(rt, alloc, "play game script", &files, faults)
-}
-
-// Runs the words of a line, parted by spaces, over files, each with its name.
-fn run_over<R: Threads + Sync + Wait + Clock>(
+// Runs the words of a line, parted by spaces, over files, each with its name, over links and a ticker. Every run of the tests is one of this.
+pub(crate) fn run_over<R: Threads + Sync + Wait + Clock, L: Link + Send + Drop, T: Ticker + Send>(
     rt: &R,
     alloc: Global,
     line: &str,
     files: &[(&str, &[u8])],
+    given: Vec<L>,
+    ticker: &mut T,
     faults: Faults,
-) -> Result<Ran, Fail> {
-    let mut given = Vec::new(alloc);
+) -> Result<Ran<L>, Fail>
+    requires { IfSome (T.waited ticker.old) (λ ticks. ticks ≡ []) }
+{
+    let mut held = Vec::new(alloc);
     for (name, bytes) in files {
-        given.push(file(alloc, name, bytes)?)?;
+        held.push(MemFile {
+            name: String::from_str(alloc, name)?,
+            bytes: bytes.to_vec(alloc)?,
+        })?;
     }
-    let mut words = Vec::new(alloc);
-    for word in line.split_whitespace() {
-        words.push(String::from_str(alloc, word)?)?;
-    }
-    if !are_short(&words) {
-        return Err(Fail::from("a word is too long"));
-    }
-    let mut files = MemFiles::new(alloc, given, 1_000_000, vec![in alloc; faults.read]?)?;
+    let words = words_of(alloc, line)?;
+    let mut files = MemFiles::new(alloc, held, 1_000_000, vec![in alloc; faults.read]?)?;
     let mut out = MemSink::new(
         alloc,
         1_000_000,
         faults.most_at_once,
         vec![in alloc; faults.write]?,
     )?;
-    let mut links = MemLinks::<MemLink>::new(Vec::new(alloc), Vec::new(alloc));
-    let mut ticker = MemTicker::new(alloc, Vec::new(alloc))?;
-    let answer = tac(
-        rt,
-        alloc,
-        &words,
-        &mut files,
-        &mut out,
-        &mut links,
-        &mut ticker,
-    );
+    let mut links = MemLinks::new(given, vec![in alloc; faults.links]?);
+    if !are_short(&words) {
+        return Err(Fail::from("a word is too long"));
+    }
+    let answer = tac(rt, alloc, &words, &mut files, &mut out, &mut links, ticker);
     Ok(Ran {
         code: answer.code,
         text: out.bytes().to_vec(alloc)?,
+        ended: answer.ended,
+        played: answer.played.is_some(),
     })
 }
 
+// The words of a line.
+fn words_of(alloc: Global, line: &str) -> Result<Vec<String>, Fail> {
+    let mut words = Vec::new(alloc);
+    for word in line.split_whitespace() {
+        words.push(String::from_str(alloc, word)?)?;
+    }
+    Ok(words)
+}
+
+// Runs a line over files, without links.
+fn run<R: Threads + Sync + Wait + Clock>(
+    rt: &R,
+    alloc: Global,
+    line: &str,
+    files: &[(&str, &[u8])],
+    faults: Faults,
+) -> Result<Ran<MemLink>, Fail> {
+    let mut ticker = MemTicker::new(alloc, Vec::new(alloc))?;
+    run_over(rt, alloc, line, files, Vec::new(alloc), &mut ticker, faults)
+}
+
+// Runs a line over two games, of which the second has a bad line 20, an account and a script. Fails where the code is another, the text does
+// not begin with the first of the parts, or lacks one of them, or the first is alone and not the whole text.
+fn check<R: Threads + Sync + Wait + Clock>(
+    rt: &R,
+    alloc: Global,
+    line: &str,
+    script: &str,
+    faults: Faults,
+    code: u8,
+    parts: &[&str],
+) -> Result<(), Fail> {
+    let game = plain_game(alloc, FIRST_CLIENT)?;
+    let bad = plain_game(alloc, "client 0 0 2 2 100 0 0 100\n")?;
+    let files = [
+        ("game", game.as_bytes()),
+        ("bad", bad.as_bytes()),
+        ("account", ONE_SEAT),
+        ("script", script.as_bytes()),
+    ];
+    let ran = run(rt, alloc, line, &files, faults)?;
+    let text = str::from_utf8(ran.text.as_slice())?;
+    if ran.code != code || !has_parts(text, parts) {
+        return Err(Fail::from(text));
+    }
+    Ok(())
+}
+
+// Whether the text begins with the first of the parts, and has the others; or is the first, where that is alone.
+fn has_parts(text: &str, parts: &[&str]) -> bool {
+    match parts {
+        [whole] => text == *whole,
+        [first, others @ ..] => {
+            text.starts_with(first) && others.iter().all(|part| text.find(part).is_some())
+        }
+        [] => false,
+    }
+}
+
+// The line of the first client.
+pub(crate) const FIRST_CLIENT: &str = "client 0 0 1 2 100 0 0 100\n";
+
+// Agent 0 buys 15 rooms.
+const HOTEL: &str = "0 bid ((15 100))\nclose\n";
+
+// What a trial without requests writes.
+const IDLE_TRIAL: &str =
+    "trial 7 0\nentries 480\ntrades 0\nscore 0 0 0 0 0\nscore 1 0 0 0 0\nscore 2 0 0 0 0\nscore 3 0 0 0 0\nscore 4 0 0 0 0\nscore 5 0 0 0 0\nscore 6 0 0 0 0\nscore 7 0 0 0 0\nend\n";
+
+// The trades of a game in which agent 1 sells two tickets that it does not have, agent 0 travels and agent 2 keeps a ticket.
+const TRADES: &str =
+    "0 bid 0 ((1 300))\n0 bid 4 ((1 300))\n0 bid 8 ((1 50))\n1 bid 24 ((-2 60))\n0 bid 24 ((1 70))\n2 bid 24 ((1 70))\n1 own 24\n0 cash\n0 quote 8\n";
+
+// What the agents are told there.
+const TRADES_TOLD: &str =
+    "0 @0 taken 1 0\n0 @0 taken 1 0\n0 @0 taken 0 0\n1 @0 taken 0 0\n0 @1 taken 1 0\n2 @2 taken 1 0\n1 @3 own -2 ()\n0 @4 cash -660\n0 @1 quote 0 0 open\ntaclog 1\nplay\nauction 0 55\n";
+
+// Bids of every fault.
+const BIDS: &str =
+    "0 bid 0 ((16 10000))\n0 bid 0 ((17 1))\n0 bid 0 ((1 0))\n0 bid 0 ((1 10001))\n0 bid 0 ((0 100))\n0 bid 0 ((1 1)\n0 bid 0 ((1 1) (1 1) (1 1) (1 1) (1 1) (1 1) (1 1) (1 1) (1 1) (1 1) (1 1) (1 1) (1 1) (1 1) (1 1) (1 1) (1 1))\n0 bid 28 ((1 1))\n0 buy 0\n";
+
+// What the agent is told of them.
+const BIDS_TOLD: &str =
+    "0 @0 taken 16 0\n0 no bid 3\n0 no bid 4\n0 no bid 4\n0 no bid 5\n0 no bid 1\n0 no bid 2\n0 no auction\n0 no syntax\ntaclog 1\nplay\nauction 0 55\n";
+
+// An account with one seat and one ticket, which two clients want.
+const ONE_SEAT: &[u8] =
+    b"account\nhold 1 0 0 0 2 0 0 0 2 0 0 0 0 0 0 0 1 0 0 0 0 0 0 0 0 0 0 0\nclient 0 1 2 50 100 0 0\nclient 1 1 2 50 150 0 0\nclient 2 1 2 50 0 0 0\nclient 3 1 2 50 0 0 0\nclient 4 1 2 50 0 0 0\nclient 5 1 2 50 0 0 0\nclient 6 1 2 50 0 0 0\nclient 7 1 2 50 0 0 0\nend\n";
+
+// The game in which all flights stay at 300, nobody has a ticket, and all clients are alike; line
+// 20 is the given one.
+pub(crate) fn plain_game(alloc: Global, line_20: &str) -> Result<String, Fail> {
+    let mut text = String::from_str(
+        alloc,
+        "tac 1\nwords seat0 seat1 seat2 seat3 seat4 seat5 seat6 seat7\n",
+    )?;
+    for good in 0..8 {
+        write!(text, "flight {good} 300 10")?;
+        for _ in 0..53 {
+            text.push_str(" 10")?;
+        }
+        text.push_str("\n")?;
+    }
+    text.push_str("close 8 9 10 11 12 13 14 15\n")?;
+    for agent in 0..8 {
+        write!(text, "endow {agent} 0 0 0 0 0 0 0 0 0 0 0 0\n")?;
+    }
+    for agent in 0..8 {
+        for client in 0..8 {
+            if agent == 0 && client == 0 {
+                text.push_str(line_20)?;
+            } else {
+                write!(text, "client {agent} {client} 1 2 100 0 0 100\n")?;
+            }
+        }
+    }
+    text.push_str("end\n")?;
+    Ok(text)
+}
+
 #[test]
-fn scripts_give_their_texts(rt: HostRuntime) -> Result<(), Fail> {
+fn hotels_are_run_from_scripts(rt: HostRuntime) -> Result<(), Fail> {
     let alloc = rt.alloc();
     for (script, code, text) in [
         ("close\n", 0, "@0 sold 0 0\n"),
@@ -163,228 +256,57 @@ fn scripts_give_their_texts(rt: HostRuntime) -> Result<(), Fail> {
         ("close\n0 bid\n", 8, "text 2 1\n"),
         ("close\nclose", 8, "text 2 3\n"),
     ] {
-        let ran = run(&rt, alloc, "hotel script", script.as_bytes(), NO_FAULT)?;
-        assert_eq!(rt; ran.text.as_slice(), text.as_bytes(), "of {script}");
-        assert_eq!(rt; ran.code, code, "of {script}");
+        check(&rt, alloc, "hotel script", script, NO_FAULT, code, &[text])?;
     }
     Ok(())
 }
 
 #[test]
-fn an_agent_has_1024_lines_and_a_clock_64(rt: HostRuntime) -> Result<(), Fail> {
+fn games_are_made_played_and_scored(rt: HostRuntime) -> Result<(), Fail> {
     let alloc = rt.alloc();
-    for (line, count, text) in [
-        ("0 bid ((1 1))\n", 1025, "text 1025 5\n"),
-        ("0 own\n", 1025, "text 1025 5\n"),
-        ("publish\n", 65, "text 65 5\n"),
-    ] {
-        let mut script = Vec::new(alloc);
-        for _ in 0..count {
-            script.extend_from_slice(line.as_bytes())?;
-        }
-        let ran = run(&rt, alloc, "hotel script", &script, NO_FAULT)?;
-        assert_eq!(rt; ran.text.as_slice(), text.as_bytes());
-        assert_eq!(rt; ran.code, 8);
-    }
-    Ok(())
-}
-
-#[test]
-fn other_words_are_no_command(rt: HostRuntime) -> Result<(), Fail> {
-    let alloc = rt.alloc();
-    for line in [
-        "",
-        "hotel",
-        "Hotel script",
-        "hotel script script",
-        "play script",
-        "solve",
-        "trial 7 50001",
-        "trial 7 01",
-        "trial -7 0",
-        "serve script 0 5",
-        "serve script 65536 5",
-        "serve script 7411 60001",
-        "serve script 07411 5",
-        "serve script 7411",
-    ] {
-        let ran = run(&rt, alloc, line, b"", NO_FAULT)?;
-        assert_eq!(rt; ran.text.as_slice(), b"usage\n".as_slice(), "{line}");
-        assert_eq!(rt; ran.code, 1, "{line}");
-    }
-    Ok(())
-}
-
-#[test]
-fn each_fault_has_its_code(rt: HostRuntime) -> Result<(), Fail> {
-    let alloc = rt.alloc();
-    let script = b"0 bid ((15 100))\nclose\n";
-    let missing = run(&rt, alloc, "hotel other", script, NO_FAULT)?;
-    assert_eq!(rt; missing.text.as_slice(), b"fault read\n".as_slice());
-    assert_eq!(rt; missing.code, 3);
-    // A `select`, the read of the script, and the read of its end.
-    for read in 1..4 {
-        let ran = run(
-            &rt,
-            alloc,
-            "hotel script",
-            script,
-            Faults { read, ..NO_FAULT },
-        )?;
-        assert_eq!(rt; ran.text.as_slice(), b"fault read\n".as_slice());
-        assert_eq!(rt; ran.code, 3);
-    }
-    let due = b"@0 taken 0 0\n@1 sold 15 0\ntrade 0 8 15 0\n";
-    for (write, most_at_once, written) in [(1, 7, 0), (2, 7, 7), (3, 7, 14), (0, 0, 0)] {
-        let faults = Faults {
-            read: 0,
-            write,
-            most_at_once,
-        };
-        let ran = run(&rt, alloc, "hotel script", script, faults)?;
-        assert_eq!(rt; ran.text.as_slice(), &due[..written]);
-        assert_eq!(rt; ran.code, 4);
-    }
-    let slow = Faults {
-        most_at_once: 1,
-        ..NO_FAULT
-    };
-    let ran = run(&rt, alloc, "hotel script", script, slow)?;
-    assert_eq!(rt; ran.text.as_slice(), due.as_slice());
-    assert_eq!(rt; ran.code, 0);
-    Ok(())
-}
-
-// The game in which all flights stay at 300, nobody has a ticket, and all clients are alike; line
-// 20 is the given one.
-pub(crate) fn plain_game(alloc: Global, line_20: &str) -> Result<String, Fail> {
-    let mut text = String::from_str(
-        alloc,
-        "tac 1\nwords seat0 seat1 seat2 seat3 seat4 seat5 seat6 seat7\n",
-    )?;
-    for good in 0..8 {
-        write!(text, "flight {good} 300 10")?;
-        for _ in 0..53 {
-            text.push_str(" 10")?;
-        }
-        text.push_str("\n")?;
-    }
-    text.push_str("close 8 9 10 11 12 13 14 15\n")?;
-    for agent in 0..8 {
-        write!(text, "endow {agent} 0 0 0 0 0 0 0 0 0 0 0 0\n")?;
-    }
-    for agent in 0..8 {
-        for client in 0..8 {
-            if agent == 0 && client == 0 {
-                text.push_str(line_20)?;
-            } else {
-                write!(text, "client {agent} {client} 1 2 100 0 0 100\n")?;
-            }
-        }
-    }
-    text.push_str("end\n")?;
-    Ok(text)
-}
-
-// Whether the file is shown so, with this code.
-fn is_shown_as<R: Threads + Sync + Wait + Clock>(
-    rt: &R,
-    alloc: Global,
-    file: &str,
-    code: u8,
-    text: &str,
-) -> Result<bool, Fail> {
-    let ran = run(rt, alloc, "show script", file.as_bytes(), NO_FAULT)?;
-    Ok(ran.code == code && ran.text.as_slice() == text.as_bytes())
-}
-
-#[test]
-fn games_are_shown_in_their_canonical_text(rt: HostRuntime) -> Result<(), Fail> {
-    let alloc = rt.alloc();
-    let game = plain_game(alloc, "client 0 0 1 2 100 0 0 100\n")?;
-    assert!(rt; is_shown_as(&rt, alloc, &game, 0, &game)?);
-    let commented = format!(in alloc; "# game\n{game}")?;
-    assert!(rt; is_shown_as(&rt, alloc, &commented, 0, &game)?);
-    let bad = plain_game(alloc, "client 0 0 2 2 100 0 0 100\n")?;
-    assert!(rt; is_shown_as(&rt, alloc, &bad, 2, "game 20 4\n")?);
-    assert!(rt; is_shown_as(&rt, alloc, "", 2, "game 1 7\n")?);
-    Ok(())
-}
-
-#[test]
-fn a_made_game_is_shown_as_it_was_made(rt: HostRuntime) -> Result<(), Fail> {
-    let alloc = rt.alloc();
-    let made = run(&rt, alloc, "make 42", b"", NO_FAULT)?;
-    assert_eq!(rt; made.code, 0);
-    assert!(rt;
-        made.text
-            .as_slice()
-            .starts_with(b"tac 1\nwords seat0 seat1 ")
-    );
-    let shown = run(&rt, alloc, "show script", made.text.as_slice(), NO_FAULT)?;
-    assert_eq!(rt; shown.text.as_slice(), made.text.as_slice());
-    for line in ["make 18446744073709551616", "make 042", "make -1", "make"] {
-        let ran = run(&rt, alloc, line, b"", NO_FAULT)?;
-        assert_eq!(rt; ran.code, 1, "{line}");
-    }
-    Ok(())
-}
-
-// The trades of a game in which agent 1 sells two tickets that it does not have, agent 0 travels and agent 2 keeps a ticket.
-const TRADES: &str =
-    "0 bid 0 ((1 300))\n0 bid 4 ((1 300))\n0 bid 8 ((1 50))\n1 bid 24 ((-2 60))\n0 bid 24 ((1 70))\n2 bid 24 ((1 70))\n1 own 24\n0 cash\n0 quote 8\n";
-
-// What the agents are told there.
-const TRADES_TOLD: &str =
-    "0 @0 taken 1 0\n0 @0 taken 1 0\n0 @0 taken 0 0\n1 @0 taken 0 0\n0 @1 taken 1 0\n2 @2 taken 1 0\n1 @3 own -2 ()\n0 @4 cash -660\n0 @1 quote 0 0 open\ntaclog 1\nplay\nauction 0 55\n";
-
-// Bids of every fault.
-const BIDS: &str =
-    "0 bid 0 ((16 10000))\n0 bid 0 ((17 1))\n0 bid 0 ((1 0))\n0 bid 0 ((1 10001))\n0 bid 0 ((0 100))\n0 bid 0 ((1 1)\n0 bid 0 ((1 1) (1 1) (1 1) (1 1) (1 1) (1 1) (1 1) (1 1) (1 1) (1 1) (1 1) (1 1) (1 1) (1 1) (1 1) (1 1) (1 1))\n0 bid 28 ((1 1))\n0 buy 0\n";
-
-// What the agent is told of them.
-const BIDS_TOLD: &str =
-    "0 @0 taken 16 0\n0 no bid 3\n0 no bid 4\n0 no bid 4\n0 no bid 5\n0 no bid 1\n0 no bid 2\n0 no auction\n0 no syntax\ntaclog 1\nplay\nauction 0 55\n";
-
-#[test]
-fn games_are_played_to_their_sheets(rt: HostRuntime) -> Result<(), Fail> {
-    let alloc = rt.alloc();
-    let game = plain_game(alloc, "client 0 0 1 2 100 0 0 100\n")?;
-    let rows: [(&str, &str, &[&str]); 5] = [
+    let rows: [(&str, &str, &[&str]); 8] = [
         (
+            "play game script",
             "",
-            "taclog 1\nplay\nauction 0 54\n",
             &[
+                "taclog 1\nplay\nauction 0 54\n",
                 "\ncash 0\nsheet\nscore 0 0 0 0 0\npackage 0 0 none\n",
                 "\nscore 7 0 0 0 0\npackage 7 0 none\n",
             ],
         ),
         (
+            "play game script",
             "0 quit\n",
-            "0 bye\ntaclog 1\nplay\nauction 0 54\n",
-            &["\ncash 0\nsheet\n", "\nscore 7 0 0 0 0\n"],
+            &[
+                "0 bye\ntaclog 1\nplay\nauction 0 54\n",
+                "\ncash 0\nsheet\n",
+                "\nscore 7 0 0 0 0\n",
+            ],
         ),
         (
+            "play game script",
             "0 bid 24 ((-1 60))\n1 bid 24 ((2 70))\n1 quote 24\n",
-            "0 @0 taken 0 0\n1 @1 taken 1 0\n1 @2 quote 70 0 open\ntaclog 1\nplay\n",
             &[
+                "0 @0 taken 0 0\n1 @1 taken 1 0\n1 @2 quote 70 0 open\ntaclog 1\nplay\n",
                 "\n1 bid ((2 70)) = taken 1 0\ntrade 1 0 1 60\n",
                 "\nscore 0 0 60 1 -140\n",
             ],
         ),
         (
+            "play game script",
             BIDS,
-            BIDS_TOLD,
             &[
+                BIDS_TOLD,
                 "\n0 bid ((16 10000)) = taken 16 0\ntrade 0 8 16 300\n",
                 "\ncash 1\n0 post 0 0 -4800 0 0 0 0 0 0 0 4800\nsheet\n",
                 "\nscore 0 0 -4800 0 -4800\n",
             ],
         ),
         (
+            "play game script",
             TRADES,
-            TRADES_TOLD,
             &[
+                TRADES_TOLD,
                 "\nauction 8 2\n",
                 "\nauction 15 8\n",
                 "\nauction 16 1\n",
@@ -400,104 +322,138 @@ fn games_are_played_to_their_sheets(rt: HostRuntime) -> Result<(), Fail> {
                 "\nscore 7 0 0 0 0\n",
             ],
         ),
+        (
+            "make 42",
+            "",
+            &[
+                "tac 1\nwords seat0 seat1 ",
+                "\nflight 0 360 27 3122475824 2211639955 ",
+            ],
+        ),
+        ("trial 7 0", "", &[IDLE_TRIAL]),
+        (
+            "solve account",
+            "",
+            &[
+                "total 1150\npackage 0 none\npackage 1 0 1 2 1 0 0\npackage 2 none\npackage 3 none\npackage 4 none\npackage 5 none\npackage 6 none\npackage 7 none\ncert ",
+                "\nend\n",
+            ],
+        ),
     ];
-    for (script, told, parts) in rows {
-        let ran = run_play(&rt, alloc, &game, script, NO_FAULT)?;
-        let text = str::from_utf8(ran.text.as_slice())?;
-        assert_eq!(rt; ran.code, 0, "of {script}");
-        assert!(rt; text.starts_with(told));
-        for part in parts {
-            assert!(rt; text.find(part).is_some(), "{part}");
-        }
+    for (line, script, parts) in rows {
+        check(&rt, alloc, line, script, NO_FAULT, 0, parts)?;
     }
     Ok(())
 }
 
 #[test]
-fn an_agent_has_1024_calls_of_a_good(rt: HostRuntime) -> Result<(), Fail> {
+fn an_agent_has_1024_calls_and_a_clock_64(rt: HostRuntime) -> Result<(), Fail> {
     let alloc = rt.alloc();
-    let game = plain_game(alloc, "client 0 0 1 2 100 0 0 100\n")?;
-    let mut script = String::new(alloc);
-    for _ in 0..1025 {
-        script.push_str("0 own 24\n")?;
+    let rows: [(&str, &str, usize, u8, &[&str]); 4] = [
+        (
+            "hotel script",
+            "0 bid ((1 1))\n",
+            1025,
+            8,
+            &["text 1025 5\n"],
+        ),
+        ("hotel script", "0 own\n", 1025, 8, &["text 1025 5\n"]),
+        ("hotel script", "publish\n", 65, 8, &["text 65 5\n"]),
+        (
+            "play game script",
+            "0 own 24\n",
+            1025,
+            0,
+            &[
+                "0 @0 own 0 ()\n",
+                "\n0 @1023 own 0 ()\n0 no spent\ntaclog 1\n",
+                "\nauction 24 1025\n",
+                "\n0 own = own 0 ()\n8 close = done\n",
+            ],
+        ),
+    ];
+    for (line, one, count, code, parts) in rows {
+        let script = one.repeat(alloc, count)?;
+        check(&rt, alloc, line, script.as_str(), NO_FAULT, code, parts)?;
     }
-    let ran = run_play(&rt, alloc, &game, &script, NO_FAULT)?;
-    assert_eq!(rt; ran.code, 0);
-    let text = str::from_utf8(ran.text.as_slice())?;
-    for part in [
-        "\n0 @1023 own 0 ()\n0 no spent\ntaclog 1\n",
-        "\nauction 24 1025\n",
-        "\n0 own = own 0 ()\n8 close = done\n",
+    Ok(())
+}
+
+#[test]
+fn games_are_shown_in_their_canonical_text(rt: HostRuntime) -> Result<(), Fail> {
+    let alloc = rt.alloc();
+    let game = plain_game(alloc, FIRST_CLIENT)?;
+    let commented = format!(in alloc; "# game\n{game}")?;
+    let made = run(&rt, alloc, "make 42", &[], NO_FAULT)?;
+    let made = str::from_utf8(made.text.as_slice())?;
+    for (script, code, text) in [
+        (game.as_str(), 0, game.as_str()),
+        (commented.as_str(), 0, game.as_str()),
+        (made, 0, made),
+        ("", 2, "game 1 7\n"),
     ] {
-        assert!(rt; text.find(part).is_some(), "{part}");
+        check(&rt, alloc, "show script", script, NO_FAULT, code, &[text])?;
     }
     Ok(())
 }
 
 #[test]
-fn a_trial_is_summed_up(rt: HostRuntime) -> Result<(), Fail> {
+fn other_words_and_bad_files_are_refused(rt: HostRuntime) -> Result<(), Fail> {
     let alloc = rt.alloc();
-    let ran = run(&rt, alloc, "trial 7 0", b"", NO_FAULT)?;
-    let due =
-        "trial 7 0\nentries 480\ntrades 0\nscore 0 0 0 0 0\nscore 1 0 0 0 0\nscore 2 0 0 0 0\nscore 3 0 0 0 0\nscore 4 0 0 0 0\nscore 5 0 0 0 0\nscore 6 0 0 0 0\nscore 7 0 0 0 0\nend\n";
-    assert_eq!(rt; ran.text.as_slice(), due.as_bytes());
-    assert_eq!(rt; ran.code, 0);
-    Ok(())
-}
-
-#[test]
-fn a_game_or_its_script_is_refused(rt: HostRuntime) -> Result<(), Fail> {
-    let alloc = rt.alloc();
-    let game = plain_game(alloc, "client 0 0 1 2 100 0 0 100\n")?;
-    let bad = plain_game(alloc, "client 0 0 2 2 100 0 0 100\n")?;
-    for (game, script, read, code, text) in [
-        (&game, "0 quit\n0 cash\n", 0, 8, "text 2 2\n"),
-        (&bad, "0 quit\n0 cash\n", 0, 2, "game 20 4\n"),
-        (&bad, "", 1, 3, "fault read\n"),
-        // No script is selected where the game is refused.
-        (&bad, "", 4, 2, "game 20 4\n"),
-        // The game is selected, read, and read at its end; then the script is selected.
-        (&game, "", 4, 3, "fault read\n"),
+    for line in [
+        "",
+        "hotel",
+        "Hotel script",
+        "hotel script script",
+        "play script",
+        "solve",
+        "make",
+        "make 042",
+        "make -1",
+        "make 18446744073709551616",
+        "trial 7 50001",
+        "trial 7 01",
+        "trial -7 0",
+        "serve script 0 5",
+        "serve script 65536 5",
+        "serve script 7411 60001",
+        "serve script 07411 5",
+        "serve script 7411",
     ] {
-        let ran = run_play(&rt, alloc, game, script, Faults { read, ..NO_FAULT })?;
-        assert_eq!(rt; ran.text.as_slice(), text.as_bytes());
-        assert_eq!(rt; ran.code, code, "of {text}");
+        check(&rt, alloc, line, "", NO_FAULT, 1, &["usage\n"])?;
     }
-    let faults = Faults {
-        write: 4,
-        most_at_once: 5,
-        ..NO_FAULT
-    };
-    let ran = run_play(&rt, alloc, &game, "0 quit\n", faults)?;
-    assert_eq!(rt; ran.text.as_slice(), b"0 bye\ntaclo".as_slice());
-    assert_eq!(rt; ran.code, 4);
-    Ok(())
-}
-
-// An account with one seat and one ticket, which two clients want.
-const ONE_SEAT: &[u8] =
-    b"account\nhold 1 0 0 0 2 0 0 0 2 0 0 0 0 0 0 0 1 0 0 0 0 0 0 0 0 0 0 0\nclient 0 1 2 50 100 0 0\nclient 1 1 2 50 150 0 0\nclient 2 1 2 50 0 0 0\nclient 3 1 2 50 0 0 0\nclient 4 1 2 50 0 0 0\nclient 5 1 2 50 0 0 0\nclient 6 1 2 50 0 0 0\nclient 7 1 2 50 0 0 0\nend\n";
-
-#[test]
-fn accounts_are_solved_or_refused(rt: HostRuntime) -> Result<(), Fail> {
-    let alloc = rt.alloc();
-    let solved = run(&rt, alloc, "solve script", ONE_SEAT, NO_FAULT)?;
-    assert_eq!(rt; solved.code, 0);
-    assert!(rt;
-        solved.text.as_slice().starts_with(
-            b"total 1150\npackage 0 none\npackage 1 0 1 2 1 0 0\npackage 2 none\npackage 3 none\npackage 4 none\npackage 5 none\npackage 6 none\npackage 7 none\ncert "
-        )
-    );
-    assert!(rt; solved.text.as_slice().ends_with(b"\nend\n"));
-    for (file, text) in [
-        ("", "text 1 7\n"),
-        ("accounts\n", "text 1 1\n"),
-        ("# two words\naccount 1\n", "text 2 2\n"),
-        ("account\nhold 1\n", "text 2 2\n"),
+    // A game is selected, read, and read at its end, before its script is selected; no script is selected where the game is refused.
+    for (line, script, read, code, text) in [
+        ("show bad", "", 0, 2, "game 20 4\n"),
+        ("play bad script", "0 quit\n0 cash\n", 0, 2, "game 20 4\n"),
+        ("play bad script", "", 4, 2, "game 20 4\n"),
+        ("play bad script", "", 1, 3, "fault read\n"),
+        ("play game script", "0 quit\n0 cash\n", 0, 8, "text 2 2\n"),
+        ("play game script", "", 4, 3, "fault read\n"),
+        ("hotel other", "", 0, 3, "fault read\n"),
+        ("hotel script", "close\n", 1, 3, "fault read\n"),
+        ("hotel script", "close\n", 2, 3, "fault read\n"),
+        ("hotel script", "close\n", 3, 3, "fault read\n"),
+        ("solve script", "", 0, 8, "text 1 7\n"),
+        ("solve script", "accounts\n", 0, 8, "text 1 1\n"),
+        (
+            "solve script",
+            "# two words\naccount 1\n",
+            0,
+            8,
+            "text 2 2\n",
+        ),
+        ("solve script", "account\nhold 1\n", 0, 8, "text 2 2\n"),
     ] {
-        let ran = run(&rt, alloc, "solve script", file.as_bytes(), NO_FAULT)?;
-        assert_eq!(rt; ran.text.as_slice(), text.as_bytes(), "of {file}");
-        assert_eq!(rt; ran.code, 8, "of {file}");
+        check(
+            &rt,
+            alloc,
+            line,
+            script,
+            Faults { read, ..NO_FAULT },
+            code,
+            &[text],
+        )?;
     }
     Ok(())
 }
@@ -511,14 +467,14 @@ fn count_failed<R: Threads + Sync + Wait + Clock>(
     files: &[(&str, &[u8])],
     most_at_once: usize,
 ) -> Result<u64, Fail> {
-    let due = run_over(rt, alloc, line, files, NO_FAULT)?;
+    let due = run(rt, alloc, line, files, NO_FAULT)?;
     for failed in 0..10_000 {
         let faults = Faults {
-            read: 0,
             write: failed + 1,
             most_at_once,
+            ..NO_FAULT
         };
-        let ran = run_over(rt, alloc, line, files, faults)?;
+        let ran = run(rt, alloc, line, files, faults)?;
         if ran.code == 0 && ran.text == due.text {
             return Ok(failed);
         }
@@ -532,23 +488,29 @@ fn count_failed<R: Threads + Sync + Wait + Clock>(
 #[test]
 fn each_write_fails_in_its_place(rt: HostRuntime) -> Result<(), Fail> {
     let alloc = rt.alloc();
-    let game = plain_game(alloc, "client 0 0 1 2 100 0 0 100\n")?;
+    let game = plain_game(alloc, FIRST_CLIENT)?;
     let files = [
         ("game", game.as_bytes()),
         ("account", ONE_SEAT),
         ("script", TRADES.as_bytes()),
+        ("hotel", HOTEL.as_bytes()),
     ];
-    for (line, most_at_once) in [
-        ("show game", 100),
-        ("solve account", 10),
-        ("play game script", 1_000_000),
+    for (line, most_at_once, count) in [
+        ("hotel hotel", 1, 41),
+        ("show game", 100, 9),
+        ("solve account", 10, 9),
+        ("play game script", 1_000_000, 9),
     ] {
         assert!(rt;
-            count_failed(&rt, alloc, line, &files, most_at_once)? > 9,
+            count_failed(&rt, alloc, line, &files, most_at_once)? >= count,
             "{line}"
         );
     }
-    Ok(())
+    let no_byte = Faults {
+        most_at_once: 0,
+        ..NO_FAULT
+    };
+    check(&rt, alloc, "hotel script", HOTEL, no_byte, 4, &[""])
 }
 
 #[test]

@@ -1,19 +1,17 @@
 // The top call.
 ghost use Rattle.std.specs.Prelude.{◌≡◌, ◌≤◌, [], None, map, string_bytes, string_len, All, IfSome};
 ghost use Rattle.game_run.specs.LinkStates.{link_state};
-ghost use Rattle.line_protocol.specs.Requests.{request_of};
-ghost use Rattle.line_protocol.specs.Replies.{said_text};
-ghost use Rattle.tacd.specs.Causes.{ClockFaultExactly, GameRefusedExactly, IsComplete, LinkFaultExactly, ReadFaultExactly, TextRefusedExactly, UsageExactly, WriteFaultExactly};
-ghost use Rattle.tacd.specs.Cash.{IsCashOfPosts};
-ghost use Rattle.tacd.specs.Commands.{command_of};
-ghost use Rattle.tacd.specs.Allowed.{Allows};
-ghost use Rattle.tacd.specs.Ends.{Tells};
-ghost use Rattle.tacd.specs.Outcomes.{Outcome};
-ghost use Rattle.tacd.specs.Selected.{Selects};
-ghost use Rattle.tacd.specs.Service.{OffService, OnService, ServeAllows, links_state, ticker_state};
+ghost use Rattle.tac_commands.specs.Causes.{ClockFaultExactly, GameRefusedExactly, IsComplete, LinkFaultExactly, ReadFaultExactly, TextRefusedExactly, UsageExactly, WriteFaultExactly};
+ghost use Rattle.tac_commands.specs.Cash.{IsCashOfPosts};
+ghost use Rattle.tac_commands.specs.Commands.{OffService, OnService, command_of};
+ghost use Rattle.tac_commands.specs.Allowed.{Allows};
+ghost use Rattle.tac_commands.specs.Ends.{Tells};
+ghost use Rattle.tac_commands.specs.Outcomes.{Outcome};
+ghost use Rattle.tac_commands.specs.Selected.{Selects};
+ghost use Rattle.tacd.specs.Service.{ServeAllows, answers_by, links_state, texts_by, ticker_state};
 
 use crate::answer::Answer;
-use crate::commands::run;
+use crate::running::run;
 use std::alloc::Global;
 use std::rt::Clock;
 use std::sync::Wait;
@@ -35,12 +33,13 @@ pub fn tac<R: Threads + Sync + Wait + Clock, F: Files, K: Sink, N: Links, T: Tic
     requires short { All (λ word. string_len word ≤ 1024) words.now }
     requires ports { IfSome (N.ports links.old) (λ ports. ports ≡ []) }
     requires ticks { IfSome (T.waited ticker.old) (λ ticks. ticks ≡ []) }
+    // The outcome is one that the words and the files allow, and the files that were selected are those that it tells of.
     ensures outcome { (outcome : Outcome)
-        × Allows (F.content files.old) (command_of (map (λ word. string_bytes word) words.now)) (F.faults files.old) (F.faults files.new) outcome
+        × Allows (F.content files.old) (command_of (map (λ word. string_bytes word) words.now)) (F.names files.old) (F.names files.new) (F.faults files.old) (F.faults files.new) outcome
         × Tells outcome (K.taken out.old) (K.taken out.new) (K.faults out.old) (K.faults out.new) result.code }
     // A game over links: what its log tells is what was played, and what each link asked and was sent.
-    ensures service { OnService (command_of (map (λ word. string_bytes word) words.now)) (λ name port pace. (outcome : Outcome)
-        × ServeAllows (link_state N.Link.taken N.Link.left N.Link.sent N.Link.faults N.Link.write_faults) (λ line answer. answer ≡ request_of line) said_text
+    ensures service { OnService (command_of (map (λ word. string_bytes word) words.now)) (λ name port pace form. (outcome : Outcome)
+        × ServeAllows (link_state N.Link.taken N.Link.left N.Link.sent N.Link.faults N.Link.write_faults) (answers_by form) (texts_by form)
         (F.content files.old) name port pace (F.faults files.old) (F.faults files.new)
         (links_state N.ports N.pending N.faults links.old) (links_state N.ports N.pending N.faults links.new)
         (ticker_state T.paced T.waited T.faults ticker.old) (ticker_state T.paced T.waited T.faults ticker.new) result.played result.ended outcome

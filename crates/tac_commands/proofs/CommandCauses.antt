@@ -1,0 +1,150 @@
+-- When each code of a command comes.
+use Rattle.std.proofs.Common.{◌≡◌, ◌≢◌, ◌<◌, ℕ, List, refl, sym, ◌∙◌, ap, inl, inr, arith, Option, Some, None}
+use Rattle.std.specs.Prelude.{◌⊎◌, IfSome}
+use Rattle.tac_io.specs.Counts.{Rose}
+use Rattle.tac_commands.specs.declared.refusals.Refusal.TheVariants.{Usage}
+use Rattle.tac_commands.specs.Commands.{Command, Batch, Serve, OffService, files_of}
+use Rattle.tac_commands.specs.Outcomes.{Outcome, Refused, code_of}
+use Rattle.tac_commands.specs.Runs.{Names}
+use Rattle.tac_commands.specs.Files.{Content}
+use Rattle.tac_commands.specs.Allowed.{Allows, CommandAllows}
+use Rattle.tac_commands.specs.Ends.{Tells}
+use Rattle.tac_commands.specs.Selected.{Selects}
+use Rattle.tac_commands.specs.Causes.{IsQuiet, UsageExactly, ReadFaultExactly, GameRefusedExactly, TextRefusedExactly, HasRefused, HasRefusedGame, HasRefusedText, IsReady, IsComplete, LinkFaultExactly, ClockFaultExactly}
+use Rattle.tac_commands.proofs.CodedOutcomes.{coded, told_only, told_always}
+use Rattle.tac_commands.proofs.OwnCodes.{OwnCode, own_code, no_file_code}
+use Rattle.tac_commands.proofs.FileCauses as causes
+
+module _ (content : Content) (names names' : Names) (before now : ℕ) (outcome : Outcome) where
+  -- ---- what is known of the outcome
+
+  read_told : (command : Option Command) → Allows content command names names' before now outcome → ((code_of outcome ≡ 3) × Rose before now) ⊎ ((code_of outcome ≢ 3) × (now ≡ before))
+  read_told None allowed = let is = ap code_of allowed.0 in inr (λ three. omega (arith, is, three), allowed.2)
+  read_told (Some command) allowed =
+      causes.read_told content before now outcome (OwnCode command) (no_file_code command) (files_of command) (CommandAllows command) (λ values. own_code command values outcome) names names' allowed
+
+  game_only : (command : Option Command) → Allows content command names names' before now outcome → code_of outcome ≡ 2 → IfSome content (λ _. HasRefusedGame content command)
+  game_only None allowed is = let one = ap code_of allowed.0 in absurd (omega (arith, one, is))
+  game_only (Some command) allowed is =
+      causes.refused_only content before now outcome (OwnCode command) (no_file_code command) 2 (inl refl) (files_of command) (CommandAllows command) (λ values. own_code command values outcome) names names' allowed is
+
+  text_only : (command : Option Command) → Allows content command names names' before now outcome → code_of outcome ≡ 8 → IfSome content (λ _. HasRefusedText content command)
+  text_only None allowed is = let one = ap code_of allowed.0 in absurd (omega (arith, one, is))
+  text_only (Some command) allowed is =
+      causes.refused_only content before now outcome (OwnCode command) (no_file_code command) 8 (inr refl) (files_of command) (CommandAllows command) (λ values. own_code command values outcome) names names' allowed is
+
+  due : (code : ℕ) (command : Command) → Allows content (Some command) names names' before now outcome → HasRefused content code (files_of command) → IsQuiet before now → (code_of outcome ≡ code) ⊎ (code_of outcome ≡ 7)
+  due code command allowed refused quiet =
+      causes.refused_due content before now outcome (OwnCode command) (no_file_code command) code (files_of command) (CommandAllows command) names names' quiet refused allowed
+
+  game_due : (command : Option Command) → Allows content command names names' before now outcome → HasRefusedGame content command → IsQuiet before now → (code_of outcome ≡ 2) ⊎ (code_of outcome ≡ 7)
+  game_due None allowed refused quiet = absurd refused
+  game_due (Some command) allowed refused quiet = due 2 command allowed refused quiet
+
+  text_due : (command : Option Command) → Allows content command names names' before now outcome → HasRefusedText content command → IsQuiet before now → (code_of outcome ≡ 8) ⊎ (code_of outcome ≡ 7)
+  text_due None allowed refused quiet = absurd refused
+  text_due (Some command) allowed refused quiet = due 8 command allowed refused quiet
+
+  -- a code of a file, or one of these
+  abbrev OneOf : ℕ → Type 0
+  OneOf code = (code ≡ 0) ⊎ (code ≡ 5) ⊎ (code ≡ 6) ⊎ (code ≡ 7)
+
+  one_of : (command : Command) (code : ℕ) → OwnCode command code → OneOf code
+  one_of (Batch command) code (inl zero) = inl zero
+  one_of (Batch command) code (inr seven) = inr (inr (inr seven))
+  one_of (Serve game port pace form) code own = own
+
+  ready_code : (command : Option Command) → Allows content command names names' before now outcome → IsReady content command → IsQuiet before now → OneOf (code_of outcome)
+  ready_code None allowed ready quiet = absurd ready
+  ready_code (Some command) allowed ready quiet =
+      either (causes.ready_own content before now outcome (OwnCode command) (no_file_code command) (files_of command) (CommandAllows command) (λ values. own_code command values outcome) names names' quiet ready allowed)
+    where
+      either : OwnCode command (code_of outcome) ⊎ (code_of outcome ≡ 7) → OneOf (code_of outcome)
+      either (inl own) = one_of command (code_of outcome) own
+      either (inr seven) = inr (inr (inr seven))
+
+  -- ---- the codes
+
+  some_code : (command : Command) → Allows content (Some command) names names' before now outcome → OwnCode command (code_of outcome) ⊎ causes.IsFileCode content before now outcome (OwnCode command) (no_file_code command) (code_of outcome)
+  some_code command allowed =
+      causes.codes content before now outcome (OwnCode command) (no_file_code command) (files_of command) (CommandAllows command) (λ values. own_code command values outcome) names names' allowed
+
+  -- a command that needs no links has no code of theirs
+  pub no_link_code : (command : Option Command) → Allows content command names names' before now outcome → OffService command ((code_of outcome ≢ 5) × (code_of outcome ≢ 6))
+  no_link_code None allowed = let one = ap code_of allowed.0 in (λ five. omega (arith, one, five), λ six. omega (arith, one, six))
+  no_link_code (Some (Batch command)) allowed = let either = some_code (Batch command) allowed in (λ five. grind (arith, either, five), λ six. grind (arith, either, six))
+  no_link_code (Some (Serve game port pace form)) allowed = tt
+
+  no_usage_code : (command : Command) → OwnCode command (code_of outcome) ⊎ causes.IsFileCode content before now outcome (OwnCode command) (no_file_code command) (code_of outcome) → code_of outcome ≡ 1 → ⊥
+  no_usage_code command (inl own) one = (no_file_code command (code_of outcome) own).no_usage one
+  no_usage_code command (inr file) one = grind (arith, file, one)
+
+  module _ (taken taken' : Option (List ℕ)) (out_before out_now code : ℕ) (told : Tells outcome taken taken' out_before out_now code) where
+    either : ((code ≡ 4) × Rose out_before out_now) ⊎ (code ≡ code_of outcome)
+    either = coded outcome taken taken' out_before out_now code told
+
+    usage_only : (command : Command) → Allows content (Some command) names names' before now outcome → ((code ≡ 4) × Rose out_before out_now) ⊎ (code ≡ code_of outcome) → code ≡ 1 → ⊥
+    usage_only command allowed (inl four) one = let is = four.0 in absurd (omega (arith, is, one))
+    usage_only command allowed (inr same) one = no_usage_code command (some_code command allowed) (sym same ∙ one)
+
+    usage_always : outcome ≡ Refused Usage → ((code ≡ 4) × Rose out_before out_now) ⊎ (code ≡ code_of outcome) → (code ≡ 1) ⊎ (code ≡ 4)
+    usage_always is (inl four) = inr four.0
+    usage_always is (inr same) = inl (same ∙ ap code_of is)
+
+    pub usage : (command : Option Command) → Allows content command names names' before now outcome → UsageExactly command code
+    usage None allowed = record { only = λ one. refl; always = λ none. usage_always allowed.0 either }
+    usage (Some command) allowed = record { only = λ one. absurd (usage_only command allowed either one); always = λ none. absurd (cc) }
+
+    pub game_refused : (command : Option Command) → Allows content command names names' before now outcome → GameRefusedExactly content command before now code
+    game_refused command allowed = record {
+      only = told_only 2 (IfSome content (λ _. HasRefusedGame content command)) out_before out_now code outcome (λ e. absurd (omega (arith, e))) (game_only command allowed) either;
+      always = λ bad quiet. told_always 2 out_before out_now code outcome (game_due command allowed bad quiet) either;
+    }
+
+    pub text_refused : (command : Option Command) → Allows content command names names' before now outcome → TextRefusedExactly content command before now code
+    text_refused command allowed = record {
+      only = told_only 8 (IfSome content (λ _. HasRefusedText content command)) out_before out_now code outcome (λ e. absurd (omega (arith, e))) (text_only command allowed) either;
+      always = λ bad quiet. told_always 8 out_before out_now code outcome (text_due command allowed bad quiet) either;
+    }
+
+    pub read_fault : (command : Option Command) → Allows content command names names' before now outcome → ReadFaultExactly before now code
+    read_fault command allowed = record {
+      only = told_only 3 (Rose before now) out_before out_now code outcome (λ e. absurd (omega (arith, e))) (λ is. only_three (read_told command allowed) is) either;
+      always = λ rose. three_or_four (read_told command allowed) either rose;
+    }
+      where
+        only_three : ((code_of outcome ≡ 3) × Rose before now) ⊎ ((code_of outcome ≢ 3) × (now ≡ before)) → code_of outcome ≡ 3 → Rose before now
+        only_three (inl fault) is = fault.1
+        only_three (inr same) is = absurd (same.0 is)
+
+        three_or_four : ((code_of outcome ≡ 3) × Rose before now) ⊎ ((code_of outcome ≢ 3) × (now ≡ before)) → ((code ≡ 4) × Rose out_before out_now) ⊎ (code ≡ code_of outcome) → before < now → (code ≡ 3) ⊎ (code ≡ 4)
+        three_or_four cause (inl four) rose = inr four.0
+        three_or_four (inl fault) (inr same) rose = inl (same ∙ fault.0)
+        three_or_four (inr quiet) (inr same) rose = absurd (omega (arith, quiet.1, rose))
+
+    pub selected : (command : Option Command) → Allows content command names names' before now outcome → Selects content command names names' code
+    selected None allowed = allowed.1
+    selected (Some command) allowed =
+        causes.selects content before now outcome (OwnCode command) (no_file_code command) code (four_or_same either) (files_of command) (CommandAllows command) (λ values. own_code command values outcome) names names' allowed
+      where
+        four_or_same : ((code ≡ 4) × Rose out_before out_now) ⊎ (code ≡ code_of outcome) → (code ≡ 4) ⊎ (code ≡ code_of outcome)
+        four_or_same (inl four) = inl four.0
+        four_or_same (inr same) = inr same
+
+    pub is_complete : (command : Option Command) (links_before links_now ticks_before ticks_now : ℕ) → Allows content command names names' before now outcome →
+        LinkFaultExactly links_before links_now code → ClockFaultExactly ticks_before ticks_now code →
+        IsComplete content command before now out_before out_now links_before links_now ticks_before ticks_now code
+    is_complete command links_before links_now ticks_before ticks_now allowed link clock = record {
+      good = λ ready quiet out_quiet links_quiet ticks_quiet. by_code ready quiet out_quiet links_quiet ticks_quiet either;
+    }
+      where
+        by_own : IsQuiet links_before links_now → IsQuiet ticks_before ticks_now → code ≡ code_of outcome → OneOf (code_of outcome) → (code ≡ 0) ⊎ (code ≡ 7)
+        by_own links_quiet ticks_quiet same (inl zero) = inl (same ∙ zero)
+        by_own links_quiet ticks_quiet same (inr (inl five)) = absurd (causes.quiet_did_not_rise links_before links_now links_quiet (link.only (same ∙ five)))
+        by_own links_quiet ticks_quiet same (inr (inr (inl six))) = absurd (causes.quiet_did_not_rise ticks_before ticks_now ticks_quiet (clock.only (same ∙ six)))
+        by_own links_quiet ticks_quiet same (inr (inr (inr seven))) = inr (same ∙ seven)
+
+        by_code : IsReady content command → IsQuiet before now → IsQuiet out_before out_now → IsQuiet links_before links_now → IsQuiet ticks_before ticks_now →
+            ((code ≡ 4) × Rose out_before out_now) ⊎ (code ≡ code_of outcome) → (code ≡ 0) ⊎ (code ≡ 7)
+        by_code ready quiet out_quiet links_quiet ticks_quiet (inl four) = absurd (causes.quiet_did_not_rise out_before out_now out_quiet four.1)
+        by_code ready quiet out_quiet links_quiet ticks_quiet (inr same) = by_own links_quiet ticks_quiet same (ready_code command allowed ready quiet)

@@ -1,0 +1,11 @@
+pub mod Unambiguous
+pub mod LongFiles
+pub mod MadeScripts
+pub mod OneThreadCash
+pub mod CodedOutcomes
+pub mod Endings
+pub mod ReadFiles
+pub mod RanScripts
+pub mod OwnCodes
+pub mod FileCauses
+pub mod CommandCauses

@@ -1,0 +1,23 @@
+use Rattle.tac_commands.specs.Allowed.{BatchAllows}
+use Rattle.tac_commands.specs.Commands.{Make, Trial}
+use Rattle.tac_commands.proofs.ReadFiles.{ends_alone}
+use Rattle.tac_commands.proofs.batch.run_batch.Goals as goal
+
+pub returns-in-Hotel : goal.returns-in-Hotel
+returns-in-Hotel g c = rw c.in-Hotel.is c.hotel_by_file.ensures
+
+pub returns-in-Show : goal.returns-in-Show
+returns-in-Show g c = rw c.in-Show.is c.show.ensures
+
+pub returns-in-Make : goal.returns-in-Make
+returns-in-Make g c = rw c.in-Make.is (ends_alone (g.F.Files.content c.args.files.now) (BatchAllows (Make c.in-Make.seed)) _ _ _ _ _ _ _ c.make.ensures)
+
+pub returns-in-Solve : goal.returns-in-Solve
+returns-in-Solve g c = rw c.in-Solve.is c.solve_file.ensures
+
+pub returns-in-Play : goal.returns-in-Play
+returns-in-Play g c = rw c.in-Play.is c.play_files.ensures
+
+pub returns-in-Trial : goal.returns-in-Trial
+returns-in-Trial g c =
+    rw c.in-Trial.is (ends_alone (g.F.Files.content c.args.files.now) (BatchAllows (Trial c.in-Trial.seed c.in-Trial.count)) _ _ _ _ _ _ _ c.trial.ensures)

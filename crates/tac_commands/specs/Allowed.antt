@@ -1,0 +1,74 @@
+-- What each command makes of the values of its files, and so which outcomes the words and the files allow.
+use Rattle.std.specs.Prelude.{◌≡◌, ℕ, ⊤, List, Option, Some, None}
+use Rattle.game_text.specs.Games.{GameFile, spelling}
+use Rattle.allocator.specs.Solutions.{IsSolvedText}
+use Rattle.draw_maker.specs.Games.{made_game}
+use Rattle.draw_maker.specs.Scripts.{made_script}
+use Rattle.score_sheet.specs.Sheets.{Scored}
+use Rattle.script_run.specs.declared.game_lines.GameLine.{GameLine as ScriptLine}
+use Rattle.script_run.specs.declared.play_count.PlayCount.{PlayCount}
+use Rattle.script_run.specs.HotelScripts.{hotel_out}
+use Rattle.script_run.specs.GameOuts.{IsSheetOf, closed_game, first_out, play_out}
+use Rattle.script_run.specs.QuietGames.{IsSummary}
+use Rattle.tac_commands.specs.declared.refusals.Refusal.TheVariants.{Usage, LinkFault, Memory}
+use Rattle.tac_commands.specs.Cash.{IsCashOfPosts}
+use Rattle.tac_commands.specs.Commands.{BatchCommand, Hotel, Show, Make, Solve, Play, Trial, Command, Batch, Serve, batch_files, files_of}
+use Rattle.tac_commands.specs.Files.{Content}
+use Rattle.tac_commands.specs.Outcomes.{Outcome, Done, Lapsed, Cut, Refused}
+use Rattle.tac_commands.specs.Runs.{Values, Names, Runs}
+use Rattle.tac_commands.specs.Trials.{trial_text}
+
+-- a text that is due is written, or memory was refused
+abbrev pub Writes : (List ℕ → Type 0) → Outcome → Type 0
+Writes IsDue (Done text) = IsDue text
+Writes IsDue (Refused Memory) = ⊤
+Writes IsDue outcome = ⊥
+
+-- the same of a text whose first part is written alone where memory was refused for the rest
+abbrev pub WritesInParts : (List ℕ → Type 0) → (List ℕ → Type 0) → Outcome → Type 0
+WritesInParts IsDue IsFirst (Done text) = IsDue text
+WritesInParts IsDue IsFirst (Cut text) = IsFirst text
+WritesInParts IsDue IsFirst (Refused Memory) = ⊤
+WritesInParts IsDue IsFirst outcome = ⊥
+
+-- the replies and the log of a game by the lines of a script, with some sheet of it
+abbrev pub IsPlayed : GameFile → List ScriptLine → List ℕ → Type 0
+IsPlayed game lines text = (sheet : List Scored) × IsSheetOf game (closed_game game lines) sheet × (text ≡ play_out game lines sheet)
+
+-- the summary of the made game by the made script, with some sheet of it
+abbrev pub IsTrial : ℕ → ℕ → List ℕ → Type 0
+IsTrial seed count text =
+    (played : PlayCount) × (sheet : List Scored) × IsSummary (made_game seed) (made_script seed count) played sheet × (text ≡ trial_text seed count played sheet)
+
+-- a game by the lines of a script is written so, and the cash in its sheet is that of the posts
+abbrev pub PlayAllows : GameFile → List ScriptLine → Outcome → Type 0
+PlayAllows game lines outcome = WritesInParts (IsPlayed game lines) (λ text. text ≡ first_out game lines) outcome × IsCashOfPosts (closed_game game lines)
+
+-- What a command that needs no links makes of the values of its files: the text of a hotel's script; of a game; of a made game; of an
+-- account, with some solution; of a game by a script, where the cash in the sheet is that of the posts; of a trial.
+abbrev pub BatchAllows : (command : BatchCommand) → Values (batch_files command) → Outcome → Type 0
+BatchAllows (Hotel script) values outcome = Writes (λ text. text ≡ hotel_out values.0) outcome
+BatchAllows (Show game) values outcome = Writes (λ text. text ≡ spelling values.0) outcome
+BatchAllows (Make seed) values outcome = Writes (λ text. text ≡ spelling (made_game seed)) outcome
+BatchAllows (Solve account) values outcome = Writes (IsSolvedText values.0) outcome
+BatchAllows (Play game script) values outcome = PlayAllows values.0 values.1.0 outcome
+BatchAllows (Trial seed count) values outcome = Writes (IsTrial seed count) outcome
+
+-- How the service of a game may end whose file is good: its log is written, whole or without its sheet; or the links failed, or there was no
+-- memory for the game. What the log tells, and what became of the links, is said where the service is.
+abbrev pub IsServiceEnd : Outcome → Type 0
+IsServiceEnd (Done text) = ⊤
+IsServiceEnd (Lapsed text) = ⊤
+IsServiceEnd (Cut text) = ⊤
+IsServiceEnd (Refused LinkFault) = ⊤
+IsServiceEnd (Refused Memory) = ⊤
+IsServiceEnd (Refused refusal) = ⊥
+
+abbrev pub CommandAllows : (command : Command) → Values (files_of command) → Outcome → Type 0
+CommandAllows (Batch command) values outcome = BatchAllows command values outcome
+CommandAllows (Serve game port pace form) values outcome = IsServiceEnd outcome
+
+-- The outcome, and the names that were selected, are those of the command, if there is one; without a command the usage is written.
+abbrev pub Allows : Content → Option Command → Names → Names → ℕ → ℕ → Outcome → Type 0
+Allows content None names names' before now outcome = (outcome ≡ Refused Usage) × (names' ≡ names) × (now ≡ before)
+Allows content (Some command) names names' before now outcome = Runs content (files_of command) (CommandAllows command) names names' before now outcome

@@ -1,0 +1,99 @@
+-- When each code comes. A write that failed goes before every other cause, so code 4 may stand in the place of each other code;
+-- where memory is refused the code is 7.
+use Rattle.std.specs.Prelude.{◌≡◌, ℕ, ◌-◌, ◌^◌, ◌<◌, ◌⊎◌, ⊤, List, [], ◌∷◌, Option, Some, None, Ok, Err, IfSome}
+use Rattle.tac_io.specs.Counts.{Rose}
+use Rattle.game_text.specs.declared.fault.GameFault.{GameFault}
+use Rattle.tac_commands.specs.Codes.{number_of}
+use Rattle.tac_commands.specs.Commands.{Command, NamedFile, files_of}
+use Rattle.tac_commands.specs.FileKinds.{Value, read_as, refused_code}
+use Rattle.tac_commands.specs.Files.{Content}
+
+-- no call failed: the count is as before, and below its last value
+pub record IsQuiet (before now : ℕ) : Type 0 where
+  pub same : now ≡ before
+  pub below : before < 2 ^ 64 - 1
+
+-- 1 comes exactly where the words are no command of the list
+pub record UsageExactly (command : Option Command) (code : ℕ) : Type 0 where
+  pub only : code ≡ 1 → command ≡ None
+  pub always : command ≡ None → (code ≡ 1) ⊎ (code ≡ 4)
+
+-- 3 comes exactly where the count of faults of the files rose
+pub record ReadFaultExactly (before now code : ℕ) : Type 0 where
+  pub only : code ≡ 3 → Rose before now
+  pub always : before < now → (code ≡ 3) ⊎ (code ≡ 4)
+
+-- 4 comes exactly where the count of faults of the sink rose
+pub record WriteFaultExactly (before now code : ℕ) : Type 0 where
+  pub only : code ≡ 4 → Rose before now
+  pub always : before < now → code ≡ 4
+
+-- the bytes of the file of that name, where files are told
+abbrev pub told_file : Content → List ℕ → Option (List ℕ)
+told_file None name = None
+told_file (Some files) name = files name
+
+-- the file is there and good
+pub record HasGood (content : Content) (file : NamedFile) : Type 0 where
+  pub bytes : List ℕ
+  pub told : told_file content file.name ≡ Some bytes
+  pub value : Value file.kind
+  pub good : read_as file.kind bytes ≡ Ok value
+
+-- the file is there and refused: it is too long, or has a bad line
+pub record HasBad (content : Content) (file : NamedFile) : Type 0 where
+  pub bytes : List ℕ
+  pub told : told_file content file.name ≡ Some bytes
+  pub fault : GameFault
+  pub bad : read_as file.kind bytes ≡ Err fault
+
+-- one of the files is refused with this code, and those before it are good
+abbrev pub HasRefused : Content → ℕ → List NamedFile → Type 0
+HasRefused content code [] = ⊥
+HasRefused content code (file ∷ files) =
+    ((number_of (refused_code file.kind) ≡ code) × HasBad content file) ⊎ (HasGood content file × HasRefused content code files)
+
+-- all files are there and good
+abbrev pub AreGood : Content → List NamedFile → Type 0
+AreGood content [] = ⊤
+AreGood content (file ∷ files) = HasGood content file × AreGood content files
+
+-- a game file of the command is refused
+abbrev pub HasRefusedGame : Content → Option Command → Type 0
+HasRefusedGame content None = ⊥
+HasRefusedGame content (Some command) = HasRefused content 2 (files_of command)
+
+-- a script or an account of the command is refused; where it has a game file, that one is not refused
+abbrev pub HasRefusedText : Content → Option Command → Type 0
+HasRefusedText content None = ⊥
+HasRefusedText content (Some command) = HasRefused content 8 (files_of command)
+
+-- 2 comes exactly where a game file is read and refused
+pub record GameRefusedExactly (content : Content) (command : Option Command) (before now code : ℕ) : Type 0 where
+  pub only : code ≡ 2 → IfSome content (λ _. HasRefusedGame content command)
+  pub always : HasRefusedGame content command → IsQuiet before now → (code ≡ 2) ⊎ (code ≡ 4) ⊎ (code ≡ 7)
+
+-- 8 comes exactly where a script or an account is read and refused
+pub record TextRefusedExactly (content : Content) (command : Option Command) (before now code : ℕ) : Type 0 where
+  pub only : code ≡ 8 → IfSome content (λ _. HasRefusedText content command)
+  pub always : HasRefusedText content command → IsQuiet before now → (code ≡ 8) ⊎ (code ≡ 4) ⊎ (code ≡ 7)
+
+-- the words are a command, and its files, if it names some, are there and good
+abbrev pub IsReady : Content → Option Command → Type 0
+IsReady content None = ⊥
+IsReady content (Some command) = AreGood content (files_of command)
+
+-- where the words are a command, its files are good and no count of the files, the sink, the links or the ticker rose, the code is 0, or 7
+pub record IsComplete (content : Content) (command : Option Command) (before now out_before out_now links_before links_now ticks_before ticks_now code : ℕ) : Type 0 where
+  pub good : IsReady content command → IsQuiet before now → IsQuiet out_before out_now → IsQuiet links_before links_now → IsQuiet ticks_before ticks_now → (code ≡ 0) ⊎ (code ≡ 7)
+
+-- 5 comes exactly where the count of faults of the links rose
+pub record LinkFaultExactly (before now code : ℕ) : Type 0 where
+  pub only : code ≡ 5 → Rose before now
+  pub always : before < now → (code ≡ 5) ⊎ (code ≡ 4)
+
+-- 6 comes exactly where the count of faults of the ticker rose and no other code applies: the game was played, and memory sufficed for
+-- its scores
+pub record ClockFaultExactly (before now code : ℕ) : Type 0 where
+  pub only : code ≡ 6 → Rose before now
+  pub always : before < now → (code ≡ 6) ⊎ (code ≡ 4) ⊎ (code ≡ 7)

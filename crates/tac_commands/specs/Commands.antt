@@ -1,0 +1,126 @@
+-- What the words of a command line ask for.
+use Rattle.std.specs.Prelude.{zero, suc, ⊤, ℕ, ◌^◌, List, [], ◌∷◌, Option, Some, None, if◌then◌else◌, codes, option_map, option_and_then}
+use Rattle.std.specs.Str.{bytes_eq}
+use Rattle.tac_base.specs.Numerals.{below, numeral}
+use Rattle.tac_commands.specs.declared.file_kinds.FileKind.{FileKind}
+use Rattle.tac_commands.specs.declared.file_kinds.FileKind.TheVariants as kinds
+use Rattle.tac_commands.specs.declared.words.BatchCommand.{BatchCommand as BatchAsked}
+use Rattle.tac_commands.specs.declared.words.BatchCommand.TheVariants as batch
+use Rattle.tac_commands.specs.declared.words.Form.{Form}
+use Rattle.tac_commands.specs.declared.words.Form.TheVariants.{Lines}
+use Rattle.tac_commands.specs.declared.words.Asked.{Asked}
+use Rattle.tac_commands.specs.declared.words.Asked.TheVariants as asked
+
+-- a command that needs no links, with its words
+pub data BatchCommand : Type 0 where
+  Hotel : (script : List ℕ) → BatchCommand
+  Show : (game : List ℕ) → BatchCommand
+  Make : (seed : ℕ) → BatchCommand
+  Solve : (account : List ℕ) → BatchCommand
+  Play : (game : List ℕ) → (script : List ℕ) → BatchCommand
+  Trial : (seed : ℕ) → (count : ℕ) → BatchCommand
+
+-- a command of the list
+pub data Command : Type 0 where
+  Batch : (command : BatchCommand) → Command
+  Serve : (game : List ℕ) → (port : ℕ) → (pace : ℕ) → (form : Form) → Command
+
+-- ---- the words
+
+-- a command of one word after its own; a seed is a numeral of at most 20 digits that has 64 bits
+abbrev pub command_with : List ℕ → List ℕ → Option Command
+command_with word argument =
+    if bytes_eq word (codes "hotel") then Some (Batch (Hotel argument))
+    else if bytes_eq word (codes "show") then Some (Batch (Show argument))
+    else if bytes_eq word (codes "solve") then Some (Batch (Solve argument))
+    else if bytes_eq word (codes "make") then option_map (λ seed. Batch (Make seed)) (below (2 ^ 64) (numeral 20 argument))
+    else None
+
+-- a trial has a seed as a made game has, and a count of at most 50000
+abbrev pub trial_of : Option ℕ → Option ℕ → Option Command
+trial_of None count = None
+trial_of (Some seed) None = None
+trial_of (Some seed) (Some count) = Some (Batch (Trial seed count))
+
+-- a command of two words after its own
+abbrev pub command_with_two : List ℕ → List ℕ → List ℕ → Option Command
+command_with_two word first second =
+    if bytes_eq word (codes "play") then Some (Batch (Play first second))
+    else if bytes_eq word (codes "trial") then trial_of (below (2 ^ 64) (numeral 20 first)) (below 50001 (numeral 5 second))
+    else None
+
+abbrev pub at_least_one : ℕ → Option ℕ
+at_least_one zero = None
+at_least_one (suc n) = Some (suc n)
+
+-- a number, at least 1 and below a limit, of a numeral
+abbrev pub positive_below : ℕ → List ℕ → Option ℕ
+positive_below limit word = option_and_then at_least_one (below limit (numeral 10 word))
+
+-- a service has a port, 1 to 65535, and a pace, 1 to 60000 milliseconds
+abbrev pub service_of : List ℕ → Option ℕ → Option ℕ → Option Command
+service_of game None pace = None
+service_of game (Some port) None = None
+service_of game (Some port) (Some pace) = Some (Serve game port pace Lines)
+
+-- a command of three words after its own
+abbrev pub command_with_three : List ℕ → List ℕ → List ℕ → List ℕ → Option Command
+command_with_three word first second third =
+    if bytes_eq word (codes "serve") then service_of first (positive_below 65536 second) (positive_below 60001 third)
+    else None
+
+abbrev pub command_of : List (List ℕ) → Option Command
+command_of (word ∷ argument ∷ []) = command_with word argument
+command_of (word ∷ first ∷ second ∷ []) = command_with_two word first second
+command_of (word ∷ first ∷ second ∷ third ∷ []) = command_with_three word first second third
+command_of words = None
+
+-- ---- the files
+
+-- a file that a command reads, with the word that names it
+pub record NamedFile : Type 0 where
+  pub kind : FileKind
+  pub name : List ℕ
+
+abbrev pub file : FileKind → List ℕ → NamedFile
+file kind name = record { kind = kind; name = name }
+
+-- the files of a command, in the order in which it reads them
+abbrev pub batch_files : BatchCommand → List NamedFile
+batch_files (Hotel script) = file kinds.HotelScript script ∷ []
+batch_files (Show game) = file kinds.Game game ∷ []
+batch_files (Make seed) = []
+batch_files (Solve account) = file kinds.Account account ∷ []
+batch_files (Play game script) = file kinds.Game game ∷ file kinds.GameScript script ∷ []
+batch_files (Trial seed count) = []
+
+abbrev pub files_of : Command → List NamedFile
+files_of (Batch command) = batch_files command
+files_of (Serve game port pace form) = file kinds.Game game ∷ []
+
+-- ---- the service of a game among the commands
+
+-- of the service of a game this holds
+abbrev pub OnService : Option Command → (List ℕ → ℕ → ℕ → Form → Type 0) → Type 0
+OnService (Some (Serve game port pace form)) Holds = Holds game port pace form
+OnService command Holds = ⊤
+
+-- of every other command this holds, and where there is none
+abbrev pub OffService : Option Command → Type 0 → Type 0
+OffService (Some (Serve game port pace form)) Holds = ⊤
+OffService command Holds = Holds
+
+-- ---- as the code has it
+
+-- the command, with its words as they stand in memory
+abbrev pub seen_batch : BatchAsked → BatchCommand
+seen_batch (batch.Hotel script) = Hotel script.now
+seen_batch (batch.Show game) = Show game.now
+seen_batch (batch.Make seed) = Make seed
+seen_batch (batch.Solve account) = Solve account.now
+seen_batch (batch.Play game script) = Play game.now script.now
+seen_batch (batch.Trial seed count) = Trial seed count
+
+abbrev pub seen : Asked → Command
+seen (asked.Batch command) = Batch (seen_batch command)
+seen (asked.Serve game port pace form) = Serve game.now port pace form

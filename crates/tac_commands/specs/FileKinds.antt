@@ -1,0 +1,66 @@
+-- The kinds of files that commands read: how long such a file may be, what it holds, and what is written where it is refused.
+use Rattle.std.specs.Prelude.{ℕ, List, length, nat_lt, if◌then◌else◌, Result, Ok, Err}
+use Rattle.tac_base.specs.declared.limits.TheConstants.{GAME_BYTES, TEXT_BYTES}
+use Rattle.game_text.specs.declared.fault.GameFault.{GameFault}
+use Rattle.game_text.specs.declared.fault.GameFault.TheVariants.{Line, TooLong}
+use Rattle.game_text.specs.Games.{GameFile, game_of}
+use Rattle.game_text.specs.Accounts.{AccountFile, account_of}
+use Rattle.script_run.specs.declared.hotel_lines.HotelLine.{HotelLine}
+use Rattle.script_run.specs.declared.game_lines.GameLine.{GameLine as ScriptLine}
+use Rattle.script_run.specs.ScriptLines.{BadLine}
+use Rattle.script_run.specs.HotelScripts.{script_of}
+use Rattle.script_run.specs.GameScripts.{game_script}
+use Rattle.tac_commands.specs.declared.code.Code.{Code}
+use Rattle.tac_commands.specs.declared.code.Code.TheVariants.{GameRefused, TextRefused}
+use Rattle.tac_commands.specs.declared.refusals.Refusal.{Refusal}
+use Rattle.tac_commands.specs.declared.refusals.Refusal.TheVariants.{GameLine, GameTooLong, TextLine, TextTooLong}
+use Rattle.tac_commands.specs.declared.file_kinds.FileKind.{FileKind}
+use Rattle.tac_commands.specs.declared.file_kinds.FileKind.TheVariants.{Game, HotelScript, GameScript, Account}
+
+-- the most bytes of such a file
+abbrev pub most_bytes : FileKind → ℕ
+most_bytes Game = GAME_BYTES
+most_bytes HotelScript = TEXT_BYTES
+most_bytes GameScript = TEXT_BYTES
+most_bytes Account = TEXT_BYTES
+
+-- what such a file holds: a game, the lines of a script, the last line first, or an account
+abbrev pub Value : FileKind → Type 0
+Value Game = GameFile
+Value HotelScript = List HotelLine
+Value GameScript = List ScriptLine
+Value Account = AccountFile
+
+-- the lines of a script, or its first bad line with the first reason
+abbrev pub lines_or_fault : {A : Type 0} → Result A BadLine → Result A GameFault
+lines_or_fault (Ok lines) = Ok lines
+lines_or_fault (Err bad) = Err (Line bad.0 bad.1)
+
+-- a script that is not too long
+abbrev pub script_in : {A : Type 0} → List ℕ → Result A BadLine → Result A GameFault
+script_in bytes read = if nat_lt TEXT_BYTES (length bytes) then Err TooLong else lines_or_fault read
+
+-- what the bytes of such a file hold; or that they are too many, or the first bad line with the first reason
+abbrev pub read_as : (kind : FileKind) → List ℕ → Result (Value kind) GameFault
+read_as Game bytes = game_of bytes
+read_as HotelScript bytes = script_in bytes (script_of bytes)
+read_as GameScript bytes = script_in bytes (game_script bytes)
+read_as Account bytes = account_of bytes
+
+-- what is written where such a file has this fault
+abbrev pub refusal_of : FileKind → GameFault → Refusal
+refusal_of Game (Line line reason) = GameLine line reason
+refusal_of Game TooLong = GameTooLong
+refusal_of HotelScript (Line line reason) = TextLine line reason
+refusal_of HotelScript TooLong = TextTooLong
+refusal_of GameScript (Line line reason) = TextLine line reason
+refusal_of GameScript TooLong = TextTooLong
+refusal_of Account (Line line reason) = TextLine line reason
+refusal_of Account TooLong = TextTooLong
+
+-- the code of that
+abbrev pub refused_code : FileKind → Code
+refused_code Game = GameRefused
+refused_code HotelScript = TextRefused
+refused_code GameScript = TextRefused
+refused_code Account = TextRefused

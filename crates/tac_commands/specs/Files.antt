@@ -1,0 +1,29 @@
+-- Reading a file of a command. The count of faults of the files goes from `before` to `now`: a read fault comes exactly where it rose.
+-- Memory may be refused at any time.
+use Rattle.std.specs.Prelude.{◌≡◌, ℕ, ◌⊎◌, List, Option, Ok, Err}
+use Rattle.tac_io.specs.Counts.{Rose}
+use Rattle.tac_io.specs.Reading.{IsFile}
+use Rattle.game_text.specs.declared.fault.GameFault.{GameFault}
+use Rattle.tac_commands.specs.declared.file_kinds.FileKind.{FileKind}
+use Rattle.tac_commands.specs.declared.refusals.Refusal.{Refusal}
+use Rattle.tac_commands.specs.declared.refusals.Refusal.TheVariants.{ReadFault, Memory}
+use Rattle.tac_commands.specs.FileKinds.{Value, read_as, refusal_of}
+
+-- the bytes of each name, where they are told
+abbrev pub Content : Type 0
+Content = Option (List ℕ → Option (List ℕ))
+
+-- the file of that name is of the kind, and holds the value
+abbrev pub IsRead : Content → (kind : FileKind) → List ℕ → Value kind → Type 0
+IsRead content kind name value = (bytes : List ℕ) × IsFile content name bytes × (read_as kind bytes ≡ Ok value)
+
+-- the file of that name has the fault
+abbrev pub HasFault : Content → FileKind → List ℕ → GameFault → Type 0
+HasFault content kind name fault = (bytes : List ℕ) × IsFile content name bytes × (read_as kind bytes ≡ Err fault)
+
+-- what is written in place of the value of that file: a read failed, memory was refused, or the file is refused
+abbrev pub IsNotRead : Content → FileKind → List ℕ → ℕ → ℕ → Refusal → Type 0
+IsNotRead content kind name before now refusal =
+    ((refusal ≡ ReadFault) × Rose before now)
+    ⊎ ((refusal ≡ Memory) × (now ≡ before))
+    ⊎ ((fault : GameFault) × (refusal ≡ refusal_of kind fault) × HasFault content kind name fault × (now ≡ before))

@@ -1,0 +1,13 @@
+pub mod Codes
+pub mod FileKinds
+pub mod Commands
+pub mod Words
+pub mod Outcomes
+pub mod Files
+pub mod Runs
+pub mod Cash
+pub mod Trials
+pub mod Allowed
+pub mod Ends
+pub mod Causes
+pub mod Selected

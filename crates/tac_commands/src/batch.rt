@@ -1,0 +1,107 @@
+// The commands that need no links.
+ghost use Rattle.std.specs.Prelude.{◌≡◌, ◌<◌, ◌≤◌, [], length, IfSome};
+ghost use Rattle.game_text.specs.Games.{spelling};
+ghost use Rattle.draw_maker.specs.Games.{made_game};
+ghost use Rattle.allocator.specs.Solutions.{IsSolvedText};
+ghost use Rattle.tac_commands.specs.Allowed.{Writes};
+ghost use Rattle.tac_commands.specs.Commands as commands;
+ghost use Rattle.tac_commands.specs.Commands.{seen_batch};
+ghost use Rattle.tac_commands.specs.Ends.{Ends, EndsBatch};
+ghost use Rattle.tac_commands.specs.Words.{IsShortBatch};
+
+use crate::ends::End;
+use crate::reading::{read_account_file, read_game_file};
+use crate::refusals::Refusal;
+use crate::script_commands::{hotel_by_file, play_files};
+use crate::trial_command::trial;
+use crate::words::BatchCommand;
+use allocator::{print_solved, solve};
+use draw_maker::make_game;
+use game_text::{Account, Game, print_game};
+use std::alloc::Global;
+use std::thread::Threads;
+use tac_io::{Files, Sink, write_all};
+
+/// Writes the canonical text of a game.
+fn write_game<K: Sink>(alloc: Global, game: &Game, out: &mut K) -> End
+    ensures { Ends (Writes (λ text. text ≡ spelling game.now)) (K.taken out.old) (K.taken out.new) (K.faults out.old) (K.faults out.new) result }
+{
+    let Ok(text) = print_game(alloc, game) else {
+        return End::Refused(Refusal::Memory);
+    };
+    match write_all(out, text.as_slice()) {
+        Ok(()) => End::Done,
+        Err(_) => End::WriteFault,
+    }
+}
+
+/// Writes the canonical text of the game that is made of a seed.
+fn make<K: Sink>(alloc: Global, seed: u64, out: &mut K) -> End
+    ensures { Ends (Writes (λ text. text ≡ spelling (made_game seed))) (K.taken out.old) (K.taken out.new) (K.faults out.old) (K.faults out.new) result }
+{
+    write_game(alloc, &make_game(seed), out)
+}
+
+/// Writes a best allocation of an account, with its certificate.
+fn write_solved<K: Sink>(alloc: Global, account: &Account, out: &mut K) -> End
+    ensures { Ends (Writes (IsSolvedText account.now)) (K.taken out.old) (K.taken out.new) (K.faults out.old) (K.faults out.new) result }
+{
+    let Ok(solved) = solve(alloc, account) else {
+        return End::Refused(Refusal::Memory);
+    };
+    let Ok(text) = print_solved(alloc, &solved) else {
+        return End::Refused(Refusal::Memory);
+    };
+    match write_all(out, text.as_slice()) {
+        Ok(()) => End::Done,
+        Err(_) => End::WriteFault,
+    }
+}
+
+/// Shows the game of the file of that name in its canonical text.
+fn show<F: Files, K: Sink>(alloc: Global, name: &str, files: &mut F, out: &mut K) -> End
+    requires { IfSome (F.names files.old) (λ names. (length names < 128) × (length name.now ≤ 1024)) }
+    ensures { EndsBatch (F.content files.old) (commands.Show name.now) (F.names files.old) (F.names files.new) (F.faults files.old) (F.faults files.new)
+        (K.taken out.old) (K.taken out.new) (K.faults out.old) (K.faults out.new) result }
+{
+    match read_game_file(alloc, files, name) {
+        Ok(game) => write_game(alloc, &game, out),
+        Err(refusal) => End::Refused(refusal),
+    }
+}
+
+/// Solves the account of the file of that name.
+fn solve_file<F: Files, K: Sink>(alloc: Global, name: &str, files: &mut F, out: &mut K) -> End
+    requires { IfSome (F.names files.old) (λ names. (length names < 128) × (length name.now ≤ 1024)) }
+    ensures { EndsBatch (F.content files.old) (commands.Solve name.now) (F.names files.old) (F.names files.new) (F.faults files.old) (F.faults files.new)
+        (K.taken out.old) (K.taken out.new) (K.faults out.old) (K.faults out.new) result }
+{
+    match read_account_file(alloc, files, name) {
+        Ok(account) => write_solved(alloc, &account, out),
+        Err(refusal) => End::Refused(refusal),
+    }
+}
+
+/// Runs a command that needs no links. It selects its files in order, once each, up to one that is not read; no name was selected before,
+/// each name has at most 1024 bytes, and the count of a trial is within its limit. A refusal is left for `finish` to write.
+pub fn run_batch<R: Threads + Sync, F: Files, K: Sink>(
+    rt: &R,
+    alloc: Global,
+    command: BatchCommand<'_>,
+    files: &mut F,
+    out: &mut K,
+) -> End
+    requires names { IfSome (F.names files.old) (λ names. names ≡ []) }
+    requires short { IsShortBatch command }
+    ensures { EndsBatch (F.content files.old) (seen_batch command.entry) (F.names files.old) (F.names files.new) (F.faults files.old) (F.faults files.new)
+        (K.taken out.old) (K.taken out.new) (K.faults out.old) (K.faults out.new) result }
+{
+    match command {
+        BatchCommand::Hotel { script } => hotel_by_file(alloc, script, files, out),
+        BatchCommand::Show { game } => show(alloc, game, files, out),
+        BatchCommand::Make { seed } => make(alloc, seed, out),
+        BatchCommand::Solve { account } => solve_file(alloc, account, files, out),
+        BatchCommand::Play { game, script } => play_files(rt, alloc, game, script, files, out),
+        BatchCommand::Trial { seed, count } => trial(rt, alloc, seed, count, out),
+    }
+}

@@ -1,0 +1,45 @@
+// The codes of the program.
+ghost use Rattle.std.specs.Prelude.{◌≡◌};
+ghost use Rattle.tac_commands.specs.Codes as codes;
+
+/// What the program ends with. The numbers are our own.
+#[derive(Clone, Copy, Debug, PartialEq, Eq)]
+pub enum Code {
+    /// The text of the command was written.
+    Success,
+    /// The words are no command of the list.
+    Usage,
+    /// A game file is refused.
+    GameRefused,
+    /// A read of a file failed.
+    ReadFault,
+    /// A write failed.
+    WriteFault,
+    /// The links failed, and no game was played.
+    LinkFault,
+    /// A tick of the game that was played lapsed.
+    ClockFault,
+    /// Memory was refused.
+    Memory,
+    /// A script or an account is refused.
+    TextRefused,
+}
+
+impl Code {
+    /// The number that the process ends with.
+    pub fn number(&self) -> u8
+        ensures { result ≡ codes.number_of self.now }
+    {
+        match self {
+            Code::Success => 0,
+            Code::Usage => 1,
+            Code::GameRefused => 2,
+            Code::ReadFault => 3,
+            Code::WriteFault => 4,
+            Code::LinkFault => 5,
+            Code::ClockFault => 6,
+            Code::Memory => 7,
+            Code::TextRefused => 8,
+        }
+    }
+}

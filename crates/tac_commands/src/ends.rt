@@ -1,0 +1,33 @@
+// How a command ended, and how it is finished.
+ghost use Rattle.std.specs.Prelude.{◌≡◌};
+ghost use Rattle.tac_commands.specs.Codes.{number_of};
+ghost use Rattle.tac_commands.specs.Ends.{Finishes};
+
+use crate::code::Code;
+use crate::refusals::Refusal;
+use tac_io::{Sink, write_all};
+
+/// How a command ended.
+#[derive(Clone, Copy, Debug, PartialEq, Eq)]
+pub enum End {
+    /// Its text was written.
+    Done,
+    /// A write failed, and its text was not written whole.
+    WriteFault,
+    /// This is to be written in place of its text, or after the first part of it.
+    Refused(Refusal),
+}
+
+/// Prints the refusal, if a command ended so, and gives the code. After a write that failed nothing is written.
+pub fn finish<K: Sink>(out: &mut K, end: End) -> Code
+    ensures { Finishes end (K.taken out.old) (K.taken out.new) (K.faults out.old) (K.faults out.new) (number_of result) }
+{
+    match end {
+        End::Done => Code::Success,
+        End::WriteFault => Code::WriteFault,
+        End::Refused(refusal) => match write_all(out, refusal.text().as_slice()) {
+            Ok(()) => refusal.code(),
+            Err(_) => Code::WriteFault,
+        },
+    }
+}

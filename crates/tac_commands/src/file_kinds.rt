@@ -1,0 +1,47 @@
+// The kinds of files that commands read.
+ghost use Rattle.std.specs.Prelude.{◌≡◌};
+ghost use Rattle.tac_commands.specs.FileKinds as kinds;
+
+use crate::refusals::Refusal;
+use game_text::GameFault;
+use tac_base::limits::{GAME_BYTES, TEXT_BYTES};
+
+/// What a file that a command reads holds.
+#[derive(Clone, Copy, Debug, PartialEq, Eq)]
+pub enum FileKind {
+    /// A game.
+    Game,
+    /// A script for one hotel.
+    HotelScript,
+    /// A script for a whole game.
+    GameScript,
+    /// An account.
+    Account,
+}
+
+impl FileKind {
+    /// The most bytes of such a file.
+    pub(crate) fn most_bytes(&self) -> usize
+        ensures { result ≡ kinds.most_bytes self.now }
+    {
+        match self {
+            FileKind::Game => GAME_BYTES as usize,
+            FileKind::HotelScript | FileKind::GameScript | FileKind::Account => TEXT_BYTES as usize,
+        }
+    }
+
+    /// What is written where such a file has this fault.
+    pub(crate) fn refusal(&self, fault: GameFault) -> Refusal
+        ensures { result ≡ kinds.refusal_of self.now fault }
+    {
+        match (self, fault) {
+            (FileKind::Game, GameFault::Line { line, reason }) => Refusal::GameLine {
+                line,
+                reason,
+            },
+            (FileKind::Game, GameFault::TooLong) => Refusal::GameTooLong,
+            (_, GameFault::Line { line, reason }) => Refusal::TextLine { line, reason },
+            (_, GameFault::TooLong) => Refusal::TextTooLong,
+        }
+    }
+}

@@ -1,0 +1,21 @@
+//! The commands of `tac`: their words, the files that each reads, what it makes of them and with which code it ends. Those that need no
+//! links are run here.
+#![tactic(auto)]
+
+mod batch;
+mod code;
+mod ends;
+mod file_kinds;
+mod reading;
+mod refusals;
+mod script_commands;
+mod trial_command;
+mod words;
+
+pub use batch::run_batch;
+pub use code::Code;
+pub use ends::{End, finish};
+pub use file_kinds::FileKind;
+pub use reading::read_game_file;
+pub use refusals::Refusal;
+pub use words::{Asked, BatchCommand, Form, command_asked};

@@ -1,0 +1,86 @@
+// What is written in place of a command's text.
+ghost use Rattle.std.specs.Prelude.{◌≡◌, ◌≢◌, ◌+◌, ◌++◌, ◌≤◌, length};
+ghost use Rattle.tac_commands.specs.Codes.{number_of};
+ghost use Rattle.tac_commands.specs.Outcomes as outcomes;
+
+use crate::code::Code;
+use tac_base::{Text, print_numeral};
+
+/// What is written in place of a command's text.
+#[derive(Clone, Copy, Debug, PartialEq, Eq)]
+pub enum Refusal {
+    /// The words are no command of the list.
+    Usage,
+    /// The first bad line of a game file, counted from 1, and the first reason that applies to it.
+    GameLine { line: u32, reason: u8 },
+    /// A game file has more bytes than its limit.
+    GameTooLong,
+    /// A file is missing, or a read of it failed.
+    ReadFault,
+    /// The links failed.
+    LinkFault,
+    /// Memory was refused.
+    Memory,
+    /// The first bad line of a script or an account, counted from 1, and the first reason that applies to it.
+    TextLine { line: u32, reason: u8 },
+    /// A script or an account has more bytes than its limit.
+    TextTooLong,
+}
+
+/// The line of a word and two numbers.
+fn numbered(word: &[u8], line: u32, reason: u8) -> Text
+    requires { length word.now ≤ 16 }
+    ensures { result ≡ outcomes.numbered word.now line reason }
+{
+    let mut text = Text::new();
+    text.push_bytes(word);
+    text.push(b' ');
+    print_numeral(u64::from(line), &mut text);
+    text.push(b' ');
+    print_numeral(u64::from(reason), &mut text);
+    text.push(b'\n');
+    text
+}
+
+/// A line that has no numbers.
+fn plain(line: &[u8]) -> Text
+    requires { length line.now ≤ 16 }
+    ensures { result ≡ line.now }
+{
+    let mut text = Text::new();
+    text.push_bytes(line);
+    text
+}
+
+impl Refusal {
+    /// The code that goes with it.
+    pub(crate) fn code(&self) -> Code
+        ensures value { result ≡ outcomes.refusal_code self.now }
+        ensures no_write_fault { number_of result ≢ 4 }
+    {
+        match self {
+            Refusal::Usage => Code::Usage,
+            Refusal::GameLine { .. } | Refusal::GameTooLong => Code::GameRefused,
+            Refusal::ReadFault => Code::ReadFault,
+            Refusal::LinkFault => Code::LinkFault,
+            Refusal::Memory => Code::Memory,
+            Refusal::TextLine { .. } | Refusal::TextTooLong => Code::TextRefused,
+        }
+    }
+
+    /// The line that is written.
+    pub(crate) fn text(&self) -> Text
+        ensures { result ≡ outcomes.refusal_text self.now }
+    {
+        match self {
+            Refusal::Usage => plain(b"usage\n"),
+            Refusal::GameLine { line, reason } => numbered(b"game", *line, *reason),
+            Refusal::GameTooLong => plain(b"game too long\n"),
+            Refusal::ReadFault => plain(b"fault read\n"),
+            Refusal::LinkFault => plain(b"fault links\n"),
+            Refusal::Memory => plain(b"memory\n"),
+            Refusal::TextLine { line, reason } => numbered(b"text", *line, *reason),
+            Refusal::TextTooLong => plain(b"text too long\n"),
+        }
+    }
+}

@@ -1,0 +1,85 @@
+// The commands that run a script: of one hotel, and of a game.
+ghost use Rattle.std.specs.Prelude.{◌≡◌, ◌<◌, ◌≤◌, [], ◌∷◌, length, IfSome};
+ghost use Rattle.tac_commands.specs.Commands as commands;
+ghost use Rattle.tac_commands.specs.Ends.{EndsBatch, PlaysNamed};
+ghost use Rattle.tac_commands.specs.Ends as ends;
+
+use crate::ends::End;
+use crate::file_kinds::FileKind;
+use crate::reading::{read_bytes, read_game_file};
+use crate::refusals::Refusal;
+use game_text::Game;
+use script_run::{ScriptFault, play, run_hotel_script};
+use std::alloc::Global;
+use std::thread::Threads;
+use tac_io::{Files, Sink};
+
+/// How a command ends that ran a script.
+fn script_end<T>(ran: Result<T, ScriptFault>) -> End
+where
+    T: Drop,
+    ensures { result ≡ ends.script_end ran }
+{
+    match ran {
+        Ok(_) => End::Done,
+        Err(ScriptFault::Line { line, reason }) => End::Refused(Refusal::TextLine { line, reason }),
+        Err(ScriptFault::TooLong) => End::Refused(Refusal::TextTooLong),
+        Err(ScriptFault::Failed) => End::WriteFault,
+        Err(ScriptFault::Memory) => End::Refused(Refusal::Memory),
+    }
+}
+
+/// Runs one hotel by the script of that name.
+pub(crate) fn hotel_by_file<F: Files, K: Sink>(
+    alloc: Global,
+    name: &str,
+    files: &mut F,
+    out: &mut K,
+) -> End
+    requires { IfSome (F.names files.old) (λ names. (length names < 128) × (length name.now ≤ 1024)) }
+    ensures { EndsBatch (F.content files.old) (commands.Hotel name.now) (F.names files.old) (F.names files.new) (F.faults files.old) (F.faults files.new)
+        (K.taken out.old) (K.taken out.new) (K.faults out.old) (K.faults out.new) result }
+{
+    match read_bytes(alloc, files, name, FileKind::HotelScript) {
+        Ok(script) => script_end(run_hotel_script(alloc, script.as_slice(), out)),
+        Err(refusal) => End::Refused(refusal),
+    }
+}
+
+/// Plays a game by the script of that name.
+fn play_by_file<R: Threads + Sync, F: Files, K: Sink>(
+    rt: &R,
+    alloc: Global,
+    game: &Game,
+    name: &str,
+    files: &mut F,
+    out: &mut K,
+) -> End
+    requires { IfSome (F.names files.old) (λ names. (length names < 128) × (length name.now ≤ 1024)) }
+    ensures { PlaysNamed (F.content files.old) game.now name.now (F.names files.old) (F.names files.new) (F.faults files.old) (F.faults files.new)
+        (K.taken out.old) (K.taken out.new) (K.faults out.old) (K.faults out.new) result }
+{
+    match read_bytes(alloc, files, name, FileKind::GameScript) {
+        Ok(script) => script_end(play(rt, alloc, game, script.as_slice(), out)),
+        Err(refusal) => End::Refused(refusal),
+    }
+}
+
+/// Plays the game of the first file by the script of the second, which is read only where the game is not refused.
+pub(crate) fn play_files<R: Threads + Sync, F: Files, K: Sink>(
+    rt: &R,
+    alloc: Global,
+    game: &str,
+    script: &str,
+    files: &mut F,
+    out: &mut K,
+) -> End
+    requires { IfSome (F.names files.old) (λ names. (names ≡ []) × (length game.now ≤ 1024) × (length script.now ≤ 1024)) }
+    ensures { EndsBatch (F.content files.old) (commands.Play game.now script.now) (F.names files.old) (F.names files.new) (F.faults files.old) (F.faults files.new)
+        (K.taken out.old) (K.taken out.new) (K.faults out.old) (K.faults out.new) result }
+{
+    match read_game_file(alloc, files, game) {
+        Ok(game) => play_by_file(rt, alloc, &game, script, files, out),
+        Err(refusal) => End::Refused(refusal),
+    }
+}

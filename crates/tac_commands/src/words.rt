@@ -1,0 +1,190 @@
+// The words of a command line.
+ghost use Rattle.std.specs.Prelude.{◌≡◌, ◌≤◌, ◌^◌, length, map, string_bytes, string_len, MatchOption, Some, None, All, IfSome};
+ghost use Rattle.tac_base.specs.Numerals.{below, numeral};
+ghost use Rattle.tac_commands.specs.Commands as commands;
+ghost use Rattle.tac_commands.specs.Commands.{command_of, seen};
+ghost use Rattle.tac_commands.specs.Words.{HasShortNames};
+
+use tac_base::limits::MADE_REQUESTS;
+use tac_base::read_numeral;
+
+/// A command that needs no links, with its words: the names of its files, or numbers.
+#[derive(Clone, Copy)]
+pub enum BatchCommand<'a> {
+    /// One hotel, run by a script.
+    Hotel { script: &'a str },
+    /// The canonical text of a game.
+    Show { game: &'a str },
+    /// The game that is made of a seed.
+    Make { seed: u64 },
+    /// A best allocation of an account.
+    Solve { account: &'a str },
+    /// A game, played by a script.
+    Play { game: &'a str, script: &'a str },
+    /// The made game, played by the made script of so many requests, 0 to 50,000.
+    Trial { seed: u64, count: u32 },
+}
+
+/// The form of what a link of a served game is sent, and of what it asks.
+#[derive(Clone, Copy, Debug, PartialEq, Eq)]
+pub enum Form {
+    /// Request lines and reply lines.
+    Lines,
+}
+
+/// A command of the list, with its words.
+#[derive(Clone, Copy)]
+pub enum Asked<'a> {
+    /// One that needs no links.
+    Batch(BatchCommand<'a>),
+    /// A game over links: the name of its file, the port, 1 to 65535, the pace in milliseconds per tick, 1 to 60000, and the form of lines.
+    Serve {
+        game: &'a str,
+        port: u16,
+        pace: u16,
+        form: Form,
+    },
+}
+
+/// The command of a word and one more.
+fn command_with<'a>(word: &str, argument: &'a str) -> Option<Asked<'a>>
+    requires { length argument.now ≤ 1024 }
+    ensures command { MatchOption result (commands.command_with word.now argument.now ≡ None)
+        (λ asked. commands.command_with word.now argument.now ≡ Some (seen asked)) }
+    ensures short { IfSome result HasShortNames }
+{
+    if word == "hotel" {
+        Some(Asked::Batch(BatchCommand::Hotel { script: argument }))
+    } else if word == "show" {
+        Some(Asked::Batch(BatchCommand::Show { game: argument }))
+    } else if word == "solve" {
+        Some(Asked::Batch(BatchCommand::Solve { account: argument }))
+    } else if word == "make" {
+        read_numeral(argument.as_bytes(), 20).map(|seed| Asked::Batch(BatchCommand::Make { seed }))
+    } else {
+        None
+    }
+}
+
+/// The seed of a word.
+fn seed_of(word: &str) -> Option<u64>
+    ensures { result ≡ below (2 ^ 64) (numeral 20 word.now) }
+{
+    read_numeral(word.as_bytes(), 20)
+}
+
+/// The count of a word.
+fn count_of(word: &str) -> Option<u32>
+    ensures value { result ≡ below 50001 (numeral 5 word.now) }
+    ensures few { IfSome result (λ count. count ≤ 50000) }
+{
+    match read_numeral(word.as_bytes(), 5) {
+        Some(count) if count <= u64::from(MADE_REQUESTS) => Some(count as u32),
+        _ => None,
+    }
+}
+
+/// The trial of a seed and a count.
+fn trial_of<'a>(seed: Option<u64>, count: Option<u32>) -> Option<Asked<'a>>
+    requires { IfSome count (λ count. count ≤ 50000) }
+    ensures command { MatchOption result (commands.trial_of seed count ≡ None) (λ asked. commands.trial_of seed count ≡ Some (seen asked)) }
+    ensures short { IfSome result HasShortNames }
+{
+    let Some(seed) = seed else {
+        return None;
+    };
+    let Some(count) = count else {
+        return None;
+    };
+    Some(Asked::Batch(BatchCommand::Trial { seed, count }))
+}
+
+/// The command of a word and two more.
+fn command_with_two<'a>(word: &str, first: &'a str, second: &'a str) -> Option<Asked<'a>>
+    requires first { length first.now ≤ 1024 }
+    requires second { length second.now ≤ 1024 }
+    ensures command { MatchOption result (commands.command_with_two word.now first.now second.now ≡ None)
+        (λ asked. commands.command_with_two word.now first.now second.now ≡ Some (seen asked)) }
+    ensures short { IfSome result HasShortNames }
+{
+    if word == "play" {
+        Some(Asked::Batch(BatchCommand::Play {
+            game: first,
+            script: second,
+        }))
+    } else if word == "trial" {
+        trial_of(seed_of(first), count_of(second))
+    } else {
+        None
+    }
+}
+
+/// The number of a word, at least 1 and below a limit.
+fn number_of(word: &str, limit: u64) -> Option<u16>
+    requires { limit ≤ 65536 }
+    ensures { result ≡ commands.positive_below limit word.now }
+{
+    match read_numeral(word.as_bytes(), 10) {
+        Some(number) if 1 <= number && number < limit => Some(number as u16),
+        _ => None,
+    }
+}
+
+/// The service of a game at a port with a pace.
+fn service_of<'a>(game: &'a str, port: Option<u16>, pace: Option<u16>) -> Option<Asked<'a>>
+    requires { length game.now ≤ 1024 }
+    ensures command { MatchOption result (commands.service_of game.now port pace ≡ None) (λ asked. commands.service_of game.now port pace ≡ Some (seen asked)) }
+    ensures short { IfSome result HasShortNames }
+{
+    let Some(port) = port else {
+        return None;
+    };
+    let Some(pace) = pace else {
+        return None;
+    };
+    Some(Asked::Serve {
+        game,
+        port,
+        pace,
+        form: Form::Lines,
+    })
+}
+
+/// The command of a word and three more.
+fn command_with_three<'a>(
+    word: &str,
+    first: &'a str,
+    second: &str,
+    third: &str,
+) -> Option<Asked<'a>>
+    requires { length first.now ≤ 1024 }
+    ensures command { MatchOption result (commands.command_with_three word.now first.now second.now third.now ≡ None)
+        (λ asked. commands.command_with_three word.now first.now second.now third.now ≡ Some (seen asked)) }
+    ensures short { IfSome result HasShortNames }
+{
+    if word == "serve" {
+        service_of(first, number_of(second, 65536), number_of(third, 60001))
+    } else {
+        None
+    }
+}
+
+/// The command of the words, if they are one of the list.
+pub fn command_asked(words: &[String]) -> Option<Asked<'_>>
+    requires { All (λ word. string_len word ≤ 1024) words.now }
+    ensures command { MatchOption result (command_of (map (λ word. string_bytes word) words.now) ≡ None)
+        (λ asked. command_of (map (λ word. string_bytes word) words.now) ≡ Some (seen asked)) }
+    ensures short { IfSome result HasShortNames }
+{
+    match words {
+        [word, argument] => command_with(word.as_str(), argument.as_str()),
+        [word, first, second] => command_with_two(word.as_str(), first.as_str(), second.as_str()),
+        [word, first, second, third] => command_with_three(
+            word.as_str(),
+            first.as_str(),
+            second.as_str(),
+            third.as_str(),
+        ),
+        _ => None,
+    }
+}
