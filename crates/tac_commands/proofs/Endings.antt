@@ -4,7 +4,7 @@ use Rattle.std.specs.Prelude.{◌==◌, MatchBool}
 use Rattle.tac_io.specs.Counts.{Rose}
 use Rattle.tac_io.specs.Told.{and_then_told, TakesSome}
 use Rattle.game_log.proofs.Writing.{wrote_both, some_before, some_after}
-use Rattle.script_run.specs.HotelOuts.{IsUntouched}
+use Rattle.game_log.specs.Written.{IsUntouched}
 use Rattle.tac_commands.specs.declared.refusals.Refusal.TheVariants.{Memory}
 use Rattle.tac_commands.specs.declared.ends.End.{End}
 use Rattle.tac_commands.specs.declared.ends.End.TheVariants as ends

@@ -35,7 +35,7 @@ use Rattle.script_run.specs.GameLines.{asks_of, agent_line, line_of}
 use Rattle.script_run.specs.GameScripts.{is_tick as is_tick_line, is_of, is_quit, quits, ticks_of, lines_of, has_quit, judged, judge, game_script}
 use Rattle.script_run.specs.GameOuts.{IsGoodScript, IsBadScript}
 use Rattle.script_run.specs.ScriptLines.{at_line, lines_from}
-use Rattle.script_run.specs.HotelOuts.{longest_script}
+use Rattle.tac_base.specs.declared.limits.TheConstants.{TEXT_BYTES}
 use Rattle.script_run.proofs.ScriptReading.{line_first}
 use Rattle.tac_commands.proofs.Unambiguous.{not_both}
 
@@ -256,5 +256,5 @@ made_is_good count text few script =
 pub not_bad : (count : ℕ) (text : List ℕ) (line reason : ℕ) → count ≤ 50000 → IsBidScript count text → IsBadScript text line reason → ⊥
 not_bad count text line reason few script bad = let good = made_is_good count text few script in not_both (game_script text) good.0 (line, reason) good.1.good bad.bad
 
-pub not_long : (count : ℕ) (text : List ℕ) → count ≤ 50000 → IsBidScript count text → longest_script < length text → ⊥
+pub not_long : (count : ℕ) (text : List ℕ) → count ≤ 50000 → IsBidScript count text → TEXT_BYTES < length text → ⊥
 not_long count text few script long = let good = made_is_good count text few script in let within = good.1.within in absurd (omega (arith, within, long))

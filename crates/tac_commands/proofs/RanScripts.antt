@@ -9,7 +9,8 @@ use Rattle.game_text.specs.Games.{GameFile}
 use Rattle.script_run.specs.declared.fault.ScriptFault.{ScriptFault}
 use Rattle.script_run.specs.declared.fault.ScriptFault.TheVariants.{Line, TooLong, Failed, Memory}
 use Rattle.script_run.specs.declared.play_count.PlayCount.{PlayCount}
-use Rattle.script_run.specs.HotelOuts.{IsOut, IsUntouched, RunsScript}
+use Rattle.game_log.specs.Written.{IsUntouched}
+use Rattle.script_run.specs.HotelOuts.{IsOut, RunsScript}
 use Rattle.script_run.specs.GameOuts.{IsFirstOut, IsPlayOut, PlaysScript}
 use Rattle.tac_commands.specs.declared.file_kinds.FileKind.TheVariants.{HotelScript, GameScript}
 use Rattle.tac_commands.specs.declared.refusals.Refusal.TheVariants as refusals

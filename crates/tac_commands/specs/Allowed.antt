@@ -8,7 +8,8 @@ use Rattle.score_sheet.specs.Sheets.{Scored}
 use Rattle.script_run.specs.declared.game_lines.GameLine.{GameLine as ScriptLine}
 use Rattle.script_run.specs.declared.play_count.PlayCount.{PlayCount}
 use Rattle.script_run.specs.HotelScripts.{hotel_out}
-use Rattle.script_run.specs.GameOuts.{IsSheetOf, closed_game, first_out, play_out}
+use Rattle.game_log.specs.ScoredGames.{IsSheetOf}
+use Rattle.script_run.specs.GameOuts.{closed_game, first_out, play_out}
 use Rattle.script_run.specs.QuietGames.{IsSummary}
 use Rattle.tac_commands.specs.declared.refusals.Refusal.TheVariants.{Usage, LinkFault, Memory}
 use Rattle.tac_commands.specs.Cash.{IsCashOfPosts}

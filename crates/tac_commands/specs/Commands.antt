@@ -1,6 +1,7 @@
 -- What the words of a command line ask for.
-use Rattle.std.specs.Prelude.{zero, suc, ⊤, ℕ, ◌^◌, List, [], ◌∷◌, Option, Some, None, if◌then◌else◌, codes, option_map, option_and_then}
+use Rattle.std.specs.Prelude.{zero, suc, ⊤, ℕ, ◌+◌, ◌^◌, List, [], ◌∷◌, Option, Some, None, if◌then◌else◌, codes, option_map, option_and_then}
 use Rattle.std.specs.Str.{bytes_eq}
+use Rattle.tac_base.specs.declared.limits.TheConstants.{MADE_REQUESTS}
 use Rattle.tac_base.specs.Numerals.{below, numeral}
 use Rattle.tac_commands.specs.declared.file_kinds.FileKind.{FileKind}
 use Rattle.tac_commands.specs.declared.file_kinds.FileKind.TheVariants as kinds
@@ -36,7 +37,7 @@ command_with word argument =
     else if bytes_eq word (codes "make") then option_map (λ seed. Batch (Make seed)) (below (2 ^ 64) (numeral 20 argument))
     else None
 
--- a trial has a seed as a made game has, and a count of at most 50000
+-- a trial has a seed as a made game has, and a count of at most the requests of a made script
 abbrev pub trial_of : Option ℕ → Option ℕ → Option Command
 trial_of None count = None
 trial_of (Some seed) None = None
@@ -46,7 +47,7 @@ trial_of (Some seed) (Some count) = Some (Batch (Trial seed count))
 abbrev pub command_with_two : List ℕ → List ℕ → List ℕ → Option Command
 command_with_two word first second =
     if bytes_eq word (codes "play") then Some (Batch (Play first second))
-    else if bytes_eq word (codes "trial") then trial_of (below (2 ^ 64) (numeral 20 first)) (below 50001 (numeral 5 second))
+    else if bytes_eq word (codes "trial") then trial_of (below (2 ^ 64) (numeral 20 first)) (below (MADE_REQUESTS + 1) (numeral 5 second))
     else None
 
 abbrev pub at_least_one : ℕ → Option ℕ

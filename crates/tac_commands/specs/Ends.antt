@@ -2,7 +2,7 @@
 use Rattle.std.specs.Prelude.{◌≡◌, ℕ, ◌==◌, ◌⊎◌, List, [], ◌∷◌, Option, MatchBool, Result, Ok, Err}
 use Rattle.tac_io.specs.Counts.{Rose}
 use Rattle.tac_io.specs.Told.{and_then_told, TakesSome}
-use Rattle.script_run.specs.HotelOuts.{IsUntouched}
+use Rattle.game_log.specs.Written.{IsUntouched}
 use Rattle.script_run.specs.declared.fault.ScriptFault.{ScriptFault}
 use Rattle.script_run.specs.declared.fault.ScriptFault.TheVariants as faults
 use Rattle.tac_commands.specs.declared.refusals.Refusal.TheVariants.{Memory, TextLine, TextTooLong}

@@ -1,5 +1,6 @@
 // The command that plays a made game by a made script.
 ghost use Rattle.std.specs.Prelude.{◌≡◌, ◌+◌, ◌≤◌, ◌++◌, length, IfOk};
+ghost use tac_base::limits::MADE_REQUESTS;
 ghost use Rattle.draw_maker.specs.BidScripts.{IsBidScript};
 ghost use Rattle.script_run.specs.QuietGames.{IsSummary};
 ghost use Rattle.tac_commands.specs.Allowed.{IsTrial, Writes};
@@ -109,7 +110,7 @@ fn play_made<R: Threads + Sync>(
     script: &[u8],
     count: u32,
 ) -> Result<(PlayCount, Sheet), Memory>
-    requires few { count ≤ 50000 }
+    requires few { count ≤ MADE_REQUESTS }
     requires made { IsBidScript count script.now }
     ensures { IfOk result (λ played. IsSummary game.now script.now played.0 played.1) }
 {
@@ -129,7 +130,7 @@ pub(crate) fn trial<R: Threads + Sync, K: Sink>(
     count: u32,
     out: &mut K,
 ) -> End
-    requires { count ≤ 50000 }
+    requires { count ≤ MADE_REQUESTS }
     ensures { Ends (Writes (IsTrial seed count)) (K.taken out.old) (K.taken out.new) (K.faults out.old) (K.faults out.new) result }
 {
     let Ok(script) = make_script(alloc, seed, count) else {

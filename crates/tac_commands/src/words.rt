@@ -1,5 +1,5 @@
 // The words of a command line.
-ghost use Rattle.std.specs.Prelude.{◌≡◌, ◌≤◌, ◌^◌, length, map, string_bytes, string_len, MatchOption, Some, None, All, IfSome};
+ghost use Rattle.std.specs.Prelude.{◌≡◌, ◌+◌, ◌≤◌, ◌^◌, length, map, string_bytes, string_len, MatchOption, Some, None, All, IfSome};
 ghost use Rattle.tac_base.specs.Numerals.{below, numeral};
 ghost use Rattle.tac_commands.specs.Commands as commands;
 ghost use Rattle.tac_commands.specs.Commands.{command_of, seen};
@@ -75,8 +75,8 @@ fn seed_of(word: &str) -> Option<u64>
 
 /// The count of a word.
 fn count_of(word: &str) -> Option<u32>
-    ensures value { result ≡ below 50001 (numeral 5 word.now) }
-    ensures few { IfSome result (λ count. count ≤ 50000) }
+    ensures value { result ≡ below (MADE_REQUESTS + 1) (numeral 5 word.now) }
+    ensures few { IfSome result (λ count. count ≤ MADE_REQUESTS) }
 {
     match read_numeral(word.as_bytes(), 5) {
         Some(count) if count <= u64::from(MADE_REQUESTS) => Some(count as u32),
@@ -86,7 +86,7 @@ fn count_of(word: &str) -> Option<u32>
 
 /// The trial of a seed and a count.
 fn trial_of<'a>(seed: Option<u64>, count: Option<u32>) -> Option<Asked<'a>>
-    requires { IfSome count (λ count. count ≤ 50000) }
+    requires { IfSome count (λ count. count ≤ MADE_REQUESTS) }
     ensures command { MatchOption result (commands.trial_of seed count ≡ None) (λ asked. commands.trial_of seed count ≡ Some (seen asked)) }
     ensures short { IfSome result HasShortNames }
 {
