@@ -1,6 +1,6 @@
 -- What each command makes of the values of its files, and so which outcomes the words and the files allow.
 use Rattle.std.specs.Prelude.{◌≡◌, ℕ, ⊤, List, Option, Some, None}
-use Rattle.game_text.specs.Games.{GameFile, spelling}
+use Rattle.game_text.specs.Games.{GameFile, spelling, upgraded}
 use Rattle.allocator.specs.Solutions.{IsSolvedText}
 use Rattle.draw_maker.specs.Games.{made_game}
 use Rattle.draw_maker.specs.Scripts.{made_script}
@@ -13,7 +13,7 @@ use Rattle.script_run.specs.GameOuts.{closed_game, first_out, play_out}
 use Rattle.script_run.specs.QuietGames.{IsSummary}
 use Rattle.tac_commands.specs.declared.refusals.Refusal.TheVariants.{Usage, LinkFault, Memory}
 use Rattle.tac_commands.specs.Cash.{IsCashOfPosts}
-use Rattle.tac_commands.specs.Commands.{BatchCommand, Hotel, Show, Make, Solve, Play, Trial, Command, Batch, Serve, batch_files, files_of}
+use Rattle.tac_commands.specs.Commands.{BatchCommand, Hotel, Show, Upgrade, Make, Solve, Play, Trial, Command, Batch, Serve, batch_files, files_of}
 use Rattle.tac_commands.specs.Files.{Content}
 use Rattle.tac_commands.specs.Outcomes.{Outcome, Done, Lapsed, Cut, Refused}
 use Rattle.tac_commands.specs.Runs.{Values, Names, Runs}
@@ -45,11 +45,12 @@ IsTrial seed count text =
 abbrev pub PlayAllows : GameFile → List ScriptLine → Outcome → Type 0
 PlayAllows game lines outcome = WritesInParts (IsPlayed game lines) (λ text. text ≡ first_out game lines) outcome × IsCashOfPosts (closed_game game lines)
 
--- What a command that needs no links makes of the values of its files: the text of a hotel's script; of a game; of a made game; of an
+-- What a command that needs no links makes of the values of its files: the text of a hotel's script; of a game; of the game in version 2; of a made game; of an
 -- account, with some solution; of a game by a script, where the cash in the sheet is that of the posts; of a trial.
 abbrev pub BatchAllows : (command : BatchCommand) → Values (batch_files command) → Outcome → Type 0
 BatchAllows (Hotel script) values outcome = Writes (λ text. text ≡ hotel_out values.0) outcome
 BatchAllows (Show game) values outcome = Writes (λ text. text ≡ spelling values.0) outcome
+BatchAllows (Upgrade game) values outcome = Writes (λ text. text ≡ spelling (upgraded values.0)) outcome
 BatchAllows (Make seed) values outcome = Writes (λ text. text ≡ spelling (made_game seed)) outcome
 BatchAllows (Solve account) values outcome = Writes (IsSolvedText values.0) outcome
 BatchAllows (Play game script) values outcome = PlayAllows values.0 values.1.0 outcome

@@ -16,6 +16,7 @@ use Rattle.tac_commands.specs.declared.words.Asked.TheVariants as asked
 pub data BatchCommand : Type 0 where
   Hotel : (script : List ℕ) → BatchCommand
   Show : (game : List ℕ) → BatchCommand
+  Upgrade : (game : List ℕ) → BatchCommand
   Make : (seed : ℕ) → BatchCommand
   Solve : (account : List ℕ) → BatchCommand
   Play : (game : List ℕ) → (script : List ℕ) → BatchCommand
@@ -33,6 +34,7 @@ abbrev pub command_with : List ℕ → List ℕ → Option Command
 command_with word argument =
     if bytes_eq word (codes "hotel") then Some (Batch (Hotel argument))
     else if bytes_eq word (codes "show") then Some (Batch (Show argument))
+    else if bytes_eq word (codes "upgrade") then Some (Batch (Upgrade argument))
     else if bytes_eq word (codes "solve") then Some (Batch (Solve argument))
     else if bytes_eq word (codes "make") then option_map (λ seed. Batch (Make seed)) (below (2 ^ 64) (numeral 20 argument))
     else None
@@ -90,6 +92,7 @@ file kind name = record { kind = kind; name = name }
 abbrev pub batch_files : BatchCommand → List NamedFile
 batch_files (Hotel script) = file kinds.HotelScript script ∷ []
 batch_files (Show game) = file kinds.Game game ∷ []
+batch_files (Upgrade game) = file kinds.Game game ∷ []
 batch_files (Make seed) = []
 batch_files (Solve account) = file kinds.Account account ∷ []
 batch_files (Play game script) = file kinds.Game game ∷ file kinds.GameScript script ∷ []
@@ -117,6 +120,7 @@ OffService command Holds = Holds
 abbrev pub seen_batch : BatchAsked → BatchCommand
 seen_batch (batch.Hotel script) = Hotel script.now
 seen_batch (batch.Show game) = Show game.now
+seen_batch (batch.Upgrade game) = Upgrade game.now
 seen_batch (batch.Make seed) = Make seed
 seen_batch (batch.Solve account) = Solve account.now
 seen_batch (batch.Play game script) = Play game.now script.now

@@ -70,6 +70,18 @@ fn show<F: Files, K: Sink>(alloc: Global, name: &str, files: &mut F, out: &mut K
     }
 }
 
+/// Shows the game of the file of that name in the canonical text of its version 2.
+fn upgrade<F: Files, K: Sink>(alloc: Global, name: &str, files: &mut F, out: &mut K) -> End
+    requires { IfSome (F.names files.old) (λ names. (length names < 128) × (length name.now ≤ 1024)) }
+    ensures { EndsBatch (F.content files.old) (commands.Upgrade name.now) (F.names files.old) (F.names files.new) (F.faults files.old) (F.faults files.new)
+        (K.taken out.old) (K.taken out.new) (K.faults out.old) (K.faults out.new) result }
+{
+    match read_game_file(alloc, files, name) {
+        Ok(game) => write_game(alloc, &game.upgraded(), out),
+        Err(refusal) => End::Refused(refusal),
+    }
+}
+
 /// Solves the account of the file of that name.
 fn solve_file<F: Files, K: Sink>(alloc: Global, name: &str, files: &mut F, out: &mut K) -> End
     requires { IfSome (F.names files.old) (λ names. (length names < 128) × (length name.now ≤ 1024)) }
@@ -99,6 +111,7 @@ pub fn run_batch<R: Threads + Sync, F: Files, K: Sink>(
     match command {
         BatchCommand::Hotel { script } => hotel_by_file(alloc, script, files, out),
         BatchCommand::Show { game } => show(alloc, game, files, out),
+        BatchCommand::Upgrade { game } => upgrade(alloc, game, files, out),
         BatchCommand::Make { seed } => make(alloc, seed, out),
         BatchCommand::Solve { account } => solve_file(alloc, account, files, out),
         BatchCommand::Play { game, script } => play_files(rt, alloc, game, script, files, out),

@@ -15,6 +15,8 @@ pub enum BatchCommand<'a> {
     Hotel { script: &'a str },
     /// The canonical text of a game.
     Show { game: &'a str },
+    /// The canonical text of the same game in version 2.
+    Upgrade { game: &'a str },
     /// The game that is made of a seed.
     Make { seed: u64 },
     /// A best allocation of an account.
@@ -57,6 +59,8 @@ fn command_with<'a>(word: &str, argument: &'a str) -> Option<Asked<'a>>
         Some(Asked::Batch(BatchCommand::Hotel { script: argument }))
     } else if word == "show" {
         Some(Asked::Batch(BatchCommand::Show { game: argument }))
+    } else if word == "upgrade" {
+        Some(Asked::Batch(BatchCommand::Upgrade { game: argument }))
     } else if word == "solve" {
         Some(Asked::Batch(BatchCommand::Solve { account: argument }))
     } else if word == "make" {

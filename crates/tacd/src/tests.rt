@@ -264,7 +264,7 @@ fn hotels_are_run_from_scripts(rt: HostRuntime) -> Result<(), Fail> {
 #[test]
 fn games_are_made_played_and_scored(rt: HostRuntime) -> Result<(), Fail> {
     let alloc = rt.alloc();
-    let rows: [(&str, &str, &[&str]); 8] = [
+    let rows: [(&str, &str, &[&str]); 9] = [
         (
             "play game script",
             "",
@@ -320,6 +320,15 @@ fn games_are_made_played_and_scored(rt: HostRuntime) -> Result<(), Fail> {
                 "\nscore 5 0 0 0 0\n",
                 "\nscore 6 0 0 0 0\n",
                 "\nscore 7 0 0 0 0\n",
+            ],
+        ),
+        (
+            "upgrade game",
+            "",
+            &[
+                "tac 2\nwords seat0 seat1 ",
+                "\nclose 8 9 10 11 12 13 14 15\nrooms 16 16 16 16 16 16 16 16\nquotes minute\nendow 0 0 ",
+                "\nend\n",
             ],
         ),
         (
@@ -386,13 +395,19 @@ fn games_are_shown_in_their_canonical_text(rt: HostRuntime) -> Result<(), Fail> 
     let commented = format!(in alloc; "# game\n{game}")?;
     let made = run(&rt, alloc, "make 42", &[], NO_FAULT)?;
     let made = str::from_utf8(made.text.as_slice())?;
-    for (script, code, text) in [
-        (game.as_str(), 0, game.as_str()),
-        (commented.as_str(), 0, game.as_str()),
-        (made, 0, made),
-        ("", 2, "game 1 7\n"),
+    let files = [("game", game.as_bytes())];
+    let second = run(&rt, alloc, "upgrade game", &files, NO_FAULT)?;
+    let second = str::from_utf8(second.text.as_slice())?;
+    for (line, script, code, text) in [
+        ("show script", game.as_str(), 0, game.as_str()),
+        ("show script", commented.as_str(), 0, game.as_str()),
+        ("show script", made, 0, made),
+        ("show script", second, 0, second),
+        ("upgrade script", second, 0, second),
+        ("upgrade script", "", 2, "game 1 7\n"),
+        ("show script", "", 2, "game 1 7\n"),
     ] {
-        check(&rt, alloc, "show script", script, NO_FAULT, code, &[text])?;
+        check(&rt, alloc, line, script, NO_FAULT, code, &[text])?;
     }
     Ok(())
 }
@@ -407,6 +422,7 @@ fn other_words_and_bad_files_are_refused(rt: HostRuntime) -> Result<(), Fail> {
         "hotel script script",
         "play script",
         "solve",
+        "upgrade",
         "make",
         "make 042",
         "make -1",

@@ -9,6 +9,9 @@ returns-in-Hotel g c = rw c.in-Hotel.is c.hotel_by_file.ensures
 pub returns-in-Show : goal.returns-in-Show
 returns-in-Show g c = rw c.in-Show.is c.show.ensures
 
+pub returns-in-Upgrade : goal.returns-in-Upgrade
+returns-in-Upgrade g c = rw c.in-Upgrade.is c.upgrade.ensures
+
 pub returns-in-Make : goal.returns-in-Make
 returns-in-Make g c = rw c.in-Make.is (ends_alone (g.F.Files.content c.args.files.now) (BatchAllows (Make c.in-Make.seed)) _ _ _ _ _ _ _ c.make.ensures)
 
