@@ -12,10 +12,10 @@ ghost use Rattle.game_log.specs.LogText as log;
 use crate::ScriptFault;
 use crate::hotel_lines::HotelLine;
 use crate::line_counts::LineCounts;
-use crate::one_game::one_game;
 use crate::replies::reply_line;
 use auction_core::Auction;
 use game_log::trade_line;
+use game_text::Game;
 use std::alloc::{AllocError, Global};
 ghost use Rattle.tac_base.specs.declared.limits.TheConstants.{AUCTION_ENTRIES};
 use tac_base::{Good, Memory, Reply, Trade};
@@ -86,7 +86,7 @@ impl HotelRun {
         ensures { IfOk result (HasRun []) }
     {
         Ok(HotelRun {
-            auction: Auction::begin(alloc, first_night(), &one_game())?,
+            auction: Auction::begin(alloc, first_night(), &Game::default())?,
             counts: LineCounts::new(),
             text: Vec::new(alloc),
         })

@@ -10,7 +10,6 @@ mod hotel_lines;
 mod hotel_run;
 mod hotel_script;
 mod line_counts;
-mod one_game;
 mod open_game;
 mod play_count;
 mod playing;
