@@ -134,7 +134,6 @@ kept_more setup book book' held history e call keeps is room rule stands spends 
           (record { few = few; short = short; held = rw rule (tells_held setup (reverse history) e.caller e.call (in_range setup book held history e.caller keeps)) });
     }
 
-
 pub few_stored : (setup : Setup) (book : Book) (held : List ℤ) (entries : List StoredEntry) (trades : List Trade) → IsKept setup book held (stored entries trades) → length entries ≤ 8256
 few_stored setup book held entries trades keeps =
     omega (arith, few_entries (stored entries trades) keeps.legal.called keeps.legal.capped, length-map entries (entry_with trades))

@@ -28,18 +28,10 @@ fn are_sold(fills: &Fills, sales: &[(u8, u16)]) -> bool {
             })
 }
 
-/// At tick 27 a price of bound 30 moves by -10 to 20, and at tick 28 one of bound -10 by -1 to 10.
-#[test]
-fn drawn_change_moves_the_price(rt: HostRuntime) -> Result<(), Fail> {
-    assert_eq!(rt; next_price(300, 30, Tick::new(27)?, 30), 320);
-    assert_eq!(rt; next_price(300, -10, Tick::new(28)?, 0), 299);
-    assert_eq!(rt; next_price(795, 30, Tick::new(27)?, 30), 800);
-    assert_eq!(rt; next_price(151, 10, Tick::new(1)?, 0), 150);
-    Ok(())
-}
-
+/// At tick 10 the price has fallen by 10 dollars at each tick to 150, and the point at 150 is sold.
 #[test]
 fn falling_price_reaches_a_bid(rt: HostRuntime) -> Result<(), Fail> {
+    assert_eq!(rt; next_price(300, -10, Tick::new(28)?, 0), 299);
     let mut fills = Fills::new();
     let mut flight = Flight::new(inbound_flight()?, 250, 10);
     let points = Points::new(&[point(2, 150)])?;
