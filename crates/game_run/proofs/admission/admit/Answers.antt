@@ -31,7 +31,7 @@ loop-seated-init g c =
 pub loop-seated-preserved-then-take_in : goal.loop-seated-preserved-then-take_in
 loop-seated-preserved-then-take_in g c =
     let v = c.loop-seated.invariant in let old = c.loop-seated.arrivals in let new = c.take_in.new.arrivals in
-    let may : MayGoOn old.verdicts.items = (omega (arith, c.len.ensures, c.if-len-lt-LINKS.true, old.verdicts.ok.0), omega (arith, c.loop-seated-test.true, v.seated)) in
+    let may : MayGoOn old.verdicts.items = (omega (arith, c.len.ensures, c.if-len.true, old.verdicts.ok.0), omega (arith, c.loop-seated-test.true, v.seated)) in
     let counted : count_by is_seated new.verdicts.items ≡ count_by is_seated old.verdicts.items + (if c.take_in.result then 1 else 0) = seats_counted _ c.args.game.now c.in-Some.link old new _ _ _ c.take_in.ensures.taken in
     let one = one_if c.take_in.result c.if-take_in.true in
     record {
@@ -44,14 +44,14 @@ loop-seated-preserved-then-take_in g c =
       verdicts = c.take_in.ensures.verdicts.1 ∙ v.verdicts;
       spots = c.take_in.ensures.spots.1 ∙ v.spots;
       as_many = omega (arith, c.take_in.ensures.verdicts.0, c.take_in.ensures.spots.0, v.as_many);
-      few = omega (arith, c.take_in.ensures.verdicts.0, c.len.ensures, c.if-len-lt-LINKS.true);
+      few = omega (arith, c.take_in.ensures.verdicts.0, c.len.ensures, c.if-len.true);
       wide = c.take_in.ensures.seats;
     }
 
 pub loop-seated-preserved : goal.loop-seated-preserved
 loop-seated-preserved g c =
     let v = c.loop-seated.invariant in let old = c.loop-seated.arrivals in let new = c.take_in.new.arrivals in
-    let may : MayGoOn old.verdicts.items = (omega (arith, c.len.ensures, c.if-len-lt-LINKS.true, old.verdicts.ok.0), omega (arith, c.loop-seated-test.true, v.seated)) in
+    let may : MayGoOn old.verdicts.items = (omega (arith, c.len.ensures, c.if-len.true, old.verdicts.ok.0), omega (arith, c.loop-seated-test.true, v.seated)) in
     let counted : count_by is_seated new.verdicts.items ≡ count_by is_seated old.verdicts.items + (if c.take_in.result then 1 else 0) = seats_counted _ c.args.game.now c.in-Some.link old new _ _ _ c.take_in.ensures.taken in
     let none = none_if c.take_in.result c.if-take_in.false in
     record {
@@ -64,6 +64,6 @@ loop-seated-preserved g c =
       verdicts = c.take_in.ensures.verdicts.1 ∙ v.verdicts;
       spots = c.take_in.ensures.spots.1 ∙ v.spots;
       as_many = omega (arith, c.take_in.ensures.verdicts.0, c.take_in.ensures.spots.0, v.as_many);
-      few = omega (arith, c.take_in.ensures.verdicts.0, c.len.ensures, c.if-len-lt-LINKS.true);
+      few = omega (arith, c.take_in.ensures.verdicts.0, c.len.ensures, c.if-len.true);
       wide = c.take_in.ensures.seats;
     }
