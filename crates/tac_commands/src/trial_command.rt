@@ -1,6 +1,6 @@
 // The command that plays a made game by a made script.
 ghost use Rattle.std.specs.Prelude.{◌≡◌, ◌+◌, ◌≤◌, ◌++◌, length, IfOk};
-ghost use tac_base::limits::MADE_REQUESTS;
+ghost use Rattle.tac_base.specs.declared.limits.TheConstants.{MADE_REQUESTS};
 ghost use Rattle.draw_maker.specs.BidScripts.{IsBidScript};
 ghost use Rattle.script_run.specs.QuietGames.{IsSummary};
 ghost use Rattle.tac_commands.specs.Allowed.{IsTrial, Writes};
