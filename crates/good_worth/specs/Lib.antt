@@ -1,0 +1,4 @@
+pub mod Worth
+pub mod Worths
+pub mod Views
+pub mod WorthTexts

@@ -1,0 +1,62 @@
+// Accounts with another holding of one good.
+ghost use Rattle.std.specs.Prelude.{◌≡◌, ◌<◌};
+ghost use Rattle.game_text.specs.Accounts.{IsHolding};
+ghost use Rattle.good_worth.specs.Worth as worth;
+
+use game_text::Account;
+use tac_base::limits::HOLDING;
+
+/// The account with another holding of a good, 0..27.
+#[tactic(auto, using(crate::proofs::Ranges::changed_is))]
+fn with_holding(account: &Account, good: usize, held: i32) -> Account
+    requires good { good < 28 }
+    requires held { IsHolding held }
+    ensures { result ≡ worth.with_holding account.now good held }
+{
+    let mut other = *account;
+    other.holdings[good] = held;
+    other
+}
+
+/// How many of a good, 0..27, there are.
+fn held(account: &Account, good: usize) -> i32
+    requires { good < 28 }
+    ensures value { result ≡ worth.held account.now good }
+    ensures range { IsHolding result }
+{
+    account.holdings[good]
+}
+
+/// One unit more than so many, as far as an account may hold it.
+fn one_more(held: i32) -> i32
+    requires { IsHolding held }
+    ensures value { result ≡ worth.one_more held }
+    ensures range { IsHolding result }
+{
+    (held + 1).min(HOLDING)
+}
+
+/// One unit less than so many, as far as an account may be short of it.
+fn one_less(held: i32) -> i32
+    requires { IsHolding held }
+    ensures value { result ≡ worth.one_less held }
+    ensures range { IsHolding result }
+{
+    (held - 1).max(-HOLDING)
+}
+
+/// The account with one unit more of a good, 0..27.
+pub(crate) fn more(account: &Account, good: usize) -> Account
+    requires { good < 28 }
+    ensures { result ≡ worth.more account.now good }
+{
+    with_holding(account, good, one_more(held(account, good)))
+}
+
+/// The account with one unit less of a good, 0..27.
+pub(crate) fn less(account: &Account, good: usize) -> Account
+    requires { good < 28 }
+    ensures { result ≡ worth.less account.now good }
+{
+    with_holding(account, good, one_less(held(account, good)))
+}

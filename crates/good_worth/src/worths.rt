@@ -1,0 +1,91 @@
+// The worth of one unit of each good.
+ghost use Rattle.std.specs.Prelude.{◌≡◌, ℕ, ◌<◌, ◌≤ℤ◌, ◌<ℤ◌, pos, IfOk, OnOk, slice_index_or};
+ghost use Rattle.good_worth.specs.Worth.{IsUp, IsDown};
+ghost use Rattle.good_worth.specs.Worths as worths;
+ghost use Rattle.good_worth.specs.Worths.{AreLess, AreMore, AreRanged, AreWorths, IsGrown, up_at, down_at};
+ghost use Rattle.good_worth.specs.Views.{solutions_of, worths_of};
+
+use crate::changes::{less, more};
+use allocator::{Solved, solve};
+use game_text::Account;
+use std::alloc::Global;
+use tac_base::Memory;
+
+/// The best allocation of an account, and those with one unit more and one unit less of each good, in the goods' order.
+#[derive(Debug, Drop)]
+pub struct Worths {
+    pub base: Solved,
+    /// By good 0..27, each worth no less than the base.
+    pub more: Vec<Solved>,
+    /// By good 0..27, each worth no more than the base.
+    pub less: Vec<Solved>,
+    ghost fits: { AreRanged (worths_of base more.items less.items) },
+}
+
+impl Worths {
+    /// What one unit more of a good, 0..27, adds to the best total, in dollars. To bid more than that for it loses by it.
+    pub fn up(&self, good: usize) -> u32
+        requires { good < 28 }
+        ensures { result ≡ up_at (worths_of self.now.base self.now.more.items self.now.less.items) good }
+    {
+        self.more[good].total - self.base.total
+    }
+
+    /// What one unit less of a good, 0..27, takes from the best total, in dollars. To sell it for less loses by it.
+    pub fn down(&self, good: usize) -> u32
+        requires { good < 28 }
+        ensures { result ≡ down_at (worths_of self.now.base self.now.more.items self.now.less.items) good }
+    {
+        self.base.total - self.less[good].total
+    }
+}
+
+/// Solves an account, and appends what it finds. After `Memory` the others are as they were.
+fn push_solved(alloc: Global, account: &Account, all: &mut Vec<Solved>) -> Result<(), Memory>
+    ensures { OnOk result (IsGrown account.now (solutions_of all.old.items) (solutions_of all.new.items)) }
+{
+    let solved = solve(alloc, account)?;
+    all.push(solved).map_err(|_| Memory)
+}
+
+/// Solves the account with one unit more of each good in turn.
+fn solve_more(alloc: Global, account: &Account) -> Result<Vec<Solved>, Memory>
+    ensures { IfOk result (λ solved. AreMore account.now (solutions_of solved.items)) }
+{
+    let mut solved = Vec::new(alloc);
+    for good in 0..28 {
+        push_solved(alloc, &more(account, good), &mut solved)?;
+    }
+    Ok(solved)
+}
+
+/// Solves the account with one unit less of each good in turn.
+fn solve_less(alloc: Global, account: &Account) -> Result<Vec<Solved>, Memory>
+    ensures { IfOk result (λ solved. AreLess account.now (solutions_of solved.items)) }
+{
+    let mut solved = Vec::new(alloc);
+    for good in 0..28 {
+        push_solved(alloc, &less(account, good), &mut solved)?;
+    }
+    Ok(solved)
+}
+
+/// What one unit more and one unit less of each good would change, each shown by a best allocation with a certificate. That
+/// worth is reckoned so is our own rule. `Memory` leaves nothing.
+pub fn worth(alloc: Global, account: &Account) -> Result<Worths, Memory>
+    // Each is solved as by `solve`.
+    ensures solved { IfOk result (λ w. AreWorths account.now (worths_of w.base w.more.items w.less.items)) }
+    // So the differences are those of the best totals, none of which is below 0.
+    ensures up { IfOk result (λ w. (good : ℕ) → good < 28 → IsUp account.now good (up_at (worths_of w.base w.more.items w.less.items) good)) }
+    ensures down { IfOk result (λ w. (good : ℕ) → good < 28 → IsDown account.now good (down_at (worths_of w.base w.more.items w.less.items) good)) }
+    // Nothing is lost of what is not held, and a good that is owed gains nothing by one more.
+    ensures not_held { IfOk result (λ w. (good : ℕ) → good < 28 → slice_index_or account.now.holdings good (pos 0) ≤ℤ pos 0 → down_at (worths_of w.base w.more.items w.less.items) good ≡ 0) }
+    ensures owed { IfOk result (λ w. (good : ℕ) → good < 28 → slice_index_or account.now.holdings good (pos 0) <ℤ pos 0 → up_at (worths_of w.base w.more.items w.less.items) good ≡ 0) }
+{
+    // The laws rest on the account's ranges, which are known where it is read.
+    let _holdings = &account.holdings;
+    let base = solve(alloc, account)?;
+    let more = solve_more(alloc, account)?;
+    let less = solve_less(alloc, account)?;
+    Ok(Worths { base, more, less })
+}
