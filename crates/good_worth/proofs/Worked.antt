@@ -1,0 +1,31 @@
+-- Worked rows of the definitions, which compute.
+use Rattle.std.proofs.Common.{◌≡◌, ℕ, [], ◌∷◌, pos, negsuc, refl}
+use Rattle.bound_cert.specs.Trees.{leaf}
+use Rattle.good_worth.specs.Worth.{one_more, one_less}
+use Rattle.good_worth.specs.Worths.{Solution, Valuation, up_at, down_at}
+
+-- an account holds no more than 200000 of a good, and is short of no more
+most : one_more (pos 200000) ≡ pos 200000
+most = refl
+
+least : one_less (negsuc 199999) ≡ negsuc 199999
+least = refl
+
+owed : one_less (pos 0) ≡ negsuc 0
+owed = refl
+
+-- the total alone
+solved : ℕ → Solution
+solved total = record { total = total; allocation = []; tree = leaf [] }
+
+-- one seat in: with another one the best total is 2150, and with none it is 0
+seat : Valuation
+seat = record { base = solved 1150; more = solved 2150 ∷ []; less = solved 0 ∷ [] }
+
+seat_up : up_at seat 0 ≡ 1000
+unfolding seat solved
+seat_up = refl
+
+seat_down : down_at seat 0 ≡ 1150
+unfolding seat solved
+seat_down = refl
