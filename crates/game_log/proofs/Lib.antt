@@ -1,10 +1,2 @@
 pub mod Writing
-pub mod Cuts
-pub mod Answered
-pub mod Trades
-pub mod HeadsAgain
-pub mod Histories
-pub mod Items
 pub mod TradedGoods
-pub mod TreesCut
-pub mod SheetsAgain

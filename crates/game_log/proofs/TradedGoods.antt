@@ -20,8 +20,8 @@ use Rattle.auction_rules.specs.HotelClosing.{closing_trade, closing_trades}
 use Rattle.auction_rules.specs.Refusals.{refusal}
 use Rattle.auction_rules.specs.Legal.{trades_by, entry_by, IsLawful, Legal}
 use Rattle.auction_rules.proofs.Lists.{all-if, all-map, all-filter_map, all_alike}
-use Rattle.game_log.specs.Logged.{AreOf}
-use Rattle.game_log.proofs.Items.{all_reversed}
+use Rattle.log_text.specs.Logged.{AreOf}
+use Rattle.log_text.proofs.Items.{all_reversed}
 use Rattle.auction_rules.proofs.FlightTrades.{each_point_trade, each_flight_trade}
 
 -- a trade of the good

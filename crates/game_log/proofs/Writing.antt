@@ -13,7 +13,7 @@ use Rattle.tac_io.specs.Told.{and_then_told, TakesSome}
 use Rattle.tac_io.specs.declared.failed.Failed.{Failed}
 use Rattle.tac_io.proofs.Tellings.{and_then_told-twice}
 use Rattle.game_log.specs.Written.{Writes}
-use Rattle.game_log.proofs.Items.{take_whole}
+use Rattle.log_text.proofs.Items.{take_whole}
 
 pub wrote_both : (t0 t1 t2 : Option (List ℕ)) (p q : List ℕ) → t1 ≡ and_then_told t0 p → t2 ≡ and_then_told t1 q → t2 ≡ and_then_told t0 (p ++ q)
 wrote_both t0 t1 t2 p q e f = f ∙ ap (λ (t : Option (List ℕ)). and_then_told t q) e ∙ and_then_told-twice t0 p q

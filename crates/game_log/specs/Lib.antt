@@ -1,7 +1,7 @@
-pub mod LogText
+pub use Rattle.log_text.specs.LogText
+pub use Rattle.log_text.specs.Logged
+pub use Rattle.log_text.specs.SheetText
+pub use Rattle.log_text.specs.LoggedSheet
 pub mod Written
-pub mod Logged
-pub mod SheetText
 pub mod SheetWritten
-pub mod LoggedSheet
 pub mod ScoredGames

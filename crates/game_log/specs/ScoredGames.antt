@@ -8,7 +8,7 @@ use Rattle.score_sheet.specs.Settlement.{settlement_of}
 use Rattle.score_sheet.specs.Sheets.{Scored, IsSheet}
 use Rattle.game_log.specs.declared.fault.LogWriteFault.{LogWriteFault}
 use Rattle.game_log.specs.declared.fault.LogWriteFault.TheVariants.{Failed, Memory}
-use Rattle.game_log.specs.SheetText.{sheet_part}
+use Rattle.log_text.specs.SheetText.{sheet_part}
 use Rattle.game_log.specs.Written.{IsUntouched}
 
 -- the scores of a game: of the goods and the dollars that its histories leave to each agent

@@ -2,13 +2,13 @@
 ghost use Rattle.std.specs.Prelude.{◌++◌};
 ghost use Rattle.std.specs.List.{flat_map, enumerate_from};
 ghost use Rattle.line_protocol.specs.Heads.{Serve, head_of};
-ghost use Rattle.game_log.specs.LogText as log;
+ghost use Rattle.log_text.specs.LogText as log;
 ghost use Rattle.game_log.specs.Written.{Writes};
 
 use crate::LogHead;
-use crate::head_lines::{end_line, link_line, missed_line};
 use crate::piece::write_piece;
 use line_protocol::{Cause, Verdict};
+use log_text::{end_line, link_line, missed_line};
 use tac_base::Agent;
 use tac_io::{Failed, Sink};
 

@@ -2,7 +2,7 @@
 ghost use Rattle.std.specs.Prelude.{◌≡◌, None};
 ghost use Rattle.std.specs.List.{AllByRecursion};
 ghost use Rattle.tac_base.specs.Bids.{fault_of, left_fault};
-ghost use Rattle.game_log.specs.Logged.{IsNumber, IsSigned, IsCall, IsReply, AreTradeNumbers, AreCashNumbers, IsCashReply, AreEntryNumbers, IsVerdict, IsEnd, IsHead};
+ghost use Rattle.log_text.specs.Logged.{IsNumber, IsSigned, IsCall, IsReply, AreTradeNumbers, AreCashNumbers, IsCashReply, AreEntryNumbers, IsVerdict, IsEnd, IsHead};
 ghost use Rattle.line_protocol.specs.Heads.{head_of};
 
 use crate::LogHead;

@@ -6,16 +6,16 @@ ghost use Rattle.tac_io.specs.Told.{TakesSome, and_then_told};
 ghost use Rattle.auction_rules.specs.History.{Entry};
 ghost use Rattle.trade_ledger.specs.declared.cash_calls.CashEntry.{CashEntry};
 ghost use Rattle.line_protocol.specs.Heads.{head_of};
-ghost use Rattle.game_log.specs.LogText as log;
-ghost use Rattle.game_log.specs.Logged.{AreTradeNumbers, AreNumbers, IsEntry, IsAuction, AreEntryNumbers, IsCash, IsPlayed, IsHead};
+ghost use Rattle.log_text.specs.LogText as log;
+ghost use Rattle.log_text.specs.Logged.{AreTradeNumbers, AreNumbers, IsEntry, IsAuction, AreEntryNumbers, IsCash, IsPlayed, IsHead};
 ghost use Rattle.game_log.specs.Written.{Writes};
 
 use crate::LogHead;
 use crate::head_part::write_head;
 use crate::known::{cash_entry_known, entry_known, head_known, trades_known};
-use crate::lines::{auction_line, cash_entry_line, cash_line, entry_line, trade_line};
 use crate::piece::write_piece;
 use auction_core::{Auction, Closed};
+use log_text::{auction_line, cash_entry_line, cash_line, entry_line, trade_line};
 use tac_base::Trade;
 use tac_io::{Failed, Sink};
 use trade_ledger::CashBook;
@@ -64,7 +64,7 @@ fn write_entries<K: Sink>(sink: &mut K, auction: &Auction) -> Result<(), Failed>
 
 /// Writes an auction.
 fn write_auction<K: Sink>(sink: &mut K, auction: &Auction) -> Result<(), Failed>
-    ensures text { Writes (log.auction_text auction.now) (K.taken sink.old) (K.taken sink.new) (K.faults sink.old) (K.faults sink.new) result }
+    ensures text { Writes (log.auction_text auction.now.setup.good auction.now.history) (K.taken sink.old) (K.taken sink.new) (K.faults sink.old) (K.faults sink.new) result }
     ensures known { OnOk result (IsAuction auction.now) }
 {
     let line = auction_line(auction.good(), auction.len());
@@ -76,7 +76,7 @@ fn write_auction<K: Sink>(sink: &mut K, auction: &Auction) -> Result<(), Failed>
 
 /// Writes auctions in order.
 fn write_auctions<K: Sink>(sink: &mut K, auctions: &[Auction]) -> Result<(), Failed>
-    ensures text { Writes (flat_map log.auction_text auctions.now) (K.taken sink.old) (K.taken sink.new) (K.faults sink.old) (K.faults sink.new) result }
+    ensures text { Writes (flat_map (λ a. log.auction_text a.setup.good a.history) auctions.now) (K.taken sink.old) (K.taken sink.new) (K.faults sink.old) (K.faults sink.new) result }
     ensures known { OnOk result (AllByRecursion IsAuction auctions.now) }
 {
     for auction in auctions {
@@ -125,7 +125,7 @@ fn write_cash<K: Sink>(sink: &mut K, cash: &CashBook) -> Result<(), Failed>
 
 /// Writes all histories.
 fn write_histories<K: Sink>(sink: &mut K, closed: &Closed) -> Result<(), Failed>
-    ensures text { Writes (log.histories_text closed.now) (K.taken sink.old) (K.taken sink.new) (K.faults sink.old) (K.faults sink.new) result }
+    ensures text { Writes (log.histories_text (log.histories_of closed.now) closed.now.cash) (K.taken sink.old) (K.taken sink.new) (K.faults sink.old) (K.faults sink.new) result }
     ensures known { OnOk result (IsPlayed closed.now) }
 {
     match write_auctions(sink, closed.auctions.as_slice()) {

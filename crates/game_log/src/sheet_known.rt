@@ -3,8 +3,8 @@ ghost use Rattle.std.specs.Prelude.{◌≡◌, length};
 ghost use Rattle.std.specs.List.{AllByRecursion};
 ghost use Rattle.bound_cert.specs.Trees.{IsCertificate};
 ghost use Rattle.bound_cert.specs.Views.{tree_of};
-ghost use Rattle.game_log.specs.Logged.{IsNumber, IsSigned};
-ghost use Rattle.game_log.specs.LoggedSheet.{AreNights, IsShownPackage, IsKnownScore};
+ghost use Rattle.log_text.specs.Logged.{IsNumber, IsSigned};
+ghost use Rattle.log_text.specs.LoggedSheet.{AreNights, IsShownPackage, IsKnownScore};
 
 use bound_cert::Cert;
 use packages::Package;

@@ -1,12 +1,12 @@
 // The second part of a log.
 ghost use Rattle.std.specs.Prelude.{OnOk};
-ghost use Rattle.game_log.specs.SheetText.{sheet_part};
-ghost use Rattle.game_log.specs.LoggedSheet.{IsShownSheet};
+ghost use Rattle.log_text.specs.SheetText.{sheet_part};
+ghost use Rattle.log_text.specs.LoggedSheet.{IsShownSheet};
 ghost use Rattle.game_log.specs.SheetWritten.{WritesMade};
 
 use crate::LogWriteFault;
 use crate::sheet_known::sheet_known;
-use crate::sheet_text::sheet_text;
+use log_text::print_sheet;
 use score_sheet::Sheet;
 use std::alloc::Global;
 use tac_io::{Sink, write_all};
@@ -24,7 +24,7 @@ pub fn write_sheet_part<K: Sink>(
     ensures known { OnOk result (IsShownSheet sheet.now) }
 {
     sheet_known(sheet);
-    let Ok(text) = sheet_text(alloc, sheet) else {
+    let Ok(text) = print_sheet(alloc, sheet) else {
         return Err(LogWriteFault::Memory);
     };
     match write_all(sink, text.as_slice()) {

@@ -22,7 +22,7 @@ use Rattle.text_forms.proofs.PrintedLines.{lacks_from, join_lacks}
 use Rattle.bid_strings.specs.BidForm.{points_of, judged as judged_points}
 use Rattle.bid_strings.specs.Spelling.{left_word, right_word, point_words, spelling, HasFiveDigits}
 use Rattle.bid_strings.proofs.Laws.{points_lack, lawful_points}
-use Rattle.game_log.proofs.Cuts.{lacks_append}
+use Rattle.log_text.proofs.Cuts.{lacks_append}
 use Rattle.line_protocol.specs.declared.asking.RequestFault.{RequestFault}
 use Rattle.line_protocol.specs.Requests.{◌>>=◌, good_of, with_points, request_of_words, request_of}
 use Rattle.draw_maker.specs.Scripts.{bid_line}

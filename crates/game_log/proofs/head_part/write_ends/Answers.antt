@@ -1,5 +1,5 @@
 use Rattle.std.proofs.Common.{◌∙◌, sym, arith}
-use Rattle.game_log.specs.LogText.{end_line}
+use Rattle.log_text.specs.LogText.{end_line}
 use Rattle.game_log.proofs.Writing.{wrote_next, wrote_all, failed_next}
 use Rattle.game_log.proofs.head_part.write_ends.Goals as goal
 

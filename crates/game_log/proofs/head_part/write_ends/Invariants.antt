@@ -1,4 +1,4 @@
-use Rattle.game_log.specs.LogText.{end_line}
+use Rattle.log_text.specs.LogText.{end_line}
 use Rattle.game_log.proofs.Writing.{WroteUpTo}
 use Rattle.game_log.proofs.head_part.write_ends.Given as goal
 

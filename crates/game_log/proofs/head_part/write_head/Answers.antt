@@ -1,7 +1,7 @@
 use Rattle.std.proofs.Common.{refl}
 use Rattle.std.specs.Prelude.{codes}
 use Rattle.line_protocol.specs.Heads.{head_of}
-use Rattle.game_log.specs.LogText.{head_text}
+use Rattle.log_text.specs.LogText.{head_text}
 use Rattle.game_log.proofs.Writing.{writes_both, fails_both}
 use Rattle.game_log.proofs.head_part.write_head.Goals as goal
 

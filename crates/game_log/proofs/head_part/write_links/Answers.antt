@@ -2,7 +2,7 @@ use Rattle.std.proofs.Common.{◌≡◌, ℕ, ◌+◌, ◌<◌, List, length, ge
 use Rattle.std.specs.List.{enumerate_from}
 use Rattle.std.proofs.lemmas.List.FromFn.{length-enumerate_from, get_or-enumerate_from}
 use Rattle.line_protocol.specs.declared.admission.Verdict.{Verdict}
-use Rattle.game_log.specs.LogText.{link_line}
+use Rattle.log_text.specs.LogText.{link_line}
 use Rattle.game_log.proofs.Writing.{wrote_next, wrote_all, failed_next}
 use Rattle.game_log.proofs.head_part.write_links.Goals as goal
 

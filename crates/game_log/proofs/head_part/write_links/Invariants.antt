@@ -1,5 +1,5 @@
 use Rattle.std.specs.List.{enumerate_from}
-use Rattle.game_log.specs.LogText.{link_line}
+use Rattle.log_text.specs.LogText.{link_line}
 use Rattle.game_log.proofs.Writing.{WroteUpTo}
 use Rattle.game_log.proofs.head_part.write_links.Given as goal
 

@@ -1,7 +1,7 @@
 use Rattle.std.proofs.Common.{◌++◌, refl, ◌∙◌}
 use Rattle.std.specs.Prelude.{codes}
 use Rattle.std.specs.List.{flat_map, enumerate_from}
-use Rattle.game_log.specs.LogText.{link_line, end_line, missed_line}
+use Rattle.log_text.specs.LogText.{link_line, end_line, missed_line}
 use Rattle.game_log.proofs.Writing.{writes_both, fails_both, then_whole, then_some, refused}
 use Rattle.game_log.proofs.head_part.write_served.Goals as goal
 

@@ -1,6 +1,6 @@
 use Rattle.std.proofs.Common.{◌^◌, ◌<◌, subst, arith}
-use Rattle.game_log.specs.Logged.{IsEnd}
-use Rattle.game_log.proofs.Items.{all_next}
+use Rattle.log_text.specs.Logged.{IsEnd}
+use Rattle.log_text.proofs.Items.{all_next}
 use Rattle.game_log.proofs.known.ends_known.Goals as goal
 
 pub loop-end-preserved : goal.loop-end-preserved

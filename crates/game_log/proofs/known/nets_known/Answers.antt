@@ -1,8 +1,8 @@
 use Rattle.std.proofs.Common.{◌^◌, ◌<◌, ℤ, pos, get_or, SFits, w32, arith, rules}
 use Rattle.std.specs.Prelude.{unsigned_abs}
 use Rattle.std.proofs.lemmas.Int.{ints}
-use Rattle.game_log.specs.Logged.{IsSigned}
-use Rattle.game_log.proofs.Items.{all_next}
+use Rattle.log_text.specs.Logged.{IsSigned}
+use Rattle.log_text.proofs.Items.{all_next}
 use Rattle.game_log.proofs.known.nets_known.Goals as goal
 
 short : (z : ℤ) → SFits w32 z → unsigned_abs z < 2 ^ 64

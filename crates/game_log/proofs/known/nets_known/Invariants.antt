@@ -1,6 +1,6 @@
 use Rattle.std.proofs.Common.{take}
 use Rattle.std.specs.List.{AllByRecursion}
-use Rattle.game_log.specs.Logged.{IsSigned}
+use Rattle.log_text.specs.Logged.{IsSigned}
 use Rattle.game_log.proofs.known.nets_known.Given as goal
 
 abbrev pub invariant-loop-dollars : goal.invariant-loop-dollars

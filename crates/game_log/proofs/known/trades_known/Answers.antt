@@ -1,6 +1,6 @@
 use Rattle.std.proofs.Common.{subst, arith}
-use Rattle.game_log.specs.Logged.{AreTradeNumbers}
-use Rattle.game_log.proofs.Items.{all_next}
+use Rattle.log_text.specs.Logged.{AreTradeNumbers}
+use Rattle.log_text.proofs.Items.{all_next}
 use Rattle.game_log.proofs.known.trades_known.Goals as goal
 
 pub loop-trade-preserved : goal.loop-trade-preserved

@@ -1,6 +1,6 @@
 use Rattle.std.proofs.Common.{take}
 use Rattle.std.specs.List.{AllByRecursion}
-use Rattle.game_log.specs.Logged.{AreTradeNumbers}
+use Rattle.log_text.specs.Logged.{AreTradeNumbers}
 use Rattle.game_log.proofs.known.trades_known.Given as goal
 
 abbrev pub invariant-loop-trade : goal.invariant-loop-trade

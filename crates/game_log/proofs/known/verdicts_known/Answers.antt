@@ -1,6 +1,6 @@
 use Rattle.std.proofs.Common.{subst, arith}
-use Rattle.game_log.specs.Logged.{IsVerdict}
-use Rattle.game_log.proofs.Items.{all_next}
+use Rattle.log_text.specs.Logged.{IsVerdict}
+use Rattle.log_text.proofs.Items.{all_next}
 use Rattle.game_log.proofs.known.verdicts_known.Goals as goal
 
 pub loop-verdict-preserved : goal.loop-verdict-preserved

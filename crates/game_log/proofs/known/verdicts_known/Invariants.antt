@@ -1,6 +1,6 @@
 use Rattle.std.proofs.Common.{take}
 use Rattle.std.specs.List.{AllByRecursion}
-use Rattle.game_log.specs.Logged.{IsVerdict}
+use Rattle.log_text.specs.Logged.{IsVerdict}
 use Rattle.game_log.proofs.known.verdicts_known.Given as goal
 
 abbrev pub invariant-loop-verdict : goal.invariant-loop-verdict

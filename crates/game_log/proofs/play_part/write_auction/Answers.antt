@@ -1,7 +1,7 @@
 use Rattle.std.proofs.Common.{◌∙◌, ℕ, length, refl, ap, arith}
 use Rattle.std.specs.List.{AllByRecursion, flat_map}
-use Rattle.game_log.specs.LogText.{auction_line, entry_text}
-use Rattle.game_log.specs.Logged.{IsNumber, IsEntry, IsAuction}
+use Rattle.log_text.specs.LogText.{auction_line, entry_text}
+use Rattle.log_text.specs.Logged.{IsNumber, IsEntry, IsAuction}
 use Rattle.game_log.proofs.Writing.{writes_both, fails_both, ok_weaker}
 use Rattle.game_log.proofs.play_part.write_auction.Goals as goal
 

@@ -1,12 +1,12 @@
 use Rattle.std.proofs.Common.{take}
 use Rattle.std.specs.List.{AllByRecursion}
-use Rattle.game_log.specs.LogText.{auction_text}
-use Rattle.game_log.specs.Logged.{IsAuction}
+use Rattle.log_text.proofs.InOrder.{kept_text}
+use Rattle.log_text.specs.Logged.{IsAuction}
 use Rattle.game_log.proofs.Writing.{WroteUpTo}
 use Rattle.game_log.proofs.play_part.write_auctions.Given as goal
 
 abbrev pub invariant-loop-auction : goal.invariant-loop-auction
 invariant-loop-auction g l = record {
-  wrote : WroteUpTo auction_text l.auctions l.auction-index (g.K.Sink.taken l.fn.sink) (g.K.Sink.taken l.sink) (g.K.Sink.faults l.fn.sink) (g.K.Sink.faults l.sink);
+  wrote : WroteUpTo kept_text l.auctions l.auction-index (g.K.Sink.taken l.fn.sink) (g.K.Sink.taken l.sink) (g.K.Sink.faults l.fn.sink) (g.K.Sink.faults l.sink);
   known : AllByRecursion IsAuction (take l.auction-index l.auctions);
 }

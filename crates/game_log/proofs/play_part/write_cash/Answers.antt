@@ -1,15 +1,15 @@
 use Rattle.std.proofs.Common.{◌≡◌, ◌∙◌, ℕ, List, length, take, refl, ap, arith}
 use Rattle.std.specs.List.{AllByRecursion, flat_map}
-use Rattle.game_log.specs.LogText.{cash_line, cash_entry_line}
+use Rattle.log_text.specs.LogText.{cash_line, cash_entry_line}
 use Rattle.trade_ledger.specs.declared.cash_calls.CashCall.{CashCall}
 use Rattle.trade_ledger.specs.declared.cash_calls.CashCall.TheVariants.{Post, Read}
 use Rattle.trade_ledger.specs.declared.cash_calls.CashReply.{CashReply}
 use Rattle.trade_ledger.specs.declared.cash_calls.CashReply.TheVariants.{Done, Cash}
 use Rattle.trade_ledger.specs.declared.cash_calls.CashEntry.{CashEntry}
 use Rattle.trade_ledger.specs.CashHistory.{IsFit, IsLegalCash, reply_of}
-use Rattle.game_log.specs.Logged.{IsNumber, AreEntryNumbers, FitsCall, IsCashEntry, IsCash}
+use Rattle.log_text.specs.Logged.{IsNumber, AreEntryNumbers, FitsCall, IsCashEntry, IsCash}
 use Rattle.game_log.proofs.Writing.{writes_both, fails_both, ok_weaker}
-use Rattle.game_log.proofs.Items.{both_all, all_from}
+use Rattle.log_text.proofs.Items.{both_all, all_from}
 use Rattle.game_log.proofs.play_part.write_cash.Goals as goal
 
 pub returns-in-Ok-clause-text : goal.returns-in-Ok-clause-text

@@ -1,8 +1,8 @@
 use Rattle.std.proofs.Common.{◌<◌, length, refl, sym, subst, arith}
-use Rattle.game_log.specs.LogText.{cash_entry_line}
-use Rattle.game_log.specs.Logged.{AreEntryNumbers}
+use Rattle.log_text.specs.LogText.{cash_entry_line}
+use Rattle.log_text.specs.Logged.{AreEntryNumbers}
 use Rattle.game_log.proofs.Writing.{wrote_next, failed_next, item_at}
-use Rattle.game_log.proofs.Items.{all_next, all_whole}
+use Rattle.log_text.proofs.Items.{all_next, all_whole}
 use Rattle.game_log.proofs.play_part.write_cash_entries.Goals as goal
 
 pub returns-in_err-write_cash_entry-clause-text : goal.returns-in_err-write_cash_entry-clause-text

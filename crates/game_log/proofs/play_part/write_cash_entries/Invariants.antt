@@ -1,7 +1,7 @@
 use Rattle.std.proofs.Common.{take}
 use Rattle.std.specs.List.{AllByRecursion}
-use Rattle.game_log.specs.LogText.{cash_entry_line}
-use Rattle.game_log.specs.Logged.{AreEntryNumbers}
+use Rattle.log_text.specs.LogText.{cash_entry_line}
+use Rattle.log_text.specs.Logged.{AreEntryNumbers}
 use Rattle.game_log.proofs.Writing.{WroteUpTo}
 use Rattle.game_log.proofs.play_part.write_cash_entries.Given as goal
 

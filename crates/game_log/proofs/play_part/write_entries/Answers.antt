@@ -1,8 +1,8 @@
 use Rattle.std.proofs.Common.{◌<◌, length, refl, sym, subst, arith}
-use Rattle.game_log.specs.LogText.{entry_text}
-use Rattle.game_log.specs.Logged.{AreNumbers, AreOf, IsEntry}
+use Rattle.log_text.specs.LogText.{entry_text}
+use Rattle.log_text.specs.Logged.{AreNumbers, AreOf, IsEntry}
 use Rattle.game_log.proofs.Writing.{wrote_next, failed_next, item_at}
-use Rattle.game_log.proofs.Items.{all_next, all_whole, both_all}
+use Rattle.log_text.proofs.Items.{all_next, all_whole, both_all}
 use Rattle.game_log.proofs.TradedGoods.{history_goods}
 use Rattle.game_log.proofs.play_part.write_entries.Goals as goal
 

@@ -1,7 +1,7 @@
 use Rattle.std.proofs.Common.{take}
 use Rattle.std.specs.List.{AllByRecursion}
-use Rattle.game_log.specs.LogText.{entry_text}
-use Rattle.game_log.specs.Logged.{AreNumbers}
+use Rattle.log_text.specs.LogText.{entry_text}
+use Rattle.log_text.specs.Logged.{AreNumbers}
 use Rattle.game_log.proofs.Writing.{WroteUpTo}
 use Rattle.game_log.proofs.play_part.write_entries.Given as goal
 

@@ -8,8 +8,8 @@ use Rattle.tac_base.specs.declared.calls.Reply.{Reply}
 use Rattle.tac_base.specs.declared.calls.Trade.{Trade}
 use Rattle.auction_rules.specs.History.{Entry}
 use Rattle.auction_core.specs.Stored.{IsShown}
-use Rattle.game_log.specs.LogText.{entry_line, trade_line}
-use Rattle.game_log.specs.Logged.{IsNumber, IsCall, IsReply, AreTradeNumbers, AreNumbers}
+use Rattle.log_text.specs.LogText.{entry_line, trade_line}
+use Rattle.log_text.specs.Logged.{IsNumber, IsCall, IsReply, AreTradeNumbers, AreNumbers}
 use Rattle.game_log.proofs.Writing.{writes_both, fails_both, ok_weaker}
 use Rattle.game_log.proofs.play_part.write_entry.Goals as goal
 

@@ -1,5 +1,5 @@
 use Rattle.std.proofs.Common.{◌∙◌, sym, arith}
-use Rattle.game_log.specs.LogText.{trade_line}
+use Rattle.log_text.specs.LogText.{trade_line}
 use Rattle.game_log.proofs.Writing.{failed_next}
 use Rattle.game_log.proofs.play_part.write_trades.Goals as goal
 

@@ -1,4 +1,4 @@
-use Rattle.game_log.specs.LogText.{trade_line}
+use Rattle.log_text.specs.LogText.{trade_line}
 use Rattle.game_log.proofs.Writing.{WroteUpTo}
 use Rattle.game_log.proofs.play_part.write_trades.Given as goal
 

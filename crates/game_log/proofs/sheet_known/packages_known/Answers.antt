@@ -1,6 +1,6 @@
 use Rattle.std.proofs.Common.{arith}
-use Rattle.game_log.specs.LoggedSheet.{IsShownPackage}
-use Rattle.game_log.proofs.Items.{all_next}
+use Rattle.log_text.specs.LoggedSheet.{IsShownPackage}
+use Rattle.log_text.proofs.Items.{all_next}
 use Rattle.game_log.proofs.sheet_known.packages_known.Goals as goal
 
 pub loop-chosen-preserved : goal.loop-chosen-preserved

@@ -1,7 +1,7 @@
 use Rattle.std.proofs.Common.{subst, sym}
 use Rattle.score_sheet.specs.Sheets.{Scored}
-use Rattle.game_log.specs.Logged.{IsSigned}
-use Rattle.game_log.specs.LoggedSheet.{IsKnownScore}
+use Rattle.log_text.specs.Logged.{IsSigned}
+use Rattle.log_text.specs.LoggedSheet.{IsKnownScore}
 use Rattle.game_log.proofs.sheet_known.score_known.Goals as goal
 
 pub returns : goal.returns

@@ -1,6 +1,6 @@
 use Rattle.std.proofs.Common.{subst, arith}
-use Rattle.game_log.specs.LoggedSheet.{IsKnownScore}
-use Rattle.game_log.proofs.Items.{all_next}
+use Rattle.log_text.specs.LoggedSheet.{IsKnownScore}
+use Rattle.log_text.proofs.Items.{all_next}
 use Rattle.game_log.proofs.sheet_known.scores_known.Goals as goal
 
 pub loop-scored-preserved : goal.loop-scored-preserved

@@ -1,6 +1,6 @@
 use Rattle.std.proofs.Common.{take}
 use Rattle.std.specs.List.{AllByRecursion}
-use Rattle.game_log.specs.LoggedSheet.{IsKnownScore}
+use Rattle.log_text.specs.LoggedSheet.{IsKnownScore}
 use Rattle.game_log.proofs.sheet_known.scores_known.Given as goal
 
 abbrev pub invariant-loop-scored : goal.invariant-loop-scored

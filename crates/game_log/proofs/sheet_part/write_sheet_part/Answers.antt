@@ -1,5 +1,5 @@
 use Rattle.std.proofs.Common.{ℕ, List, ap, length, arith}
-use Rattle.game_log.proofs.SheetsAgain.{shown_of}
+use Rattle.log_text.proofs.SheetsAgain.{shown_of}
 use Rattle.game_log.proofs.sheet_part.write_sheet_part.Goals as goal
 
 pub returns-in-Ok-write_all-clause-known : goal.returns-in-Ok-write_all-clause-known

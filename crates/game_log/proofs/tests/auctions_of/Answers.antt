@@ -2,7 +2,7 @@ use Rattle.std.proofs.Common.{◌≡◌, ℕ, zero, suc, ◌+◌, ◌<◌, List,
 use Rattle.std.proofs.lemmas.List.{take_more, map-append}
 use Rattle.auction_core.specs.Auctions.{AuctionHistory}
 use Rattle.auction_core.specs.ClosedGame.{all_goods}
-use Rattle.game_log.proofs.Trades.{goods_of}
+use Rattle.log_text.proofs.Trades.{goods_of}
 use Rattle.game_log.proofs.tests.auctions_of.Goals as goal
 
 -- so many numbers from one on

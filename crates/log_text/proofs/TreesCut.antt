@@ -1,0 +1,167 @@
+-- Certificates are found again in their lines, whatever follows them.
+use Rattle.std.proofs.Common.{◌≡◌, ℕ, zero, suc, ◌^◌, ◌<◌, ◌≤◌, ◌&&◌, true, eqb, leb, ltb, List, [], ◌∷◌, ◌++◌, append_assoc, length, map, drop, get_or, refl, sym, ap, ◌∙◌, arith, ℤ, pos}
+use Rattle.std.specs.Prelude.{codes, unsigned_abs}
+use Rattle.std.specs.Fmt.{signed_decimal}
+use Rattle.std.specs.List.{list_all, AllByRecursion}
+use Rattle.std.proofs.lemmas.Bool.{eqb-true}
+use Rattle.std.proofs.lemmas.Bool.Decides.{nat_tests}
+use Rattle.std.proofs.lemmas.Grind.{flat_map-append}
+use Rattle.tac_base.proofs.NumeralLaws.{both_true}
+use Rattle.text_forms.specs.Lines.{text_of}
+use Rattle.text_forms.specs.Rows.{row_text}
+use Rattle.text_forms.proofs.Columns.{abs_pos}
+use Rattle.packages.specs.Features.{values_of}
+use Rattle.bound_cert.specs.NodeLines.{leaf_text, split_text}
+use Rattle.bound_cert.specs.Texts.{tree_lines, forest_lines}
+use Rattle.bound_cert.specs.Trees.{Tree, leaf, split, Trees, no_trees, more, count_of, are_prices, is_tree, are_trees}
+use Rattle.log_text.specs.Logged.{IsSigned}
+use Rattle.tac_base.proofs.Signed.{Lacks}
+use Rattle.text_forms.proofs.PrintedLines.{join_lacks}
+use Rattle.log_text.proofs.Cuts.{IsWord, row_same, pieces_cons, no_line_ends}
+use Rattle.log_text.proofs.Trades.{known_word}
+use Rattle.log_text.proofs.Histories.{signed_are, dollars_same}
+
+-- ---- lines
+
+abbrev ended : List ℕ → List ℕ
+ended line = line ++ 10 ∷ []
+
+pub text_cons : (line : List ℕ) (lines : List (List ℕ)) (rest : List ℕ) → text_of (line ∷ lines) ++ rest ≡ ended line ++ (text_of lines ++ rest)
+text_cons line lines rest = pieces_cons ended line lines rest
+
+pub text_both : (xs ys : List (List ℕ)) (rest : List ℕ) → text_of (xs ++ ys) ++ rest ≡ text_of xs ++ (text_of ys ++ rest)
+text_both xs ys rest = ap (λ (text : List ℕ). text ++ rest) (flat_map-append ended xs ys) ∙ append_assoc (text_of xs) (text_of ys) rest
+
+-- a line of a keyword and numbers has these numbers alone
+pub numbers_same : (keyword : List ℕ) (ms ns : List ℤ) (us vs : List ℕ) → IsWord keyword → AllByRecursion IsSigned ms → AllByRecursion IsSigned ns →
+    ended (row_text keyword ms) ++ us ≡ ended (row_text keyword ns) ++ vs → (ms ≡ ns) × (us ≡ vs)
+numbers_same keyword ms ns us vs word h k e =
+    let cut = row_same keyword keyword (map signed_decimal ms) (map signed_decimal ns) us vs (word, signed_are ms h) (word, signed_are ns k) e in
+    (dollars_same ms ns h k (ap (drop 1) cut.0), cut.1)
+
+-- ---- nodes
+
+abbrev word_leaf : List ℕ
+word_leaf = codes "leaf"
+
+abbrev word_split : List ℕ
+word_split = codes "split"
+
+is_word_leaf : IsWord word_leaf
+is_word_leaf = known_word (codes "leaf") refl refl
+
+is_word_split : IsWord word_split
+is_word_split = known_word (codes "split") refl refl
+
+prices_signed : (prices : List ℕ) → list_all (λ price. leb price 14001) prices ≡ true → AllByRecursion IsSigned (map pos prices)
+prices_signed [] h = tt
+prices_signed (price ∷ prices) h =
+    let both = both_true (leb price 14001) (list_all (λ p. leb p 14001) prices) h in
+    let low : price ≤ 14001 = grind (arith, nat_tests) in
+    let small : price < 2 ^ 64 = omega (arith, low) in
+    (small, prices_signed prices both.1)
+
+prices_are : (prices : List ℕ) → are_prices prices ≡ true → AllByRecursion IsSigned (map pos prices)
+prices_are prices h = prices_signed prices (both_true (eqb (length prices) 28) (list_all (λ p. leb p 14001) prices) h).1
+
+-- what a split of a certificate keeps
+record IsSplit (depth client feature : ℕ) (children : Trees) : Type 0 where
+  client_signed : IsSigned (pos client)
+  feature_signed : IsSigned (pos feature)
+  counted : count_of children ≡ values_of feature
+  below : are_trees depth children ≡ true
+
+split_is : (depth client feature : ℕ) (children : Trees) → is_tree (suc depth) (split client feature children) ≡ true → IsSplit depth client feature children
+split_is depth client feature children h =
+    let all = both_true (ltb client 8 && ltb feature 4 && eqb (count_of children) (values_of feature)) (are_trees depth children) h in
+    let three = both_true (ltb client 8 && ltb feature 4) (eqb (count_of children) (values_of feature)) all.0 in
+    let two = both_true (ltb client 8) (ltb feature 4) three.0 in
+    let low : client < 8 = by_test client 8 two.0 in
+    let low' : feature < 4 = by_test feature 4 two.1 in
+    record { client_signed = small client 8 low (omega arith); feature_signed = small feature 4 low' (omega arith); counted = eqb-true (count_of children) (values_of feature) three.1; below = all.1 }
+  where
+    by_test : (a b : ℕ) → ltb a b ≡ true → a < b
+    by_test a b e = grind (arith, nat_tests)
+
+    small : (a b : ℕ) → a < b → b ≤ 8 → a < 2 ^ 64
+    small a b lt le = omega (arith, lt, le)
+
+words_differ : (ms ns : List (List ℕ)) → word_leaf ∷ ms ≡ word_split ∷ ns → ⊥
+words_differ ms ns e =
+    let first : 108 ≡ 115 = ap (λ (ws : List (List ℕ)). get_or (get_or ws 0 []) 0 0) e in
+    omega (arith, first)
+
+leaf_not_split : (prices : List ℕ) (client feature : ℕ) (us vs : List ℕ) → AllByRecursion IsSigned (map pos prices) → IsSigned (pos client) → IsSigned (pos feature) →
+    ended (leaf_text prices) ++ us ≡ ended (split_text client feature) ++ vs → ⊥
+leaf_not_split prices client feature us vs h k l e =
+    words_differ _ _ (row_same word_leaf word_split (map signed_decimal (map pos prices)) (map signed_decimal (pos client ∷ pos feature ∷ [])) us vs
+    (is_word_leaf, signed_are (map pos prices) h) (is_word_split, signed_are (pos client ∷ pos feature ∷ []) (k, (l, tt))) e).0
+
+first_is : (a b c d : ℕ) → pos a ∷ pos b ∷ [] ≡ pos c ∷ pos d ∷ [] → (a ≡ c) × (b ≡ d)
+first_is a b c d e = (ap (λ (zs : List ℤ). unsigned_abs (get_or zs 0 (pos 0))) e, ap (λ (zs : List ℤ). unsigned_abs (get_or zs 1 (pos 0))) e)
+
+-- ---- trees
+
+mutual
+  pub tree_same : (depth : ℕ) (t u : Tree) (us vs : List ℕ) → is_tree depth t ≡ true → is_tree depth u ≡ true → text_of (tree_lines t) ++ us ≡ text_of (tree_lines u) ++ vs → (t ≡ u) × (us ≡ vs)
+  tree_same depth (leaf prices) (leaf others) us vs h k e =
+      let cut = numbers_same word_leaf (map pos prices) (map pos others) us vs is_word_leaf (prices_are prices h) (prices_are others k)
+      (sym (text_cons (leaf_text prices) [] us) ∙ e ∙ text_cons (leaf_text others) [] vs) in
+      let same : prices ≡ others = sym (abs_pos prices) ∙ ap (map unsigned_abs) cut.0 ∙ abs_pos others in
+      (ap (λ (ps : List ℕ). leaf ps) same, cut.1)
+  tree_same zero (leaf prices) (split client feature children) us vs h k e = absurd (no k)
+    where
+      no : is_tree zero (split client feature children) ≡ true → ⊥
+      no f = cc
+  tree_same (suc depth) (leaf prices) (split client feature children) us vs h k e =
+      let is = split_is depth client feature children k in
+      absurd (leaf_not_split prices client feature us (text_of (forest_lines children) ++ vs) (prices_are prices h) is.client_signed is.feature_signed
+      (sym (text_cons (leaf_text prices) [] us) ∙ e ∙ text_cons (split_text client feature) (forest_lines children) vs))
+  tree_same zero (split client feature children) u us vs h k e = absurd cc
+  tree_same (suc depth) (split client feature children) (leaf prices) us vs h k e =
+      let is = split_is depth client feature children h in
+      absurd (leaf_not_split prices client feature vs (text_of (forest_lines children) ++ us) (prices_are prices k) is.client_signed is.feature_signed
+      (sym (text_cons (leaf_text prices) [] vs) ∙ sym e ∙ text_cons (split_text client feature) (forest_lines children) us))
+  tree_same (suc depth) (split client feature children) (split client' feature' children') us vs h k e =
+      let is = split_is depth client feature children h in let is' = split_is depth client' feature' children' k in
+      let cut = numbers_same word_split (pos client ∷ pos feature ∷ []) (pos client' ∷ pos feature' ∷ []) (text_of (forest_lines children) ++ us) (text_of (forest_lines children') ++ vs) is_word_split
+      (is.client_signed, (is.feature_signed, tt)) (is'.client_signed, (is'.feature_signed, tt))
+      (sym (text_cons (split_text client feature) (forest_lines children) us) ∙ e ∙ text_cons (split_text client' feature') (forest_lines children') vs) in
+      let both = first_is client feature client' feature' cut.0 in
+      let rest = forest_same depth children children' us vs is.below is'.below (is.counted ∙ ap values_of both.1 ∙ sym is'.counted) cut.1 in
+      ((λ i. split (both.0 i) (both.1 i) (rest.0 i)), rest.1)
+
+  forest_same : (depth : ℕ) (ts us : Trees) (rest more_rest : List ℕ) → are_trees depth ts ≡ true → are_trees depth us ≡ true → count_of ts ≡ count_of us →
+      text_of (forest_lines ts) ++ rest ≡ text_of (forest_lines us) ++ more_rest → (ts ≡ us) × (rest ≡ more_rest)
+  forest_same depth no_trees no_trees rest more_rest h k n e = (refl, e)
+  forest_same depth no_trees (more u us) rest more_rest h k n e = absurd (omega (arith, n))
+  forest_same depth (more t ts) no_trees rest more_rest h k n e = absurd (omega (arith, n))
+  forest_same depth (more t ts) (more u us) rest more_rest h k n e =
+      let here = both_true (is_tree depth t) (are_trees depth ts) h in let here' = both_true (is_tree depth u) (are_trees depth us) k in
+      let first = tree_same depth t u (text_of (forest_lines ts) ++ rest) (text_of (forest_lines us) ++ more_rest) here.0 here'.0
+      (sym (text_both (tree_lines t) (forest_lines ts) rest) ∙ e ∙ text_both (tree_lines u) (forest_lines us) more_rest) in
+      let others = forest_same depth ts us rest more_rest here.1 here'.1 (omega (arith, n)) first.1 in
+      ((λ i. more (first.0 i) (others.0 i)), others.1)
+
+-- ---- no line of a certificate has a line end within it
+
+row_lacks : (keyword : List ℕ) (ns : List ℤ) → IsWord keyword → AllByRecursion IsSigned ns → Lacks 10 (row_text keyword ns)
+row_lacks keyword ns word h = join_lacks 10 (keyword ∷ map signed_decimal ns) refl (word.1, no_line_ends (map signed_decimal ns) (signed_are ns h))
+
+both_lack : (xs ys : List (List ℕ)) → AllByRecursion (Lacks 10) xs → AllByRecursion (Lacks 10) ys → AllByRecursion (Lacks 10) (xs ++ ys)
+both_lack [] ys h k = k
+both_lack (x ∷ xs) ys h k = (h.0, both_lack xs ys h.1 k)
+
+mutual
+  pub tree_lacks : (depth : ℕ) (t : Tree) → is_tree depth t ≡ true → AllByRecursion (Lacks 10) (tree_lines t)
+  tree_lacks depth (leaf prices) h = (row_lacks word_leaf (map pos prices) is_word_leaf (prices_are prices h), tt)
+  tree_lacks zero (split client feature children) h = absurd cc
+  tree_lacks (suc depth) (split client feature children) h =
+      let is = split_is depth client feature children h in
+      (row_lacks word_split (pos client ∷ pos feature ∷ []) is_word_split (is.client_signed, (is.feature_signed, tt)), forest_lacks depth children is.below)
+
+  forest_lacks : (depth : ℕ) (ts : Trees) → are_trees depth ts ≡ true → AllByRecursion (Lacks 10) (forest_lines ts)
+  forest_lacks depth no_trees h = tt
+  forest_lacks depth (more t ts) h =
+      let here = both_true (is_tree depth t) (are_trees depth ts) h in
+      both_lack (tree_lines t) (forest_lines ts) (tree_lacks depth t here.0) (forest_lacks depth ts here.1)

@@ -1,0 +1,40 @@
+-- Texts that are no logs, and the first line at which each goes wrong.
+use Rattle.std.proofs.Common.{◌≡◌, ℕ, false, List, [], Result, Err, refl}
+use Rattle.std.specs.Prelude.{codes}
+use Rattle.tac_base.specs.Numerals.{numeral}
+use Rattle.text_forms.specs.declared.lines.Reason.{Reason}
+use Rattle.text_forms.specs.declared.lines.Reason.TheVariants.{Spelling, TextEnd}
+use Rattle.text_forms.specs.declared.lines.BadLine.{BadLine}
+use Rattle.text_forms.specs.Words.{parts_of}
+use Rattle.text_forms.specs.Rows.{row}
+use Rattle.text_forms.specs.Lines.{lines_from}
+use Rattle.text_forms.specs.Steps.{repeat}
+use Rattle.log_text.specs.EntryForms.{auction_of, entry_of}
+use Rattle.log_text.specs.LogReading.{head_in, entry_in, history_in, log_in}
+use Rattle.log_text.specs.LoggedGames.{LoggedGame}
+
+-- what is read of a text
+abbrev read : List ℕ → Result LoggedGame BadLine
+read text = log_in (lines_from false 1 (parts_of 10 text))
+
+abbrev bad : ℕ → Reason → Result LoggedGame BadLine
+bad line reason = Err (record { line = line; reason = reason })
+
+empty_log : read [] ≡ bad 1 TextEnd
+unfolding log_in head_in
+empty_log = refl
+
+-- a history has at most 8256 entries
+too_many_entries : read (codes "taclog 1\nplay\nauction 0 8257\n") ≡ bad 3 Spelling
+unfolding log_in head_in repeat history_in auction_of row numeral
+too_many_entries = refl
+
+-- an entry that is due is no trade
+trade_first : read (codes "taclog 1\nplay\nauction 0 1\ntrade 0 1 1 60\n") ≡ bad 4 Spelling
+unfolding log_in head_in repeat history_in entry_in auction_of entry_of row numeral
+trade_first = refl
+
+-- the text ends too early, after a line that has no line end
+half_a_line : read (codes "taclog 1\nplay\nauction 0 0") ≡ bad 3 TextEnd
+unfolding log_in head_in repeat history_in
+half_a_line = refl

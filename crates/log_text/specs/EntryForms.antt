@@ -1,0 +1,158 @@
+-- How the lines of the histories are read.
+use Rattle.std.specs.Prelude.{ℕ, ◌-◌, ◌==◌, ◌&&◌, Bool, true, false, if◌then◌else◌, List, [], ◌∷◌, ℤ, pos, negsuc, Option, Some, None, Result, Ok, Err, codes, length, take, drop, replicate, slice_index, slice_index_or}
+use Rattle.std.specs.List.{join_with_byte}
+use Rattle.std.specs.Str.{bytes_eq}
+use Rattle.tac_base.specs.declared.limits.TheConstants.{AUCTION_ENTRIES, CASH_ENTRIES, BID_UNITS, BID_PRICE, CASH_DIGITS}
+use Rattle.tac_base.specs.declared.bids.Point.{Point}
+use Rattle.tac_base.specs.declared.bids.BidFault.{BidFault}
+use Rattle.tac_base.specs.declared.calls.Call.{Call}
+use Rattle.tac_base.specs.declared.calls.Call.TheVariants as calls
+use Rattle.tac_base.specs.declared.calls.Reply.{Reply}
+use Rattle.tac_base.specs.declared.calls.Trade.{Trade}
+use Rattle.tac_base.specs.Numerals.{signed_numeral}
+use Rattle.text_forms.specs.declared.rows.Column.{Column}
+use Rattle.text_forms.specs.declared.rows.Digits.TheVariants.{Ten}
+use Rattle.text_forms.specs.Words.{parts_of, words_of}
+use Rattle.text_forms.specs.Rows.{within}
+use Rattle.bid_strings.specs.BidForm.{points_of, judged}
+use Rattle.line_protocol.specs.ReplyForms.{◌>>=◌, answer_of}
+use Rattle.trade_ledger.specs.declared.cash_calls.CashCall.TheVariants.{Post, Read}
+use Rattle.trade_ledger.specs.declared.cash_calls.CashReply.TheVariants.{Done, Cash}
+use Rattle.trade_ledger.specs.declared.cash_calls.CashEntry.{CashEntry}
+use Rattle.log_text.specs.HeadForms.{digit_of, numbers_of, number_at}
+
+-- ---- auctions
+
+abbrev pub auction_columns : List Column
+auction_columns = within 0 27 ∷ within 0 AUCTION_ENTRIES ∷ []
+
+-- the number of entries of the line before the entries of a good
+unfoldable pub auction_of : ℕ → List ℕ → Option ℕ
+auction_of good line =
+    numbers_of (codes "auction") auction_columns line
+    >>= λ numbers. if number_at numbers 0 == good then Some (number_at numbers 1) else None
+
+abbrev pub trade_columns : List Column
+trade_columns = within 0 8 ∷ within 0 8 ∷ within 1 BID_UNITS ∷ within 0 BID_PRICE ∷ []
+
+-- the trade of a line, in the auction of a good
+unfoldable pub trade_of : ℕ → List ℕ → Option Trade
+trade_of good line =
+    numbers_of (codes "trade") trade_columns line
+    >>= λ numbers. Some (record { buyer = number_at numbers 0; seller = number_at numbers 1; good = good; units = number_at numbers 2; price = number_at numbers 3 })
+
+-- ---- calls
+
+abbrev pub bid_by : Result (List Point) BidFault → Option Call
+bid_by (Err fault) = None
+bid_by (Ok points) = Some (calls.Bid points)
+
+abbrev pub update_columns : List Column
+update_columns = within 1 53 ∷ within 0 4294967295 ∷ []
+
+abbrev pub update_of : List ℕ → Option Call
+update_of text = numbers_of (codes "update") update_columns text >>= λ numbers. Some (calls.Update (number_at numbers 0) (number_at numbers 1))
+
+abbrev pub word_call : List ℕ → Option Call
+word_call word =
+    if bytes_eq word (codes "withdraw") then Some calls.Withdraw
+    else if bytes_eq word (codes "own") then Some calls.Own
+    else if bytes_eq word (codes "publish") then Some calls.Publish
+    else if bytes_eq word (codes "close") then Some calls.Close
+    else None
+
+-- the call of a text, and of its words
+abbrev pub call_of_words : List ℕ → List (List ℕ) → Option Call
+call_of_words text [] = None
+call_of_words text (keyword ∷ []) = word_call keyword
+call_of_words text (keyword ∷ word ∷ words) =
+    if bytes_eq keyword (codes "bid") then bid_by (judged (points_of (join_with_byte 32 (word ∷ words)))) else update_of text
+
+unfoldable pub call_of : List ℕ → Option Call
+call_of text = call_of_words text (words_of text)
+
+-- ---- entries
+
+-- a digit, a space, and what follows them
+abbrev pub caller_of : ℕ → List ℕ → Option (ℕ × List ℕ)
+caller_of most [] = None
+caller_of most (digit ∷ []) = None
+caller_of most (digit ∷ space ∷ text) = if space == 32 then (digit_of most (digit ∷ []) >>= λ caller. Some (caller, text)) else None
+
+-- a text without the space at its end, and without that at its start
+abbrev pub before_space : List ℕ → Option (List ℕ)
+before_space text = if slice_index text (length text - 1) == 32 then Some (take (length text - 1) text) else None
+
+abbrev pub after_space : List ℕ → Option (List ℕ)
+after_space [] = None
+after_space (space ∷ text) = if space == 32 then Some text else None
+
+-- the texts on both sides of the first `=`, which has a space on both sides
+abbrev pub sides_of : List (List ℕ) → Option (List ℕ × List ℕ)
+sides_of [] = None
+sides_of (call ∷ []) = None
+sides_of (call ∷ part ∷ parts) = before_space call >>= λ left. after_space (join_with_byte 61 (part ∷ parts)) >>= λ right. Some (left, right)
+
+-- the caller, the call and the reply of the line of an entry
+unfoldable pub entry_of : List ℕ → Option (ℕ × Call × Reply)
+entry_of line =
+    caller_of 8 line >>= λ called.
+    sides_of (parts_of 61 called.1) >>= λ sides.
+    call_of sides.0 >>= λ call.
+    answer_of sides.1 >>= λ reply.
+    Some (called.0, call, reply)
+
+-- ---- the cash history
+
+abbrev pub cash_columns : List Column
+cash_columns = within 0 CASH_ENTRIES ∷ []
+
+-- the number of entries of the line before them
+unfoldable pub cash_of : List ℕ → Option ℕ
+cash_of line = numbers_of (codes "cash") cash_columns line >>= λ numbers. Some (number_at numbers 0)
+
+-- a number of 32 bits with a sign
+abbrev pub net_column : Column
+net_column = record { signed = true; digits = Ten; low = negsuc 2147483647; high = pos 2147483647 }
+
+abbrev pub post_columns : List Column
+post_columns = within 0 27 ∷ within 0 8255 ∷ replicate 9 net_column
+
+abbrev pub made_post : ℕ → List ℤ → CashEntry
+made_post caller numbers = record { caller = caller; call = Post (number_at numbers 0) (number_at numbers 1) (record { dollars = drop 2 numbers }); reply = Done }
+
+-- the post of a caller and a text
+abbrev pub post_of : ℕ → List ℕ → Option CashEntry
+post_of caller text = numbers_of (codes "post") post_columns text >>= λ numbers. Some (made_post caller numbers)
+
+-- the reading of an agent's own cash
+abbrev pub read_of : ℕ → List ℕ → List ℕ → List ℕ → Option CashEntry
+read_of agent keyword sign word =
+    if bytes_eq keyword (codes "read") && bytes_eq sign (codes "=")
+    then (signed_numeral CASH_DIGITS word >>= λ dollars. Some (record { caller = agent; call = Read agent; reply = Cash dollars }))
+    else None
+
+abbrev pub reading_of : ℕ → List (List ℕ) → Option CashEntry
+reading_of agent [] = None
+reading_of agent (keyword ∷ []) = None
+reading_of agent (keyword ∷ sign ∷ []) = None
+reading_of agent (keyword ∷ sign ∷ word ∷ []) = read_of agent keyword sign word
+reading_of agent (keyword ∷ sign ∷ word ∷ other ∷ words) = None
+
+-- whether the first word is that of a post
+abbrev pub first_is : List ℕ → List (List ℕ) → Bool
+first_is keyword [] = false
+first_is keyword (first ∷ words) = bytes_eq first keyword
+
+abbrev pub starts_post : List ℕ → Bool
+starts_post text = first_is (codes "post") (words_of text)
+
+-- the entry of a caller and a text: a post of any caller, or an agent's reading
+abbrev pub cash_entry_by : ℕ → List ℕ → Option CashEntry
+cash_entry_by caller text =
+    if starts_post text then post_of caller text
+    else if caller == 8 then None
+    else reading_of caller (words_of text)
+
+unfoldable pub cash_entry_of : List ℕ → Option CashEntry
+cash_entry_of line = caller_of 8 line >>= λ called. cash_entry_by called.0 called.1

@@ -1,0 +1,100 @@
+-- How the lines of a log's head are read. A log's fault tells a line alone, so a line that has not its form needs no reason.
+use Rattle.std.specs.Prelude.{ℕ, ◌+◌, ◌-◌, ◌&&◌, nat_le, if◌then◌else◌, List, [], ◌∷◌, ℤ, pos, Option, Some, None, Result, Ok, Err, decimal, codes, unsigned_abs, slice_index_or}
+use Rattle.std.specs.Str.{bytes_eq}
+use Rattle.text_forms.specs.declared.lines.Reason.{Reason}
+use Rattle.text_forms.specs.declared.lines.Reason.TheVariants.{Spelling}
+use Rattle.text_forms.specs.declared.rows.Column.{Column}
+use Rattle.text_forms.specs.Words.{words_of}
+use Rattle.text_forms.specs.Rows.{within, row}
+use Rattle.line_protocol.specs.declared.admission.Verdict.{Verdict}
+use Rattle.line_protocol.specs.declared.admission.Verdict.TheVariants.{Seated, Syntax, WrongWord, Taken, Lost}
+use Rattle.line_protocol.specs.declared.admission.Cause.{Cause}
+use Rattle.line_protocol.specs.declared.admission.Cause.TheVariants.{Quit, End, ReadFault, WriteFault, Budget}
+use Rattle.line_protocol.specs.ReplyForms.{◌>>=◌}
+
+-- what a line says, or that it has not its form
+abbrev pub formed : {A : Type 0} → Option A → Result A Reason
+formed None = Err Spelling
+formed (Some value) = Ok value
+
+-- a line that is this text
+abbrev pub is_text : List ℕ → List ℕ → Option (Unit {0})
+is_text text line = if bytes_eq line text then Some tt else None
+
+-- one digit, at most that of a number
+abbrev pub digit_of : ℕ → List ℕ → Option ℕ
+digit_of most [] = None
+digit_of most (digit ∷ []) = if nat_le 48 digit && nat_le digit (48 + most) then Some (digit - 48) else None
+digit_of most (digit ∷ other ∷ more) = None
+
+-- the numbers of a line of a keyword and numbers
+abbrev pub numbers_by : Result (List ℤ) Reason → Option (List ℤ)
+numbers_by (Err reason) = None
+numbers_by (Ok numbers) = Some numbers
+
+abbrev pub numbers_of : List ℕ → List Column → List ℕ → Option (List ℤ)
+numbers_of keyword columns line = numbers_by (row keyword columns line)
+
+-- the number at a place of them
+abbrev pub number_at : List ℤ → ℕ → ℕ
+number_at numbers place = unsigned_abs (slice_index_or numbers place (pos 0))
+
+-- ---- links
+
+abbrev pub word_verdict : List ℕ → Option Verdict
+word_verdict word =
+    if bytes_eq word (codes "syntax") then Some Syntax
+    else if bytes_eq word (codes "wrongword") then Some WrongWord
+    else if bytes_eq word (codes "taken") then Some Taken
+    else if bytes_eq word (codes "lost") then Some Lost
+    else None
+
+abbrev pub seated_of : List ℕ → List ℕ → Option Verdict
+seated_of word agent = if bytes_eq word (codes "seated") then (digit_of 7 agent >>= λ seat. Some (Seated seat)) else None
+
+abbrev pub verdict_of : List (List ℕ) → Option Verdict
+verdict_of [] = None
+verdict_of (word ∷ []) = word_verdict word
+verdict_of (word ∷ agent ∷ []) = seated_of word agent
+verdict_of (word ∷ agent ∷ other ∷ words) = None
+
+abbrev pub link_of_words : ℕ → List (List ℕ) → Option Verdict
+link_of_words place [] = None
+link_of_words place (keyword ∷ []) = None
+link_of_words place (keyword ∷ number ∷ words) = if bytes_eq keyword (codes "link") && bytes_eq number (decimal place) then verdict_of words else None
+
+-- the verdict of the line of a link at this place
+unfoldable pub link_of : ℕ → List ℕ → Option Verdict
+link_of place line = link_of_words place (words_of line)
+
+-- ---- ends of sessions
+
+abbrev pub cause_of : List ℕ → Option Cause
+cause_of word =
+    if bytes_eq word (codes "quit") then Some Quit
+    else if bytes_eq word (codes "end") then Some End
+    else if bytes_eq word (codes "readfault") then Some ReadFault
+    else if bytes_eq word (codes "writefault") then Some WriteFault
+    else if bytes_eq word (codes "budget") then Some Budget
+    else None
+
+abbrev pub ended_of : List ℕ → List ℕ → List ℕ → Option (ℕ × Cause)
+ended_of keyword agent word =
+    if bytes_eq keyword (codes "end") then (digit_of 7 agent >>= λ seat. cause_of word >>= λ cause. Some (seat, cause)) else None
+
+abbrev pub end_of_words : List (List ℕ) → Option (ℕ × Cause)
+end_of_words [] = None
+end_of_words (keyword ∷ []) = None
+end_of_words (keyword ∷ agent ∷ []) = None
+end_of_words (keyword ∷ agent ∷ word ∷ []) = ended_of keyword agent word
+end_of_words (keyword ∷ agent ∷ word ∷ other ∷ words) = None
+
+-- the agent and the cause of the line of a session's end
+unfoldable pub end_of : List ℕ → Option (ℕ × Cause)
+end_of line = end_of_words (words_of line)
+
+-- ---- missed ticks
+
+-- the number of the line of the ticks that were missed
+unfoldable pub missed_of : List ℕ → Option ℕ
+missed_of line = numbers_of (codes "missed") (within 0 255 ∷ []) line >>= λ numbers. Some (number_at numbers 0)

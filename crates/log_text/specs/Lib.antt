@@ -1,0 +1,9 @@
+pub mod LogText
+pub mod Logged
+pub mod SheetText
+pub mod LoggedSheet
+pub mod HeadForms
+pub mod EntryForms
+pub mod LoggedGames
+pub mod SheetForms
+pub mod LogReading

@@ -1,0 +1,40 @@
+-- Which sheets a log tells apart.
+use Rattle.std.specs.Prelude.{◌≡◌, ℕ, ⊤, List, length, slice_index}
+use Rattle.std.specs.List.{AllByRecursion}
+use Rattle.packages.specs.declared.travel_packages.Package.{Package}
+use Rattle.packages.specs.declared.travel_packages.Package.TheVariants.{None, Trip}
+use Rattle.bound_cert.specs.Texts.{tree_lines}
+use Rattle.bound_cert.specs.Trees.{IsCertificate}
+use Rattle.score_sheet.specs.Sheets.{Scored}
+use Rattle.log_text.specs.Logged.{IsNumber, IsSigned}
+
+-- a night for each of the three ticket types
+pub record AreNights (nights : List ℕ) : Type 0 where
+  pub count : length nights ≡ 3
+  pub first : IsNumber (slice_index nights 0)
+  pub second : IsNumber (slice_index nights 1)
+  pub third : IsNumber (slice_index nights 2)
+
+abbrev pub IsShownPackage : Package → Type 0
+IsShownPackage None = ⊤
+IsShownPackage (Trip hotel arrive depart nights) = IsNumber hotel × IsNumber arrive × IsNumber depart × AreNights nights
+
+-- the numbers of a score, a package for each of eight clients, and a certificate
+pub record IsKnownScore (scored : Scored) : Type 0 where
+  pub best : IsNumber scored.best
+  pub cash : IsSigned scored.cash
+  pub short : IsNumber scored.short
+  pub score : IsSigned scored.score
+  pub eight : length scored.allocation ≡ 8
+  pub packages : AllByRecursion IsShownPackage scored.allocation
+  pub certificate : IsCertificate scored.tree
+
+-- the same, with a certificate of no more lines than can be counted
+pub record IsShownScore (scored : Scored) : Type 0 where
+  pub known : IsKnownScore scored
+  pub lines : IsNumber (length (tree_lines scored.tree))
+
+-- the scores of eight agents
+pub record IsShownSheet (sheet : List Scored) : Type 0 where
+  pub count : length sheet ≡ 8
+  pub scores : AllByRecursion IsShownScore sheet

@@ -1,0 +1,13 @@
+ghost use Rattle.std.specs.Prelude.{◌≡◌, ◌++◌, ℕ, List};
+ghost use Rattle.auction_core.specs.ClosedGame.{ClosedGame};
+ghost use Rattle.line_protocol.specs.Heads.{Head};
+ghost use Rattle.log_text.specs.LogText.{play_part};
+ghost use Rattle.log_text.specs.Logged.{IsHead, IsPlayed, HaveOneHistory};
+
+/// The law of logs, as this call's contract: where a text begins with the first part of a log, it does so with one alone. So games with
+/// different heads or histories have different parts, whatever follows them.
+pub fn one_game()
+    ensures { (head other_head : Head) (game other : ClosedGame) (rest other_rest : List ℕ) → IsHead head → IsHead other_head → IsPlayed game → IsPlayed other →
+        play_part head game ++ rest ≡ play_part other_head other ++ other_rest →
+        (head ≡ other_head) × HaveOneHistory game other × (rest ≡ other_rest) }
+{}

@@ -1,0 +1,20 @@
+ghost use Rattle.std.specs.Prelude.{◌≡◌, ◌≤◌, ◌++◌, ℕ, List, false, Ok, length};
+ghost use Rattle.tac_base.specs.declared.limits.TheConstants.{TEXT_BYTES};
+ghost use Rattle.text_forms.specs.Words.{parts_of};
+ghost use Rattle.text_forms.specs.Lines.{lines_from};
+ghost use Rattle.auction_core.specs.ClosedGame.{ClosedGame};
+ghost use Rattle.score_sheet.specs.Sheets.{Scored};
+ghost use Rattle.line_protocol.specs.Heads.{Head};
+ghost use Rattle.log_text.specs.LogText.{histories_of};
+ghost use Rattle.log_text.specs.SheetText.{log_text};
+ghost use Rattle.log_text.specs.LoggedGames.{LoggedGame, IsLogged, logged_text};
+ghost use Rattle.log_text.specs.LogReading.{log_in};
+
+/// The law of reading logs, as this call's contract: what is read of a text is a log in its ranges, whose text it is; each log in its
+/// ranges is read as itself, where its text is no longer than 67,108,864 bytes; and the log of a game is the text of what it says.
+pub fn one_reading()
+    ensures found { (text : List ℕ) (log : LoggedGame) → log_in (lines_from false 1 (parts_of 10 text)) ≡ Ok log → (text ≡ logged_text log) × IsLogged log }
+    ensures only { (log : LoggedGame) → IsLogged log → length (logged_text log) ≤ TEXT_BYTES → log_in (lines_from false 1 (parts_of 10 (logged_text log))) ≡ Ok log }
+    ensures game { (head : Head) (game : ClosedGame) (sheet : List Scored) →
+        log_text head game sheet ≡ logged_text (record { head = head; histories = histories_of game; cash = game.cash; scores = sheet }) }
+{}
