@@ -1,4 +1,5 @@
 ghost use Rattle.std.specs.Prelude.{◌≡◌, ◌<◌, ◌≤◌, ℕ, length, IfOk};
+ghost use Rattle.tac_base.specs.declared.limits.TheConstants.{CLOCK_CALLS, CLOCK_CASH_ENTRIES};
 ghost use Rattle.floor.specs.Desks.{desk_ids, desk_caller, entries_of, entries_at};
 ghost use Rattle.floor.specs.Keeping.{count_entries};
 ghost use Rattle.floor.specs.Floors.{floor_ids};
