@@ -1,0 +1,85 @@
+-- The JSON text of what an agent is told. The texts are our own.
+use Rattle.std.specs.Prelude.{ℕ, ℤ, List, [], ◌∷◌, ◌++◌, Bool, true, false, if◌then◌else◌, nat_lt, decimal, codes, map}
+use Rattle.std.specs.Fmt.{signed_decimal}
+use Rattle.std.specs.List.{concat, join_with_byte}
+use Rattle.tac_base.specs.declared.bids.Point.{Point}
+use Rattle.tac_base.specs.declared.calls.Board.{Board}
+use Rattle.tac_base.specs.declared.calls.Reply.{Reply}
+use Rattle.tac_base.specs.declared.calls.Reply.TheVariants.{Taken, Own, Sold, Done, Closed, WrongCall, NoBid, Sell, SelfCross, BelowQuote}
+use Rattle.line_protocol.specs.declared.asking.RequestFault.{RequestFault}
+use Rattle.line_protocol.specs.declared.asking.RequestFault.TheVariants as faults
+use Rattle.line_protocol.specs.declared.saying.Said.{Said}
+use Rattle.line_protocol.specs.declared.saying.Said.TheVariants.{At, Cash, Quote, Spent, Fault, TooLong, Bye}
+use Rattle.line_protocol.specs.Replies.{fault_number}
+
+-- two numbers, as `[2,150]`
+abbrev pub pair_text : List ℕ → List ℕ → List ℕ
+pair_text first second = concat (codes "[" ∷ first ∷ codes "," ∷ second ∷ codes "]" ∷ [])
+
+-- a point, its units and its price
+abbrev pub point_text : Point → List ℕ
+point_text point = pair_text (signed_decimal point.units) (decimal point.price)
+
+-- the text that a point adds to the points before it
+abbrev pub next_text : ℕ → Point → List ℕ
+next_text count point = if nat_lt 0 count then 44 ∷ point_text point else point_text point
+
+-- the points, as `[[2,150],[1,100]]`
+abbrev pub points_text : List Point → List ℕ
+points_text points = concat (codes "[" ∷ join_with_byte 44 (map point_text points) ∷ codes "]" ∷ [])
+
+-- a holding and standing points
+abbrev pub own_members : ℤ → List Point → List ℕ
+own_members holding left = concat (codes "\"own\":" ∷ signed_decimal holding ∷ codes ",\"points\":" ∷ points_text left ∷ [])
+
+-- what a hotel bid lacks
+abbrev pub below_members : ℕ → ℕ → ℕ → List ℕ
+below_members need at offered = concat (codes "\"no\":\"belowquote\",\"need\":" ∷ decimal need ∷ codes ",\"price\":" ∷ decimal at ∷ codes ",\"offered\":" ∷ decimal offered ∷ [])
+
+-- the members that a reply gives, after that of its position
+abbrev pub reply_members : Reply → List ℕ
+reply_members (Taken bought sold) = codes "\"taken\":" ++ pair_text (decimal bought) (decimal sold)
+reply_members (Own holding left) = own_members holding left
+reply_members (Sold units price) = codes "\"sold\":" ++ pair_text (decimal units) (decimal price)
+reply_members Done = codes "\"done\":true"
+reply_members Closed = codes "\"no\":\"closed\""
+reply_members WrongCall = codes "\"no\":\"wrongcall\""
+reply_members NoBid = codes "\"no\":\"nobid\""
+reply_members Sell = codes "\"no\":\"sell\""
+reply_members SelfCross = codes "\"no\":\"selfcross\""
+reply_members (BelowQuote need at offered) = below_members need at offered
+
+abbrev pub cash_members : ℤ → List ℕ
+cash_members dollars = codes "\"cash\":" ++ signed_decimal dollars
+
+-- whether an auction is open
+abbrev pub openness : Bool → List ℕ
+openness true = codes "false"
+openness false = codes "true"
+
+abbrev pub quote_members : Board → List ℕ
+quote_members board = concat (codes "\"quote\":" ∷ pair_text (decimal board.bid) (decimal board.ask) ∷ codes ",\"open\":" ∷ openness board.closed ∷ [])
+
+-- the start of an object with a position
+abbrev pub place : ℕ → List ℕ
+place position = concat (codes "{\"at\":" ∷ decimal position ∷ codes "," ∷ [])
+
+-- an object of a position and other members
+abbrev pub placed : ℕ → List ℕ → List ℕ
+placed position members = concat (place position ∷ members ∷ codes "}" ∷ [])
+
+abbrev pub fault_text : RequestFault → List ℕ
+fault_text faults.Syntax = codes "{\"no\":\"syntax\"}"
+fault_text faults.NoSuchAuction = codes "{\"no\":\"auction\"}"
+fault_text (faults.Bid fault) = concat (codes "{\"no\":\"bid\",\"fault\":" ∷ decimal (fault_number fault) ∷ codes "}" ∷ [])
+fault_text faults.Memory = codes "{\"no\":\"memory\"}"
+
+-- the object that tells something, without a line end
+abbrev pub json_text : Said → List ℕ
+json_text (At position reply) = placed position (reply_members reply)
+json_text (Cash position dollars) = placed position (cash_members dollars)
+json_text (Quote board) = placed board.count (quote_members board)
+json_text Spent = codes "{\"no\":\"spent\"}"
+json_text (Fault fault) = fault_text fault
+json_text TooLong = codes "{\"no\":\"toolong\"}"
+json_text Bye = codes "{\"bye\":true}"

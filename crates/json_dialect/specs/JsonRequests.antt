@@ -1,0 +1,112 @@
+-- What a JSON line asks. The forms are our own; which value a line has is serde_json's own definition of reading.
+use Rattle.std.specs.Prelude.{ℕ, suc, ◌==◌, nat_le, if◌then◌else◌, List, [], ℤ, pos, negsuc, unsigned_abs, Option, Some, None, Result, Ok, Err, codes, option_and_then}
+use Rattle.std.specs.Str.{bytes_eq, is_utf8}
+use Rattle.serde_json.specs.Data.{Data, Items, no_items, item, Members, no_members, member}
+use Rattle.serde_json.specs.Read.{read}
+use Rattle.serde_json.specs.Find.{as_array, as_i64, as_number, as_object, as_str, get_member}
+use Rattle.tac_base.specs.declared.bids.Point.{Point}
+use Rattle.bid_strings.specs.BidForm.{followed_by, judged, paired}
+use Rattle.line_protocol.specs.declared.asking.Request.{Request}
+use Rattle.line_protocol.specs.declared.asking.Request.TheVariants as requests
+use Rattle.line_protocol.specs.declared.asking.RequestFault.{RequestFault}
+use Rattle.line_protocol.specs.declared.asking.RequestFault.TheVariants as faults
+use Rattle.line_protocol.specs.Requests.{◌>>=◌, good_of, with_points}
+
+-- the value that serde_json reads in a line; bytes that are no UTF-8 have none
+abbrev pub value_of : List ℕ → Option Data
+value_of line = if is_utf8 line then read line else None
+
+-- ---- numbers
+
+-- a whole number, where a value is one of 64 bits
+abbrev pub whole : Data → Option ℤ
+whole value = option_and_then as_i64 (as_number value)
+
+-- a number that is not below 0 and at most a limit
+abbrev pub within : ℕ → ℤ → Option ℕ
+within limit (pos n) = if nat_le n limit then Some n else None
+within limit (negsuc n) = None
+
+-- a whole number in 0..99999
+abbrev pub number_of : Data → Option ℕ
+number_of value = option_and_then (within 99999) (whole value)
+
+abbrev pub small : ℤ → Option ℤ
+small units = if nat_le (unsigned_abs units) 99999 then Some units else None
+
+-- a whole number in -99999..99999
+abbrev pub signed_number_of : Data → Option ℤ
+signed_number_of value = option_and_then small (whole value)
+
+-- ---- points
+
+-- a point is an array of two numbers, its units and its price
+abbrev pub point_of_items : Items → Option Point
+point_of_items no_items = None
+point_of_items (item units no_items) = None
+point_of_items (item units (item price no_items)) = paired (signed_number_of units) (number_of price)
+point_of_items (item units (item price (item more items))) = None
+
+abbrev pub point_of : Data → Option Point
+point_of value = option_and_then point_of_items (as_array value)
+
+abbrev pub points_from : Items → Option (List Point)
+points_from no_items = Some []
+points_from (item point points) = followed_by (point_of point) (points_from points)
+
+-- the points of an array
+abbrev pub points_of : Data → Option (List Point)
+points_of value = option_and_then points_from (as_array value)
+
+-- ---- objects
+
+-- how many members there are
+abbrev pub count_members : Members → ℕ
+count_members no_members = 0
+count_members (member key value members) = suc (count_members members)
+
+-- what the word at `do` asks of an auction
+abbrev pub about : List ℕ → Option Data → Result Request RequestFault
+about word None = Err faults.Syntax
+about word (Some auction) =
+    if bytes_eq word (codes "withdraw") then (good_of (number_of auction) >>= λ good. Ok (requests.Withdraw good))
+    else if bytes_eq word (codes "own") then (good_of (number_of auction) >>= λ good. Ok (requests.Own good))
+    else if bytes_eq word (codes "quote") then (good_of (number_of auction) >>= λ good. Ok (requests.Quote good))
+    else Err faults.Syntax
+
+abbrev pub bid : List ℕ → Option Data → Option Data → Result Request RequestFault
+bid word None points = Err faults.Syntax
+bid word (Some auction) None = Err faults.Syntax
+bid word (Some auction) (Some points) =
+    if bytes_eq word (codes "bid") then (good_of (number_of auction) >>= λ good. with_points good (judged (points_of points)))
+    else Err faults.Syntax
+
+abbrev pub plain : List ℕ → Result Request RequestFault
+plain word =
+    if bytes_eq word (codes "cash") then Ok requests.Cash
+    else if bytes_eq word (codes "quit") then Ok requests.Quit
+    else Err faults.Syntax
+
+-- what an object of so many members with the word at `do` asks: with no other key, with `auction` besides, or with `auction` and `points`
+abbrev pub asked_by : List ℕ → ℕ → Option Data → Option Data → Result Request RequestFault
+asked_by word count auction points =
+    if count == 1 then plain word
+    else if count == 2 then about word auction
+    else if count == 3 then bid word auction points
+    else Err faults.Syntax
+
+abbrev pub asked_with : Option (List ℕ) → Members → Result Request RequestFault
+asked_with None members = Err faults.Syntax
+asked_with (Some word) members = asked_by word (count_members members) (get_member (codes "auction") members) (get_member (codes "points") members)
+
+abbrev pub asked_by_object : Option Members → Result Request RequestFault
+asked_by_object None = Err faults.Syntax
+asked_by_object (Some found) = asked_with (option_and_then as_str (get_member (codes "do") found)) found
+
+abbrev pub asked_by_value : Option Data → Result Request RequestFault
+asked_by_value None = Err faults.Syntax
+asked_by_value (Some value) = asked_by_object (as_object value)
+
+-- what a line asks, or the first fault
+unfoldable pub asks_json : List ℕ → Result Request RequestFault
+asks_json line = asked_by_value (value_of line)

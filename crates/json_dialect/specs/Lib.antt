@@ -1,0 +1,3 @@
+pub mod JsonRequests
+pub mod JsonReplies
+pub mod JsonObjects

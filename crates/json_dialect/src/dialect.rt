@@ -1,0 +1,39 @@
+use crate::printing::print_said;
+use crate::reading::read_line;
+use agent_gate::Dialect;
+use line_protocol::{Request, RequestFault, Said};
+use std::alloc::Global;
+use tac_base::Text;
+
+/// Lines that are JSON objects. Reading takes memory of the allocator, and a line that finds none is answered with the
+/// fault `Memory`; printing takes none.
+#[derive(Clone, Copy)]
+pub struct JsonDialect {
+    alloc: Global,
+}
+
+impl JsonDialect {
+    /// The dialect, which reads with memory of this allocator.
+    pub fn new(alloc: Global) -> Self {
+        JsonDialect { alloc }
+    }
+}
+
+impl Dialect for JsonDialect {
+    ghost use Rattle.std.specs.Prelude.{◌≡◌, ◌⊎◌, Err};
+    ghost use Rattle.line_protocol.specs.declared.asking.RequestFault.TheVariants.{Memory};
+    ghost use Rattle.json_dialect.specs.JsonRequests.{asks_json};
+    ghost use Rattle.json_dialect.specs.JsonReplies.{json_text};
+
+    ghost may_answer = { λ _ line answer. (answer ≡ asks_json line) ⊎ (answer ≡ Err Memory) };
+
+    ghost text = { λ _ said. json_text said };
+
+    fn read(&self, line: &[u8]) -> Result<Request, RequestFault> {
+        read_line(self.alloc, line)
+    }
+
+    fn print(&self, said: &Said, out: &mut Text) {
+        print_said(said, out);
+    }
+}

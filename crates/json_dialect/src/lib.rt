@@ -1,0 +1,13 @@
+//! The lines of agents as JSON texts, one object a line: requests are read as what their objects ask, and what an agent
+//! is told is printed as an object. The objects and their texts are our own.
+#![tactic(auto)]
+
+mod dialect;
+mod printing;
+mod reading;
+#[cfg(test)]
+mod tests;
+
+pub use dialect::JsonDialect;
+pub use printing::one_json_text;
+pub use reading::one_json_request;
