@@ -2,7 +2,7 @@
 use Rattle.std.proofs.Common.{◌≡◌, ℕ, List, refl, inl, inr, arith}
 use Rattle.std.specs.Prelude.{◌⊎◌}
 use Rattle.tac_commands.specs.declared.refusals.Refusal.TheVariants.{LinkFault, Memory}
-use Rattle.tac_commands.specs.Commands.{BatchCommand, Hotel, Show, Upgrade, Make, Solve, Play, Trial, Command, Batch, Serve, batch_files, files_of}
+use Rattle.tac_commands.specs.Commands.{BatchCommand, Hotel, Show, Upgrade, Make, Solve, Worth, Play, Trial, Command, Batch, Serve, batch_files, files_of}
 use Rattle.tac_commands.specs.Outcomes.{Outcome, Done, Lapsed, Cut, Refused, code_of}
 use Rattle.tac_commands.specs.Runs.{Values}
 use Rattle.tac_commands.specs.Allowed.{Writes, WritesInParts, BatchAllows, IsServiceEnd, CommandAllows}
@@ -32,6 +32,7 @@ batch_code (Show game) values outcome allowed = writes _ outcome allowed
 batch_code (Upgrade game) values outcome allowed = writes _ outcome allowed
 batch_code (Make seed) values outcome allowed = writes _ outcome allowed
 batch_code (Solve account) values outcome allowed = writes _ outcome allowed
+batch_code (Worth account) values outcome allowed = writes _ outcome allowed
 batch_code (Play game script) values outcome allowed = in_parts _ _ outcome allowed.0
 batch_code (Trial seed count) values outcome allowed = writes _ outcome allowed
 

@@ -1,6 +1,10 @@
 -- What each command makes of the values of its files, and so which outcomes the words and the files allow.
-use Rattle.std.specs.Prelude.{◌≡◌, ℕ, ⊤, List, Option, Some, None}
+use Rattle.std.specs.Prelude.{◌≡◌, ℕ, ◌<◌, ⊤, List, Option, Some, None}
 use Rattle.game_text.specs.Games.{GameFile, spelling, upgraded}
+use Rattle.game_text.specs.Accounts.{AccountFile}
+use Rattle.good_worth.specs.Worth.{IsUp, IsDown}
+use Rattle.good_worth.specs.Worths.{Valuation, AreWorths, up_at, down_at}
+use Rattle.good_worth.specs.WorthTexts.{spelling as worth_spelling}
 use Rattle.allocator.specs.Solutions.{IsSolvedText}
 use Rattle.draw_maker.specs.Games.{made_game}
 use Rattle.draw_maker.specs.Scripts.{made_script}
@@ -13,7 +17,7 @@ use Rattle.script_run.specs.GameOuts.{closed_game, first_out, play_out}
 use Rattle.script_run.specs.QuietGames.{IsSummary}
 use Rattle.tac_commands.specs.declared.refusals.Refusal.TheVariants.{Usage, LinkFault, Memory}
 use Rattle.tac_commands.specs.Cash.{IsCashOfPosts}
-use Rattle.tac_commands.specs.Commands.{BatchCommand, Hotel, Show, Upgrade, Make, Solve, Play, Trial, Command, Batch, Serve, batch_files, files_of}
+use Rattle.tac_commands.specs.Commands.{BatchCommand, Hotel, Show, Upgrade, Make, Solve, Worth, Play, Trial, Command, Batch, Serve, batch_files, files_of}
 use Rattle.tac_commands.specs.Files.{Content}
 use Rattle.tac_commands.specs.Outcomes.{Outcome, Done, Lapsed, Cut, Refused}
 use Rattle.tac_commands.specs.Runs.{Values, Names, Runs}
@@ -41,19 +45,33 @@ abbrev pub IsTrial : ℕ → ℕ → List ℕ → Type 0
 IsTrial seed count text =
     (played : PlayCount) × (sheet : List Scored) × IsSummary (made_game seed) (made_script seed count) played sheet × (text ≡ trial_text seed count played sheet)
 
+-- The text of the worths of an account: best allocations of the account and of those with one unit more and one unit less of each good, so
+-- that the numbers of each good are what one unit more adds to the best total, and what one unit less takes from it.
+abbrev pub IsValued : AccountFile → List ℕ → Type 0
+IsValued account text =
+    (v : Valuation) × AreWorths account v × ((good : ℕ) → good < 28 → IsUp account good (up_at v good) × IsDown account good (down_at v good)) × (text ≡ worth_spelling v)
+
 -- a game by the lines of a script is written so, and the cash in its sheet is that of the posts
 abbrev pub PlayAllows : GameFile → List ScriptLine → Outcome → Type 0
 PlayAllows game lines outcome = WritesInParts (IsPlayed game lines) (λ text. text ≡ first_out game lines) outcome × IsCashOfPosts (closed_game game lines)
 
--- What a command that needs no links makes of the values of its files: the text of a hotel's script; of a game; of the game in version 2; of a made game; of an
--- account, with some solution; of a game by a script, where the cash in the sheet is that of the posts; of a trial.
+-- What a command that needs no links makes of the values of its files.
 abbrev pub BatchAllows : (command : BatchCommand) → Values (batch_files command) → Outcome → Type 0
+-- the replies and trades of one hotel, run by a script
 BatchAllows (Hotel script) values outcome = Writes (λ text. text ≡ hotel_out values.0) outcome
+-- the canonical text of a game
 BatchAllows (Show game) values outcome = Writes (λ text. text ≡ spelling values.0) outcome
+-- the canonical text of the same game in version 2
 BatchAllows (Upgrade game) values outcome = Writes (λ text. text ≡ spelling (upgraded values.0)) outcome
+-- the canonical text of the made game
 BatchAllows (Make seed) values outcome = Writes (λ text. text ≡ spelling (made_game seed)) outcome
+-- a best allocation of an account, with a certificate
 BatchAllows (Solve account) values outcome = Writes (IsSolvedText values.0) outcome
+-- what one unit more and one unit less of each good of an account change
+BatchAllows (Worth account) values outcome = Writes (IsValued values.0) outcome
+-- a game, played by a script
 BatchAllows (Play game script) values outcome = PlayAllows values.0 values.1.0 outcome
+-- the summary of the made game by the made script
 BatchAllows (Trial seed count) values outcome = Writes (IsTrial seed count) outcome
 
 -- How the service of a game may end whose file is good: its log is written, whole or without its sheet; or the links failed, or there was no

@@ -19,6 +19,7 @@ pub data BatchCommand : Type 0 where
   Upgrade : (game : List ℕ) → BatchCommand
   Make : (seed : ℕ) → BatchCommand
   Solve : (account : List ℕ) → BatchCommand
+  Worth : (account : List ℕ) → BatchCommand
   Play : (game : List ℕ) → (script : List ℕ) → BatchCommand
   Trial : (seed : ℕ) → (count : ℕ) → BatchCommand
 
@@ -36,6 +37,7 @@ command_with word argument =
     else if bytes_eq word (codes "show") then Some (Batch (Show argument))
     else if bytes_eq word (codes "upgrade") then Some (Batch (Upgrade argument))
     else if bytes_eq word (codes "solve") then Some (Batch (Solve argument))
+    else if bytes_eq word (codes "worth") then Some (Batch (Worth argument))
     else if bytes_eq word (codes "make") then option_map (λ seed. Batch (Make seed)) (below (2 ^ 64) (numeral 20 argument))
     else None
 
@@ -95,6 +97,7 @@ batch_files (Show game) = file kinds.Game game ∷ []
 batch_files (Upgrade game) = file kinds.Game game ∷ []
 batch_files (Make seed) = []
 batch_files (Solve account) = file kinds.Account account ∷ []
+batch_files (Worth account) = file kinds.Account account ∷ []
 batch_files (Play game script) = file kinds.Game game ∷ file kinds.GameScript script ∷ []
 batch_files (Trial seed count) = []
 
@@ -123,6 +126,7 @@ seen_batch (batch.Show game) = Show game.now
 seen_batch (batch.Upgrade game) = Upgrade game.now
 seen_batch (batch.Make seed) = Make seed
 seen_batch (batch.Solve account) = Solve account.now
+seen_batch (batch.Worth account) = Worth account.now
 seen_batch (batch.Play game script) = Play game.now script.now
 seen_batch (batch.Trial seed count) = Trial seed count
 

@@ -59,7 +59,7 @@ script_end (Err faults.TooLong) = ends.Refused TextTooLong
 script_end (Err faults.Failed) = ends.WriteFault
 script_end (Err faults.Memory) = ends.Refused Memory
 
--- what writing a whole text as a command's did
+-- the effect on the sink of writing a command's whole text
 abbrev pub WritesWhole : List ℕ → Option (List ℕ) → Option (List ℕ) → ℕ → ℕ → End → Type 0
 WritesWhole text taken taken' before now ends.Done = (taken' ≡ and_then_told taken text) × (now ≡ before)
 WritesWhole text taken taken' before now ends.WriteFault = TakesSome taken taken' text × Rose before now

@@ -1,5 +1,6 @@
 -- How a command runs over its files: each is selected and read in order, up to the first that is not read. Where all were read, the outcome
--- is one that their values allow; else it is what is written in place of that file, and no later file was selected.
+-- is one that their values allow; else it is the refusal of the first file that could not be read or was refused, and no later file was
+-- selected.
 use Rattle.std.specs.Prelude.{◌≡◌, ℕ, ◌⊎◌, ⊤, List, [], ◌∷◌, Option}
 use Rattle.tac_io.specs.Told.{and_then_told}
 use Rattle.tac_commands.specs.declared.refusals.Refusal.{Refusal}

@@ -1,6 +1,6 @@
 // The commands that need no links.
 ghost use Rattle.std.specs.Prelude.{◌≡◌, ◌<◌, ◌≤◌, [], length, IfSome};
-ghost use Rattle.game_text.specs.Games.{spelling};
+ghost use Rattle.game_text.specs.Games.{spelling, upgraded};
 ghost use Rattle.draw_maker.specs.Games.{made_game};
 ghost use Rattle.allocator.specs.Solutions.{IsSolvedText};
 ghost use Rattle.tac_commands.specs.Allowed.{Writes};
@@ -15,6 +15,7 @@ use crate::refusals::Refusal;
 use crate::script_commands::{hotel_by_file, play_files};
 use crate::trial_command::trial;
 use crate::words::BatchCommand;
+use crate::worth_command::worth_file;
 use allocator::{print_solved, solve};
 use draw_maker::make_game;
 use game_text::{Account, Game, print_game};
@@ -33,6 +34,13 @@ fn write_game<K: Sink>(alloc: Global, game: &Game, out: &mut K) -> End
         Ok(()) => End::Done,
         Err(_) => End::WriteFault,
     }
+}
+
+/// Writes the canonical text of the same game in version 2.
+fn write_upgraded<K: Sink>(alloc: Global, game: Game, out: &mut K) -> End
+    ensures { Ends (Writes (λ text. text ≡ spelling (upgraded game))) (K.taken out.old) (K.taken out.new) (K.faults out.old) (K.faults out.new) result }
+{
+    write_game(alloc, &game.upgraded(), out)
 }
 
 /// Writes the canonical text of the game that is made of a seed.
@@ -77,7 +85,7 @@ fn upgrade<F: Files, K: Sink>(alloc: Global, name: &str, files: &mut F, out: &mu
         (K.taken out.old) (K.taken out.new) (K.faults out.old) (K.faults out.new) result }
 {
     match read_game_file(alloc, files, name) {
-        Ok(game) => write_game(alloc, &game.upgraded(), out),
+        Ok(game) => write_upgraded(alloc, game, out),
         Err(refusal) => End::Refused(refusal),
     }
 }
@@ -114,6 +122,7 @@ pub fn run_batch<R: Threads + Sync, F: Files, K: Sink>(
         BatchCommand::Upgrade { game } => upgrade(alloc, game, files, out),
         BatchCommand::Make { seed } => make(alloc, seed, out),
         BatchCommand::Solve { account } => solve_file(alloc, account, files, out),
+        BatchCommand::Worth { account } => worth_file(alloc, account, files, out),
         BatchCommand::Play { game, script } => play_files(rt, alloc, game, script, files, out),
         BatchCommand::Trial { seed, count } => trial(rt, alloc, seed, count, out),
     }

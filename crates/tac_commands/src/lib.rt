@@ -11,6 +11,7 @@ mod refusals;
 mod script_commands;
 mod trial_command;
 mod words;
+mod worth_command;
 
 pub use batch::run_batch;
 pub use code::Code;

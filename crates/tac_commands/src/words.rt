@@ -21,13 +21,15 @@ pub enum BatchCommand<'a> {
     Make { seed: u64 },
     /// A best allocation of an account.
     Solve { account: &'a str },
+    /// What one unit more and one unit less of each good of an account would change.
+    Worth { account: &'a str },
     /// A game, played by a script.
     Play { game: &'a str, script: &'a str },
     /// The made game, played by the made script of so many requests, 0 to 50,000.
     Trial { seed: u64, count: u32 },
 }
 
-/// The form of what a link of a served game is sent, and of what it asks.
+/// The wire format of a served game.
 #[derive(Clone, Copy, Debug, PartialEq, Eq)]
 pub enum Form {
     /// Request lines and reply lines.
@@ -63,6 +65,8 @@ fn command_with<'a>(word: &str, argument: &'a str) -> Option<Asked<'a>>
         Some(Asked::Batch(BatchCommand::Upgrade { game: argument }))
     } else if word == "solve" {
         Some(Asked::Batch(BatchCommand::Solve { account: argument }))
+    } else if word == "worth" {
+        Some(Asked::Batch(BatchCommand::Worth { account: argument }))
     } else if word == "make" {
         read_numeral(argument.as_bytes(), 20).map(|seed| Asked::Batch(BatchCommand::Make { seed }))
     } else {

@@ -104,7 +104,8 @@ fn run<R: Threads + Sync + Wait + Clock>(
     run_over(rt, alloc, line, files, Vec::new(alloc), &mut ticker, faults)
 }
 
-// Runs a line over two games, of which the second has a bad line 20, an account and a script. Fails where the code is another, the text does
+// Runs a line over three games, of which the second has a bad line 20 and the third one room of the first night and live quotes, an account
+// and a script. Fails where the code is another, the text does
 // not begin with the first of the parts, or lacks one of them, or the first is alone and not the whole text.
 fn check<R: Threads + Sync + Wait + Clock>(
     rt: &R,
@@ -117,9 +118,16 @@ fn check<R: Threads + Sync + Wait + Clock>(
 ) -> Result<(), Fail> {
     let game = plain_game(alloc, FIRST_CLIENT)?;
     let bad = plain_game(alloc, "client 0 0 2 2 100 0 0 100\n")?;
+    let live = game_with(
+        alloc,
+        2,
+        "rooms 1 16 16 16 16 16 16 16\nquotes live\n",
+        FIRST_CLIENT,
+    )?;
     let files = [
         ("game", game.as_bytes()),
         ("bad", bad.as_bytes()),
+        ("live", live.as_bytes()),
         ("account", ONE_SEAT),
         ("script", script.as_bytes()),
     ];
@@ -172,12 +180,20 @@ const BIDS_TOLD: &str =
 const ONE_SEAT: &[u8] =
     b"account\nhold 1 0 0 0 2 0 0 0 2 0 0 0 0 0 0 0 1 0 0 0 0 0 0 0 0 0 0 0\nclient 0 1 2 50 100 0 0\nclient 1 1 2 50 150 0 0\nclient 2 1 2 50 0 0 0\nclient 3 1 2 50 0 0 0\nclient 4 1 2 50 0 0 0\nclient 5 1 2 50 0 0 0\nclient 6 1 2 50 0 0 0\nclient 7 1 2 50 0 0 0\nend\n";
 
+// The same without any good.
+const NOTHING_HELD: &str =
+    "account\nhold 0 0 0 0 0 0 0 0 0 0 0 0 0 0 0 0 0 0 0 0 0 0 0 0 0 0 0 0\nclient 0 1 2 50 100 0 0\nclient 1 1 2 50 150 0 0\nclient 2 1 2 50 0 0 0\nclient 3 1 2 50 0 0 0\nclient 4 1 2 50 0 0 0\nclient 5 1 2 50 0 0 0\nclient 6 1 2 50 0 0 0\nclient 7 1 2 50 0 0 0\nend\n";
+
 // The game in which all flights stay at 300, nobody has a ticket, and all clients are alike; line
 // 20 is the given one.
 pub(crate) fn plain_game(alloc: Global, line_20: &str) -> Result<String, Fail> {
-    let mut text = String::from_str(
-        alloc,
-        "tac 1\nwords seat0 seat1 seat2 seat3 seat4 seat5 seat6 seat7\n",
+    game_with(alloc, 1, "", line_20)
+}
+
+// The same of a version, with the lines of hotel nights and quotes that it has.
+fn game_with(alloc: Global, version: u8, nights: &str, first: &str) -> Result<String, Fail> {
+    let mut text = format!(in alloc;
+        "tac {version}\nwords seat0 seat1 seat2 seat3 seat4 seat5 seat6 seat7\n"
     )?;
     for good in 0..8 {
         write!(text, "flight {good} 300 10")?;
@@ -187,13 +203,14 @@ pub(crate) fn plain_game(alloc: Global, line_20: &str) -> Result<String, Fail> {
         text.push_str("\n")?;
     }
     text.push_str("close 8 9 10 11 12 13 14 15\n")?;
+    text.push_str(nights)?;
     for agent in 0..8 {
         write!(text, "endow {agent} 0 0 0 0 0 0 0 0 0 0 0 0\n")?;
     }
     for agent in 0..8 {
         for client in 0..8 {
             if agent == 0 && client == 0 {
-                text.push_str(line_20)?;
+                text.push_str(first)?;
             } else {
                 write!(text, "client {agent} {client} 1 2 100 0 0 100\n")?;
             }
@@ -264,7 +281,7 @@ fn hotels_are_run_from_scripts(rt: HostRuntime) -> Result<(), Fail> {
 #[test]
 fn games_are_made_played_and_scored(rt: HostRuntime) -> Result<(), Fail> {
     let alloc = rt.alloc();
-    let rows: [(&str, &str, &[&str]); 9] = [
+    let rows: [(&str, &str, &[&str]); 12] = [
         (
             "play game script",
             "",
@@ -320,6 +337,36 @@ fn games_are_made_played_and_scored(rt: HostRuntime) -> Result<(), Fail> {
                 "\nscore 5 0 0 0 0\n",
                 "\nscore 6 0 0 0 0\n",
                 "\nscore 7 0 0 0 0\n",
+            ],
+        ),
+        (
+            "play live script",
+            "0 bid 8 ((1 50))\n0 quote 8\n1 bid 8 ((1 50))\n1 bid 8 ((1 51))\n1 quote 8\n",
+            &[
+                "0 @0 taken 0 0\n0 @1 quote 0 50 open\n1 @1 no belowquote 1 51 0\n1 @2 taken 0 0\n1 @3 quote 0 51 open\ntaclog 1\n",
+                "\nauction 8 4\n",
+                "\n8 close = sold 1 51\ntrade 1 8 1 51\n",
+            ],
+        ),
+        (
+            "worth account",
+            "",
+            &[
+                "worth 1150\ngood 0 1000 1150\ngood 1 0 0\n",
+                "\ngood 11 0 0\ngood 12 50 0\ngood 13 0 0\ngood 14 0 0\ngood 15 0 0\ngood 16 0 150\ngood 17 0 0\n",
+                "\ngood 27 0 0\nbase\ntotal 1150\n",
+                "\nmore 0\ntotal 2150\n",
+                "\nless 0\ntotal 0\n",
+                "\nend\nend\n",
+            ],
+        ),
+        (
+            "worth script",
+            NOTHING_HELD,
+            &[
+                "worth 0\ngood 0 0 0\n",
+                "\ngood 16 0 0\n",
+                "\ngood 27 0 0\nbase\ntotal 0\n",
             ],
         ),
         (
@@ -422,6 +469,7 @@ fn other_words_and_bad_files_are_refused(rt: HostRuntime) -> Result<(), Fail> {
         "hotel script script",
         "play script",
         "solve",
+        "worth",
         "upgrade",
         "make",
         "make 042",
@@ -452,6 +500,8 @@ fn other_words_and_bad_files_are_refused(rt: HostRuntime) -> Result<(), Fail> {
         ("hotel script", "close\n", 3, 3, "fault read\n"),
         ("solve script", "", 0, 8, "text 1 7\n"),
         ("solve script", "accounts\n", 0, 8, "text 1 1\n"),
+        ("worth script", "acount\n", 0, 8, "text 1 1\n"),
+        ("worth other", "", 0, 3, "fault read\n"),
         (
             "solve script",
             "# two words\naccount 1\n",
@@ -514,7 +564,7 @@ fn each_write_fails_in_its_place(rt: HostRuntime) -> Result<(), Fail> {
     for (line, most_at_once, count) in [
         ("hotel hotel", 1, 41),
         ("show game", 100, 9),
-        ("solve account", 10, 9),
+        ("solve account", 20, 9),
         ("play game script", 1_000_000, 9),
     ] {
         assert!(rt;

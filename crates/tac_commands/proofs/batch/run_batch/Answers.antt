@@ -18,6 +18,9 @@ returns-in-Make g c = rw c.in-Make.is (ends_alone (g.F.Files.content c.args.file
 pub returns-in-Solve : goal.returns-in-Solve
 returns-in-Solve g c = rw c.in-Solve.is c.solve_file.ensures
 
+pub returns-in-Worth : goal.returns-in-Worth
+returns-in-Worth g c = rw c.in-Worth.is c.worth_file.ensures
+
 pub returns-in-Play : goal.returns-in-Play
 returns-in-Play g c = rw c.in-Play.is c.play_files.ensures
 

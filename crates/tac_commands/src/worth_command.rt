@@ -1,0 +1,57 @@
+// The command that shows what one unit more and one unit less of each good would change.
+ghost use Rattle.std.specs.Prelude.{◌≡◌, ◌<◌, ◌≤◌, length, IfOk, IfSome};
+ghost use Rattle.tac_commands.specs.Allowed.{IsValued, Writes};
+ghost use Rattle.tac_commands.specs.Commands as commands;
+ghost use Rattle.tac_commands.specs.Ends.{Ends, EndsBatch};
+
+use crate::ends::End;
+use crate::reading::read_account_file;
+use crate::refusals::Refusal;
+use game_text::Account;
+use good_worth::{print_worths, worth};
+use std::alloc::Global;
+use tac_base::Memory;
+use tac_io::{Files, Sink, write_all};
+
+/// The text of the worths of an account.
+fn worths_text(alloc: Global, account: &Account) -> Result<Vec<u8>, Memory>
+    ensures { IfOk result (λ text. IsValued account.now text.items) }
+{
+    let Ok(worths) = worth(alloc, account) else {
+        return Err(Memory);
+    };
+    match print_worths(alloc, &worths) {
+        Ok(text) => Ok(text),
+        Err(_) => Err(Memory),
+    }
+}
+
+/// Writes the worths of an account.
+fn write_worths<K: Sink>(alloc: Global, account: &Account, out: &mut K) -> End
+    ensures { Ends (Writes (IsValued account.now)) (K.taken out.old) (K.taken out.new) (K.faults out.old) (K.faults out.new) result }
+{
+    let Ok(text) = worths_text(alloc, account) else {
+        return End::Refused(Refusal::Memory);
+    };
+    match write_all(out, text.as_slice()) {
+        Ok(()) => End::Done,
+        Err(_) => End::WriteFault,
+    }
+}
+
+/// Writes the worths of the account of the file of that name.
+pub(crate) fn worth_file<F: Files, K: Sink>(
+    alloc: Global,
+    name: &str,
+    files: &mut F,
+    out: &mut K,
+) -> End
+    requires { IfSome (F.names files.old) (λ names. (length names < 128) × (length name.now ≤ 1024)) }
+    ensures { EndsBatch (F.content files.old) (commands.Worth name.now) (F.names files.old) (F.names files.new) (F.faults files.old) (F.faults files.new)
+        (K.taken out.old) (K.taken out.new) (K.faults out.old) (K.faults out.new) result }
+{
+    match read_account_file(alloc, files, name) {
+        Ok(account) => write_worths(alloc, &account, out),
+        Err(refusal) => End::Refused(refusal),
+    }
+}
