@@ -1,8 +1,8 @@
 // How many calls the agents have made.
 ghost use Rattle.std.specs.Prelude.{◌≡◌, ℕ, ◌+◌, ◌<◌, ◌≤◌, ◌==◌, ◌&&◌, if◌then◌else◌, slice_index};
 ghost use Rattle.script_run.specs.CallCounts.{count_at};
-
 ghost use Rattle.tac_base.specs.declared.limits.TheConstants.{AGENT_CALLS};
+
 use tac_base::{Agent, Good};
 
 /// How many calls an agent has made in the auction of each good.

@@ -91,7 +91,11 @@ impl GameCounts {
     }
 
     /// Counts a line of an agent that has lines left and has not ended its session.
-    fn count_line(&mut self, agent: Agent, asked: &Result<Request, RequestFault>) -> Result<(), ScriptReason>
+    fn count_line(
+        &mut self,
+        agent: Agent,
+        asked: &Result<Request, RequestFault>,
+    ) -> Result<(), ScriptReason>
         ensures { (lines : List GameLine) → Counts lines self.old →
             MatchResult result
             (λ _. (scripts.limited lines (GameLine.Asks agent asked.now) ≡ Ok (GameLine.Asks agent asked.now)) × Counts (GameLine.Asks agent asked.now ∷ lines) self.new)

@@ -8,6 +8,7 @@ ghost use Rattle.script_run.specs.HotelRuns.{called};
 ghost use Rattle.script_run.specs.HotelScripts.{entry_text};
 ghost use Rattle.script_run.specs.Replies as replies;
 ghost use Rattle.game_log.specs.LogText as log;
+ghost use Rattle.tac_base.specs.declared.limits.TheConstants.{AUCTION_ENTRIES};
 
 use crate::ScriptFault;
 use crate::hotel_lines::HotelLine;
@@ -17,7 +18,6 @@ use auction_core::Auction;
 use game_log::trade_line;
 use game_text::Game;
 use std::alloc::{AllocError, Global};
-ghost use Rattle.tac_base.specs.declared.limits.TheConstants.{AUCTION_ENTRIES};
 use tac_base::{Good, Memory, Reply, Trade};
 use turn_lock::Kept;
 

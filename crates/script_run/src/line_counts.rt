@@ -21,7 +21,11 @@ pub(crate) struct LineCounts {
 fn most_lines(caller: Caller) -> u32
     ensures { result ≡ cap caller }
 {
-    if caller.get() == 8 { CLOCK_CALLS } else { AGENT_CALLS }
+    if caller.get() == 8 {
+        CLOCK_CALLS
+    } else {
+        AGENT_CALLS
+    }
 }
 
 impl LineCounts {

@@ -17,8 +17,8 @@ returns-in-Ok-clause-text g c =
     let taken = g.K.Sink.taken in
     let faults = g.K.Sink.faults in
     subst (λ (t : List ℕ). Writes t (taken c.args.sink.now) (taken c.write_cash.new.sink) (faults c.args.sink.now) (faults c.write_cash.new.sink) c.write_cash.result) (in_order game goods) (
-      writes_both _ _ (flat_map kept_text game.auctions) (cash_text game.cash) _ _ _ _ _ _ c.write_cash.result
-      auctions (ap (λ (game : ClosedGame). cash_text game.cash) c.closed.view_is) c.in-Ok.ensures.text c.write_cash.ensures.text
+    writes_both _ _ (flat_map kept_text game.auctions) (cash_text game.cash) _ _ _ _ _ _ c.write_cash.result
+    auctions (ap (λ (game : ClosedGame). cash_text game.cash) c.closed.view_is) c.in-Ok.ensures.text c.write_cash.ensures.text
     )
 
 pub returns-in-Err-clause-text : goal.returns-in-Err-clause-text
@@ -29,7 +29,7 @@ returns-in-Err-clause-text g c =
     let taken = g.K.Sink.taken in
     let faults = g.K.Sink.faults in
     subst (λ (t : List ℕ). Writes t (taken c.args.sink.now) (taken c.write_auctions.new.sink) (faults c.args.sink.now) (faults c.write_auctions.new.sink) (Err c.in-Err.failed)) (in_order game goods) (
-      fails_both _ (flat_map kept_text game.auctions) (cash_text game.cash) _ _ _ _ auctions c.in-Err.ensures.text
+    fails_both _ (flat_map kept_text game.auctions) (cash_text game.cash) _ _ _ _ auctions c.in-Err.ensures.text
     )
 
 pub returns-in-Ok-clause-known : goal.returns-in-Ok-clause-known
