@@ -96,7 +96,7 @@ asked_by word count auction points =
     else Err faults.Syntax
 
 abbrev pub asked_with : Option (List ℕ) → Members → Result Request RequestFault
-asked_with None members = Err faults.Syntax
+asked_with None _ = Err faults.Syntax
 asked_with (Some word) members = asked_by word (count_members members) (get_member (codes "auction") members) (get_member (codes "points") members)
 
 abbrev pub asked_by_object : Option Members → Result Request RequestFault
