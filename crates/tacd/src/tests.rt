@@ -104,9 +104,21 @@ fn run<R: Threads + Sync + Wait + Clock>(
     run_over(rt, alloc, line, files, Vec::new(alloc), &mut ticker, faults)
 }
 
-// Runs a line over three games, of which the second has a bad line 20 and the third one room of the first night and live quotes, an account
-// and a script. Fails where the code is another, the text does
-// not begin with the first of the parts, or lacks one of them, or the first is alone and not the whole text.
+// The line that plays the game with one room of the first night and live quotes.
+const LIVE: &str = "play live script";
+
+// The second game beside the plain one: that with live quotes for its line, and else one with a bad line 20.
+fn second_game(alloc: Global, line: &str) -> Result<String, Fail> {
+    if line == LIVE {
+        let nights = "rooms 1 16 16 16 16 16 16 16\nquotes live\n";
+        game_with(alloc, 2, nights, FIRST_CLIENT)
+    } else {
+        plain_game(alloc, "client 0 0 2 2 100 0 0 100\n")
+    }
+}
+
+// Runs a line over two games, an account and a script. Fails where the code is another, the text does not begin with the first of the parts,
+// or lacks one of them, or the first is alone and not the whole text.
 fn check<R: Threads + Sync + Wait + Clock>(
     rt: &R,
     alloc: Global,
@@ -117,17 +129,11 @@ fn check<R: Threads + Sync + Wait + Clock>(
     parts: &[&str],
 ) -> Result<(), Fail> {
     let game = plain_game(alloc, FIRST_CLIENT)?;
-    let bad = plain_game(alloc, "client 0 0 2 2 100 0 0 100\n")?;
-    let live = game_with(
-        alloc,
-        2,
-        "rooms 1 16 16 16 16 16 16 16\nquotes live\n",
-        FIRST_CLIENT,
-    )?;
+    let second = second_game(alloc, line)?;
+    let name = if line == LIVE { "live" } else { "bad" };
     let files = [
         ("game", game.as_bytes()),
-        ("bad", bad.as_bytes()),
-        ("live", live.as_bytes()),
+        (name, second.as_bytes()),
         ("account", ONE_SEAT),
         ("script", script.as_bytes()),
     ];
@@ -340,7 +346,7 @@ fn games_are_made_played_and_scored(rt: HostRuntime) -> Result<(), Fail> {
             ],
         ),
         (
-            "play live script",
+            LIVE,
             "0 bid 8 ((1 50))\n0 quote 8\n1 bid 8 ((1 50))\n1 bid 8 ((1 51))\n1 quote 8\n",
             &[
                 "0 @0 taken 0 0\n0 @1 quote 0 50 open\n1 @1 no belowquote 1 51 0\n1 @2 taken 0 0\n1 @3 quote 0 51 open\ntaclog 1\n",
@@ -449,12 +455,13 @@ fn games_are_shown_in_their_canonical_text(rt: HostRuntime) -> Result<(), Fail> 
         ("show script", game.as_str(), 0, game.as_str()),
         ("show script", commented.as_str(), 0, game.as_str()),
         ("show script", made, 0, made),
-        ("show script", second, 0, second),
-        ("upgrade script", second, 0, second),
         ("upgrade script", "", 2, "game 1 7\n"),
         ("show script", "", 2, "game 1 7\n"),
     ] {
         check(&rt, alloc, line, script, NO_FAULT, code, &[text])?;
+    }
+    for line in ["show script", "upgrade script"] {
+        check(&rt, alloc, line, second, NO_FAULT, 0, &[second])?;
     }
     Ok(())
 }
