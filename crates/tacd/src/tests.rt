@@ -104,8 +104,8 @@ fn run<R: Threads + Sync + Wait + Clock>(
     run_over(rt, alloc, line, files, Vec::new(alloc), &mut ticker, faults)
 }
 
-// The line that plays the game with one room of the first night and live quotes.
-const LIVE: &str = "play live script";
+// The line that plays the game with one room of the first night and live quotes; its second space tells it from that of the bad game.
+const LIVE: &str = "play second  script";
 
 // The second game beside the plain one: that with live quotes for its line, and else one with a bad line 20.
 fn second_game(alloc: Global, line: &str) -> Result<String, Fail> {
@@ -130,10 +130,10 @@ fn check<R: Threads + Sync + Wait + Clock>(
 ) -> Result<(), Fail> {
     let game = plain_game(alloc, FIRST_CLIENT)?;
     let second = second_game(alloc, line)?;
-    let name = if line == LIVE { "live" } else { "bad" };
+    let script = String::from_str(alloc, script)?;
     let files = [
         ("game", game.as_bytes()),
-        (name, second.as_bytes()),
+        ("second", second.as_bytes()),
         ("account", ONE_SEAT),
         ("script", script.as_bytes()),
     ];
@@ -495,10 +495,16 @@ fn other_words_and_bad_files_are_refused(rt: HostRuntime) -> Result<(), Fail> {
     }
     // A game is selected, read, and read at its end, before its script is selected; no script is selected where the game is refused.
     for (line, script, read, code, text) in [
-        ("show bad", "", 0, 2, "game 20 4\n"),
-        ("play bad script", "0 quit\n0 cash\n", 0, 2, "game 20 4\n"),
-        ("play bad script", "", 4, 2, "game 20 4\n"),
-        ("play bad script", "", 1, 3, "fault read\n"),
+        ("show second", "", 0, 2, "game 20 4\n"),
+        (
+            "play second script",
+            "0 quit\n0 cash\n",
+            0,
+            2,
+            "game 20 4\n",
+        ),
+        ("play second script", "", 4, 2, "game 20 4\n"),
+        ("play second script", "", 1, 3, "fault read\n"),
         ("play game script", "0 quit\n0 cash\n", 0, 8, "text 2 2\n"),
         ("play game script", "", 4, 3, "fault read\n"),
         ("hotel other", "", 0, 3, "fault read\n"),
