@@ -86,6 +86,3 @@ pub fn run_session<R: Wait + Clock, L: Link, D: Dialect>(
         cause: Cause::Budget,
     }
 }
-
-#[cfg(test)]
-mod tests;

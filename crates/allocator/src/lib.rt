@@ -7,8 +7,6 @@ mod scarcity;
 mod searching;
 mod solving;
 mod splits;
-#[cfg(test)]
-mod tests;
 
 pub use printing::{append_solved, print_solved};
 pub use solving::{Solved, solve};

@@ -17,6 +17,3 @@ pub use auction::Auction;
 pub use closed::Closed;
 pub use entries::{Happened, Struck};
 pub use terms::Terms;
-
-#[cfg(test)]
-mod tests;

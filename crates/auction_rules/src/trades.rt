@@ -27,26 +27,3 @@ pub fn sold(trades: &[Trade], number: u8) -> u32
         .map(|trade| u32::from(trade.units))
         .sum()
 }
-
-#[cfg(test)]
-mod tests {
-    use super::*;
-    use std::test::Fail;
-    use tac_base::{Good, Party};
-
-    #[test]
-    fn units_are_counted_for_buyer_and_seller(rt: HostRuntime) -> Result<(), Fail> {
-        let trade = |buyer, units| Trade {
-            buyer,
-            seller: Party::house(),
-            good: Good::default(),
-            units,
-            price: 300,
-        };
-        let trades = [trade(Party::new(1)?, 2), trade(Party::new(0)?, 4)];
-        assert_eq!(rt; bought(&trades, 1), 2);
-        assert_eq!(rt; sold(&trades, 1), 0);
-        assert_eq!(rt; sold(&trades, 8), 6);
-        Ok(())
-    }
-}

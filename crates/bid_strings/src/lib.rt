@@ -3,8 +3,6 @@
 
 mod printing;
 mod reading;
-#[cfg(test)]
-mod tests;
 
 pub use printing::print_points;
 pub use reading::{one_spelling, read_points};

@@ -6,8 +6,6 @@ mod faults;
 mod node_lines;
 mod printing;
 mod reading;
-#[cfg(test)]
-mod tests;
 mod trees;
 mod ways;
 

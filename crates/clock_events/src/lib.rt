@@ -4,8 +4,6 @@
 mod calls;
 mod clock;
 mod laws;
-#[cfg(test)]
-mod tests;
 
 pub use calls::schedule;
 pub use clock::{ClockEnd, clock_tick, run_clock};

@@ -8,8 +8,6 @@ mod endowments;
 mod flights;
 mod games;
 mod scripts;
-#[cfg(test)]
-mod tests;
 
 pub use games::make_game;
 pub use scripts::make_script;

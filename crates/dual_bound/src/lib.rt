@@ -12,8 +12,6 @@ mod rounding;
 mod settling;
 mod shares;
 mod tableau;
-#[cfg(test)]
-mod tests;
 mod worths;
 
 pub use allocations::{is_enough, is_used_up, worth};

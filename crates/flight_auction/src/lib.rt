@@ -7,6 +7,3 @@ mod sales;
 
 pub use book::Flight;
 pub use prices::next_price;
-
-#[cfg(test)]
-mod tests;

@@ -14,6 +14,3 @@ mod sharing;
 pub use desk::Desk;
 pub use floor::Floor;
 pub use outcomes::{CashOutcome, Outcome};
-
-#[cfg(test)]
-mod tests;

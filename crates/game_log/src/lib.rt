@@ -16,8 +16,3 @@ pub use log_text::{one_game, one_log, one_sheet, print_score, trade_line};
 pub use play_part::write_play_part;
 pub use scores_part::{score_game, write_scores};
 pub use sheet_part::write_sheet_part;
-
-#[cfg(test)]
-mod sheet_tests;
-#[cfg(test)]
-mod tests;

@@ -10,6 +10,3 @@ mod seating;
 mod stage;
 
 pub use run::{GameEnd, RunFault, run_game};
-
-#[cfg(test)]
-mod tests;

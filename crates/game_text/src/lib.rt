@@ -16,8 +16,6 @@ mod numbers;
 mod printing;
 mod quiet;
 mod seat_words;
-#[cfg(test)]
-mod tests;
 
 pub use accounts::{Account, read_account};
 pub use agent_lines::print_agent_line;

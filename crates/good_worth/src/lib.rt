@@ -3,8 +3,6 @@
 
 mod changes;
 mod printing;
-#[cfg(test)]
-mod tests;
 mod worths;
 
 pub use printing::print_worths;

@@ -8,6 +8,3 @@ mod quotes;
 mod ranking;
 
 pub use book::Hotel;
-
-#[cfg(test)]
-mod tests;

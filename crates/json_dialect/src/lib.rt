@@ -5,8 +5,6 @@
 mod dialect;
 mod printing;
 mod reading;
-#[cfg(test)]
-mod tests;
 
 pub use dialect::JsonDialect;
 pub use printing::one_json_text;

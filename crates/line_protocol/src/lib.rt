@@ -8,8 +8,6 @@ mod printing;
 mod reading;
 mod requests;
 mod saying;
-#[cfg(test)]
-mod tests;
 
 pub use admission::{Cause, Verdict};
 pub use asking::{Request, RequestFault};

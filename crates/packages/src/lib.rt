@@ -7,8 +7,6 @@ mod features;
 mod goods_used;
 mod listing;
 mod prices;
-#[cfg(test)]
-mod tests;
 mod travel_packages;
 mod utilities;
 

@@ -9,6 +9,3 @@ mod settling;
 pub use joining::sheet;
 pub use scores::{AgentScore, Sheet};
 pub use settling::{Accounts, settle};
-
-#[cfg(test)]
-mod tests;

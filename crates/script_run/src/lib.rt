@@ -22,6 +22,3 @@ pub use hotel_lines::HotelLine;
 pub use hotel_script::run_hotel_script;
 pub use play_count::PlayCount;
 pub use playing::{play, play_quiet};
-
-#[cfg(test)]
-mod game_tests;

@@ -10,8 +10,6 @@ mod memory;
 mod numbers;
 mod numerals;
 mod same;
-#[cfg(test)]
-mod tests;
 mod text;
 mod units;
 

@@ -43,6 +43,3 @@ pub use reading::{FileFault, read_file};
 pub use sink::Sink;
 pub use ticker::Ticker;
 pub use writing::write_all;
-
-#[cfg(test)]
-mod tests;

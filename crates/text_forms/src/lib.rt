@@ -5,8 +5,6 @@ mod lines;
 mod printing;
 mod rows;
 mod steps;
-#[cfg(test)]
-mod tests;
 mod words;
 
 pub use lines::{BadLine, Ending, Lines, NumberedLine, Reason, at_line};

@@ -9,6 +9,3 @@ mod remains;
 mod standing;
 
 pub use book::Tickets;
-
-#[cfg(test)]
-mod tests;

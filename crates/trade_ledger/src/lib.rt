@@ -4,8 +4,6 @@
 mod cash_book;
 mod cash_calls;
 mod good_book;
-#[cfg(test)]
-mod tests;
 
 pub use cash_book::CashBook;
 pub use cash_calls::{CashCall, CashEntry, CashReply};

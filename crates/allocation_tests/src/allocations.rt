@@ -1,0 +1,66 @@
+// Whole searches, and their text.
+use allocator::{print_solved, solve};
+use bound_cert::check;
+use game_text::{Account, read_account};
+use std::alloc::Global;
+use std::test::Fail;
+
+/// Clients that want days 1 to 2, and two of them the ticket for alligator wrestling.
+const WRESTLING_FANS: &str = "client 0 1 2 50 100 0 0\nclient 1 1 2 50 150 0 0\n\
+    client 2 1 2 50 0 0 0\nclient 3 1 2 50 0 0 0\nclient 4 1 2 50 0 0 0\n\
+    client 5 1 2 50 0 0 0\nclient 6 1 2 50 0 0 0\nclient 7 1 2 50 0 0 0\n";
+
+/// Clients for whom many packages gain the same, so that the relaxation has many steps that gain nothing.
+const EQUAL_GAINS: &str = "client 0 1 5 55 112 155 170\nclient 1 3 5 140 104 90 79\n\
+    client 2 1 5 55 145 80 83\nclient 3 3 4 112 35 161 161\nclient 4 2 4 147 26 150 180\n\
+    client 5 4 5 108 101 186 72\nclient 6 4 5 122 61 65 163\nclient 7 1 4 95 83 135 7\n";
+
+/// Clients whose dual prices are halves of dollars.
+const HALF_DOLLARS: &str = "client 0 4 5 67 200 100 200\nclient 1 4 5 67 200 100 200\n\
+    client 2 4 5 67 200 100 200\nclient 3 4 5 148 200 100 200\nclient 4 4 5 56 200 100 200\n\
+    client 5 4 5 83 200 100 200\nclient 6 4 5 133 100 100 100\nclient 7 4 5 143 100 100 100\n";
+
+/// Holdings and clients, and what the best allocation is worth; an integer-program solver gives the totals of the last two.
+const ACCOUNTS: [(&str, &str, u32); 4] = [
+    (
+        "1 0 0 0 2 0 0 0 2 0 0 0 0 0 0 0 1 0 0 0 0 0 0 0 0 0 0 0",
+        WRESTLING_FANS,
+        1150,
+    ),
+    (
+        "8 8 8 8 8 8 8 8 8 8 8 8 8 8 8 8 8 8 8 8 8 8 8 8 8 8 8 8",
+        WRESTLING_FANS,
+        8650,
+    ),
+    (
+        "5 4 1 1 3 4 2 5 1 5 5 3 4 4 5 3 2 1 1 2 2 2 1 0 2 1 0 2",
+        EQUAL_GAINS,
+        10177,
+    ),
+    (
+        "3 5 5 3 5 4 5 2 2 3 4 5 5 3 4 4 5 4 5 4 4 2 4 3 3 2 5 4",
+        HALF_DOLLARS,
+        9241,
+    ),
+];
+
+/// The account of holdings and the lines of its clients.
+fn account(alloc: Global, hold: &str, clients: &str) -> Result<Account, Fail> {
+    let text = format!(in alloc; "account\nhold {hold}\n{clients}end\n")?;
+    Ok(read_account(text.as_bytes())?)
+}
+
+#[test]
+fn accounts_have_their_best_totals_and_print_them_first(rt: HostRuntime) -> Result<(), Fail> {
+    let alloc = rt.alloc();
+    for (hold, clients, total) in ACCOUNTS {
+        let account = account(alloc, hold, clients)?;
+        let solved = solve(alloc, &account)?;
+        assert_eq!(rt; solved.total, total);
+        assert!(rt; check(&account, total, &solved.cert));
+        let text = print_solved(alloc, &solved)?;
+        let first = format!(in alloc; "total {total}\npackage 0 ")?;
+        assert!(rt; text.starts_with(first.as_bytes()));
+    }
+    Ok(())
+}

@@ -1,0 +1,13 @@
+//! Tests of the public calls on packages, certificates, prices, best allocations and worths: worked rows, one after another.
+#![tactic(auto)]
+
+#[cfg(test)]
+mod allocations;
+#[cfg(test)]
+mod certificates;
+#[cfg(test)]
+mod prices;
+#[cfg(test)]
+mod trips;
+#[cfg(test)]
+mod worths;

@@ -1,0 +1,93 @@
+ghost use Rattle.auction_core.specs.Calls.{IsFit};
+
+use auction_core::{Auction, Struck};
+use game_text::Game;
+use std::process::Abort;
+use std::test::Fail;
+use tac_base::{Call, Caller, Good, Party, Point, Points, Reply};
+use turn_lock::Kept;
+
+/// One call of a short history.
+#[tactic(auto, using(crate::proofs::Counting::room_below))]
+fn strike(rt: &impl Abort, auction: &mut Auction, caller: u8, call: &Call) -> Result<Struck, Fail>
+    requires { IsFit call.now }
+{
+    let caller = Caller::new(caller)?;
+    let count = auction.len();
+    assert!(rt; count < 64);
+    Ok(auction.act(caller, call))
+}
+
+/// An agent's bid of one point.
+fn bid(
+    rt: &impl Abort,
+    auction: &mut Auction,
+    agent: u8,
+    units: i8,
+    price: u16,
+) -> Result<Struck, Fail> {
+    let points = Points::new(&[Point { units, price }])?;
+    strike(rt, auction, agent, &Call::Bid(points))
+}
+
+/// Agent 0 sells a ticket that it did not have to agent 1, who would buy one more.
+#[test]
+fn history_is_shown(rt: HostRuntime) -> Result<(), Fail> {
+    let mut museum = Auction::begin(rt.alloc(), Good::new(24)?, &Game::default())?;
+    assert!(rt;
+        matches!(
+            bid(&rt, &mut museum, 0, -1, 60)?.reply,
+            Reply::Taken { bought: 0, sold: 0 }
+        )
+    );
+    let struck = bid(&rt, &mut museum, 1, 2, 70)?;
+    assert!(rt; matches!(struck.reply, Reply::Taken { bought: 1, sold: 0 }));
+    assert_eq!(rt; struck.trades, 1);
+    assert_eq!(rt; struck.nets.dollars, [60, -60, 0, 0, 0, 0, 0, 0, 0]);
+
+    assert_eq!(rt; museum.holding(Party::default()), -1);
+    let count = museum.len();
+    assert!(rt; count == 2);
+    assert!(rt;
+        matches!(museum.trades_of(1), [trade] if trade.price == 60 && trade.good.get() == museum.good().get())
+    );
+    assert!(rt; museum.entry(1).is_some() && museum.entry(2).is_none());
+    assert_eq!(rt; museum.board().bid, 70);
+    Ok(())
+}
+
+/// A night of one room with live quotes: the second bid has to beat the first, and each shows its ask.
+#[test]
+fn night_has_the_rooms_and_quotes_of_its_game(rt: HostRuntime) -> Result<(), Fail> {
+    let game = Game {
+        version: 2,
+        rooms: [1, 16, 16, 16, 16, 16, 16, 16],
+        live: true,
+        ..Game::default()
+    };
+    let mut night = Auction::begin(rt.alloc(), Good::new(8)?, &game)?;
+    assert!(rt; matches!(bid(&rt, &mut night, 0, 1, 50)?.reply, Reply::Taken { .. }));
+    assert_eq!(rt; night.board().ask, 50);
+    assert!(rt;
+        matches!(
+            bid(&rt, &mut night, 1, 1, 50)?.reply,
+            Reply::BelowQuote {
+                need: 1,
+                at: 51,
+                offered: 0
+            }
+        )
+    );
+    assert!(rt; matches!(bid(&rt, &mut night, 1, 1, 51)?.reply, Reply::Taken { .. }));
+    let closing = strike(&rt, &mut night, 8, &Call::Close)?;
+    assert!(rt;
+        matches!(
+            closing.reply,
+            Reply::Sold {
+                units: 1,
+                price: 51
+            }
+        )
+    );
+    Ok(())
+}

@@ -1,0 +1,173 @@
+ghost use Rattle.std.specs.Prelude.{◌≡◌, ℕ, ◌+◌, ◌<◌, ◌≤◌, [], length, All, IfOk, slice_index};
+ghost use Rattle.std.specs.Thread.{IsSync};
+ghost use Rattle.turn_lock.specs.Passes.{lock_of, lock_id, caller_of, left_of, passes_of, returned_to};
+ghost use Rattle.trade_ledger.specs.CashHistory.{cash_cap};
+
+use trade_ledger::{CashBook, CashCall, CashReply};
+use std::alloc::{AllocError, Global};
+use std::sync::Wait;
+use std::test::Fail;
+use std::thread::{Threads, join};
+use std::time::Clock;
+use tac_base::{Agent, Good, Memory, Nets, Party};
+use turn_lock::{Pass, TurnLock};
+
+/// A lock at a new book, with one pass of agent 0 and one of agent 1.
+fn begin_two(
+    alloc: Global,
+    first: u32,
+    second: u32,
+) -> Result<(TurnLock<CashBook>, Pass<CashBook>, Pass<CashBook>), Memory>
+    requires { (first ≤ 29696) × (second ≤ 29696) }
+    ensures first { IfOk result (λ r. (lock_of r.1 ≡ lock_id r.0) × (caller_of r.1 ≡ 0) × (left_of r.1 ≡ first)) }
+    ensures second { IfOk result (λ r. (lock_of r.2 ≡ lock_id r.0) × (caller_of r.2 ≡ 1) × (left_of r.2 ≡ second)) }
+    ensures lock { IfOk result (λ r. (passes_of r.0 ≡ 2) × (returned_to r.0 ≡ [])) }
+{
+    let book = CashBook::begin(alloc)?;
+    let (lock, mut passes) = TurnLock::begin(alloc, book, &[first, second])?;
+    let second = passes.pop().unwrap();
+    let first = passes.pop().unwrap();
+    Ok((lock, first, second))
+}
+
+/// The pass makes all its calls: posts, numbered from 0.
+fn spend<R: Wait + Clock>(
+    rt: &R,
+    lock: &TurnLock<CashBook>,
+    mut pass: Pass<CashBook>,
+) -> Pass<CashBook>
+    requires { lock_of pass ≡ lock_id lock.now }
+    ensures { lock_of result ≡ lock_id lock.now }
+{
+    for position in 0..pass.left() {
+        let call = CashCall::Post {
+            good: Good::default(),
+            position,
+            nets: Nets {
+                dollars: [-1, 0, 0, 0, 0, 0, 0, 0, 1],
+            },
+        };
+        lock.call(rt, &mut pass, &call);
+    }
+    pass
+}
+
+/// Each pass makes its calls in a thread of its own: the last one beside all the others.
+fn spend_all<R: Threads + Wait + Clock + Sync>(
+    rt: &R,
+    lock: &TurnLock<CashBook>,
+    mut passes: Vec<Pass<CashBook>>,
+) -> Result<Vec<Pass<CashBook>>, AllocError>
+    requires { All (λ p. lock_of p ≡ lock_id lock.now) passes.items }
+    ensures own { IfOk result (λ all. All (λ p. lock_of p ≡ lock_id lock.now) all.items) }
+    ensures length { IfOk result (λ all. length all.items ≡ length passes.items) }
+{
+    let Some(pass) = passes.pop() else {
+        return Ok(passes);
+    };
+    let others = passes;
+    let (others, pass) = join(
+        rt,
+        || -> Result<Vec<Pass<CashBook>>, AllocError>
+            requires { IsSync R.row × All (λ p. lock_of p ≡ lock_id lock.now) others.items }
+            ensures { IfOk result (λ all. All (λ p. lock_of p ≡ lock_id lock.entry.now) all.items × (length all.items ≡ length others.items)) }
+        { spend_all(rt, lock, others) },
+        || spend(rt, lock, pass),
+    );
+    let mut all = others?;
+    all.push(pass)?;
+    Ok(all)
+}
+
+/// Takes all passes back.
+fn take_back(lock: &mut TurnLock<CashBook>, mut passes: Vec<Pass<CashBook>>)
+    requires { All (λ p. lock_of p ≡ lock_id lock.old) passes.items }
+    ensures passes { passes_of lock.new ≡ passes_of lock.old }
+    ensures returned { length (returned_to lock.new) ≡ length (returned_to lock.old) + length passes.items }
+{
+    while let Some(pass) = passes.pop() {
+        lock.take_back(pass);
+    }
+}
+
+/// The book after callers made so many posts each, all at once.
+fn posted<R: Threads + Wait + Clock + Sync>(
+    rt: &R,
+    alloc: Global,
+    limits: &[u32],
+) -> Result<CashBook, Memory>
+    requires limits { (1 ≤ length limits.now) × (length limits.now ≤ 9) }
+    requires caps { (i : ℕ) → i < length limits.now → slice_index limits.now i ≤ cash_cap i }
+{
+    let book = CashBook::begin(alloc)?;
+    let (mut lock, passes) = TurnLock::begin(alloc, book, limits)?;
+    let passes = spend_all(rt, &lock, passes)?;
+    take_back(&mut lock, passes);
+    Ok(lock.close())
+}
+
+/// How many posts a caller has, if they are numbered from 0 in their order.
+fn posts_of(book: &CashBook, caller: u8) -> Option<u32> {
+    let mut count = 0u32;
+    for position in 0..2001 {
+        let Some(entry) = book.entry(position) else {
+            break;
+        };
+        if entry.caller.get() == caller {
+            let CashCall::Post { position, .. } = entry.call else {
+                return None;
+            };
+            if position != count || entry.reply != CashReply::Done {
+                return None;
+            }
+            count += 1;
+        }
+    }
+    Some(count)
+}
+
+#[test]
+fn callers_take_turns_at_the_cash_book(rt: HostRuntime) -> Result<(), Fail> {
+    let (mut lock, mut first, mut second) = begin_two(rt.alloc(), 2, 1)?;
+    let call = CashCall::Post {
+        good: Good::default(),
+        position: 0,
+        nets: Nets {
+            dollars: [-300, 0, 0, 0, 0, 0, 0, 0, 300],
+        },
+    };
+    let answer = lock.call(&rt, &mut first, &call);
+    assert_eq!(rt; answer, (0, CashReply::Done));
+
+    let board = lock.peek(&mut second);
+    assert!(rt; board.count == 1 && board.bid == 0 && board.ask == 0 && !board.closed);
+    let agent = Agent::new(1)?;
+    let answer = lock.call(&rt, &mut second, &CashCall::Read { agent });
+    assert_eq!(rt; answer, (1, CashReply::Cash(0)));
+    let agent = Agent::new(0)?;
+    let answer = lock.call(&rt, &mut first, &CashCall::Read { agent });
+    assert_eq!(rt; answer, (2, CashReply::Cash(-300)));
+    assert!(rt; first.left() == 0 && second.left() == 0);
+    assert_eq!(rt; second.caller().get(), 1);
+
+    lock.take_back(first);
+    lock.take_back(second);
+    let book = lock.close();
+    assert_eq!(rt; book.total(Party::house()), 300);
+    assert!(rt; book.entry(3).is_none());
+    Ok(())
+}
+
+#[test]
+fn callers_post_at_once(rt: HostRuntime) -> Result<(), Fail> {
+    let two = posted(&rt, rt.alloc(), &[1000, 1000])?;
+    assert_eq!(rt; posts_of(&two, 0), Some(1000));
+    assert_eq!(rt; posts_of(&two, 1), Some(1000));
+    assert_eq!(rt; two.total(Party::house()), 2000);
+    let nine = posted(&rt, rt.alloc(), &[100; 9])?;
+    for caller in 0..9 {
+        assert_eq!(rt; posts_of(&nine, caller), Some(100), "caller {caller}");
+    }
+    assert_eq!(rt; nine.total(Party::house()), 900);
+    Ok(())
+}

@@ -1,0 +1,113 @@
+ghost use Rattle.std.specs.Prelude.{◌≡◌, [], IfOk, replicate};
+ghost use Rattle.floor.specs.Desks.{cash_of, desk_caller, desk_ids, entries_of};
+ghost use Rattle.floor.specs.Floors.{floor_ids};
+
+use clock_events::run_clock;
+use floor::{Desk, Floor};
+use game_text::Game;
+use std::alloc::Global;
+use std::rt::Clock;
+use std::sync::Wait;
+use std::test::Fail;
+use tac_base::{Good, Tick};
+use tac_io::{MemTicker, Ticker};
+
+/// A floor of a game, with the desks of an agent and of the clock.
+fn begin_two(alloc: Global, game: &Game) -> Result<(Floor, Desk, Desk), Fail>
+    ensures agent { IfOk result (λ r. desk_ids r.1 ≡ floor_ids r.0) }
+    ensures clock { IfOk result (λ r. (desk_ids r.2 ≡ floor_ids r.0) × (desk_caller r.2 ≡ 8)) }
+    ensures no_calls { IfOk result (λ r. (entries_of r.2 ≡ replicate 28 []) × (cash_of r.2 ≡ [])) }
+{
+    let (floor, mut desks) = Floor::begin(alloc, game)?;
+    let clock = desks.pop().ok_or("there are nine desks")?;
+    let agent = desks.pop().ok_or("there are nine desks")?;
+    Ok((floor, agent, clock))
+}
+
+/// How many entries the agent sees at the goods 0, 8, 15 and 16.
+fn seen_counts(floor: &Floor, agent: &mut Desk) -> Result<[u32; 4], Fail>
+    requires { desk_ids agent.old ≡ floor_ids floor.now }
+{
+    let first_flight = agent.quote(floor, Good::new(0)?).count;
+    let first_hotel = agent.quote(floor, Good::new(8)?).count;
+    let last_hotel = agent.quote(floor, Good::new(15)?).count;
+    let first_tickets = agent.quote(floor, Good::new(16)?).count;
+    Ok([first_flight, first_hotel, last_hotel, first_tickets])
+}
+
+/// The ticks that a clock missed in the quiet game, and the entries that an agent sees after it, where these waits lapse.
+fn played<R: Wait + Clock>(rt: &R, alloc: Global, lapsing: &[u64]) -> Result<(u8, [u32; 4]), Fail> {
+    let game = Game::default();
+    let (floor, mut agent, clock) = begin_two(alloc, &game)?;
+    let mut ticker = MemTicker::new(alloc, Vec::from_slice(alloc, lapsing)?)?;
+    let end = run_clock(rt, &floor, clock, &game, &mut ticker);
+    Ok((end.missed, seen_counts(&floor, &mut agent)?))
+}
+
+#[test]
+fn clock_makes_the_calls_of_lapsed_ticks_too(rt: HostRuntime) -> Result<(), Fail> {
+    assert_eq!(rt; played(&rt, rt.alloc(), &[])?, (0, [54, 1, 8, 1]));
+    assert_eq!(rt; played(&rt, rt.alloc(), &[20])?, (1, [54, 1, 8, 1]));
+    Ok(())
+}
+
+/// A ticker that looks on: a tick lapses unless the first flight has an entry for each tick before it.
+#[derive(Drop)]
+struct LookingTicker<'a> {
+    floor: &'a Floor,
+    desk: Desk,
+    lapses: u64,
+    ghost own: { desk_ids desk ≡ floor_ids floor.now },
+}
+
+impl Ticker for LookingTicker<'_> {
+    ghost use Rattle.std.specs.Prelude.{None};
+
+    type Due = Tick;
+
+    type Lapse = Tick;
+
+    ghost due_tick = { λ due. due };
+
+    ghost lapse_tick = { λ lapse. lapse };
+
+    ghost paced = { λ _. None };
+
+    ghost waited = { λ _. None };
+
+    ghost faults = { λ s. s.lapses };
+
+    fn pace(&mut self, _milliseconds: u16) {}
+
+    fn wait<R: Wait + Clock>(&mut self, _rt: &R, tick: Tick) -> Result<Tick, Tick> {
+        let board = self.desk.quote(self.floor, Good::default());
+        if board.count == u32::from(tick.get() - 1) {
+            return Ok(tick);
+        }
+        self.lapses = self.lapses.saturating_add(1);
+        Err(tick)
+    }
+
+    fn late(&mut self, lapse: Tick) -> Tick {
+        lapse
+    }
+
+    fn faults(&self) -> u64 {
+        self.lapses
+    }
+}
+
+#[test]
+fn clock_waits_tick_by_tick(rt: HostRuntime) -> Result<(), Fail> {
+    let game = Game::default();
+    let (floor, agent, clock) = begin_two(rt.alloc(), &game)?;
+    let mut ticker = LookingTicker {
+        floor: &floor,
+        desk: agent,
+        lapses: 0,
+    };
+    let end = run_clock(&rt, &floor, clock, &game, &mut ticker);
+    assert_eq!(rt; end.missed, 0);
+    assert_eq!(rt; ticker.faults(), 0);
+    Ok(())
+}
