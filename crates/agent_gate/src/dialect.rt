@@ -1,5 +1,6 @@
 // How an agent's lines are read and what it is told is printed.
 ghost use Rattle.std.specs.Prelude.{◌+◌, ◌≤◌, ◌≡◌, ◌++◌, ℕ, List, Result, length};
+ghost use Rattle.tac_base.specs.declared.limits.TheConstants.{LINE_BYTES, REPLY_TEXT};
 ghost use Rattle.line_protocol.specs.Replies.{IsOneLine};
 ghost use Rattle.line_protocol.specs.declared.asking.Request.{Request};
 ghost use Rattle.line_protocol.specs.declared.asking.RequestFault.{RequestFault};
@@ -22,9 +23,9 @@ pub trait Dialect {
 
     /// Appends the line that tells something, at most 512 bytes, without its end.
     fn print(&self, said: &Said, out: &mut Text)
-        requires { length out.old + 512 ≤ 640 }
+        requires { length out.old + LINE_BYTES ≤ REPLY_TEXT }
         ensures text { out.new ≡ out.old ++ text self.now said.now }
-        ensures len { length (text self.now said.now) ≤ 512 }
+        ensures len { length (text self.now said.now) ≤ LINE_BYTES }
         ensures one_line { IsOneLine (text self.now said.now) };
 }
 

@@ -1,7 +1,7 @@
 // The search for the best allocation, which leaves a certificate behind it.
 ghost use Rattle.std.specs.Prelude.{◌≡◌, ℕ, ◌+◌, ◌-◌, ◌<◌, ◌≤◌, ◌⊎◌, true, length, IfOk};
 ghost use Rattle.std.specs.List.{All};
-ghost use Rattle.tac_base.specs.declared.limits.TheConstants.{CERTIFICATE_DEPTH};
+ghost use Rattle.tac_base.specs.declared.limits.TheConstants.{CERTIFICATE_DEPTH, BEST_TOTAL};
 ghost use Rattle.packages.specs.Packages.{IsPackage};
 ghost use Rattle.packages.specs.Bounds.{leaf_bound, stock_value};
 ghost use Rattle.packages.specs.BestTotal.{total_of, used_by};
@@ -47,7 +47,7 @@ fn offer(account: &Account, chosen: &[Package; 8], best: &mut Found)
 
     // It is worth no more than the best, or it uses too much of some good.
     ensures settled { (total_of account.now.clients chosen.now ≤ best.new.total) ⊎ ((good : ℕ) × (good < 28) × (stock_of account.now.holdings good < used_by chosen.now good)) }
-    ensures few { total_of account.now.clients chosen.now ≤ 14000 }
+    ensures few { total_of account.now.clients chosen.now ≤ BEST_TOTAL }
 {
     let total = worth(account, chosen);
     if total > best.total && is_enough(account, chosen) {

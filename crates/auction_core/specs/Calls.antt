@@ -1,5 +1,6 @@
 -- Which calls may be made of an auction.
 use Rattle.std.specs.Prelude.{⊤, ◌≤◌}
+use Rattle.tac_base.specs.declared.limits.TheConstants.{UPDATE_TICKS}
 use Rattle.tac_base.specs.declared.calls.Call.{Call}
 use Rattle.tac_base.specs.declared.calls.Call.TheVariants.{Bid, Withdraw, Own, Update, Publish, Close}
 
@@ -8,6 +9,6 @@ abbrev pub IsFit : Call → Type 0
 IsFit (Bid points) = ⊤
 IsFit Withdraw = ⊤
 IsFit Own = ⊤
-IsFit (Update tick draw) = tick ≤ 53
+IsFit (Update tick draw) = tick ≤ UPDATE_TICKS
 IsFit Publish = ⊤
 IsFit Close = ⊤

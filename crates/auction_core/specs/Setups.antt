@@ -1,5 +1,6 @@
 -- What a game says of an auction.
 use Rattle.std.specs.Prelude.{ℕ, ◌-◌, ◌≤◌, ⊤, List, ℤ, pos, negsuc, ◌≤ℤ◌, map, replicate, slice_index_or}
+use Rattle.tac_base.specs.declared.limits.TheConstants.{NIGHT_ROOMS}
 use Rattle.tac_base.specs.declared.numbers.Kind.{Kind}
 use Rattle.tac_base.specs.declared.numbers.Kind.TheVariants.{Flight, Hotel, Ticket}
 use Rattle.tac_base.specs.Kinds.{kind_of}
@@ -43,7 +44,7 @@ kind_by TicketRules = Ticket
 -- rules that a game may have: a flight begins at 250..400 and has a bound of -10..30, and a hotel night has 1..64 rooms
 abbrev pub AreInRange : Rules → Type 0
 AreInRange (FlightRules first bound) = (250 ≤ first) × (first ≤ 400) × (negsuc 9 ≤ℤ bound) × (bound ≤ℤ pos 30)
-AreInRange (HotelRules rooms live) = (1 ≤ rooms) × (rooms ≤ 64)
+AreInRange (HotelRules rooms live) = (1 ≤ rooms) × (rooms ≤ NIGHT_ROOMS)
 AreInRange TicketRules = ⊤
 
 -- no agent has more than 16 units at first

@@ -3,6 +3,7 @@
 use Rattle.std.specs.Prelude.{ℕ, zero, suc, ◌+◌, ◌%◌, ◌==◌, min, max, Bool, true, false, not, ◌&&◌, nat_lt, nat_le, if◌then◌else◌, List, [], ◌∷◌, ◌++◌, ℤ, pos, negsuc, neg_ℤ, ◌+ℤ◌, ◌-ℤ◌, ◌*ℤ◌, int_lt, unsigned_abs, filter}
 use Rattle.std.specs.Int.{int_div_euclid}
 use Rattle.std.specs.List.{flat_map}
+use Rattle.tac_base.specs.declared.limits.TheConstants.{TICKS}
 use Rattle.tac_base.specs.declared.bids.Point.{Point}
 use Rattle.tac_base.specs.declared.calls.Trade.{Trade}
 use Rattle.tac_base.specs.declared.calls.Call.{Call}
@@ -16,7 +17,7 @@ use Rattle.auction_rules.specs.History.{Entry, is_admission}
 
 -- how far the price is led at a tick: 10 and the floor of t * (bound - 10) / 54, since the divisor is positive
 abbrev pub drift : ℤ → ℕ → ℤ
-drift bound tick = pos 10 +ℤ int_div_euclid (pos tick *ℤ (bound -ℤ pos 10)) (pos 54)
+drift bound tick = pos 10 +ℤ int_div_euclid (pos tick *ℤ (bound -ℤ pos 10)) (pos TICKS)
 
 -- the interval's ends: from -10 to a positive drift, from a negative one to 10, and else from -10 to 10
 abbrev pub low_end : ℤ → ℤ

@@ -1,5 +1,6 @@
 -- What the calls of a tick are, whatever the game.
 use Rattle.std.specs.Prelude.{◌≡◌, ◌≤◌, ◌==◌, ℕ, count_by}
+use Rattle.tac_base.specs.declared.limits.TheConstants.{UPDATE_TICKS}
 use Rattle.tac_base.specs.declared.calls.Call.{Call}
 use Rattle.tac_base.specs.declared.calls.Call.TheVariants.{Bid, Withdraw, Own, Update, Publish, Close}
 use Rattle.game_text.specs.Games.{GameFile}
@@ -11,7 +12,7 @@ calls_of game tick good = count_by (λ call. call.0 == good) (calls_at game tick
 
 -- a call that the clock makes of a good at a tick: an update of a flight at its tick, a publication of a hotel, or a closing
 abbrev pub IsFor : ℕ → ℕ → Call → Type 0
-IsFor tick good (Update when draw) = (when ≡ tick) × (tick ≤ 53) × (good ≤ 7)
+IsFor tick good (Update when draw) = (when ≡ tick) × (tick ≤ UPDATE_TICKS) × (good ≤ 7)
 IsFor tick good Publish = (8 ≤ good) × (good ≤ 15)
 IsFor tick good Close = good ≤ 27
 IsFor tick good (Bid points) = ⊥

@@ -1,6 +1,7 @@
 // What eight packages use and are worth together.
 ghost use Rattle.std.specs.Prelude.{◌≡◌, ℕ, ◌<◌, ◌≤◌, false, nat_le, length, IsTrue};
 ghost use Rattle.std.specs.List.{All};
+ghost use Rattle.tac_base.specs.declared.limits.TheConstants.{BEST_TOTAL};
 ghost use Rattle.packages.specs.BestTotal.{total_of, used_by};
 ghost use Rattle.packages.specs.Packages.{IsPackage};
 ghost use Rattle.packages.specs.Stocks.{stock_of};
@@ -59,7 +60,7 @@ pub fn worth(account: &Account, allocation: &[Package; 8]) -> u32
     requires lawful { All IsPackage allocation.now }
     requires eight { length allocation.now ≡ 8 }
     ensures value { result ≡ total_of account.now.clients allocation.now }
-    ensures few { result ≤ 14000 }
+    ensures few { result ≤ BEST_TOTAL }
 {
     let mut total = 0;
     for number in 0..8 {

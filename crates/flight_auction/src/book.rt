@@ -15,7 +15,7 @@ use crate::sales::{StandingPoint, forget, has_points, place, points_of, sell};
 use arrayvec::ArrayVec;
 use auction_rules::{Rules, bought, sells, wrong_reply};
 use std::marker::Model;
-use tac_base::limits::BID_UNITS;
+use tac_base::limits::{BID_UNITS, STANDING_UNITS, UPDATE_TICKS};
 use tac_base::{Agent, Board, Call, Caller, Fills, Good, Kind, Left, Points, Reply, Tick};
 
 /// The auction of a flight. By the game description the house sells any number of seats at a price, in
@@ -28,7 +28,7 @@ pub struct Flight {
     good: Good,
     bound: i8,
     price: u16,
-    standing: ArrayVec<StandingPoint, 128>,
+    standing: ArrayVec<StandingPoint, STANDING_UNITS>,
     closed: bool,
 }
 
@@ -133,7 +133,7 @@ impl Flight {
     /// above are sold: `fills` then holds the trades. It is refused in a closed flight, and changes
     /// nothing there.
     pub fn update(&mut self, at: u32, tick: Tick, draw: u32, fills: &mut Fills) -> Reply
-        requires { tick ≤ 53 }
+        requires { tick ≤ UPDATE_TICKS }
         ensures follows { (setup : Setup) (past : List Entry) → StandsFor self.old setup past → at ≡ length past →
             Follows setup past 8 (Call.Update tick draw) result fills.new (StandsFor self.new setup) }
         ensures paid { All (IsPaid self.old.standing) fills.new }

@@ -1,6 +1,7 @@
 ghost use Rattle.std.specs.Prelude.{◌≡◌, ◌≤◌, ◌+◌, pos, negsuc, ◌≤ℤ◌, unsigned_abs};
 ghost use Rattle.auction_rules.specs.FlightRule as rule;
 
+use tac_base::limits::{TICKS, UPDATE_TICKS};
 use tac_base::Tick;
 
 /// Flights are sold at 150 dollars at least.
@@ -17,7 +18,7 @@ fn drift(bound: i8, tick: Tick) -> i32
     ensures from { negsuc 9 ≤ℤ result }
     ensures to { result ≤ℤ pos 30 }
 {
-    10 + (i32::from(tick.get()) * (i32::from(bound) - 10)).div_euclid(54)
+    10 + (i32::from(tick.get()) * (i32::from(bound) - 10)).div_euclid(i32::from(TICKS))
 }
 
 /// The least change where the drift is `x`.
@@ -64,7 +65,7 @@ pub fn next_price(price: u16, bound: i8, tick: Tick, draw: u32) -> u16
     requires price_to { price ≤ 800 }
     requires bound_from { negsuc 9 ≤ℤ bound }
     requires bound_to { bound ≤ℤ pos 30 }
-    requires before_closing { tick ≤ 53 }
+    requires before_closing { tick ≤ UPDATE_TICKS }
     ensures value { result ≡ rule.next_price price bound tick draw }
     ensures from { 150 ≤ result }
     ensures to { result ≤ 800 }

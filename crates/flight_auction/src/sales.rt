@@ -3,6 +3,7 @@ ghost use Rattle.std.specs.List.{list_any};
 ghost use Rattle.flight_auction.specs.Book as spec;
 
 use arrayvec::ArrayVec;
+use tac_base::limits::{ENTRY_TRADES, STANDING_UNITS};
 use tac_base::{Agent, Fills, Good, Party, Point, Trade};
 
 /// A point of an agent's bid that stands.
@@ -47,15 +48,15 @@ pub(crate) fn has_points(standing: &[StandingPoint], number: u8) -> bool
 }
 
 /// Takes the points of the agent away that has the number.
-pub(crate) fn forget(standing: &mut ArrayVec<StandingPoint, 128>, number: u8)
+pub(crate) fn forget(standing: &mut ArrayVec<StandingPoint, STANDING_UNITS>, number: u8)
     ensures { standing.new.items ≡ spec.others_than number standing.old.items }
 {
     standing.retain(|one| !is_of(one, number));
 }
 
 /// Appends the points of an agent.
-pub(crate) fn place(standing: &mut ArrayVec<StandingPoint, 128>, agent: Agent, points: &[Point])
-    requires { length standing.old.items + length points.now ≤ 128 }
+pub(crate) fn place(standing: &mut ArrayVec<StandingPoint, STANDING_UNITS>, agent: Agent, points: &[Point])
+    requires { length standing.old.items + length points.now ≤ STANDING_UNITS }
     ensures { standing.new.items ≡ standing.old.items ++ spec.owned_by agent points.now }
 {
     for point in points {
@@ -82,7 +83,7 @@ pub(crate) fn points_of(standing: &[StandingPoint], number: u8) -> ArrayVec<Poin
 
 /// Appends the sale of the point, if the price reaches it.
 fn push_sale(fills: &mut Fills, good: Good, price: u16, standing: &StandingPoint)
-    requires { length fills.old < 128 }
+    requires { length fills.old < ENTRY_TRADES }
     ensures trades { fills.new ≡ fills.old ++ spec.sales good price (standing.now ∷ []) }
     ensures few { length fills.new ≤ length fills.old + 1 }
 {
@@ -94,7 +95,7 @@ fn push_sale(fills: &mut Fills, good: Good, price: u16, standing: &StandingPoint
 /// Sells each point that the price reaches: the trades, in the order of the points, stand in place
 /// of those that stood in `fills`, and the points are taken away.
 pub(crate) fn sell(
-    standing: &mut ArrayVec<StandingPoint, 128>,
+    standing: &mut ArrayVec<StandingPoint, STANDING_UNITS>,
     good: Good,
     price: u16,
     fills: &mut Fills,

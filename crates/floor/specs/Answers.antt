@@ -1,6 +1,6 @@
 -- What each call of a desk answers and adds.
 use Rattle.std.specs.Prelude.{⊤, ◌≡◌, ℕ, ◌+◌, ◌<◌, ◌≤◌, List, [], ◌∷◌, ◌++◌, length, reverse, slice_set, Some, None}
-use Rattle.tac_base.specs.declared.limits.TheConstants.{AGENT_CALLS, CASH_READINGS}
+use Rattle.tac_base.specs.declared.limits.TheConstants.{AGENT_CALLS, CASH_READINGS, UPDATE_TICKS}
 use Rattle.tac_base.specs.declared.calls.Call.{Call}
 use Rattle.tac_base.specs.declared.calls.Call.TheVariants.{Bid, Update, Publish, Close}
 use Rattle.tac_base.specs.declared.bids.Points.{Points}
@@ -87,7 +87,7 @@ pub record IsSeen (before after : Desk) (good : ℕ) (board : Board) : Type 0 wh
 
 -- the calls of the clock: an update of one of the ticks 1..53, a publication and a closing
 abbrev pub IsClockCall : Call → Type 0
-IsClockCall (Update tick draw) = tick ≤ 53
+IsClockCall (Update tick draw) = tick ≤ UPDATE_TICKS
 IsClockCall Publish = ⊤
 IsClockCall Close = ⊤
 IsClockCall call = ⊥

@@ -1,5 +1,6 @@
 -- The line of a flight.
 use Rattle.std.specs.Prelude.{◌≡◌, ℕ, ◌≤◌, ◌==◌, if◌then◌else◌, List, ◌∷◌, true, ℤ, pos, negsuc, ◌≤ℤ◌, unsigned_abs, length, Result, Ok, Err, map, replicate, codes, slice_index_or, drop}
+use Rattle.tac_base.specs.declared.limits.TheConstants.{FLIGHT_DRAWS}
 use Rattle.text_forms.specs.declared.lines.Reason.{Reason}
 use Rattle.text_forms.specs.declared.lines.Reason.TheVariants.{NotDue}
 use Rattle.text_forms.specs.declared.rows.Column.{Column}
@@ -19,7 +20,7 @@ pub record IsFlight (flight : FlightTerms) : Type 0 where
   pub first_high : flight.first ≤ 400
   pub bound_low : negsuc 9 ≤ℤ flight.bound
   pub bound_high : flight.bound ≤ℤ pos 30
-  pub count : length flight.draws ≡ 53
+  pub count : length flight.draws ≡ FLIGHT_DRAWS
   pub draws : AllBetween 0 4294967295 flight.draws
 
 -- a numeral of 32 bits
@@ -30,7 +31,7 @@ abbrev pub bound_column : Column
 bound_column = record { signed = true; digits = Ten; low = negsuc 9; high = pos 30 }
 
 abbrev pub flight_columns : List Column
-flight_columns = any ∷ within 250 400 ∷ bound_column ∷ replicate 53 any
+flight_columns = any ∷ within 250 400 ∷ bound_column ∷ replicate FLIGHT_DRAWS any
 
 -- the flight of a row of this good
 abbrev pub flight_from : ℕ → List ℤ → Result FlightTerms Reason

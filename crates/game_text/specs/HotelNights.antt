@@ -1,6 +1,7 @@
 -- The lines of the hotel nights, which only a file of version 2 has: how many rooms each night has, and when its quote changes.
 use Rattle.std.specs.Prelude.{◌≡◌, ℕ, ◌==◌, not, if◌then◌else◌, List, [], ◌∷◌, Bool, true, false, ℤ, pos, unsigned_abs, length, Result, Ok, Err, map, replicate, codes, slice_index_or}
 use Rattle.std.specs.Str.{bytes_eq}
+use Rattle.tac_base.specs.declared.limits.TheConstants.{NIGHT_ROOMS}
 use Rattle.text_forms.specs.declared.lines.BadLine.{BadLine}
 use Rattle.text_forms.specs.declared.lines.Reason.{Reason}
 use Rattle.text_forms.specs.declared.lines.Reason.TheVariants.{Keyword, WordCount, Spelling}
@@ -18,13 +19,13 @@ plain_nights = record { rooms = replicate 8 16; live = false }
 -- the nights of a game of this version
 pub record AreNights (version : ℕ) (nights : HotelNights) : Type 0 where
   pub count : length nights.rooms ≡ 8
-  pub range : AllBetween 1 64 nights.rooms
+  pub range : AllBetween 1 NIGHT_ROOMS nights.rooms
   pub plain : version ≡ 1 → nights ≡ plain_nights
 
 -- ---- the rooms, by good 8..15
 
 abbrev pub room_columns : List Column
-room_columns = replicate 8 (within 1 64)
+room_columns = replicate 8 (within 1 NIGHT_ROOMS)
 
 abbrev pub rooms_from : List ℤ → Result (List ℕ) Reason
 rooms_from numbers = Ok (map unsigned_abs numbers)

@@ -1,6 +1,7 @@
 -- The quiet game: flights stay at 300 dollars, nobody has a ticket at the start, the hotels close in rising order, and each client
 -- would come on day 1 and leave on day 2, and gives 100 dollars for the better hotel and for the museum.
 use Rattle.std.specs.Prelude.{[], ◌∷◌, false, pos, replicate}
+use Rattle.tac_base.specs.declared.limits.TheConstants.{FLIGHT_DRAWS}
 use Rattle.tac_base.specs.Clients.{Preferences}
 use Rattle.game_text.specs.SeatWords.{numbered_seats}
 use Rattle.game_text.specs.Flights.{FlightTerms}
@@ -9,7 +10,7 @@ use Rattle.game_text.specs.Schedule.{hotel_nights}
 
 -- with bound 10 a draw of 10 changes nothing
 abbrev pub quiet_flight : FlightTerms
-quiet_flight = record { first = 300; bound = pos 10; draws = replicate 53 10 }
+quiet_flight = record { first = 300; bound = pos 10; draws = replicate FLIGHT_DRAWS 10 }
 
 abbrev pub quiet_client : Preferences
 quiet_client = record { arrive = 1; depart = 2; premium = 100; values = 0 ∷ 0 ∷ 100 ∷ [] }

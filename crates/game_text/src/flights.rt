@@ -8,6 +8,7 @@ use crate::numbers::{dollars_at, is_due, signed_at};
 use std::alloc::AllocError;
 use std::marker::Model;
 use text_forms::{
+use tac_base::limits::FLIGHT_DRAWS;
     BadLine, Column, Digits, Lines, Part, PrintedPart, Reason, at_line, print_row, read_row,
 };
 
@@ -19,7 +20,7 @@ pub struct FlightLine {
     /// The bound of the changes at the last tick, -10..30 dollars.
     pub bound: i8,
     /// The draws of the ticks 1..53.
-    pub draws: [u32; 53],
+    pub draws: [u32; FLIGHT_DRAWS],
 }
 
 impl Model for FlightLine {
@@ -41,10 +42,10 @@ impl FlightLine {
         requires first_high { first ≤ 400 }
         requires bound_low { negsuc 9 ≤ℤ bound }
         requires bound_high { bound ≤ℤ pos 30 }
-        requires count { length draws.now ≡ 53 }
+        requires count { length draws.now ≡ FLIGHT_DRAWS }
         ensures { result ≡ record { first = first; bound = bound; draws = draws.now } }
     {
-        let mut kept = [0; 53];
+        let mut kept = [0; FLIGHT_DRAWS];
         kept.copy_from_slice(draws);
         FlightLine {
             first,
@@ -70,12 +71,12 @@ fn flight_columns() -> [Column; 56]
 }
 
 /// The draws as numbers of 32 bits.
-fn draws_of(numbers: &[i64]) -> [u32; 53]
-    requires count { length numbers.now ≡ 53 }
+fn draws_of(numbers: &[i64]) -> [u32; FLIGHT_DRAWS]
+    requires count { length numbers.now ≡ FLIGHT_DRAWS }
     requires range { IsTrue (list_all (λ n. rows.is_in flights.any n) numbers.now) }
     ensures { result ≡ map unsigned_abs numbers.now }
 {
-    let mut draws = [0; 53];
+    let mut draws = [0; FLIGHT_DRAWS];
     for (i, number) in numbers.iter().enumerate() {
         draws[i] = *number as u32;
     }
@@ -109,7 +110,7 @@ fn flight_of(good: u8, line: &[u8]) -> Result<FlightLine, Reason>
 /// The flight of the least first price, with bound 10 and draws 0.
 impl Default for FlightLine {
     fn default() -> Self {
-        FlightLine::new(250, 10, &[0; 53])
+        FlightLine::new(250, 10, &[0; FLIGHT_DRAWS])
     }
 }
 

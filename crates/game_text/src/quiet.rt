@@ -3,6 +3,7 @@ ghost use Rattle.std.specs.Prelude.{◌≡◌};
 ghost use Rattle.game_text.specs.QuietGames as quiet;
 
 use crate::{FlightLine, Game, SeatWord};
+use tac_base::limits::FLIGHT_DRAWS;
 use tac_base::{Client, Good};
 
 /// The quiet game: each flight stays at 300 dollars, nobody has a ticket, and the hotels close in rising order. Each client would come on
@@ -16,7 +17,7 @@ impl Default for Game {
         let flight = FlightLine {
             first: 300,
             bound: 10,
-            draws: [10; 53],
+            draws: [10; FLIGHT_DRAWS],
         };
         let client = Client {
             arrive: 1,

@@ -6,7 +6,7 @@ use Rattle.tac_base.specs.declared.calls.Trade.{Trade}
 use Rattle.tac_base.specs.declared.calls.Reply.{Reply}
 use Rattle.tac_base.specs.declared.calls.Reply.TheVariants.{Closed, Sell, BelowQuote}
 use Rattle.tac_base.specs.declared.units.Unit.{Unit as ShownUnit}
-use Rattle.tac_base.specs.declared.limits.TheConstants.{BID_PRICE, BID_UNITS}
+use Rattle.tac_base.specs.declared.limits.TheConstants.{BID_PRICE, BID_UNITS, STANDING_UNITS}
 use Rattle.tac_base.specs.Goods.{agents, house}
 use Rattle.auction_rules.specs.declared.units.Placed.{Placed}
 use Rattle.auction_rules.specs.declared.units.BidUnit.{BidUnit}
@@ -63,7 +63,7 @@ with_bid book bid =
 
 -- how many units may still be sold: 16 of each of the eight agents while the hotel is open
 abbrev pub units_left : HotelBook → ℕ
-units_left book = if book.closed then 0 else 128
+units_left book = if book.closed then 0 else STANDING_UNITS
 
 -- the refusal of the bid of an agent that would win so many units, if there is one
 abbrev pub open_refusal : ℕ → ℕ → List Point → Option Reply

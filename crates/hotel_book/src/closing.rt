@@ -1,5 +1,6 @@
 ghost use Rattle.std.specs.Prelude.{◌≡◌, ◌+◌, ◌<◌, ◌≤◌, ◌++◌, length};
 ghost use Rattle.std.specs.Option.{option_to_list};
+ghost use Rattle.tac_base.specs.declared.limits.TheConstants.{ENTRY_TRADES};
 ghost use Rattle.hotel_book.specs.Ranked.{won, last_price};
 ghost use Rattle.hotel_book.specs.Book as spec;
 
@@ -26,7 +27,7 @@ fn trade_of(good: Good, ranking: &Ranking, agent: Agent) -> Option<Trade>
 
 /// Appends the trade, if there is one.
 fn push_trade(fills: &mut Fills, trade: Option<Trade>)
-    requires { length fills.old < 128 }
+    requires { length fills.old < ENTRY_TRADES }
     ensures trades { fills.new ≡ fills.old ++ option_to_list trade }
     ensures few { length fills.new ≤ length fills.old + 1 }
 {

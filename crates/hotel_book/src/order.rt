@@ -9,7 +9,7 @@ ghost use Rattle.hotel_book.specs.Ranked.{goes_first, AreSorted};
 use arrayvec::ArrayVec;
 use auction_rules::{BidUnit, Placed, push_units};
 use tac_base::Unit;
-use tac_base::limits::{BID_PRICE, BID_UNITS};
+use tac_base::limits::{BID_PRICE, BID_UNITS, STANDING_UNITS};
 
 /// Whether the first unit precedes the second.
 fn precedes(first: &Unit, second: &Unit) -> bool
@@ -42,8 +42,8 @@ fn place_of(units: &[Unit], unit: &Unit) -> usize
 }
 
 /// Puts a unit in its place among units in order.
-fn put(units: &mut ArrayVec<Unit, 128>, unit: &Unit)
-    requires room { length units.old.items < 128 }
+fn put(units: &mut ArrayVec<Unit, STANDING_UNITS>, unit: &Unit)
+    requires room { length units.old.items < STANDING_UNITS }
     requires order { AreSorted units.old.items }
     requires price { unit.now.price ≤ BID_PRICE }
     requires prices { All (λ u. u.price ≤ BID_PRICE) units.old.items }
@@ -57,8 +57,8 @@ fn put(units: &mut ArrayVec<Unit, 128>, unit: &Unit)
 }
 
 /// Puts the units of a bid in their places among units in order.
-pub(crate) fn put_all(units: &mut ArrayVec<Unit, 128>, bid: &Placed)
-    requires room { length units.old.items + BID_UNITS ≤ 128 }
+pub(crate) fn put_all(units: &mut ArrayVec<Unit, STANDING_UNITS>, bid: &Placed)
+    requires room { length units.old.items + BID_UNITS ≤ STANDING_UNITS }
     requires order { AreSorted units.old.items }
     requires prices { All (λ u. u.price ≤ BID_PRICE) units.old.items }
     ensures few { length (units_of bid.now) ≤ BID_UNITS }
@@ -75,7 +75,7 @@ pub(crate) fn put_all(units: &mut ArrayVec<Unit, 128>, bid: &Placed)
 }
 
 /// Takes the units of the agent that has the number out of units in order.
-pub(crate) fn take_out(units: &mut ArrayVec<Unit, 128>, number: u8)
+pub(crate) fn take_out(units: &mut ArrayVec<Unit, STANDING_UNITS>, number: u8)
     ensures { units.new.items ≡ filter (λ u. not (u.agent == number)) units.old.items }
 {
     units.retain(|unit| unit.agent.get() != number);

@@ -11,7 +11,7 @@ use crate::order::{put_all, take_out};
 use arrayvec::ArrayVec;
 use auction_rules::Placed;
 use std::marker::Model;
-use tac_base::limits::{BID_PRICE, BID_UNITS};
+use tac_base::limits::{BID_PRICE, BID_UNITS, STANDING_UNITS};
 use tac_base::{Agent, Unit};
 
 /// The standing units of a hotel, the preceding one first, and what the first of them give: the ask, and how many rooms each agent wins.
@@ -19,7 +19,7 @@ use tac_base::{Agent, Unit};
 #[derive(Debug, Drop)]
 pub(crate) struct Ranking {
     rooms: u8,
-    units: ArrayVec<Unit, 128>,
+    units: ArrayVec<Unit, STANDING_UNITS>,
     ask: u16,
     winning: [u8; 8],
 }
@@ -117,14 +117,14 @@ impl Ranking {
     /// How many rooms are taken.
     pub(crate) fn taken(&self) -> u8
         ensures value { result ≡ min self.now.rooms (length self.now.units) }
-        ensures few { length self.now.units ≤ 128 }
+        ensures few { length self.now.units ≤ STANDING_UNITS }
     {
         usize::from(self.rooms).min(self.units.len()) as u8
     }
 
     /// Puts the units of a bid in place of those that its agent had.
     pub(crate) fn replace(&mut self, bid: &Placed)
-        requires { count_by (λ u. not (u.agent == bid.now.agent)) self.old.units + BID_UNITS ≤ 128 }
+        requires { count_by (λ u. not (u.agent == bid.now.agent)) self.old.units + BID_UNITS ≤ STANDING_UNITS }
         ensures rooms { self.new.rooms ≡ self.old.rooms }
         ensures few { length (units_of bid.now) ≤ BID_UNITS }
         ensures units { (weight : ShownUnit → ℕ) →

@@ -2,7 +2,7 @@
 use Rattle.std.specs.Prelude.{ℕ, ◌-◌, ◌==◌, ◌&&◌, Bool, true, false, if◌then◌else◌, List, [], ◌∷◌, ℤ, pos, negsuc, Option, Some, None, Result, Ok, Err, codes, length, take, drop, replicate, slice_index, slice_index_or}
 use Rattle.std.specs.List.{join_with_byte}
 use Rattle.std.specs.Str.{bytes_eq}
-use Rattle.tac_base.specs.declared.limits.TheConstants.{AUCTION_ENTRIES, CASH_ENTRIES, BID_UNITS, BID_PRICE, CASH_DIGITS}
+use Rattle.tac_base.specs.declared.limits.TheConstants.{AUCTION_ENTRIES, CASH_ENTRIES, BID_UNITS, BID_PRICE, CASH_DIGITS, UPDATE_TICKS, LAST_POSITION}
 use Rattle.tac_base.specs.declared.bids.Point.{Point}
 use Rattle.tac_base.specs.declared.bids.BidFault.{BidFault}
 use Rattle.tac_base.specs.declared.calls.Call.{Call}
@@ -48,7 +48,7 @@ bid_by (Err fault) = None
 bid_by (Ok points) = Some (calls.Bid points)
 
 abbrev pub update_columns : List Column
-update_columns = within 1 53 ∷ within 0 4294967295 ∷ []
+update_columns = within 1 UPDATE_TICKS ∷ within 0 4294967295 ∷ []
 
 abbrev pub update_of : List ℕ → Option Call
 update_of text = numbers_of (codes "update") update_columns text >>= λ numbers. Some (calls.Update (number_at numbers 0) (number_at numbers 1))
@@ -116,7 +116,7 @@ abbrev pub net_column : Column
 net_column = record { signed = true; digits = Ten; low = negsuc 2147483647; high = pos 2147483647 }
 
 abbrev pub post_columns : List Column
-post_columns = within 0 27 ∷ within 0 8255 ∷ replicate 9 net_column
+post_columns = within 0 27 ∷ within 0 LAST_POSITION ∷ replicate 9 net_column
 
 abbrev pub made_post : ℕ → List ℤ → CashEntry
 made_post caller numbers = record { caller = caller; call = Post (number_at numbers 0) (number_at numbers 1) (record { dollars = drop 2 numbers }); reply = Done }

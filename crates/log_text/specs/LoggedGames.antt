@@ -1,7 +1,7 @@
 -- What a log says, which values it may have, and its text.
 use Rattle.std.specs.Prelude.{◌≡◌, ℕ, ◌+◌, ◌<◌, ◌≤◌, ◌^◌, ⊤, List, [], ◌∷◌, ℤ, negsuc, pos, ◌≤ℤ◌, ◌++◌, None, length, unsigned_abs}
 use Rattle.std.specs.List.{All}
-use Rattle.tac_base.specs.declared.limits.TheConstants.{AUCTION_ENTRIES, CASH_ENTRIES, ENTRY_TRADES, TEXT_BYTES, BID_UNITS, BID_PRICE}
+use Rattle.tac_base.specs.declared.limits.TheConstants.{AUCTION_ENTRIES, CASH_ENTRIES, ENTRY_TRADES, TEXT_BYTES, BID_UNITS, BID_PRICE, UPDATE_TICKS, LAST_POSITION, BEST_TOTAL}
 use Rattle.tac_base.specs.declared.calls.Call.{Call}
 use Rattle.tac_base.specs.declared.calls.Call.TheVariants as calls
 use Rattle.tac_base.specs.declared.calls.Trade.{Trade}
@@ -63,7 +63,7 @@ abbrev pub IsLoggedCall : Call → Type 0
 IsLoggedCall (calls.Bid points) = fault_of points ≡ None
 IsLoggedCall calls.Withdraw = ⊤
 IsLoggedCall calls.Own = ⊤
-IsLoggedCall (calls.Update tick draw) = (1 ≤ tick) × (tick ≤ 53) × (draw ≤ 4294967295)
+IsLoggedCall (calls.Update tick draw) = (1 ≤ tick) × (tick ≤ UPDATE_TICKS) × (draw ≤ 4294967295)
 IsLoggedCall calls.Publish = ⊤
 IsLoggedCall calls.Close = ⊤
 
@@ -96,7 +96,7 @@ pub record IsNet (dollars : ℤ) : Type 0 where
 
 -- a post of any caller, or an agent's reading of its own cash
 abbrev pub IsLoggedCash : ℕ → CashCall → CashReply → Type 0
-IsLoggedCash caller (Post good position nets) Done = (caller ≤ 8) × (good ≤ 27) × (position ≤ 8255) × (length nets.dollars ≡ 9) × All IsNet nets.dollars
+IsLoggedCash caller (Post good position nets) Done = (caller ≤ 8) × (good ≤ 27) × (position ≤ LAST_POSITION) × (length nets.dollars ≡ 9) × All IsNet nets.dollars
 IsLoggedCash caller (Post good position nets) (Cash dollars) = ⊥
 IsLoggedCash caller (Read agent) Done = ⊥
 IsLoggedCash caller (Read agent) (Cash dollars) = (caller ≤ 7) × (agent ≡ caller) × (unsigned_abs dollars < 10 ^ 18)
@@ -106,7 +106,7 @@ IsLoggedCashEntry e = IsLoggedCash e.caller e.call e.reply
 
 -- the score of an agent
 pub record IsLoggedScore (scored : Scored) : Type 0 where
-  pub best : scored.best ≤ 14000
+  pub best : scored.best ≤ BEST_TOTAL
   pub cash : unsigned_abs scored.cash < 10 ^ 18
   pub short : scored.short ≤ 4294967295
   pub score : unsigned_abs scored.score < 10 ^ 18

@@ -1,6 +1,7 @@
 -- How the lines of a sheet are read.
 use Rattle.std.specs.Prelude.{ℕ, ◌==◌, ◌&&◌, true, if◌then◌else◌, List, [], ◌∷◌, ℤ, pos, negsuc, Option, Some, None, codes, replicate, slice_index_or}
 use Rattle.std.specs.Str.{bytes_eq}
+use Rattle.tac_base.specs.declared.limits.TheConstants.{BEST_TOTAL}
 use Rattle.text_forms.specs.declared.rows.Column.{Column}
 use Rattle.text_forms.specs.declared.rows.Digits.TheVariants.{Eighteen}
 use Rattle.text_forms.specs.Rows.{within}
@@ -19,7 +20,7 @@ abbrev pub any_column : Column
 any_column = within 0 4294967295
 
 abbrev pub score_columns : List Column
-score_columns = within 0 7 ∷ within 0 14000 ∷ amount_column ∷ any_column ∷ amount_column ∷ []
+score_columns = within 0 7 ∷ within 0 BEST_TOTAL ∷ amount_column ∷ any_column ∷ amount_column ∷ []
 
 -- the best total, the cash, the tickets that are short and the score of the line of an agent
 unfoldable pub score_of : ℕ → List ℕ → Option (ℕ × ℤ × ℕ × ℤ)

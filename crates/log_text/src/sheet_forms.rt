@@ -7,6 +7,7 @@ ghost use Rattle.log_text.specs.SheetForms as forms;
 
 use crate::sheet_text::none_line;
 use packages::Package;
+use tac_base::limits::BEST_TOTAL;
 use tac_base::Agent;
 use text_forms::{Column, Digits, read_row};
 
@@ -29,7 +30,7 @@ pub fn score_of(agent: Agent, line: &[u8]) -> Option<(u32, i64, u32, i64)>
 {
     let columns = [
         Column::within(0, 7),
-        Column::within(0, 14000),
+        Column::within(0, BEST_TOTAL),
         amount_column(),
         Column::within(0, u32::MAX),
         amount_column(),

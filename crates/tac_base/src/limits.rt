@@ -9,6 +9,9 @@ pub const CLOCK_CALLS: u32 = 64;
 /// The most entries of one auction: eight agents' calls and the clock's.
 pub const AUCTION_ENTRIES: u32 = 8_256;
 
+/// The last position of an auction's history, counted from 0.
+pub const LAST_POSITION: u32 = 8_255;
+
 /// The most cash readings of an agent.
 pub const CASH_READINGS: u32 = 1_024;
 
@@ -23,6 +26,15 @@ pub const CASH_ENTRIES: u32 = 238_048;
 
 /// The ticks of a game, which are numbered from 1.
 pub const TICKS: u8 = 54;
+
+/// The last tick at which flights are updated: the one before the last.
+pub const UPDATE_TICKS: u8 = 53;
+
+/// The draws of a flight in a game file, one for each tick at which it is updated.
+pub const FLIGHT_DRAWS: usize = UPDATE_TICKS as usize;
+
+/// The most rooms of a hotel night.
+pub const NIGHT_ROOMS: u8 = 64;
 
 /// The most bytes of a game file.
 pub const GAME_BYTES: u32 = 1_048_576;
@@ -45,6 +57,12 @@ pub const LINK_BYTES: u32 = 67_108_864;
 /// The most links that a served game takes.
 pub const LINKS: u32 = 64;
 
+/// The most files that a command reads: a game and a log of each of 64 games.
+pub const FILE_NAMES: usize = 128;
+
+/// The most bytes of a word of the command line, a file's name among them.
+pub const NAME_BYTES: usize = 1_024;
+
 /// The highest price of a bid, in dollars; the lowest is 1.
 pub const BID_PRICE: u16 = 10_000;
 
@@ -63,8 +81,14 @@ pub const POSITION: u32 = 16_777_215;
 /// The most trades of one entry: 16 units against each of eight agents.
 pub const ENTRY_TRADES: u8 = 128;
 
+/// The most units that stand in an auction: 16 of each of eight agents.
+pub const STANDING_UNITS: usize = ENTRY_TRADES as usize;
+
 /// The highest price of a good in a certificate, in dollars: above what eight clients' utilities can add up to.
 pub const DUAL_PRICE: u16 = 14_001;
+
+/// The most that eight clients' packages are worth to them together, in dollars.
+pub const BEST_TOTAL: u32 = 14_000;
 
 /// The greatest holding of a good in an account, and of an agent in a game, without sign.
 pub const HOLDING: i32 = 200_000;

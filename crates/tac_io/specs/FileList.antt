@@ -5,6 +5,7 @@ use Rattle.std.specs.Global.{Global}
 use Rattle.std.specs.String.{string_capacity}
 use Rattle.std.specs.declared.option.Option.{Option}
 use Rattle.std.specs.Str.{bytes_eq}
+use Rattle.tac_base.specs.declared.limits.TheConstants.{NAME_BYTES}
 use Rattle.tac_io.specs.declared.mem_files.MemFile.{MemFile}
 
 abbrev pub is_named : List ℕ → MemFile → Bool
@@ -25,4 +26,4 @@ selected_left files (Some i) at = left_of files i at
 
 -- an empty text with room for a name
 abbrev pub IsSpare : String Global → Type 0
-IsSpare text = (string_len text ≡ 0) × (1024 ≤ string_capacity text)
+IsSpare text = (string_len text ≡ 0) × (NAME_BYTES ≤ string_capacity text)

@@ -1,6 +1,7 @@
 // Files of the outside.
 ghost use Rattle.std.specs.Prelude.{◌≡◌, ◌∷◌, [], ◌<◌, ◌≤◌, List, Bool, ℕ, length, IsTrue, IfSome, OnOk, OnErr, IsSome, MatchResult};
 ghost use Rattle.std.specs.declared.option.Option.{Option};
+ghost use Rattle.tac_base.specs.declared.limits.TheConstants.{FILE_NAMES, NAME_BYTES};
 ghost use Rattle.tac_io.specs.Counts.{HasCause};
 ghost use Rattle.tac_io.specs.Told.{Reads, and_then_told};
 
@@ -27,7 +28,7 @@ pub trait Files {
     /// file that was selected before is still selected, at its place.
     fn select(&mut self, name: &str) -> Result<(), Failed>
         requires { IfSome (names self.old) (λ names.
-            (length names < 128) × (length name.now ≤ 1024)) }
+            (length names < FILE_NAMES) × (length name.now ≤ NAME_BYTES)) }
         ensures selected { MatchResult result
             (λ _. IsTrue (selected self.new))
             (λ _. selected self.new ≡ selected self.old) }

@@ -8,6 +8,7 @@ use crate::faults::Faults;
 use crate::give::give;
 use crate::{Failed, Files};
 use std::alloc::{AllocError, Global};
+use tac_base::limits::{FILE_NAMES, NAME_BYTES};
 
 /// A file in memory.
 #[derive(Drop)]
@@ -17,12 +18,6 @@ pub struct MemFile {
     /// All its bytes.
     pub bytes: Vec<u8>,
 }
-
-/// How many names can be selected.
-const MOST_NAMES: usize = 128;
-
-/// How many bytes a name has at most.
-const LONGEST_NAME: usize = 1024;
 
 /// Files in memory. They have room for 128 selected names of 1024 bytes each, and fail at stated
 /// calls.
@@ -39,8 +34,8 @@ pub struct MemFiles {
     most_at_once: usize,
     faults: Faults,
     ghost spares: { All IsSpare spare.items },
-    ghost counted: { vec_len names + vec_len spare ≡ 128 },
-    ghost room: { 128 ≤ vec_capacity names },
+    ghost counted: { vec_len names + vec_len spare ≡ FILE_NAMES },
+    ghost room: { FILE_NAMES ≤ vec_capacity names },
     ghost found: { ForSome selected (λ i. i < vec_len files) },
 }
 
@@ -66,7 +61,7 @@ impl MemFiles {
         let spare = spares(alloc)?;
         Ok(MemFiles {
             files,
-            names: Vec::with_capacity(alloc, MOST_NAMES)?,
+            names: Vec::with_capacity(alloc, FILE_NAMES)?,
             spare,
             selected: None,
             at: 0,
@@ -93,7 +88,7 @@ impl Files for MemFiles {
     ghost faults = { λ s. (files_calls s).faults };
 
     fn select(&mut self, name: &str) -> Result<(), Failed>
-        requires { (length (files_names self.old) < 128) × (length name.now ≤ 1024) }
+        requires { (length (files_names self.old) < FILE_NAMES) × (length name.now ≤ NAME_BYTES) }
         ensures fails { IsErr result ↔ (IsNextToFail (files_calls self.old) ⊎ (files_content self.old name.now ≡ None)) }
         ensures found { OnOk result (files_content self.old name.now ≡ Some (files_left self.new)) }
         ensures selected { OnOk result (IsTrue (files_selected self.new)) }
@@ -171,11 +166,11 @@ fn give_from(files: &[MemFile], place: usize, at: &mut usize, most: usize, into:
 
 // Empty texts, each with room for a name.
 fn spares(alloc: Global) -> Result<Vec<String>, AllocError>
-    ensures { IfOk result (λ spares. (vec_len spares ≡ 128) × All IsSpare spares.items) }
+    ensures { IfOk result (λ spares. (vec_len spares ≡ FILE_NAMES) × All IsSpare spares.items) }
 {
     let mut spares = Vec::new(alloc);
-    for _ in 0..MOST_NAMES {
-        spares.push(String::with_capacity(alloc, LONGEST_NAME)?)?;
+    for _ in 0..FILE_NAMES {
+        spares.push(String::with_capacity(alloc, NAME_BYTES)?)?;
     }
     Ok(spares)
 }
@@ -185,7 +180,7 @@ fn keep(names: &mut Vec<String>, spare: &mut Vec<String>, name: &str)
     requires one { 0 < vec_len spare.old }
     requires spares { All IsSpare spare.old.items }
     requires room { vec_len names.old < vec_capacity names.old }
-    requires short { length name.now ≤ 1024 }
+    requires short { length name.now ≤ NAME_BYTES }
     ensures kept { map string_bytes names.new.items
         ≡ map string_bytes names.old.items ++ name.now ∷ [] }
     ensures spares { All IsSpare spare.new.items }

@@ -1,5 +1,6 @@
 // Whole files.
 ghost use Rattle.std.specs.Prelude.{◌≡◌, ◌<◌, ◌≤◌, ◌+◌, [], ◌∷◌, ℕ, length, take, drop, vec_len, IsTrue, IfSome, IfOk, OnOk, OnErr, IsErrOf, MatchResult};
+ghost use Rattle.tac_base.specs.declared.limits.TheConstants.{FILE_NAMES, NAME_BYTES};
 ghost use Rattle.tac_io.specs.Counts.{HasCause};
 ghost use Rattle.tac_io.specs.Reading.{HasFileCause, IsFile, IsTooLong};
 ghost use Rattle.tac_io.specs.Told.{IsAtEnd, and_then_told, before_told};
@@ -58,7 +59,7 @@ pub fn read_file<F: Files>(
     limit: usize,
 ) -> Result<Vec<u8>, FileFault>
     requires { IfSome (F.names files.old) (λ names.
-        (length names < 128) × (length name.now ≤ 1024)) }
+        (length names < FILE_NAMES) × (length name.now ≤ NAME_BYTES)) }
     ensures whole { IfOk result (λ bytes. IsFile (F.content files.old) name.now bytes.items) }
     ensures within { IfOk result (λ bytes. length bytes.items ≤ limit) }
     ensures long { IsErrOf result FileFault.TooLong → IsTooLong (F.content files.old) name.now limit }

@@ -1,4 +1,5 @@
 ghost use Rattle.std.specs.Prelude.{◌≡◌, ℕ, ◌<◌, ◌≤◌, List, [], ◌∷◌, ◌++◌, length};
+ghost use Rattle.tac_base.specs.declared.limits.TheConstants.{SHOWN_PRICE};
 ghost use Rattle.tac_base.specs.declared.calls.Board.{Board};
 ghost use Rattle.turn_lock.specs.Part.{part};
 
@@ -55,7 +56,7 @@ pub trait Kept: Drop + Send {
     fn board(&self) -> Board
         ensures board { result ≡ board (setup self.now) (history self.now) }
         ensures count { result.count ≡ length (history self.now) }
-        ensures small { (result.count < 16777216) × (result.bid ≤ 10001) × (result.ask ≤ 10001) }
+        ensures small { (result.count < 16777216) × (result.bid ≤ SHOWN_PRICE) × (result.ask ≤ SHOWN_PRICE) }
         ensures legal { legal (setup self.now) (history self.now) }
         ensures capped { (caller : ℕ) → caller ≤ 8 → length (part caller_of (history self.now) caller) ≤ cap caller };
 }
