@@ -1,6 +1,6 @@
 // The worths of whole accounts, and their text.
-use good_worth::{print_worths, worth};
 use game_text::{Account, read_account};
+use good_worth::{print_worths, worth};
 use std::alloc::Global;
 use std::test::Fail;
 

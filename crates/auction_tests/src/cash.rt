@@ -3,13 +3,13 @@ ghost use Rattle.std.specs.Thread.{IsSync};
 ghost use Rattle.turn_lock.specs.Passes.{lock_of, lock_id, caller_of, left_of, passes_of, returned_to};
 ghost use Rattle.trade_ledger.specs.CashHistory.{cash_cap};
 
-use trade_ledger::{CashBook, CashCall, CashReply};
 use std::alloc::{AllocError, Global};
 use std::sync::Wait;
 use std::test::Fail;
 use std::thread::{Threads, join};
 use std::time::Clock;
 use tac_base::{Agent, Good, Memory, Nets, Party};
+use trade_ledger::{CashBook, CashCall, CashReply};
 use turn_lock::{Pass, TurnLock};
 
 /// A lock at a new book, with one pass of agent 0 and one of agent 1.

@@ -4,9 +4,8 @@ ghost use Rattle.floor.specs.Desks.{desk_ids, desk_caller, entries_of, entries_a
 ghost use Rattle.floor.specs.Keeping.{count_entries};
 ghost use Rattle.floor.specs.Floors.{floor_ids};
 
-
-use floor::{CashOutcome, Desk, Floor, Outcome};
 use auction_core::{Auction, Closed};
+use floor::{CashOutcome, Desk, Floor, Outcome};
 use game_text::Game;
 use std::alloc::{AllocError, Global};
 use std::sync::Wait;

@@ -3,9 +3,9 @@ ghost use Rattle.auction_core.specs.Calls.{IsFit};
 ghost use Rattle.auction_core.specs.ClosedGame.{all_goods};
 ghost use Rattle.trade_ledger.specs.CashHistory.{IsFit as cash_fit};
 
-use game_log::{LogHead, trade_line, write_play_part};
 use auction_core::{Auction, Closed};
 use draw_maker::make_game;
+use game_log::{LogHead, trade_line, write_play_part};
 use game_text::Game;
 use line_protocol::{Cause, Verdict};
 use std::alloc::Global;

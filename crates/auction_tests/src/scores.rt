@@ -2,9 +2,9 @@
 ghost use Rattle.std.specs.Prelude.{◌≡◌, ◌≤◌, IfOk};
 ghost use Rattle.auction_core.specs.Calls.{IsFit};
 
-use score_sheet::{Accounts, settle, sheet};
 use auction_core::{Auction, Closed};
 use game_text::Game;
+use score_sheet::{Accounts, settle, sheet};
 use std::alloc::Global;
 use std::process::Abort;
 use std::test::Fail;

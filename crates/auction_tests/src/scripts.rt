@@ -39,7 +39,13 @@ fn requests_are_answered(rt: HostRuntime) -> Result<(), Fail> {
     let game = Game::default();
     for (script, told, counts) in &ROWS {
         let mut sink = MemSink::new(rt.alloc(), 131_072, 4_096, Vec::new(rt.alloc()))?;
-        let PlayCount { entries, trades } = play(&rt, rt.alloc(), &game, script.as_bytes(), &mut sink)?;
+        let PlayCount { entries, trades } = play(
+            &rt,
+            rt.alloc(),
+            &game,
+            script.as_bytes(),
+            &mut sink,
+        )?;
         assert!(rt; sink.bytes().starts_with(told.as_bytes()));
         assert_eq!(rt; (entries, trades), *counts);
     }

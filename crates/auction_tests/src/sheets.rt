@@ -1,9 +1,9 @@
 // The second part of a log, of scores that are made by hand.
 ghost use Rattle.std.specs.Prelude.{◌≡◌};
 
-use game_log::write_sheet_part;
 use allocator::Solved;
 use bound_cert::{Cert, CertNode};
+use game_log::write_sheet_part;
 use packages::{Package, Prices};
 use score_sheet::{AgentScore, Sheet};
 use std::alloc::{AllocError, Global};

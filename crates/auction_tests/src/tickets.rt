@@ -1,9 +1,9 @@
 ghost use Rattle.std.specs.Prelude.{◌≡◌, IfOk};
 ghost use Rattle.tac_base.specs.Kinds.{kind_of};
 
-use ticket_book::Tickets;
 use std::test::Fail;
 use tac_base::{Agent, Board, Fills, Good, Kind, OutOfRange, Point, Points, Reply, Trade};
+use ticket_book::Tickets;
 
 fn museum_night() -> Result<Good, OutOfRange>
     ensures { IfOk result (λ good. kind_of good ≡ Kind.Ticket) }

@@ -1,8 +1,8 @@
 ghost use Rattle.std.specs.Prelude.{◌≡◌, ◌≤◌, ◌+◌, pos, negsuc, ◌≤ℤ◌, unsigned_abs};
 ghost use Rattle.auction_rules.specs.FlightRule as rule;
 
-use tac_base::limits::{TICKS, UPDATE_TICKS};
 use tac_base::Tick;
+use tac_base::limits::{TICKS, UPDATE_TICKS};
 
 /// Flights are sold at 150 dollars at least.
 const LOWEST: i32 = 150;

@@ -55,7 +55,11 @@ pub(crate) fn forget(standing: &mut ArrayVec<StandingPoint, STANDING_UNITS>, num
 }
 
 /// Appends the points of an agent.
-pub(crate) fn place(standing: &mut ArrayVec<StandingPoint, STANDING_UNITS>, agent: Agent, points: &[Point])
+pub(crate) fn place(
+    standing: &mut ArrayVec<StandingPoint, STANDING_UNITS>,
+    agent: Agent,
+    points: &[Point],
+)
     requires { length standing.old.items + length points.now ≤ STANDING_UNITS }
     ensures { standing.new.items ≡ standing.old.items ++ spec.owned_by agent points.now }
 {

@@ -7,8 +7,8 @@ ghost use Rattle.text_forms.specs.Rows as rows;
 use crate::numbers::{dollars_at, is_due, signed_at};
 use std::alloc::AllocError;
 use std::marker::Model;
-use text_forms::{
 use tac_base::limits::FLIGHT_DRAWS;
+use text_forms::{
     BadLine, Column, Digits, Lines, Part, PrintedPart, Reason, at_line, print_row, read_row,
 };
 

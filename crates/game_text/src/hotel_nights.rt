@@ -6,8 +6,8 @@ ghost use Rattle.game_text.specs.HotelNights as nights;
 
 use crate::numbers::bytes_of;
 use std::alloc::AllocError;
-use text_forms::{BadLine, Column, Lines, Reason, Words, at_line, print_row, read_row};
 use tac_base::limits::NIGHT_ROOMS;
+use text_forms::{BadLine, Column, Lines, Reason, Words, at_line, print_row, read_row};
 
 /// The rooms of each hotel night, by good 8..15, and whether quotes are live.
 #[derive(Drop)]
@@ -21,7 +21,11 @@ pub(crate) struct HotelNights {
 fn rooms_of(line: &[u8]) -> Result<[u8; 8], Reason>
     ensures { result ≡ nights.rooms_of line.now }
 {
-    let numbers = read_row(line, b"rooms", &[Column::within(1, u32::from(NIGHT_ROOMS)); 8])?;
+    let numbers = read_row(
+        line,
+        b"rooms",
+        &[Column::within(1, u32::from(NIGHT_ROOMS)); 8],
+    )?;
     Ok(bytes_of(&numbers))
 }
 

@@ -1,5 +1,5 @@
-use json_dialect::JsonDialect;
 use agent_gate::Dialect;
+use json_dialect::JsonDialect;
 use line_protocol::{Request, RequestFault, Said};
 use std::test::Fail;
 use tac_base::{BidFault, Board, Left, Point, Reply, Text};

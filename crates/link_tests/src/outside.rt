@@ -5,10 +5,6 @@ ghost use Rattle.tac_io.specs.Lines.{last_of};
 ghost use Rattle.tac_io.specs.MemFiles.{files_names};
 ghost use Rattle.tac_io.specs.Told.{and_then_told};
 
-use tac_io::{
-    Failed, FileFault, Files, HeldLink, Hold, LineGot, Lines, LinesSent, Link, Links, MemFile,
-    MemFiles, MemLink, MemLinks, MemSink, MemTicker, Sink, Ticker, read_file, write_all,
-};
 use std::alloc::{AllocError, Global};
 use std::rt::Clock;
 use std::sync::atomic::{AtomicU64, Ordering};
@@ -16,6 +12,10 @@ use std::sync::{Arc, Wait};
 use std::test::Fail;
 use std::thread::join;
 use tac_base::Tick;
+use tac_io::{
+    Failed, FileFault, Files, HeldLink, Hold, LineGot, Lines, LinesSent, Link, Links, MemFile,
+    MemFiles, MemLink, MemLinks, MemSink, MemTicker, Sink, Ticker, read_file, write_all,
+};
 
 // A file `hello` of these five bytes, a file `empty`, and a file `long` of 200,000 bytes.
 fn files(alloc: Global, most_at_once: usize, failing: Vec<u64>) -> Result<MemFiles, Fail>

@@ -1,7 +1,7 @@
 ghost use Rattle.std.specs.Prelude.{◌≡◌, [], IfSome};
 
-use game_run::{GameEnd, RunFault, run_game};
 use agent_gate::LineDialect;
+use game_run::{GameEnd, RunFault, run_game};
 use game_text::Game;
 use line_protocol::{Cause, LogHead, Verdict};
 use std::alloc::Global;

@@ -10,7 +10,9 @@ ghost use Rattle.log_text.specs.HeadForms as head;
 use crate::head_forms::digit_of;
 use bid_strings::read_points;
 use line_protocol::read_answer;
-use tac_base::limits::{AUCTION_ENTRIES, BID_PRICE, BID_UNITS, CASH_DIGITS, CASH_ENTRIES, LAST_POSITION, UPDATE_TICKS};
+use tac_base::limits::{
+    AUCTION_ENTRIES, BID_PRICE, BID_UNITS, CASH_DIGITS, CASH_ENTRIES, LAST_POSITION, UPDATE_TICKS,
+};
 use tac_base::{Agent, Call, Caller, Good, Nets, Party, Reply, Tick, Trade, read_signed};
 use text_forms::{Column, Digits, Words, cut, read_row};
 use trade_ledger::{CashCall, CashEntry, CashReply};
@@ -75,7 +77,10 @@ fn bid_of(text: &[u8]) -> Option<Call>
 fn update_of(text: &[u8]) -> Option<Call>
     ensures { result ≡ forms.update_of text.now }
 {
-    let columns = [Column::within(1, u32::from(UPDATE_TICKS)), Column::within(0, u32::MAX)];
+    let columns = [
+        Column::within(1, u32::from(UPDATE_TICKS)),
+        Column::within(0, u32::MAX),
+    ];
     match read_row(text, b"update", &columns) {
         Ok(numbers) => {
             let tick = Tick::new(numbers[0] as u8).ok()?;

@@ -7,8 +7,8 @@ ghost use Rattle.log_text.specs.SheetForms as forms;
 
 use crate::sheet_text::none_line;
 use packages::Package;
-use tac_base::limits::BEST_TOTAL;
 use tac_base::Agent;
+use tac_base::limits::BEST_TOTAL;
 use text_forms::{Column, Digits, read_row};
 
 /// Dollars of at most 18 digits, with a sign.

@@ -1,9 +1,9 @@
+use std::test::Fail;
 use tac_base::{
     Agent, BidFault, Call, Caller, Client, Fills, Good, Left, Party, Point, Points, Reply, Text,
     Tick, Trade, Unit, print_numeral, print_signed, read_numeral, read_signed, same_call,
     same_reply,
 };
-use std::test::Fail;
 
 const ONE_AT_ONE: Point = Point { units: 1, price: 1 };
 

@@ -1,4 +1,6 @@
-use line_protocol::{Request, RequestFault, Said, print_reply, read_answer, read_reply, read_request};
+use line_protocol::{
+    Request, RequestFault, Said, print_reply, read_answer, read_reply, read_request,
+};
 use std::test::Fail;
 use tac_base::{BidFault, Board, Good, Point, Reply, Text};
 
