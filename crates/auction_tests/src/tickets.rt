@@ -2,7 +2,7 @@ ghost use Rattle.std.specs.Prelude.{◌≡◌, IfOk};
 ghost use Rattle.tac_base.specs.Kinds.{kind_of};
 
 use std::test::Fail;
-use tac_base::{Agent, Board, Fills, Good, Kind, OutOfRange, Point, Points, Reply, Trade};
+use tac_base::{Agent, Board, Fills, Good, Kind, OutOfRange, Point, Points, Reply, Trade, Unit};
 use ticket_book::Tickets;
 
 fn museum_night() -> Result<Good, OutOfRange>
@@ -48,6 +48,39 @@ fn new_units_meet_those_of_others(rt: HostRuntime) -> Result<(), Fail> {
         assert_eq!(rt; tickets.board(2), shown);
         assert!(rt; matches!(tickets.withdraw(2, buyer), Reply::Done));
     }
+    Ok(())
+}
+
+/// Whether the units are these: the agent, the price and the index of each.
+fn are_units(units: &[Unit], wanted: &[(u8, u16, u8)]) -> bool {
+    units.len() == wanted.len()
+        && units.iter().zip(wanted).all(|(unit, wanted)| (unit.agent.get(), unit.price, unit.index)
+            == *wanted)
+}
+
+/// Units that buy stand with the highest price first and those that sell with the lowest; at one price the earlier bid comes first, and in
+/// one bid the lower index.
+#[test]
+fn each_side_stands_in_its_order(rt: HostRuntime) -> Result<(), Fail> {
+    let mut fills = Fills::new();
+    let mut tickets = Tickets::new(museum_night()?);
+    let bids = [
+        (0u8, [point(-1, 60), point(1, 40)]),
+        (1, [point(-2, 55), point(1, 50)]),
+        (2, [point(-1, 60), point(1, 50)]),
+    ];
+    for (number, points) in bids {
+        let agent = Agent::new(number)?;
+        let points = Points::new(points.as_slice())?;
+        let _ = tickets.bid(u32::from(number), agent, &points, &mut fills);
+    }
+    let sells = [(1, 55, 0), (1, 55, 1), (0, 60, 0), (2, 60, 0)];
+    assert!(rt; are_units(tickets.sells(), sells.as_slice()));
+    let buys = [(1, 50, 2), (2, 50, 1), (0, 40, 1)];
+    assert!(rt; are_units(tickets.buys(), buys.as_slice()));
+    assert!(rt; matches!(tickets.close(3, &mut fills), Reply::Done));
+    assert!(rt; tickets.sells().is_empty());
+    assert!(rt; tickets.buys().is_empty());
     Ok(())
 }
 

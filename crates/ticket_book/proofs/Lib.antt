@@ -1,4 +1,9 @@
-pub mod Rewrites
+pub mod Weights
+pub mod Sorting
+pub mod Sided
+pub mod Placing
+pub mod Untied
+pub mod Matched
+pub mod AfterBid
 pub mod Trades
 pub mod Keeping
-pub mod Priced

@@ -1,15 +1,16 @@
 -- How many units an agent trades by one bid.
 use Rattle.std.proofs.Common.{◌≡◌, ℕ, suc, ◌≤◌, Bool, true, false, cond, List, [], ◌∷◌, length, refl, sym, subst, arith}
-use Rattle.std.specs.Prelude.{◌==◌, filter, sum_by}
-use Rattle.std.specs.List.{AllByRecursion}
+use Rattle.std.specs.Prelude.{◌≢◌, ◌==◌, filter, sum_by}
+use Rattle.std.specs.List.{All, AllByRecursion}
 use Rattle.auction_rules.proofs.Lists.{all-weaker}
-use Rattle.std.proofs.lemmas.List.Elements.{All-from_recursion}
+use Rattle.std.proofs.lemmas.List.Elements.{All-from_recursion, recursion_from_All}
 use Rattle.std.proofs.lemmas.List.Sums.{sum_by-cons}
 use Rattle.tac_base.specs.declared.calls.Trade.{Trade}
 use Rattle.auction_rules.specs.declared.units.BidUnit.{BidUnit}
 use Rattle.auction_rules.specs.Effects.{bought, sold}
 use Rattle.auction_rules.specs.Traded.{traded, Spends}
 use Rattle.auction_rules.specs.TicketMatch.{trades_of_pairs, pairs, ticket_trades}
+use Rattle.auction_rules.proofs.Matching.{IsFair, trades_fair}
 
 -- each trade has one unit
 one_unit : (good : ℕ) (matched : List (BidUnit × BidUnit)) → AllByRecursion (λ (t : Trade). t.units ≡ 1) (trades_of_pairs good matched)
@@ -52,3 +53,12 @@ bid_spends good standing arriving trades is few = record {
   where
     ones : AllByRecursion (λ (t : Trade). t.units ≡ 1) trades
     ones = subst (AllByRecursion (λ (t : Trade). t.units ≡ 1)) (sym is) (one_unit good (pairs standing arriving))
+
+-- nobody trades with itself, and no price is above 10000 where those of the standing units are not
+pub trades_priced : (good : ℕ) (standing arriving : List BidUnit) (trades : List Trade) → All (λ u. u.price ≤ 10000) standing → trades ≡ ticket_trades good standing arriving →
+    All (λ t. t.buyer ≢ t.seller) trades × All (λ t. t.price ≤ 10000) trades
+trades_priced good standing arriving trades priced is =
+    let fair : AllByRecursion (IsFair 10000) trades = subst (AllByRecursion (IsFair 10000)) (sym is) (trades_fair good 10000 standing arriving (recursion_from_All (λ u. u.price ≤ 10000) standing priced)) in (
+      All-from_recursion (λ t. t.buyer ≢ t.seller) trades (all-weaker (IsFair 10000) (λ t. t.buyer ≢ t.seller) trades (λ t k. k.0) fair),
+      All-from_recursion (λ t. t.price ≤ 10000) trades (all-weaker (IsFair 10000) (λ t. t.price ≤ 10000) trades (λ t k. k.1) fair),
+    )

@@ -1,2 +1,3 @@
+pub mod Sides
 pub mod Book
 pub mod Remains

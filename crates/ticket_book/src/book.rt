@@ -1,47 +1,44 @@
-ghost use Rattle.std.specs.Prelude.{◌≡◌, ◌≤◌, ◌||◌, [], ◌∷◌, length, List, IsTrue, ◌<◌, ◌≢◌, All};
+ghost use Rattle.std.specs.Prelude.{◌≡◌, ◌≤◌, ◌||◌, [], ◌∷◌, length, List, IsTrue, ◌<◌, ◌≢◌, All, true, false, not, map, filter};
+ghost use Rattle.std.specs.List.Sorted.{IsPermutation};
 ghost use Rattle.tac_base.specs.Kinds.{kind_of};
 ghost use Rattle.tac_base.specs.Goods.{clock};
 ghost use Rattle.auction_rules.specs.Setup.{Setup};
 ghost use Rattle.auction_rules.specs.History.{Entry};
-ghost use Rattle.auction_rules.specs.Standing.{left};
+ghost use Rattle.auction_rules.specs.Standing.{left, stand};
+ghost use Rattle.auction_rules.specs.Shown.{shown_unit};
 ghost use Rattle.auction_rules.specs.Legal.{IsLawful, entry_of};
 ghost use Rattle.auction_rules.specs.Board.{board};
 ghost use Rattle.auction_rules.specs.Refusals.{is_wrong_caller, is_wrong_place};
 ghost use Rattle.auction_rules.specs.Follows.{Follows};
 ghost use Rattle.auction_rules.specs.Traded.{Spends};
+ghost use Rattle.ticket_book.specs.Sides.{AreInOrder};
 ghost use Rattle.ticket_book.specs.Book.{StandsFor};
 
-use crate::matching::match_units;
-use crate::quotes::{highest_buy, lowest_sell};
 use crate::refusals::crosses_itself;
 use crate::remains::left_of;
-use crate::standing::{all_units, no_units, take_away_all, units_of};
-use arrayvec::ArrayVec;
-use auction_rules::{BidUnit, Placed, Rules, bought, sold, wrong_reply};
+use crate::sides::Sides;
+use auction_rules::{Placed, Rules, bought, sold, wrong_reply};
 use std::marker::Model;
-use tac_base::{Agent, Board, Call, Caller, Fills, Good, Kind, Left, Points, Reply};
+use tac_base::{Agent, Board, Call, Caller, Fills, Good, Kind, Left, Points, Reply, Unit};
 
 /// The auction of a ticket, in which agents trade with each other: a continuous double auction, by the
 /// game description. How units are matched is a rule after TAC. No call takes memory.
 ///
-/// Of each agent its last bid is kept, and those units of it that stand.
+/// Of each agent its last bid is kept, and of all agents the units that stand, each side in its order.
 #[derive(Debug, Drop)]
 pub struct Tickets {
     good: Good,
     bids: [Option<Placed>; 8],
-    units: [ArrayVec<BidUnit, 16>; 8],
+    sides: Sides,
     closed: bool,
 }
 
 impl Model for Tickets {
-    ghost use Rattle.std.specs.Prelude.{map, All};
-    ghost use Rattle.ticket_book.specs.Book.{TicketBook, IsPriced};
+    ghost use Rattle.ticket_book.specs.Book.{TicketBook};
 
     ghost Value = { TicketBook };
 
-    ghost view = { λ t. record { good = t.good; bids = t.bids; units = map (λ v. v.items) t.units; closed = t.closed } };
-
-    ghost invariant = { λ t. All (λ v. IsPriced v.items) t.units };
+    ghost view = { λ t. record { good = t.good; bids = t.bids; sides = t.sides; closed = t.closed } };
 }
 
 impl Tickets {
@@ -53,7 +50,7 @@ impl Tickets {
         Tickets {
             good,
             bids: [None, None, None, None, None, None, None, None],
-            units: no_units(),
+            sides: Sides::new(),
             closed: false,
         }
     }
@@ -82,10 +79,7 @@ impl Tickets {
             position: at,
             points: points.copy(),
         };
-        let arriving = units_of(&bid);
-        let gone = match_units(self.good, all_units(&self.units), &arriving, fills);
-        self.units[number as usize] = arriving;
-        take_away_all(&mut self.units, &gone);
+        self.sides.trade(self.good, &bid, fills);
         self.bids[number as usize] = Some(bid);
         Reply::Taken {
             bought: bought(fills.as_slice(), number) as u8,
@@ -99,20 +93,18 @@ impl Tickets {
         ensures { (setup : Setup) (past : List Entry) → StandsFor self.old setup past → at ≡ length past →
             Follows setup past agent Call.Withdraw result [] (StandsFor self.new setup) }
     {
-        let number = agent.get() as usize;
         if self.closed {
             return Reply::Closed;
         }
-        if self.units[number].is_empty() {
+        if !self.sides.has_units_of(agent) {
             return Reply::NoBid;
         }
-        self.units[number] = ArrayVec::new();
-        self.bids[number] = None;
+        self.sides.take_out_of(agent);
+        self.bids[agent.get() as usize] = None;
         Reply::Done
     }
 
     /// The standing points of an agent, in the order of its bid: none in a closed auction.
-    #[tactic(auto, using(crate::proofs::Keeping::idle_keeps, auction_rules::proofs::Idle::own_idle))]
     pub fn own(&self, agent: Agent) -> Left
         ensures left { (setup : Setup) (past : List Entry) → StandsFor self.now setup past → result ≡ left setup.rules past agent }
         // To ask changes nothing.
@@ -120,7 +112,7 @@ impl Tickets {
             StandsFor self.now setup (entry_of setup past agent Call.Own ∷ past) }
     {
         match &self.bids[agent.get() as usize] {
-            Some(bid) => left_of(bid, &all_units(&self.units)),
+            Some(bid) => left_of(bid, &self.sides),
             None => Left::none(),
         }
     }
@@ -146,7 +138,7 @@ impl Tickets {
         if self.closed {
             return Reply::Closed;
         }
-        self.units = no_units();
+        self.sides.clear();
         self.closed = true;
         Reply::Done
     }
@@ -161,12 +153,31 @@ impl Tickets {
         ensures uncrossed { (setup : Setup) (past : List Entry) → StandsFor self.now setup past → IsLawful setup past →
             0 < result.bid → 0 < result.ask → result.bid < result.ask }
     {
-        let units = all_units(&self.units);
         Board {
             count,
-            bid: highest_buy(&units),
-            ask: lowest_sell(&units),
+            bid: self.sides.highest_buy(),
+            ask: self.sides.lowest_sell(),
             closed: self.closed,
         }
+    }
+
+    /// The standing units that buy: those of the highest price first, at one price those of the earlier bid first, and in one bid those of the
+    /// lower index first. None in a closed auction.
+    pub fn buys(&self) -> &[Unit]
+        ensures units { (setup : Setup) (past : List Entry) → StandsFor self.now setup past →
+            IsPermutation (map shown_unit (filter (λ u. u.buys) (stand setup.rules past))) result.now }
+        ensures order { (setup : Setup) (past : List Entry) → StandsFor self.now setup past → AreInOrder true result.now }
+    {
+        self.sides.side(true)
+    }
+
+    /// The standing units that sell: those of the lowest price first, at one price those of the earlier bid first, and in one bid those of the
+    /// lower index first. None in a closed auction.
+    pub fn sells(&self) -> &[Unit]
+        ensures units { (setup : Setup) (past : List Entry) → StandsFor self.now setup past →
+            IsPermutation (map shown_unit (filter (λ u. not u.buys) (stand setup.rules past))) result.now }
+        ensures order { (setup : Setup) (past : List Entry) → StandsFor self.now setup past → AreInOrder false result.now }
+    {
+        self.sides.side(false)
     }
 }

@@ -3,9 +3,9 @@
 
 mod book;
 mod matching;
-mod quotes;
+mod order;
 mod refusals;
 mod remains;
-mod standing;
+mod sides;
 
 pub use book::Tickets;

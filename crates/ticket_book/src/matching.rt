@@ -1,45 +1,47 @@
-ghost use Rattle.std.specs.Prelude.{◌≡◌, ◌+◌, ◌*◌, ◌<◌, ◌≤◌, ◌++◌, length, filter, not, Some};
-ghost use Rattle.std.specs.List.{list_all};
-ghost use Rattle.auction_rules.specs.Units as units;
+// The units of a new bid trade with those that stand.
+ghost use Rattle.std.specs.Prelude.{All, ◌≡◌, ◌+◌, ◌<◌, ◌≤◌, ◌++◌, ℕ, length, filter};
+ghost use Rattle.auction_rules.specs.Units as spec;
+ghost use Rattle.auction_rules.specs.Shown.{on_side};
 ghost use Rattle.auction_rules.specs.TicketMatch as rule;
+ghost use Rattle.ticket_book.specs.Sides.{HaveSame, both, others, after_bid};
 
+use crate::order::first_of_others;
+use crate::sides::Sides;
 use arrayvec::ArrayVec;
-use auction_rules::BidUnit;
-use tac_base::{Fills, Good, Trade};
+use auction_rules::{BidUnit, Placed, push_units};
+use tac_base::limits::{BID_PRICE, BID_UNITS};
+use tac_base::{Fills, Good, Trade, Unit};
 
 /// Whether two units are one.
-pub(crate) fn same_unit(first: &BidUnit, second: &BidUnit) -> bool
-    ensures { result ≡ units.same_unit first.now second.now }
+fn same_unit(first: &BidUnit, second: &BidUnit) -> bool
+    ensures { result ≡ spec.same_unit first.now second.now }
 {
     first == second
 }
 
-/// Whether a standing unit is of another agent and the other side.
-fn faces(arriving: &BidUnit, standing: &BidUnit) -> bool
-    ensures { result ≡ rule.faces arriving.now standing.now }
+/// Whether some of the units is this one.
+fn is_among(units: &[BidUnit], unit: &BidUnit) -> bool
+    ensures { result ≡ spec.among unit.now units.now }
 {
-    arriving.agent.get() != standing.agent.get() && arriving.buys != standing.buys
+    units.iter().any(|other| same_unit(unit, other))
 }
 
-/// Of two units of one side, whether the first has the better price.
-fn better(first: &BidUnit, second: &BidUnit) -> bool
-    ensures { result ≡ rule.better first.now second.now }
+/// Takes out the units that are gone.
+fn take_away(units: &mut ArrayVec<BidUnit, 16>, gone: &[BidUnit])
+    ensures { units.new.items ≡ spec.without units.old.items gone.now }
 {
-    if first.buys {
-        second.price < first.price
-    } else {
-        first.price < second.price
-    }
+    units.retain(|unit| !is_among(gone, unit));
 }
 
-/// Of two units of one side, whether the first goes before the second.
-fn goes_before(first: &BidUnit, second: &BidUnit) -> bool
-    ensures { result ≡ rule.goes_before first.now second.now }
+/// The units of a bid.
+fn units_of(bid: &Placed) -> ArrayVec<BidUnit, 16>
+    ensures units { result.items ≡ spec.units_of bid.now }
+    ensures few { length result.items ≤ BID_UNITS }
+    ensures priced { All (λ unit. unit.price ≤ BID_PRICE) result.items }
 {
-    better(first, second)
-        || (first.price == second.price
-            && (first.position < second.position
-                || (first.position == second.position && first.index < second.index)))
+    let mut units = ArrayVec::new();
+    push_units(&mut units, bid);
+    units
 }
 
 /// Whether the buying price is at least the selling price.
@@ -53,34 +55,16 @@ fn crosses(arriving: &BidUnit, standing: &BidUnit) -> bool
     }
 }
 
-/// Whether none of the units that the arriving one faces goes before this one.
-fn is_best(standing: &[BidUnit], arriving: &BidUnit, unit: &BidUnit) -> bool
-    ensures { result ≡ list_all (λ v. not (rule.goes_before v unit.now)) (filter (rule.faces arriving.now) standing.now) }
+/// The unit with its side.
+fn with_side(buys: bool, unit: &Unit) -> BidUnit
+    ensures { result ≡ on_side buys unit.now }
 {
-    standing
-        .iter()
-        .filter(|other| faces(arriving, other))
-        .all(|other| !goes_before(other, unit))
-}
-
-/// The best of the units that the arriving one faces.
-fn best_faced(standing: &[BidUnit], arriving: &BidUnit) -> Option<BidUnit>
-    ensures { result ≡ rule.best (filter (rule.faces arriving.now) standing.now) }
-{
-    standing
-        .iter()
-        .copied()
-        .filter(|unit| faces(arriving, unit))
-        .find(|unit| is_best(standing, arriving, unit))
-}
-
-/// The unit that the arriving one trades with: the best that it faces, if the two cross.
-fn partner(standing: &[BidUnit], arriving: &BidUnit) -> Option<BidUnit>
-    ensures { result ≡ rule.partner standing.now arriving.now }
-{
-    match best_faced(standing, arriving) {
-        Some(unit) if crosses(arriving, &unit) => Some(unit),
-        _ => None,
+    BidUnit {
+        agent: unit.agent,
+        buys,
+        price: unit.price,
+        position: unit.position,
+        index: unit.index,
     }
 }
 
@@ -102,56 +86,92 @@ fn trade_of(good: Good, arriving: &BidUnit, standing: &BidUnit) -> Trade
     }
 }
 
-/// Takes a unit out of the others.
-fn take_out(standing: &mut ArrayVec<BidUnit, 128>, taken: &BidUnit)
-    ensures { standing.new.items ≡ rule.not_taken (Some taken.now) standing.old.items }
-{
-    standing.retain(|unit| !same_unit(unit, taken));
-}
-
-/// An arriving unit trades with its partner, if it has one. The partner is then no longer among the standing units.
-fn match_unit(
-    good: Good,
-    standing: &mut ArrayVec<BidUnit, 128>,
-    unit: &BidUnit,
-    fills: &mut Fills,
-    gone: &mut ArrayVec<BidUnit, 32>,
-)
-    requires fills { length fills.old < 128 }
-    requires gone { length gone.old.items + 2 ≤ 32 }
-    ensures trades { fills.new ≡ fills.old ++ rule.trades_of_pairs good (rule.pair_with unit.now (rule.partner standing.old.items unit.now)) }
-    ensures gone { gone.new.items ≡ gone.old.items ++ rule.units_of_pairs (rule.pair_with unit.now (rule.partner standing.old.items unit.now)) }
-    ensures standing { standing.new.items ≡ rule.not_taken (rule.partner standing.old.items unit.now) standing.old.items }
-    ensures fills_len { length fills.new ≤ length fills.old + 1 }
-    ensures gone_len { length gone.new.items ≤ length gone.old.items + 2 }
-{
-    match partner(standing, unit) {
-        Some(other) => {
-            fills.push(trade_of(good, unit, &other));
-            gone.push(*unit);
-            gone.push(other);
-            take_out(standing, &other);
+impl Sides {
+    /// The first unit of another agent on the other side than the arriving one.
+    fn front(&self, arriving: &BidUnit) -> Option<BidUnit>
+        ensures { result ≡ rule.best (filter (rule.faces arriving.now) (both self.now)) }
+    {
+        let buys = !arriving.buys;
+        match first_of_others(self.side(buys), arriving.agent.get()) {
+            Some(unit) => Some(with_side(buys, &unit)),
+            None => None,
         }
-        None => {}
     }
-}
 
-/// The units arrive in order and trade with those that stand. `fills` then holds the trades. Answers all units that traded.
-pub(crate) fn match_units(
-    good: Good,
-    mut standing: ArrayVec<BidUnit, 128>,
-    arriving: &[BidUnit],
-    fills: &mut Fills,
-) -> ArrayVec<BidUnit, 32>
-    requires { length arriving.now ≤ 16 }
-    ensures trades { fills.new ≡ rule.ticket_trades good standing.items arriving.now }
-    ensures few { length fills.new ≤ 16 }
-    ensures gone { result.items ≡ rule.ticket_gone standing.items arriving.now }
-{
-    fills.clear();
-    let mut gone = ArrayVec::new();
-    for unit in arriving {
-        match_unit(good, &mut standing, unit, fills, &mut gone);
+    /// The unit that the arriving one trades with: the front of the other side, if the two cross.
+    fn partner(&self, arriving: &BidUnit) -> Option<BidUnit>
+        ensures { result ≡ rule.partner (both self.now) arriving.now }
+    {
+        match self.front(arriving) {
+            Some(unit) if crosses(arriving, &unit) => Some(unit),
+            _ => None,
+        }
     }
-    gone
+
+    /// An arriving unit trades with its partner, if it has one. The partner is then no longer among the standing units.
+    fn match_unit(
+        &mut self,
+        good: Good,
+        unit: &BidUnit,
+        fills: &mut Fills,
+        gone: &mut ArrayVec<BidUnit, 32>,
+    )
+        requires fills { length fills.old < 128 }
+        requires gone { length gone.old.items + 2 ≤ 32 }
+        ensures trades { fills.new ≡ fills.old ++ rule.trades_of_pairs good (rule.pair_with unit.now (rule.partner (both self.old) unit.now)) }
+        ensures gone { gone.new.items ≡ gone.old.items ++ rule.units_of_pairs (rule.pair_with unit.now (rule.partner (both self.old) unit.now)) }
+        ensures standing { both self.new ≡ rule.not_taken (rule.partner (both self.old) unit.now) (both self.old) }
+        ensures fills_len { length fills.new ≤ length fills.old + 1 }
+        ensures gone_len { length gone.new.items ≤ length gone.old.items + 2 }
+    {
+        match self.partner(unit) {
+            Some(other) => {
+                fills.push(trade_of(good, unit, &other));
+                gone.push(*unit);
+                gone.push(other);
+                self.take_out(&other);
+            }
+            None => {}
+        }
+    }
+
+    /// The units arrive in order and trade with those that stand, which are then no longer among them. `fills` then holds the trades.
+    /// Answers all units that traded.
+    fn match_units(
+        &mut self,
+        good: Good,
+        arriving: &[BidUnit],
+        fills: &mut Fills,
+    ) -> ArrayVec<BidUnit, 32>
+        requires { length arriving.now ≤ BID_UNITS }
+        ensures trades { fills.new ≡ rule.ticket_trades good (both self.old) arriving.now }
+        ensures few { length fills.new ≤ BID_UNITS }
+        ensures gone { result.items ≡ rule.ticket_gone (both self.old) arriving.now }
+        ensures standing { (agent : ℕ) → All (λ u. u.agent ≡ agent) arriving.now →
+            others agent (both self.new) ≡ others agent (spec.without (both self.old) (rule.ticket_gone (both self.old) arriving.now)) }
+    {
+        fills.clear();
+        let mut gone = ArrayVec::new();
+        for unit in arriving {
+            self.match_unit(good, unit, fills, &mut gone);
+        }
+        gone
+    }
+
+    /// The units of a bid trade with those of other agents. What is left of them then stands in place of the agent's earlier units. `fills`
+    /// then holds the trades.
+    pub(crate) fn trade(&mut self, good: Good, bid: &Placed, fills: &mut Fills)
+        ensures trades { fills.new ≡ rule.ticket_trades good (both self.old) (spec.units_of bid.now) }
+        ensures few { length fills.new ≤ BID_UNITS }
+        ensures priced { All (λ u. u.price ≤ BID_PRICE) (both self.old) }
+        ensures units { HaveSame (both self.new) (after_bid (both self.old) bid.now.agent (spec.units_of bid.now)) }
+    {
+        // No unit that stands costs more than 10000 dollars.
+        let _ = self.side(true);
+        let mut left = units_of(bid);
+        let gone = self.match_units(good, &left, fills);
+        take_away(&mut left, &gone);
+        self.take_out_of(bid.agent);
+        self.put_all(bid.agent, &left);
+    }
 }

@@ -4,21 +4,22 @@ ghost use Rattle.tac_base.specs.Bids.{size_of};
 ghost use Rattle.auction_rules.specs.Units as units;
 ghost use Rattle.auction_rules.specs.Standing as spec;
 ghost use Rattle.ticket_book.specs.Remains as remains;
+ghost use Rattle.ticket_book.specs.Sides.{both};
 
-use crate::standing::contains;
+use crate::sides::Sides;
 use arrayvec::ArrayVec;
 use auction_rules::{BidUnit, Placed, push_point};
 use tac_base::{Left, Point};
 
 /// How many units of a point of the bid stand, where the units of the bid before it are `from`.
-fn units_left(standing: &[BidUnit], bid: &Placed, from: u8, point: &Point) -> u8
+fn units_left(standing: &Sides, bid: &Placed, from: u8, point: &Point) -> u8
     requires { from + size_of point.now ≤ 16 }
-    ensures value { result ≡ units.common_units (units.point_units bid.now.agent bid.now.position from point.now) standing.now }
+    ensures value { result ≡ units.common_units (units.point_units bid.now.agent bid.now.position from point.now) (both standing.now) }
     ensures few { result ≤ size_of point.now }
 {
     let mut own: ArrayVec<BidUnit, 16> = ArrayVec::new();
     push_point(&mut own, bid, from, point);
-    own.iter().filter(|unit| contains(standing, unit)).count() as u8
+    own.iter().filter(|unit| standing.contains(unit)).count() as u8
 }
 
 /// So many units at the point's price, bought or sold as the point does.
@@ -46,8 +47,8 @@ fn push_left(left: &mut ArrayVec<Point, 16>, point: &Point, count: u8)
 }
 
 /// What is left of a bid where these units stand.
-pub(crate) fn left_of(bid: &Placed, standing: &[BidUnit]) -> Left
-    ensures { result ≡ spec.left_points standing.now bid.now.agent bid.now.position 0 bid.now.points }
+pub(crate) fn left_of(bid: &Placed, standing: &Sides) -> Left
+    ensures { result ≡ spec.left_points (both standing.now) bid.now.agent bid.now.position 0 bid.now.points }
 {
     let mut left = ArrayVec::new();
     let mut from = 0;

@@ -1,6 +1,7 @@
 use Rattle.std.proofs.Common.{◌≡◌, ◌+◌, ◌≤◌, ◌++◌, length, drop}
 use Rattle.tac_base.specs.Bids.{total_size}
 use Rattle.auction_rules.specs.Standing.{left_points}
+use Rattle.ticket_book.specs.Sides.{both}
 use Rattle.ticket_book.proofs.remains.left_of.Given as goal
 
 -- what is left of the points so far, and of the others, is all that is left
@@ -8,5 +9,5 @@ abbrev pub invariant-loop-point : goal.invariant-loop-point
 invariant-loop-point l = record {
   numbered : l.from + total_size (drop l.point-index l.point-items) ≤ 16;
   few : length l.left.items ≤ l.point-index;
-  points : l.left.items ++ left_points l.standing l.bid.agent l.bid.position l.from (drop l.point-index l.point-items) ≡ left_points l.standing l.bid.agent l.bid.position 0 l.point-items;
+  points : l.left.items ++ left_points (both l.standing) l.bid.agent l.bid.position l.from (drop l.point-index l.point-items) ≡ left_points (both l.standing) l.bid.agent l.bid.position 0 l.point-items;
 }

@@ -1,18 +1,22 @@
-use Rattle.std.proofs.Common.{ℕ, ◌≡◌, ◌≤◌, List, Some, sym, ap, ◌∙◌, arith, map, get_or}
-use Rattle.auction_rules.specs.declared.units.BidUnit.{BidUnit}
-use Rattle.auction_rules.specs.Standing.{left_of}
+use Rattle.std.proofs.Common.{ℕ, ◌≡◌, ◌≤◌, Some, sym, ap, ◌∙◌, arith, get_or}
 use Rattle.ticket_book.specs.Book.{TicketBook, StandsFor}
-use Rattle.ticket_book.proofs.Rewrites.{flat_map-held}
-use Rattle.ticket_book.proofs.Keeping.{book_of, owns}
+use Rattle.auction_rules.proofs.Idle.{own_idle}
+use Rattle.tac_base.specs.declared.calls.Call.TheVariants.{Own as OwnCall}
+use Rattle.auction_rules.specs.Legal.{entry_of}
+use Rattle.ticket_book.proofs.Keeping.{book_of, idle_keeps, owns}
 use Rattle.ticket_book.proofs.book.Tickets.own.Goals as goal
 
 pub returns-in-Some-clause-left : goal.returns-in-Some-clause-left
 returns-in-Some-clause-left c = λ setup past stood.
     let t = c.self.inside in
-    let book : TicketBook = book_of t.good t.bids (map (λ v. v.items) t.units) t.closed in
+    let book : TicketBook = book_of t.good t.bids t.sides t.closed in
     let kept : StandsFor book setup past = rw c.self.view_is stood in
     let le : c.args.agent ≤ 7 = omega (arith, c.get.ensures.range, c.get.ensures.value) in
     let at : get_or t.bids c.args.agent c.index-self-get.result ≡ Some c.in-Some.bid = ap (λ (n : ℕ). get_or t.bids n c.index-self-get.result) (sym c.get.ensures.value) ∙ c.in-Some.is in
-    c.left_of.ensures
-    ∙ ap (λ (units : List BidUnit). left_of units (Some c.in-Some.bid)) (c.deref.ensures.0 ∙ c.all_units.ensures ∙ sym (flat_map-held (λ v. v.items) t.units))
-    ∙ owns setup past book kept c.args.agent c.index-self-get.result (Some c.in-Some.bid) le (sym at)
+    c.left_of.ensures ∙ owns setup past book kept c.args.agent c.index-self-get.result (Some c.in-Some.bid) le (sym at)
+
+pub returns-in-Some-clause-stands : goal.returns-in-Some-clause-stands
+returns-in-Some-clause-stands c = λ setup past stood. idle_keeps setup past c.args.self.now stood (entry_of setup past c.args.agent OwnCall) (own_idle setup past c.args.agent (omega (arith, c.get.ensures.range, c.get.ensures.value)))
+
+pub returns-in-None-clause-stands : goal.returns-in-None-clause-stands
+returns-in-None-clause-stands c = λ setup past stood. idle_keeps setup past c.args.self.now stood (entry_of setup past c.args.agent OwnCall) (own_idle setup past c.args.agent (omega (arith, c.get.ensures.range, c.get.ensures.value)))
