@@ -9,19 +9,17 @@ use Rattle.tac_base.specs.declared.calls.Entry.{Entry as StoredEntry}
 use Rattle.tac_base.specs.declared.calls.Trade.{Trade}
 use Rattle.tac_base.specs.Goods.{clock}
 use Rattle.auction_rules.specs.Setup.{Setup}
-use Rattle.auction_rules.specs.History.{Entry, is_admission}
+use Rattle.auction_rules.specs.History.{Entry}
 use Rattle.auction_rules.specs.Effects.{nets, net_units, all_trades, endowment, holding}
 use Rattle.auction_rules.specs.Refusals.{refusal}
-use Rattle.auction_rules.specs.Legal.{entry_by, entry_of, admitted_reply, close_reply, reply_of, trades_of, entries_of, cap}
+use Rattle.auction_rules.specs.Legal.{entry_by, entry_of, reply_of, trades_of, entries_of, cap}
 use Rattle.auction_rules.specs.Follows.{Follows}
 use Rattle.std.specs.List.{All, AllByRecursion}
 use Rattle.auction_rules.specs.Traded.{traded, Spends, IsShort}
-use Rattle.tac_base.specs.declared.calls.Call.TheVariants.{Bid, Withdraw, Own as OwnCall, Update, Publish, Close}
-use Rattle.tac_base.specs.declared.calls.Reply.TheVariants.{Own}
-use Rattle.auction_rules.specs.declared.rules.Rules.{Rules}
-use Rattle.auction_rules.specs.declared.rules.Rules.TheVariants.{Flight as FlightRules, Hotel as HotelRules, Tickets as TicketRules}
-use Rattle.auction_rules.proofs.Steps.{refusal_refuses}
-use Rattle.auction_core.specs.Loggable.{IsLoggable, TellsHolding}
+use Rattle.auction_core.specs.Loggable.{IsLoggableCall, HasSmallNumbers, IsLoggable}
+use Rattle.auction_core.proofs.Dealing.{all_dealt}
+use Rattle.auction_core.proofs.Telling.{AreBids, told_in_range}
+use Rattle.auction_rules.proofs.Lists.{all-append}
 use Rattle.auction_rules.proofs.Trading.{length_le}
 use Rattle.turn_lock.specs.Part.{part}
 use Rattle.trade_ledger.specs.CashKeeping.{IsWithin}
@@ -81,43 +79,21 @@ in_range setup book held history party keeps =
 
 -- ---- what a log can show
 
-loggable_snoc : (history : List Entry) (e : Entry) → AllByRecursion IsLoggable history → IsLoggable e → AllByRecursion IsLoggable (history ++ e ∷ [])
-loggable_snoc [] e all is = (is, tt)
-loggable_snoc (x ∷ history) e all is = (all.0, loggable_snoc history e all.1 is)
+loggable_snoc : (good : ℕ) (history : List Entry) (e : Entry) → AllByRecursion (IsLoggable good) history → IsLoggable good e → AllByRecursion (IsLoggable good) (history ++ e ∷ [])
+loggable_snoc good [] e all is = (is, tt)
+loggable_snoc good (x ∷ history) e all is = (all.0, loggable_snoc good history e all.1 is)
 
--- no refusal tells a holding, and an agent is told its own
-refusal_tells : (setup : Setup) (past : List Entry) (caller : ℕ) (call : Call) (reply : Reply) → refusal setup.rules past caller call ≡ Some reply → TellsHolding reply
-refusal_tells setup past caller call reply refused = by_reply reply (refusal_refuses setup.rules past caller call reply refused)
-  where
-    by_reply : (r : Reply) → is_admission r ≡ false → TellsHolding r
-    by_reply (Own holding left) h = absurd cc
-    by_reply r h = tt
-
-admitted_tells : (setup : Setup) (past : List Entry) (caller : ℕ) (call : Call) → IsHolding (holding setup past caller) → TellsHolding (admitted_reply setup past caller call)
-admitted_tells setup past caller OwnCall held = held
-admitted_tells setup past caller (Bid points) held = tt
-admitted_tells setup past caller Withdraw held = tt
-admitted_tells setup past caller (Update tick draw) held = tt
-admitted_tells setup past caller Publish held = tt
-admitted_tells setup past caller Close held = by_rules setup.rules
-  where
-    by_rules : (rules : Rules) → TellsHolding (close_reply rules past)
-    by_rules (FlightRules first bound) = tt
-    by_rules (HotelRules rooms live) = tt
-    by_rules TicketRules = tt
-
-tells_held : (setup : Setup) (past : List Entry) (caller : ℕ) (call : Call) → IsHolding (holding setup past caller) → TellsHolding (reply_of setup past caller call)
-tells_held setup past caller call held = by_refusal (refusal setup.rules past caller call) refl
-  where
-    by_refusal : (r : Option Reply) → refusal setup.rules past caller call ≡ r → TellsHolding (entry_by setup past caller call r).reply
-    by_refusal None is = admitted_tells setup past caller call held
-    by_refusal (Some reply) is = refusal_tells setup past caller call reply is
+-- each bid of the past is within its limits
+past_bids : (good : ℕ) (history : List Entry) → AllByRecursion (IsLoggable good) history → AreBids (reverse history)
+past_bids good [] h = tt
+past_bids good (e ∷ history) h = subst AreBids (sym (reverse-append (e ∷ []) history)) (all-append (λ x. IsLoggableCall x.call) (reverse history) (e ∷ []) (past_bids good history h.1) (h.0.call, tt))
 
 -- one entry more
 pub kept_more : (setup : Setup) (book book' : Book) (held : List ℤ) (history : List Entry) (e : Entry) (call : Call) → IsKept setup book held history → e.caller ≤ clock →
     entries_of history e.caller < cap e.caller → e ≡ entry_of setup (reverse history) e.caller e.call → Stands book' setup (e ∷ reverse history) →
-    Spends (units_left book + 16) (units_left book') e.trades → length e.trades ≤ 128 → All IsShort e.trades → IsKept setup book' (held_after held e.trades) (history ++ e ∷ [])
-kept_more setup book book' held history e call keeps is room rule stands spends few short =
+    Spends (units_left book + 16) (units_left book') e.trades → length e.trades ≤ 128 → All IsShort e.trades → IsLoggableCall e.call → HasSmallNumbers e.reply →
+    IsKept setup book' (held_after held e.trades) (history ++ e ∷ [])
+kept_more setup book book' held history e call keeps is room rule stands spends few short called numbers =
     let past : reverse (history ++ e ∷ []) ≡ e ∷ reverse history = reverse-append history (e ∷ []) in
     record {
       ranged = keeps.ranged;
@@ -130,8 +106,16 @@ kept_more setup book book' held history e call keeps is room rule stands spends 
       stands = rw past stands;
       held = ap (λ (h : List ℤ). held_after h e.trades) keeps.held ∙ (held_next setup (reverse history) e ∙ ap (held_by setup) (sym past));
       few = rw past (let old = keeps.few in let spent = spends.few in omega (arith, old, spent, sum_by-append (λ (t : Trade). t.units) e.trades (all_trades (reverse history)), length-append history (e ∷ [])));
-      loggable = loggable_snoc history e keeps.loggable
-          (record { few = few; short = short; held = rw rule (tells_held setup (reverse history) e.caller e.call (in_range setup book held history e.caller keeps)) });
+      loggable = loggable_snoc setup.good history e keeps.loggable
+          (record {
+            caller = is;
+            call = called;
+            numbers = numbers;
+            told = rw rule (told_in_range (reverse history) (past_bids setup.good history keeps.loggable) e.caller setup e.call (in_range setup book held history e.caller keeps));
+            few = few;
+            short = short;
+            dealt = rw rule (all_dealt setup (reverse history) e.caller e.call is);
+          });
     }
 
 pub few_stored : (setup : Setup) (book : Book) (held : List ℤ) (entries : List StoredEntry) (trades : List Trade) → IsKept setup book held (stored entries trades) → length entries ≤ 8256
@@ -170,12 +154,12 @@ module _ (setup : Setup) (book book' : Book) (held : List ℤ) (entries : List S
         omega (arith, few, some, spent, length_le more spends.some, entries_fit, length-map entries (entry_with trades))
 
     pub sound_more : Follows setup past caller call reply more (Stands book' setup) → Spends (units_left book + 16) (units_left book') more → length more ≤ 128 → All IsShort more →
-        IsSound setup book' (held_after held more) (entries ++ entry_behind trades caller call reply more ∷ []) (trades ++ more) entry_room trade_room
-    sound_more follows spends few short =
+        IsLoggableCall call → HasSmallNumbers reply → IsSound setup book' (held_after held more) (entries ++ entry_behind trades caller call reply more ∷ []) (trades ++ more) entry_room trade_room
+    sound_more follows spends few short called numbers =
         let is_new = new_is follows in
         record {
           kept = subst (IsKept setup book' (held_after held more)) (sym (stored_more entries trades more caller call reply sound.stored))
-              (kept_more setup book book' held (stored entries trades) new call sound.kept is mine is_new (subst (λ (e : Entry). Stands book' setup (e ∷ past)) (sym is_new) follows.stands) spends few short);
+              (kept_more setup book book' held (stored entries trades) new call sound.kept is mine is_new (subst (λ (e : Entry). Stands book' setup (e ∷ past)) (sym is_new) follows.stands) spends few short called numbers);
           stored = stores_more entries trades more caller call reply sound.stored spends.some;
           entry_room = sound.entry_room;
           trade_room = sound.trade_room;

@@ -3,6 +3,8 @@ pub mod Holding
 pub mod Starting
 pub mod Chains
 pub mod Counting
+pub mod Dealing
+pub mod Telling
 pub mod Keeping
 pub mod Bought
 pub mod Buying

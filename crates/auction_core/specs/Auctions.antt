@@ -29,7 +29,7 @@ pub record IsKept (setup : Setup) (book : Book) (holdings : List ℤ) (history :
   pub stands : Stands book setup (reverse history)
   pub held : holdings ≡ held_by setup (reverse history)
   pub few : traded (all_trades (reverse history)) + units_left book ≤ BID_UNITS * length history + ENTRY_TRADES
-  pub loggable : AllByRecursion IsLoggable history
+  pub loggable : AllByRecursion (IsLoggable setup.good) history
 
 -- the same of a history that is stored, with room for all entries that the caps allow, and for all their trades
 pub record IsSound (setup : Setup) (book : Book) (holdings : List ℤ) (entries : List StoredEntry) (trades : List Trade) (entry_capacity trade_capacity : ℕ) : Type 0 where

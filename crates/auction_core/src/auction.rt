@@ -80,7 +80,7 @@ impl Auction {
         ensures value { result ≡ length self.now.history }
         ensures few { result ≤ AUCTION_ENTRIES }
         ensures legal { Legal self.now.setup self.now.history }
-        ensures loggable { All IsLoggable self.now.history }
+        ensures loggable { All (IsLoggable self.now.setup.good) self.now.history }
     {
         self.entries.len() as u32
     }

@@ -1,19 +1,36 @@
-ghost use Rattle.std.specs.Prelude.{◌≡◌};
+ghost use Rattle.std.specs.Prelude.{◌≡◌, None};
+ghost use Rattle.tac_base.specs.Bids.{fault_of};
+ghost use Rattle.auction_core.specs.Calls.{IsFit};
+ghost use Rattle.auction_core.specs.Loggable.{IsLoggableCall, HasSmallNumbers};
 
-use tac_base::{Call, Left, Reply};
+use tac_base::{Call, Left, Points, Reply};
+
+/// The same points again.
+fn same_points(points: &Points) -> Points
+    ensures value { result ≡ points.now }
+    ensures bid { fault_of points.now ≡ None }
+{
+    points.as_slice();
+    points.copy()
+}
 
 /// The same call again.
 pub(crate) fn same_call(call: &Call) -> Call
-    ensures { result ≡ call.now }
+    requires { IsFit call.now }
+    ensures value { result ≡ call.now }
+    ensures range { IsLoggableCall call.now }
 {
     match call {
-        Call::Bid(points) => Call::Bid(points.copy()),
+        Call::Bid(points) => Call::Bid(same_points(points)),
         Call::Withdraw => Call::Withdraw,
         Call::Own => Call::Own,
-        Call::Update { tick, draw } => Call::Update {
-            tick: *tick,
-            draw: *draw,
-        },
+        Call::Update { tick, draw } => {
+            let _tick = tick.get();
+            Call::Update {
+                tick: *tick,
+                draw: *draw,
+            }
+        }
         Call::Publish => Call::Publish,
         Call::Close => Call::Close,
     }
@@ -21,7 +38,8 @@ pub(crate) fn same_call(call: &Call) -> Call
 
 /// The same reply again.
 pub(crate) fn same_reply(reply: &Reply) -> Reply
-    ensures { result ≡ reply.now }
+    ensures value { result ≡ reply.now }
+    ensures range { HasSmallNumbers reply.now }
 {
     match reply {
         Reply::Taken { bought, sold } => Reply::Taken {

@@ -15,7 +15,7 @@ use Rattle.trade_ledger.specs.declared.cash_calls.CashCall.{CashCall}
 use Rattle.trade_ledger.specs.declared.cash_calls.CashCall.TheVariants.{Post, Read}
 use Rattle.trade_ledger.specs.declared.cash_calls.CashEntry.{CashEntry}
 use Rattle.trade_ledger.specs.CashHistory.{nets_of, posted_nets, total_of, gain_of, IsFit, reply_by, reply_of, IsLegalCash, cash_cap}
-use Rattle.trade_ledger.specs.CashKeeping.{IsWithin, IsSound}
+use Rattle.trade_ledger.specs.CashKeeping.{IsWithin, IsReader, IsToldInRange, IsLoggableCash, IsSound}
 
 abbrev net : ℕ → Nets → ℤ
 net party nets = slice_index_or nets.dollars party (pos 0)
@@ -58,6 +58,10 @@ pub called_snoc : (history : List CashEntry) (e : CashEntry) → AllByRecursion 
 called_snoc [] e all is = (is, tt)
 called_snoc (x ∷ history) e all is = (all.0, called_snoc history e all.1 is)
 
+loggable_snoc : (history : List CashEntry) (e : CashEntry) → AllByRecursion IsLoggableCash history → IsLoggableCash e → AllByRecursion IsLoggableCash (history ++ e ∷ [])
+loggable_snoc [] e all is = (is, tt)
+loggable_snoc (x ∷ history) e all is = (all.0, loggable_snoc history e all.1 is)
+
 abbrev AreCapped : List CashEntry → Type 0
 AreCapped history = (caller : ℕ) → length (part by history caller) ≤ cash_cap caller
 
@@ -89,10 +93,11 @@ within_all n a few is = (omega (arith, ints, is.0), omega (arith, ints, is.1))
 pub sound_snoc : (history : List CashEntry) (kept kept' : List ℤ) (capacity : ℕ) (e : CashEntry) → IsSound history kept capacity → e.caller ≤ clock → length (part by history e.caller) < cash_cap e.caller
     → IsFit e.caller e.call → e.reply ≡ reply_by (λ party. slice_index_or kept party (pos 0)) e.call
     → ((party : ℕ) → party < 9 → slice_index_or kept' party (pos 0) ≡ slice_index_or kept party (pos 0) +ℤ gain_of e.call party)
-    → ((party : ℕ) → party < 9 → IsWithin 2147483648 (gain_of e.call party)) → IsSound (history ++ e ∷ []) kept' capacity
-sound_snoc history kept kept' capacity e sound is room fit reply new small = record {
+    → ((party : ℕ) → party < 9 → IsWithin 2147483648 (gain_of e.call party)) → IsReader e.call → IsSound (history ++ e ∷ []) kept' capacity
+sound_snoc history kept kept' capacity e sound is room fit reply new small reader = record {
   legal = legal_snoc history e sound.legal fit (reply ∙ same_reply e.call fit);
   called = called_snoc history e sound.called is;
+  loggable = loggable_snoc history e sound.loggable (record { caller = is; reader = reader; told = subst IsToldInRange (sym reply) (told e.call reader) });
   capped = capped_snoc history e sound.capped room;
   totals = λ party lt. new party lt ∙ (ap (λ (z : ℤ). z +ℤ gain_of e.call party) (sound.totals party lt) ∙ sym (total_of-snoc history e party));
   small = λ party lt. subst (λ (n : ℕ). IsWithin (n * 2147483648) (total_of (history ++ e ∷ []) party)) (sym (length-append history (e ∷ [])))
@@ -103,3 +108,9 @@ sound_snoc history kept kept' capacity e sound is room fit reply new small = rec
     same_reply : (call : CashCall) → IsFit e.caller call → reply_by (λ party. slice_index_or kept party (pos 0)) call ≡ reply_by (total_of history) call
     same_reply (Post good position nets) fits = refl
     same_reply (Read agent) fits = ap (λ (z : ℤ). reply_by (λ _. z) (Read agent)) (sound.totals agent (omega arith))
+
+    told : (call : CashCall) → IsReader call → IsToldInRange (reply_by (λ party. slice_index_or kept party (pos 0)) call)
+    told (Post good position nets) reads = tt
+    told (Read agent) reads =
+        subst (IsWithin 600000000000000) (sym (sound.totals agent (omega arith)))
+        (within_all (length history) (total_of history agent) (few_entries history sound.called sound.capped) (sound.small agent (omega arith)))

@@ -1,9 +1,13 @@
 -- What the cash book keeps of its history.
 use Rattle.tac_base.specs.declared.limits.TheConstants.{CASH_ENTRIES}
-use Rattle.std.specs.Prelude.{◌≡◌, ℕ, ◌*◌, ◌<◌, ◌≤◌, List, ℤ, pos, neg_ℤ, ◌≤ℤ◌, length, slice_index_or}
+use Rattle.std.specs.Prelude.{◌≡◌, ℕ, ◌*◌, ◌<◌, ◌≤◌, ⊤, List, ℤ, pos, neg_ℤ, ◌≤ℤ◌, length, slice_index_or}
 use Rattle.std.specs.List.{AllByRecursion}
 use Rattle.tac_base.specs.Goods.{clock}
 use Rattle.turn_lock.specs.Part.{part}
+use Rattle.trade_ledger.specs.declared.cash_calls.CashCall.{CashCall}
+use Rattle.trade_ledger.specs.declared.cash_calls.CashCall.TheVariants.{Post, Read}
+use Rattle.trade_ledger.specs.declared.cash_calls.CashReply.{CashReply}
+use Rattle.trade_ledger.specs.declared.cash_calls.CashReply.TheVariants.{Done, Cash}
 use Rattle.trade_ledger.specs.declared.cash_calls.CashEntry.{CashEntry}
 use Rattle.trade_ledger.specs.CashHistory.{IsLegalCash, total_of, cash_cap}
 
@@ -11,11 +15,28 @@ use Rattle.trade_ledger.specs.CashHistory.{IsLegalCash, total_of, cash_cap}
 abbrev pub IsWithin : ℕ → ℤ → Type 0
 IsWithin most dollars = (neg_ℤ (pos most) ≤ℤ dollars) × (dollars ≤ℤ pos most)
 
+-- who reads its cash is an agent
+abbrev pub IsReader : CashCall → Type 0
+IsReader (Read agent) = agent ≤ 7
+IsReader (Post good position nets) = ⊤
+
+-- what is told of a party's cash has at most 15 digits
+abbrev pub IsToldInRange : CashReply → Type 0
+IsToldInRange (Cash dollars) = IsWithin 600000000000000 dollars
+IsToldInRange Done = ⊤
+
+-- an entry of one of the nine callers; it reads an agent's cash, in range, or posts
+pub record IsLoggableCash (e : CashEntry) : Type 0 where
+  pub caller : e.caller ≤ clock
+  pub reader : IsReader e.call
+  pub told : IsToldInRange e.reply
+
 -- The history is legal, and each of the nine callers has at most its cap of entries. The book has the total of each party, to which
 -- each entry adds at most 2 ^ 31 dollars, and room for all entries that the caps allow.
 pub record IsSound (history : List CashEntry) (kept : List ℤ) (capacity : ℕ) : Type 0 where
   pub legal : IsLegalCash history
   pub called : AllByRecursion (λ e. e.caller ≤ clock) history
+  pub loggable : AllByRecursion IsLoggableCash history
   pub capped : (caller : ℕ) → length (part (λ e. e.caller) history caller) ≤ cash_cap caller
   pub totals : (party : ℕ) → party < 9 → slice_index_or kept party (pos 0) ≡ total_of history party
   pub small : (party : ℕ) → party < 9 → IsWithin (length history * 2147483648) (total_of history party)

@@ -1,6 +1,6 @@
 ghost use Rattle.std.specs.Prelude.{◌≡◌, ℕ, ◌<◌, ◌≤ℤ◌, ◌+ℤ◌, pos, slice_index_or};
 ghost use Rattle.trade_ledger.specs.CashHistory.{gain_of, reply_by};
-ghost use Rattle.trade_ledger.specs.CashKeeping.{IsWithin};
+ghost use Rattle.trade_ledger.specs.CashKeeping.{IsWithin, IsReader};
 
 use crate::cash_calls::{CashCall, CashEntry, CashReply};
 use std::alloc::Global;
@@ -48,6 +48,7 @@ fn settle(totals: &mut [i64; 9], call: &CashCall) -> CashReply
     ensures totals { (party : ℕ) → party < 9 →
         slice_index_or totals.new party (pos 0) ≡ slice_index_or totals.old party (pos 0) +ℤ gain_of call.now party }
     ensures small { (party : ℕ) → party < 9 → IsWithin 2147483648 (gain_of call.now party) }
+    ensures reader { IsReader call.now }
 {
     match call {
         CashCall::Post { nets, .. } => {
@@ -59,8 +60,9 @@ fn settle(totals: &mut [i64; 9], call: &CashCall) -> CashReply
 }
 
 impl CashBook {
-    ghost use Rattle.std.specs.Prelude.{◌≡◌, ◌≤◌, [], IfOk, slice_get, length};
+    ghost use Rattle.std.specs.Prelude.{All, ◌≡◌, ◌≤◌, [], IfOk, slice_get, length};
     ghost use Rattle.std.specs.Option.{option_copied};
+    ghost use Rattle.trade_ledger.specs.CashKeeping.{IsLoggableCash};
     ghost use Rattle.trade_ledger.specs.CashHistory.{total_of};
 
     /// The empty book, with room for all entries of a game. After `Memory` nothing was made.
@@ -74,11 +76,12 @@ impl CashBook {
         })
     }
 
-    /// The entry at a position, None exactly past the end.
+    /// The entry at a position, None exactly past the end. A log can show each entry.
     #[tactic(auto, using(crate::proofs::CashSteps::few_entries))]
     pub fn entry(&self, position: u32) -> Option<&CashEntry>
         ensures value { option_copied result ≡ slice_get self.now position }
         ensures few { length self.now ≤ CASH_ENTRIES }
+        ensures loggable { All IsLoggableCash self.now }
     {
         self.entries.get(position as usize)
     }

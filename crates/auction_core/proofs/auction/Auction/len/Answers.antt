@@ -19,5 +19,5 @@ returns-clause-few c =
 
 pub returns-clause-loggable : goal.returns-clause-loggable
 returns-clause-loggable c =
-    subst (λ (h : AuctionHistory). All IsLoggable h.history) c.self.view_is
-    (All-from_recursion IsLoggable (stored c.self.inside.entries.items c.self.inside.trades.items) c.self.invariant.kept.loggable)
+    subst (λ (h : AuctionHistory). All (IsLoggable h.setup.good) h.history) c.self.view_is
+    (All-from_recursion (IsLoggable c.self.inside.terms.good) (stored c.self.inside.entries.items c.self.inside.trades.items) c.self.invariant.kept.loggable)

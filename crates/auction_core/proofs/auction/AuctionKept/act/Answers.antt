@@ -78,7 +78,7 @@ entries_are : (c : goal.After-store) →
     c.store.new.entries.items ≡ c.self.inside.entries.items ++ entry_behind c.self.inside.trades.items c.args.caller c.args.call.now c.act-reply.result c.act-reply.new.fills ∷ []
 entries_are c =
     c.store.ensures.entries
-    ∙ (λ i. c.self.inside.entries.items ++ entry_behind c.self.inside.trades.items c.args.caller (c.same_call-call.ensures i) c.act-reply.result (c.as_slice-trades.ensures.value i) ∷ [])
+    ∙ (λ i. c.self.inside.entries.items ++ entry_behind c.self.inside.trades.items c.args.caller (c.same_call-call.ensures.value i) c.act-reply.result (c.as_slice-trades.ensures.value i) ∷ [])
 
 trades_are : (c : goal.After-store) → c.store.new.trades.items ≡ c.self.inside.trades.items ++ c.act-reply.new.fills
 trades_are c = c.store.ensures.trades ∙ ap (λ (ts : List Trade). c.self.inside.trades.items ++ ts) c.as_slice-trades.ensures.value
@@ -94,7 +94,7 @@ invariant_of-self c =
     subst (λ (kept : List ℤ × List StoredEntry × List Trade × ℕ × ℕ). IsSound a.terms c.act-reply.new.self kept.0 kept.1 kept.2 kept.3 kept.4)
     (sym (λ i. (held_is i, entries_are c i, trades_are c i, c.store.ensures.entry_capacity i, c.store.ensures.trade_capacity i)))
     (sound_more a.terms a.book c.act-reply.new.self a.held a.entries.items a.trades.items (vec_capacity a.entries) (vec_capacity a.trades) c.args.caller c.args.call.now c.act-reply.result c.act-reply.new.fills c.self.invariant is room
-    (follows c) c.act-reply.ensures.units few c.act-reply.ensures.short)
+    (follows c) c.act-reply.ensures.units few c.act-reply.ensures.short c.same_call-call.ensures.range c.same_reply.ensures.range)
 
 pub returns-clause-legal : goal.returns-clause-legal
 returns-clause-legal c = (invariant_of-self c).kept.legal
@@ -113,7 +113,7 @@ pub returns-clause-struck : goal.returns-clause-struck
 returns-clause-struck c =
     let a = c.self.inside in
     sym (struck_is a.terms (reverse (stored a.entries.items a.trades.items)) c.args.caller c.args.call.now c.act-reply.result c.same_reply.result c.act-reply.new.fills c.nets.result.dollars (length c.as_slice-trades.result.now)
-    (Stands c.act-reply.new.self a.terms) (follows c) c.same_reply.ensures (c.nets.ensures ∙ ap nets c.as_slice-trades.ensures.value) (ap (λ (ts : List Trade). length ts) c.as_slice-trades.ensures.value))
+    (Stands c.act-reply.new.self a.terms) (follows c) c.same_reply.ensures.value (c.nets.ensures ∙ ap nets c.as_slice-trades.ensures.value) (ap (λ (ts : List Trade). length ts) c.as_slice-trades.ensures.value))
     ∙ ap (λ (h : AuctionHistory). struck_of (entry_of h.setup (reverse h.history) c.args.caller c.args.call.now)) c.self.view_is
 
 pub returns-clause-entry : goal.returns-clause-entry
