@@ -1,0 +1,10 @@
+pub mod Refusals
+pub mod Sequences
+pub mod LowNumbers
+pub mod KeptHistories
+pub mod CertCases
+pub mod EntryCases
+pub mod HistoryCases
+pub mod PartCases
+pub mod LogCases
+pub mod LogTexts

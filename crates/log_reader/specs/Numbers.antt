@@ -1,0 +1,28 @@
+-- The numbers of a log's lines, and which line is one too many.
+use Rattle.std.specs.Prelude.{ℕ, ◌+◌, ◌≤◌, ⊤, if◌then◌else◌, List, Result, Ok}
+use Rattle.std.specs.List.{AllByRecursion}
+use Rattle.tac_base.specs.declared.limits.TheConstants.{TEXT_BYTES}
+use Rattle.text_forms.specs.declared.lines.BadLine.{BadLine}
+use Rattle.text_forms.specs.Lines.{Remaining}
+use Rattle.bound_cert.specs.declared.faults.CertFault.{CertFault}
+use Rattle.bound_cert.specs.declared.faults.CertFault.TheVariants as certs
+use Rattle.log_text.specs.LogReading.{begins, refused_line}
+
+-- the greatest number that a line of a log may have, or what stands after its last line end
+abbrev pub LastNumber : ℕ
+LastNumber = TEXT_BYTES + 1
+
+-- no number is greater
+pub record AreLow (left : Remaining) : Type 0 where
+  pub lines : AllByRecursion (λ line. line.number ≤ LastNumber) left.lines
+  pub last : left.last ≤ LastNumber
+
+-- a certificate is refused at a line of no greater number
+abbrev pub IsLowFault : CertFault → Type 0
+IsLowFault (certs.Line line reason) = line ≤ LastNumber
+IsLowFault certs.TooLong = ⊤
+IsLowFault certs.Memory = ⊤
+
+-- the lines that are left, where the next one does not begin with a word
+abbrev pub nothing_begins : List ℕ → Remaining → Result Remaining BadLine
+nothing_begins word left = if begins word left then refused_line left else Ok left

@@ -1,0 +1,65 @@
+// The certificate of an agent.
+ghost use Rattle.std.specs.Prelude.{◌≡◌, ◌≤◌};
+ghost use Rattle.bound_cert.specs.Reading.{cert_of};
+ghost use Rattle.bound_cert.specs.Views.{tree_of};
+ghost use Rattle.log_text.specs.LogReading as reading;
+ghost use Rattle.log_reader.specs.Faults.{fault_by, refused, IsReading};
+ghost use Rattle.log_reader.specs.Numbers.{LastNumber, IsLowFault};
+
+use crate::LogFault;
+use crate::log_lines::{LogLines, well_formed};
+use bound_cert::{Cert, CertFault, read_cert};
+use log_text::count_of;
+use std::alloc::Global;
+use tac_base::Agent;
+
+/// The reason of a certificate that ends too early or too late.
+const TEXT_END: u8 = 7;
+
+/// The fault of a log in which the block after the line of a number is no certificate.
+fn fault_at(number: u32, fault: CertFault) -> LogFault
+    requires number { number ≤ LastNumber }
+    requires line { IsLowFault fault }
+    ensures { result ≡ fault_by number fault }
+{
+    match fault {
+        CertFault::Memory => LogFault::Memory,
+        CertFault::Line { line, reason } if reason != TEXT_END => {
+            LogFault::Line {
+                line: number + line,
+            }
+        }
+        CertFault::Line { .. } | CertFault::TooLong => LogFault::Line { line: number },
+    }
+}
+
+/// Reads the certificate of a block that follows the line of a number.
+fn cert_at(alloc: Global, number: u32, block: &[u8]) -> Result<Cert, LogFault>
+    requires { number ≤ LastNumber }
+    ensures { IsReading (λ cert. tree_of cert.root) result (refused (reading.cert_by number (cert_of block.now))) }
+{
+    match read_cert(alloc, block) {
+        Ok(cert) => Ok(cert),
+        Err(fault) => Err(fault_at(number, fault)),
+    }
+}
+
+/// Reads the certificate of an agent: its number of lines, and as many lines.
+pub(crate) fn cert_in(
+    alloc: Global,
+    agent: Agent,
+    lines: LogLines<'_>,
+) -> Result<(Cert, LogLines<'_>), LogFault>
+    ensures { IsReading (λ x. (tree_of x.0.root, x.1)) result (refused (reading.cert_in agent lines.entry)) }
+{
+    let (line, left) = lines.due()?;
+    let number = line.number();
+    let count = well_formed(number, count_of(agent, line.bytes()))?;
+    match left.block(count) {
+        None => Err(LogFault::Line { line: number }),
+        Some((block, after)) => {
+            let cert = cert_at(alloc, number, block)?;
+            Ok((cert, after))
+        }
+    }
+}

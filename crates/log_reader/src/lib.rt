@@ -1,0 +1,23 @@
+//! Logs of games, read from their text.
+#![tactic(auto)]
+
+mod cash;
+mod certs;
+mod entries;
+mod fault;
+mod head;
+mod histories;
+mod log_lines;
+mod logs;
+mod parts;
+mod reading;
+mod scores;
+#[cfg(test)]
+mod tests;
+
+pub use fault::LogFault;
+pub use histories::LogHistory;
+pub use line_protocol::LogHead;
+pub use logs::Log;
+pub use reading::read_log;
+pub use scores::ScoreLine;

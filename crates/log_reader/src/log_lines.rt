@@ -1,0 +1,126 @@
+ghost use Rattle.std.specs.Prelude.{◌≡◌, ◌≤◌, length, true, false, None, Some, IfOk, MatchOption};
+ghost use Rattle.tac_base.specs.declared.limits.TheConstants.{TEXT_BYTES};
+ghost use Rattle.text_forms.specs.Lines as lines;
+ghost use Rattle.text_forms.specs.Words.{parts_of, words_of};
+ghost use Rattle.log_text.specs.EntryForms.{first_is};
+ghost use Rattle.log_text.specs.HeadForms as head;
+ghost use Rattle.log_text.specs.LogReading as reading;
+ghost use Rattle.log_reader.specs.Numbers.{LastNumber, nothing_begins};
+
+use std::marker::Model;
+use text_forms::{BadLine, Lines, NumberedLine, Reason, Words};
+
+/// The lines that are left of a log's text, whose numbers are no greater than 67,108,865.
+#[derive(Debug, Drop)]
+pub(crate) struct LogLines<'a> {
+    lines: Lines<'a>,
+}
+
+impl<'a> Model for LogLines<'a> {
+    ghost use Rattle.text_forms.specs.Lines.{Remaining};
+    ghost use Rattle.log_reader.specs.Numbers.{AreLow};
+
+    ghost Value = { Remaining };
+
+    ghost view = { λ l. l.lines };
+
+    ghost invariant = { λ l. AreLow l.lines };
+}
+
+impl<'a> LogLines<'a> {
+    /// All lines of a text.
+    pub(crate) fn new(text: &'a [u8]) -> Self
+        requires { length text.now ≤ TEXT_BYTES }
+        ensures { result ≡ lines.lines_from false 1 (parts_of 10 text.now) }
+    {
+        LogLines {
+            lines: Lines::new(text),
+        }
+    }
+
+    /// The next line and those after it; a text that ends here ends too early.
+    pub(crate) fn due(self) -> Result<(NumberedLine<'a>, LogLines<'a>), BadLine>
+        ensures value { result ≡ lines.due_of self.entry }
+        ensures low { IfOk result (λ x. x.0.number ≤ LastNumber) }
+    {
+        let (line, lines) = self.lines.due()?;
+        Ok((line, LogLines { lines }))
+    }
+
+    /// The bytes of the next lines, so many, with their line ends, and the lines after them.
+    pub(crate) fn block(self, count: u32) -> Option<(&'a [u8], LogLines<'a>)>
+        ensures { MatchOption result (lines.block_of count self.entry ≡ None) (λ found. lines.block_of count self.entry ≡ Some (found.0.now, found.1)) }
+    {
+        let (block, lines) = self.lines.block(count)?;
+        Some((block, LogLines { lines }))
+    }
+
+    /// Whether the first word of the next line is this one.
+    pub(crate) fn begins(&self, word: &[u8]) -> bool
+        ensures { result ≡ reading.begins word.now self.now }
+    {
+        match self.lines.again().next() {
+            Ok((line, _)) => starts(line.bytes(), word),
+            Err(_) => false,
+        }
+    }
+
+    /// The same lines, where the next one does not begin with the word; else that line is bad.
+    pub(crate) fn without(self, word: &[u8]) -> Result<LogLines<'a>, BadLine>
+        ensures { result ≡ nothing_begins word.now self.entry }
+    {
+        if !self.begins(word) {
+            return Ok(self);
+        }
+        let (line, _) = self.due()?;
+        Err(BadLine {
+            line: line.number(),
+            reason: Reason::TextEnd,
+        })
+    }
+
+    /// The text has to end here, with a line end.
+    pub(crate) fn finish(self) -> Result<(), BadLine>
+        ensures { result ≡ lines.nothing_left self.entry }
+    {
+        self.lines.finish()
+    }
+}
+
+/// Whether the first word of a line is this one.
+fn starts(line: &[u8], word: &[u8]) -> bool
+    ensures { result ≡ first_is word.now (words_of line.now) }
+{
+    match Words::new(line).next() {
+        None => false,
+        Some(first) => first == word,
+    }
+}
+
+/// What was read of a line, which is bad where it has not its form.
+pub(crate) fn well_formed<T>(line: u32, read: Option<T>) -> Result<T, BadLine>
+    ensures { result ≡ lines.at_line line (head.formed read) }
+{
+    match read {
+        Some(value) => Ok(value),
+        None => Err(BadLine {
+            line,
+            reason: Reason::Spelling,
+        }),
+    }
+}
+
+/// Passes over a line that has to be this text.
+pub(crate) fn text_at<'a>(text: &[u8], lines: LogLines<'a>) -> Result<((), LogLines<'a>), BadLine>
+    ensures { result ≡ reading.line_by (head.is_text text.now) lines.entry }
+{
+    let (line, left) = lines.due()?;
+    if line.bytes() == text {
+        Ok(((), left))
+    } else {
+        Err(BadLine {
+            line: line.number(),
+            reason: Reason::Spelling,
+        })
+    }
+}

@@ -1,0 +1,84 @@
+// Parts of a log that come several times.
+ghost use Rattle.std.specs.Prelude.{◌≤◌};
+ghost use Rattle.text_forms.specs.Steps as steps;
+ghost use Rattle.log_text.specs.LogReading as reading;
+ghost use Rattle.log_reader.specs.Faults.{refused, IsReading};
+
+use crate::LogFault;
+use crate::log_lines::LogLines;
+use std::alloc::Global;
+
+/// A part of a log that comes several times, numbered from 0.
+pub(crate) trait Part {
+    type Value: Drop;
+
+    ghost use Rattle.std.specs.Prelude.{ℕ, ◌<◌, Result};
+    ghost use Rattle.text_forms.specs.Lines.{Remaining};
+    ghost use Rattle.text_forms.specs.declared.lines.BadLine.{BadLine};
+    ghost use Rattle.log_reader.specs.Faults.{refused, IsReading};
+
+    ghost gives: { Self → ℕ → Remaining → Result (Self.Value × Remaining) BadLine };
+
+    /// How many parts there may be.
+    ghost most: { Self → ℕ };
+
+    /// Reads the part of this number, and gives the lines after it.
+    fn read<'a>(
+        &self,
+        alloc: Global,
+        number: u32,
+        lines: LogLines<'a>,
+    ) -> Result<(Self::Value, LogLines<'a>), LogFault>
+        requires { number < most self.now }
+        ensures { IsReading (λ x. x) result (refused (gives self.now number lines.entry)) };
+}
+
+/// Reads so many parts, one after another, and gives the lines after them.
+pub(crate) fn read_all<'a, P: Part>(
+    alloc: Global,
+    part: &P,
+    count: u32,
+    lines: LogLines<'a>,
+) -> Result<(Vec<P::Value>, LogLines<'a>), LogFault>
+    requires { count ≤ P.most part.now }
+    ensures { IsReading (λ x. (x.0.items, x.1)) result (refused (steps.repeat count 0 (P.gives part.now) lines.entry)) }
+{
+    let mut values = Vec::new(alloc);
+    let mut left = lines;
+    for number in 0..count {
+        let (value, after) = part.read(alloc, number, left)?;
+        if values.push(value).is_err() {
+            return Err(LogFault::Memory);
+        }
+        left = after;
+    }
+    Ok((values, left))
+}
+
+/// Reads parts as long as the next line begins with a word, and gives the lines after them. Where more than so many stand there, the
+/// first that is too many is bad.
+pub(crate) fn read_while<'a, P: Part>(
+    alloc: Global,
+    part: &P,
+    word: &[u8],
+    most: u32,
+    lines: LogLines<'a>,
+) -> Result<(Vec<P::Value>, LogLines<'a>), LogFault>
+    requires { most ≤ P.most part.now }
+    ensures { IsReading (λ x. (x.0.items, x.1)) result (refused (reading.as_long_as word.now (P.gives part.now) most 0 lines.entry)) }
+{
+    let mut values = Vec::new(alloc);
+    let mut left = lines;
+    for number in 0..most {
+        if !left.begins(word) {
+            return Ok((values, left));
+        }
+        let (value, after) = part.read(alloc, number, left)?;
+        if values.push(value).is_err() {
+            return Err(LogFault::Memory);
+        }
+        left = after;
+    }
+    let left = left.without(word)?;
+    Ok((values, left))
+}
