@@ -23,7 +23,8 @@ pub struct Worths {
 }
 
 impl Worths {
-    /// What one unit more of a good, 0..27, adds to the best total, in dollars. To bid more than that for it loses by it.
+    /// What one unit more of a good, 0..27, adds to the best total, in dollars. To bid more than that for it,
+    /// all else as it is, loses by it.
     pub fn up(&self, good: usize) -> u32
         requires { good < 28 }
         ensures { result ≡ up_at (worths_of self.now.base self.now.more.items self.now.less.items) good }
@@ -31,7 +32,8 @@ impl Worths {
         self.more[good].total - self.base.total
     }
 
-    /// What one unit less of a good, 0..27, takes from the best total, in dollars. To sell it for less loses by it.
+    /// What one unit less of a good, 0..27, takes from the best total, in dollars. To sell it for less,
+    /// all else as it is, loses by it.
     pub fn down(&self, good: usize) -> u32
         requires { good < 28 }
         ensures { result ≡ down_at (worths_of self.now.base self.now.more.items self.now.less.items) good }

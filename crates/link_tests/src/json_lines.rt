@@ -1,27 +1,77 @@
 use agent_gate::Dialect;
 use json_dialect::JsonDialect;
 use line_protocol::{Request, RequestFault, Said};
-use std::test::Fail;
 use tac_base::{BidFault, Board, Left, Point, Reply, Text};
 
+/// The points of the bids that are read here.
+const TWO_POINTS: &[Point] = &[
+    Point {
+        units: 2,
+        price: 150,
+    },
+    Point {
+        units: -1,
+        price: 10000,
+    },
+];
+
+/// Whether a request is that of the verb, of the good where it has one, and of the points where it has some.
+fn is_asked(request: &Request, verb: &str, number: u8, points: &[Point]) -> bool {
+    match request {
+        Request::Bid { good, points: read } => {
+            verb == "bid" && good.get() == number && read.as_slice() == points
+        }
+        Request::Withdraw { good } => verb == "withdraw" && good.get() == number,
+        Request::Own { good } => verb == "own" && good.get() == number,
+        Request::Quote { good } => verb == "quote" && good.get() == number,
+        Request::Cash => verb == "cash",
+        Request::Quit => verb == "quit",
+    }
+}
+
 #[test]
-fn lines_ask_what_their_objects_say(rt: HostRuntime) -> Result<(), Fail> {
+fn lines_ask_what_their_objects_say(rt: HostRuntime) {
     let dialect = JsonDialect::new(rt.alloc());
-    let bid = dialect.read(b"{\"do\":\"bid\",\"auction\":0,\"points\":[[1,300]]}");
-    assert!(rt; matches!(bid, Ok(Request::Bid { good: _, points: _ })));
-    let quit = dialect.read(b" {\"do\":\"cash\",\"do\":\"quit\"} \r");
-    assert!(rt; matches!(quit, Ok(Request::Quit)));
+    for (line, verb, number) in [
+        (
+            &b"{\"do\":\"bid\",\"auction\":27,\"points\":[[2,150],[-1,10000]]}"[..],
+            "bid",
+            27,
+        ),
+        (
+            &b"\t{ \"auction\" : 24, \"do\" : \"withdraw\" } \r"[..],
+            "withdraw",
+            24,
+        ),
+        (&b"{\"do\":\"own\",\"auction\":8}"[..], "own", 8),
+        (&b"{\"auction\":0,\"do\":\"quote\"}\r"[..], "quote", 0),
+        (&b"{\"d\\u006f\":\"c\\u0061sh\"}"[..], "cash", 0),
+        (&b"{\"do\":\"cash\",\"do\":\"quit\"}"[..], "quit", 0),
+        (
+            &b"{\"do\":\"own\",\"auction\":\"x\",\"auction\":5}"[..],
+            "own",
+            5,
+        ),
+    ] {
+        let asked = dialect.read(line);
+        assert!(rt; matches!(&asked, Ok(request) if is_asked(request, verb, number, TWO_POINTS)));
+    }
+}
+
+#[test]
+fn the_first_fault_of_a_line_is_told(rt: HostRuntime) {
+    let dialect = JsonDialect::new(rt.alloc());
     let mut deep = [b'['; 400];
     for i in 200..400 {
         deep[i] = b']';
     }
-    let mut long = [b'1'; 427];
+    let mut long = [b'1'; 423];
     for (i, byte) in b"{\"do\":\"own\",\"auction\":".iter().enumerate() {
         if i < long.len() {
             long[i] = *byte;
         }
     }
-    long[426] = b'}';
+    long[422] = b'}';
     for (line, fault) in [
         (
             &b"{\"do\":\"bid\",\"auction\":0,\"points\":[]}"[..],
@@ -48,6 +98,10 @@ fn lines_ask_what_their_objects_say(rt: HostRuntime) -> Result<(), Fail> {
             RequestFault::Syntax,
         ),
         (&b"{\"do\":\"cash\",\"x\":1}"[..], RequestFault::Syntax),
+        (
+            &b"{\"do\":\"quit\",\"do\":\"buy\"}"[..],
+            RequestFault::Syntax,
+        ),
         (&b"{\"do\":\"\\ud800\"}"[..], RequestFault::Syntax),
         (&b"{\"do\":\"\xff\"}"[..], RequestFault::Syntax),
         (&b"cash"[..], RequestFault::Syntax),
@@ -57,7 +111,6 @@ fn lines_ask_what_their_objects_say(rt: HostRuntime) -> Result<(), Fail> {
     ] {
         assert_eq!(rt; dialect.read(line).err(), Some(fault));
     }
-    Ok(())
 }
 
 /// The object of what is said.
@@ -110,9 +163,69 @@ fn agents_are_told_by_objects(rt: HostRuntime) {
             &b"{\"at\":3,\"no\":\"belowquote\",\"need\":3,\"price\":101,\"offered\":2}"[..],
         ),
         (Said::Cash(4, -660), &b"{\"at\":4,\"cash\":-660}"[..]),
+        (Said::At(0, Reply::Done), &b"{\"at\":0,\"done\":true}"[..]),
         (
-            Said::Fault(RequestFault::Bid(BidFault::Syntax)),
-            &b"{\"no\":\"bid\",\"fault\":1}"[..],
+            Said::At(
+                9,
+                Reply::Sold {
+                    units: 16,
+                    price: 70,
+                },
+            ),
+            &b"{\"at\":9,\"sold\":[16,70]}"[..],
+        ),
+        (
+            Said::At(
+                2,
+                Reply::Own {
+                    holding: 4,
+                    left: Left::new(&[]),
+                },
+            ),
+            &b"{\"at\":2,\"own\":4,\"points\":[]}"[..],
+        ),
+        (
+            Said::Quote(Board {
+                count: 8,
+                bid: 70,
+                ask: 0,
+                closed: true,
+            }),
+            &b"{\"at\":8,\"quote\":[70,0],\"open\":false}"[..],
+        ),
+        (
+            Said::At(1, Reply::Closed),
+            &b"{\"at\":1,\"no\":\"closed\"}"[..],
+        ),
+        (
+            Said::At(1, Reply::WrongCall),
+            &b"{\"at\":1,\"no\":\"wrongcall\"}"[..],
+        ),
+        (
+            Said::At(1, Reply::NoBid),
+            &b"{\"at\":1,\"no\":\"nobid\"}"[..],
+        ),
+        (
+            Said::At(1, Reply::Sell),
+            &b"{\"at\":1,\"no\":\"sell\"}"[..],
+        ),
+        (
+            Said::At(1, Reply::SelfCross),
+            &b"{\"at\":1,\"no\":\"selfcross\"}"[..],
+        ),
+        (Said::Spent, &b"{\"no\":\"spent\"}"[..]),
+        (Said::TooLong, &b"{\"no\":\"toolong\"}"[..]),
+        (
+            Said::Fault(RequestFault::Syntax),
+            &b"{\"no\":\"syntax\"}"[..],
+        ),
+        (
+            Said::Fault(RequestFault::NoSuchAuction),
+            &b"{\"no\":\"auction\"}"[..],
+        ),
+        (
+            Said::Fault(RequestFault::Bid(BidFault::ZeroUnits)),
+            &b"{\"no\":\"bid\",\"fault\":5}"[..],
         ),
         (
             Said::Fault(RequestFault::Memory),

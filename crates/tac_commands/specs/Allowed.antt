@@ -1,8 +1,8 @@
 -- What each command makes of the values of its files, and so which outcomes the words and the files allow.
-use Rattle.std.specs.Prelude.{◌≡◌, ℕ, ◌<◌, ⊤, List, Option, Some, None}
+use Rattle.std.specs.Prelude.{◌≡◌, ℕ, ◌<◌, ⊤, List, Option, Some, None, ◌≤ℤ◌, ◌<ℤ◌, pos}
 use Rattle.game_text.specs.Games.{GameFile, spelling, upgraded}
 use Rattle.game_text.specs.Accounts.{AccountFile}
-use Rattle.good_worth.specs.Worth.{IsUp, IsDown}
+use Rattle.good_worth.specs.Worth.{IsUp, IsDown, held}
 use Rattle.good_worth.specs.Worths.{Valuation, AreWorths, up_at, down_at}
 use Rattle.good_worth.specs.WorthTexts.{spelling as worth_spelling}
 use Rattle.allocator.specs.Solutions.{IsSolvedText}
@@ -45,11 +45,19 @@ abbrev pub IsTrial : ℕ → ℕ → List ℕ → Type 0
 IsTrial seed count text =
     (played : PlayCount) × (sheet : List Scored) × IsSummary (made_game seed) (made_script seed count) played sheet × (text ≡ trial_text seed count played sheet)
 
--- The text of the worths of an account: best allocations of the account and of those with one unit more and one unit less of each good, so
--- that the numbers of each good are what one unit more adds to the best total, and what one unit less takes from it.
+-- What the two numbers of a good say: what one unit more adds to the best total, and what one unit less takes from it, in dollars and so never
+-- below 0; nothing is lost of a good that is not held, and one that is owed gains nothing by one more.
+pub record AreWorthsOf (account : AccountFile) (v : Valuation) (good : ℕ) : Type 0 where
+  pub up : IsUp account good (up_at v good)
+  pub down : IsDown account good (down_at v good)
+  pub not_held : held account good ≤ℤ pos 0 → down_at v good ≡ 0
+  pub owed : held account good <ℤ pos 0 → up_at v good ≡ 0
+
+-- The text of the worths of an account: best allocations of the account and of those with one unit more and one unit less of each good, and
+-- the numbers of each good.
 abbrev pub IsValued : AccountFile → List ℕ → Type 0
 IsValued account text =
-    (v : Valuation) × AreWorths account v × ((good : ℕ) → good < 28 → IsUp account good (up_at v good) × IsDown account good (down_at v good)) × (text ≡ worth_spelling v)
+    (v : Valuation) × AreWorths account v × ((good : ℕ) → good < 28 → AreWorthsOf account v good) × (text ≡ worth_spelling v)
 
 -- a game by the lines of a script is written so, and the cash in its sheet is that of the posts
 abbrev pub PlayAllows : GameFile → List ScriptLine → Outcome → Type 0

@@ -1,5 +1,5 @@
 -- What the words of a command line ask for.
-use Rattle.std.specs.Prelude.{zero, suc, ⊤, ℕ, ◌+◌, ◌^◌, List, [], ◌∷◌, Option, Some, None, if◌then◌else◌, codes, option_map, option_and_then}
+use Rattle.std.specs.Prelude.{zero, suc, ⊤, ℕ, ◌+◌, ◌^◌, ◌&&◌, List, [], ◌∷◌, Option, Some, None, if◌then◌else◌, codes, option_map, option_and_then}
 use Rattle.std.specs.Str.{bytes_eq}
 use Rattle.tac_base.specs.declared.limits.TheConstants.{MADE_REQUESTS}
 use Rattle.tac_base.specs.Numerals.{below, numeral}
@@ -8,7 +8,7 @@ use Rattle.tac_commands.specs.declared.file_kinds.FileKind.TheVariants as kinds
 use Rattle.tac_commands.specs.declared.words.BatchCommand.{BatchCommand as BatchAsked}
 use Rattle.tac_commands.specs.declared.words.BatchCommand.TheVariants as batch
 use Rattle.tac_commands.specs.declared.words.Form.{Form}
-use Rattle.tac_commands.specs.declared.words.Form.TheVariants.{Lines}
+use Rattle.tac_commands.specs.declared.words.Form.TheVariants.{Lines, Json}
 use Rattle.tac_commands.specs.declared.words.Asked.{Asked}
 use Rattle.tac_commands.specs.declared.words.Asked.TheVariants as asked
 
@@ -62,22 +62,29 @@ at_least_one (suc n) = Some (suc n)
 abbrev pub positive_below : ℕ → List ℕ → Option ℕ
 positive_below limit word = option_and_then at_least_one (below limit (numeral 10 word))
 
--- a service has a port, 1 to 65535, and a pace, 1 to 60000 milliseconds
-abbrev pub service_of : List ℕ → Option ℕ → Option ℕ → Option Command
-service_of game None pace = None
-service_of game (Some port) None = None
-service_of game (Some port) (Some pace) = Some (Serve game port pace Lines)
+-- a service has a port, 1 to 65535, a pace, 1 to 60000 milliseconds, and a form of lines
+abbrev pub service_of : List ℕ → Option ℕ → Option ℕ → Form → Option Command
+service_of game None pace form = None
+service_of game (Some port) None form = None
+service_of game (Some port) (Some pace) form = Some (Serve game port pace form)
 
 -- a command of three words after its own
 abbrev pub command_with_three : List ℕ → List ℕ → List ℕ → List ℕ → Option Command
 command_with_three word first second third =
-    if bytes_eq word (codes "serve") then service_of first (positive_below 65536 second) (positive_below 60001 third)
+    if bytes_eq word (codes "serve") then service_of first (positive_below 65536 second) (positive_below 60001 third) Lines
+    else None
+
+-- a command of four words after its own
+abbrev pub command_with_four : List ℕ → List ℕ → List ℕ → List ℕ → List ℕ → Option Command
+command_with_four word first second third fourth =
+    if bytes_eq word (codes "serve") && bytes_eq fourth (codes "json") then service_of first (positive_below 65536 second) (positive_below 60001 third) Json
     else None
 
 abbrev pub command_of : List (List ℕ) → Option Command
 command_of (word ∷ argument ∷ []) = command_with word argument
 command_of (word ∷ first ∷ second ∷ []) = command_with_two word first second
 command_of (word ∷ first ∷ second ∷ third ∷ []) = command_with_three word first second third
+command_of (word ∷ first ∷ second ∷ third ∷ fourth ∷ []) = command_with_four word first second third fourth
 command_of words = None
 
 -- ---- the files

@@ -32,8 +32,10 @@ pub enum BatchCommand<'a> {
 /// The wire format of a served game.
 #[derive(Clone, Copy, Debug, PartialEq, Eq)]
 pub enum Form {
-    /// Request lines and reply lines.
+    /// Request lines and reply lines of words.
     Lines,
+    /// Request lines and reply lines that are JSON objects.
+    Json,
 }
 
 /// A command of the list, with its words.
@@ -138,10 +140,15 @@ fn number_of(word: &str, limit: u64) -> Option<u16>
     }
 }
 
-/// The service of a game at a port with a pace.
-fn service_of<'a>(game: &'a str, port: Option<u16>, pace: Option<u16>) -> Option<Asked<'a>>
+/// The service of a game at a port with a pace, in a form of lines.
+fn service_of<'a>(
+    game: &'a str,
+    port: Option<u16>,
+    pace: Option<u16>,
+    form: Form,
+) -> Option<Asked<'a>>
     requires { length game.now ≤ 1024 }
-    ensures command { MatchOption result (commands.service_of game.now port pace ≡ None) (λ asked. commands.service_of game.now port pace ≡ Some (seen asked)) }
+    ensures command { MatchOption result (commands.service_of game.now port pace form ≡ None) (λ asked. commands.service_of game.now port pace form ≡ Some (seen asked)) }
     ensures short { IfSome result HasShortNames }
 {
     let Some(port) = port else {
@@ -154,7 +161,7 @@ fn service_of<'a>(game: &'a str, port: Option<u16>, pace: Option<u16>) -> Option
         game,
         port,
         pace,
-        form: Form::Lines,
+        form,
     })
 }
 
@@ -171,7 +178,37 @@ fn command_with_three<'a>(
     ensures short { IfSome result HasShortNames }
 {
     if word == "serve" {
-        service_of(first, number_of(second, 65536), number_of(third, 60001))
+        service_of(
+            first,
+            number_of(second, 65536),
+            number_of(third, 60001),
+            Form::Lines,
+        )
+    } else {
+        None
+    }
+}
+
+/// The command of a word and four more: the service of a game in JSON.
+fn command_with_four<'a>(
+    word: &str,
+    first: &'a str,
+    second: &str,
+    third: &str,
+    fourth: &str,
+) -> Option<Asked<'a>>
+    requires { length first.now ≤ 1024 }
+    ensures command { MatchOption result (commands.command_with_four word.now first.now second.now third.now fourth.now ≡ None)
+        (λ asked. commands.command_with_four word.now first.now second.now third.now fourth.now ≡ Some (seen asked)) }
+    ensures short { IfSome result HasShortNames }
+{
+    if word == "serve" && fourth == "json" {
+        service_of(
+            first,
+            number_of(second, 65536),
+            number_of(third, 60001),
+            Form::Json,
+        )
     } else {
         None
     }
@@ -192,6 +229,13 @@ pub fn command_asked(words: &[String]) -> Option<Asked<'_>>
             first.as_str(),
             second.as_str(),
             third.as_str(),
+        ),
+        [word, first, second, third, fourth] => command_with_four(
+            word.as_str(),
+            first.as_str(),
+            second.as_str(),
+            third.as_str(),
+            fourth.as_str(),
         ),
         _ => None,
     }

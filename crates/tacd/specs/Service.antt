@@ -1,5 +1,5 @@
 -- What `serve` leaves: the game that was played, its log, the links and the ticker.
-use Rattle.std.specs.Prelude.{◌≡◌, ℕ, ◌<◌, ◌⊎◌, List, [], ◌∷◌, Bool, nat_lt, if◌then◌else◌, Result, Option, Some, None}
+use Rattle.std.specs.Prelude.{◌≡◌, ℕ, ◌<◌, ◌⊎◌, List, [], ◌∷◌, Bool, nat_lt, if◌then◌else◌, Result, Err, Option, Some, None}
 use Rattle.std.specs.Global.{Vec}
 use Rattle.std.specs.Option.{option_map}
 use Rattle.tac_io.specs.Counts.{Rose}
@@ -7,9 +7,12 @@ use Rattle.tac_io.specs.Told.{and_then_told}
 use Rattle.game_text.specs.Games.{GameFile}
 use Rattle.line_protocol.specs.declared.asking.Request.{Request}
 use Rattle.line_protocol.specs.declared.asking.RequestFault.{RequestFault}
+use Rattle.line_protocol.specs.declared.asking.RequestFault.TheVariants as no_memory
 use Rattle.line_protocol.specs.declared.saying.Said.{Said}
 use Rattle.line_protocol.specs.Requests.{request_of}
 use Rattle.line_protocol.specs.Replies.{said_text}
+use Rattle.json_dialect.specs.JsonRequests.{asks_json}
+use Rattle.json_dialect.specs.JsonReplies.{json_text}
 use Rattle.score_sheet.specs.Sheets.{Scored}
 use Rattle.line_protocol.specs.Heads.{Head, Play, Serve, head_of}
 use Rattle.game_log.specs.LogText.{play_part}
@@ -24,7 +27,7 @@ use Rattle.tac_commands.specs.declared.file_kinds.FileKind.TheVariants.{Game}
 use Rattle.tac_commands.specs.declared.refusals.Refusal.{Refusal}
 use Rattle.tac_commands.specs.declared.refusals.Refusal.TheVariants.{LinkFault, Memory}
 use Rattle.tac_commands.specs.declared.words.Form.{Form}
-use Rattle.tac_commands.specs.declared.words.Form.TheVariants.{Lines}
+use Rattle.tac_commands.specs.declared.words.Form.TheVariants.{Lines, Json}
 use Rattle.tac_commands.specs.Files.{Content, IsRead, IsNotRead}
 use Rattle.tac_commands.specs.Outcomes.{Outcome, Done, Lapsed, Cut, Refused}
 
@@ -70,10 +73,12 @@ lapsed_code code missed = code
 -- what a request line of a link may be read as
 abbrev pub answers_by : Form → List ℕ → Result Request RequestFault → Type 0
 answers_by Lines line answer = answer ≡ request_of line
+answers_by Json line answer = (answer ≡ asks_json line) ⊎ (answer ≡ Err no_memory.Memory)
 
 -- what a link is sent of what is said
 abbrev pub texts_by : Form → Said → List ℕ
 texts_by Lines said = said_text said
+texts_by Json said = json_text said
 
 -- ---- the links and the ticker
 

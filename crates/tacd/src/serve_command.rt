@@ -16,6 +16,7 @@ use auction_core::Closed;
 use game_log::{LogHead, LogWriteFault, write_play_part, write_scores};
 use game_run::{GameEnd, RunFault, run_game};
 use game_text::Game;
+use json_dialect::JsonDialect;
 use std::alloc::Global;
 use std::sync::Wait;
 use std::thread::Threads;
@@ -182,6 +183,17 @@ pub(crate) fn serve<
                 port,
                 pace,
                 &LineDialect,
+                out,
+                links,
+                ticker,
+            ),
+            Form::Json => serve_game(
+                rt,
+                alloc,
+                &game,
+                port,
+                pace,
+                &JsonDialect::new(alloc),
                 out,
                 links,
                 ticker,

@@ -8,13 +8,16 @@ use std::alloc::Global;
 use std::io::{Read, Write};
 use std::net::TcpStream;
 use std::rt::Clock;
-use std::sync::atomic::AtomicU64;
+use std::sync::atomic::{AtomicU64, Ordering};
 use std::sync::{Arc, Wait};
 use std::test::Fail;
 use std::thread::Threads;
 use std::time::Instant;
 use tac_base::Tick;
 use tac_io::{HeldLink, Hold, LinesSent, Link, Links, MemLink, MemTicker, Ticker};
+
+// The words that serve the plain game.
+const SERVE: &str = "serve game 7411 5";
 
 // Serves the plain game over the links, and no tick lapses.
 fn serve<R: Threads + Sync + Wait + Clock, L: Link + Send + Drop>(
@@ -24,13 +27,14 @@ fn serve<R: Threads + Sync + Wait + Clock, L: Link + Send + Drop>(
     faults: Faults,
 ) -> Result<Ran<L>, Fail> {
     let mut ticker = MemTicker::new(alloc, Vec::new(alloc))?;
-    serve_by(rt, alloc, given, faults, &mut ticker)
+    serve_by(rt, alloc, SERVE, given, faults, &mut ticker)
 }
 
 // Serves the plain game over the links by the ticker.
 fn serve_by<R: Threads + Sync + Wait + Clock, L: Link + Send + Drop, T: Ticker + Send>(
     rt: &R,
     alloc: Global,
+    line: &str,
     given: Vec<L>,
     faults: Faults,
     ticker: &mut T,
@@ -39,15 +43,7 @@ fn serve_by<R: Threads + Sync + Wait + Clock, L: Link + Send + Drop, T: Ticker +
 {
     let game = plain_game(alloc, FIRST_CLIENT)?;
     let files = [("game", game.as_bytes())];
-    run_over(
-        rt,
-        alloc,
-        "serve game 7411 5",
-        &files,
-        given,
-        ticker,
-        faults,
-    )
+    run_over(rt, alloc, line, &files, given, ticker, faults)
 }
 
 // A link that gives these bytes, as many at once as stated, has room for `room` bytes, and fails at a read and at a write; 0 for none.
@@ -251,6 +247,7 @@ fn the_calls_of_lapsed_ticks_are_made(rt: HostRuntime) -> Result<(), Fail> {
         let served = serve_by(
             &rt,
             alloc,
+            SERVE,
             links(alloc, &FOUR, 1_000)?,
             NO_FAULT,
             &mut ticker,
@@ -265,11 +262,22 @@ fn the_calls_of_lapsed_ticks_are_made(rt: HostRuntime) -> Result<(), Fail> {
     Ok(())
 }
 
-// A ticker of which each tick lapses that is waited for before a pace was set.
+// How often a tick looks at the lines that a link was sent.
+const MOST_LOOKS: u32 = 1_000_000_000;
+
+// A ticker whose ticks come once a link was sent a number of lines. Each tick lapses that is waited for before a pace was set, or for which
+// the lines do not come.
 #[derive(Drop)]
 struct PacedTicker {
     pace: Option<u16>,
+    sent: LinesSent,
+    lines: u64,
     lapses: u64,
+}
+
+// Looks until a link was sent so many lines, and says whether it was.
+fn was_sent(sent: &AtomicU64, lines: u64) -> bool {
+    (0..MOST_LOOKS).any(|_| sent.load(Ordering::SeqCst) >= lines)
 }
 
 impl Ticker for PacedTicker {
@@ -294,7 +302,7 @@ impl Ticker for PacedTicker {
     }
 
     fn wait<R: Wait + Clock>(&mut self, _rt: &R, tick: Tick) -> Result<Tick, Tick> {
-        if self.pace.is_some() {
+        if self.pace.is_some() && was_sent(&self.sent, self.lines) {
             return Ok(tick);
         }
         self.lapses = self.lapses.saturating_add(1);
@@ -315,11 +323,14 @@ fn the_pace_is_set_before_the_first_wait(rt: HostRuntime) -> Result<(), Fail> {
     let alloc = rt.alloc();
     let mut ticker = PacedTicker {
         pace: None,
+        sent: Arc::new(alloc, AtomicU64::new(0))?,
+        lines: 0,
         lapses: 0,
     };
     let served = serve_by(
         &rt,
         alloc,
+        SERVE,
         links(alloc, &FOUR, 1_000)?,
         NO_FAULT,
         &mut ticker,
@@ -343,6 +354,50 @@ fn held(
         bytes.push(b'\n')?;
     }
     Ok(HeldLink::new(alloc, bytes, 10_000, Arc::try_clone(sent)?, hold)?)
+}
+
+// What an agent asks in JSON.
+const JSON_ASKED: [&str; 7] = [
+    "hello seat0",
+    "{\"do\":\"bid\",\"auction\":0,\"points\":[[1,300]]}",
+    "{\"auction\":0,\"do\":\"quote\"}",
+    "{\"do\":\"bid\",\"auction\":0,\"points\":[]}",
+    "{\"do\":\"own\",\"auction\":28}",
+    "{\"do\":\"cash\",\"x\":1}",
+    "{\"do\":\"quit\"}",
+];
+
+// What it is told after its welcome.
+const JSON_TOLD: &str =
+    "{\"at\":0,\"taken\":[1,0]}\n{\"at\":1,\"quote\":[0,300],\"open\":true}\n{\"no\":\"bid\",\"fault\":1}\n{\"no\":\"auction\"}\n{\"no\":\"syntax\"}\n{\"bye\":true}\n";
+
+#[test]
+fn agents_may_speak_json(rt: HostRuntime) -> Result<(), Fail> {
+    let alloc = rt.alloc();
+    let sent = Arc::new(alloc, AtomicU64::new(0))?;
+    let mut links = Vec::new(alloc);
+    links.push(held(alloc, &JSON_ASKED, &sent, None)?)?;
+    // The clock's first tick comes after the ten lines of the welcome and the six answers.
+    let mut ticker = PacedTicker {
+        pace: None,
+        sent,
+        lines: 16,
+        lapses: 0,
+    };
+    let line = "serve game 7411 5 json";
+    let served = serve_by(&rt, alloc, line, links, NO_FAULT, &mut ticker)?;
+    assert_eq!(rt; served.code, 0);
+    assert!(rt;
+        served.text.starts_with(
+            b"taclog 1\nserve\nlink 0 seated 0\nend 0 quit\nmissed 0\nauction 0 55\n0 bid ((1 300)) = taken 1 0\n"
+        )
+    );
+    let [link] = served.ended.as_slice() else {
+        return Err("another number of links".into());
+    };
+    let told = format!(in alloc; "{WELCOME}{JSON_TOLD}")?;
+    assert_eq!(rt; link.sent(), told.as_bytes());
+    Ok(())
 }
 
 #[test]

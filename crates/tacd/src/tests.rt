@@ -104,24 +104,30 @@ fn run<R: Threads + Sync + Wait + Clock>(
     run_over(rt, alloc, line, files, Vec::new(alloc), &mut ticker, faults)
 }
 
-// The line that plays the game with one room of the first night and live quotes; its second space tells it from that of the bad game.
-const LIVE: &str = "play second  script";
+// The game that lies beside the plain one: one with a bad line 20, or one with one room of the first night and live quotes.
+#[derive(Clone, Copy)]
+enum Second {
+    BadLine,
+    Live,
+}
 
-// The second game beside the plain one: that with live quotes for its line, and else one with a bad line 20.
-fn second_game(alloc: Global, line: &str) -> Result<String, Fail> {
-    if line == LIVE {
-        let nights = "rooms 1 16 16 16 16 16 16 16\nquotes live\n";
-        game_with(alloc, 2, nights, FIRST_CLIENT)
-    } else {
-        plain_game(alloc, "client 0 0 2 2 100 0 0 100\n")
+// The text of that game.
+fn second_game(alloc: Global, second: Second) -> Result<String, Fail> {
+    match second {
+        Second::BadLine => plain_game(alloc, "client 0 0 2 2 100 0 0 100\n"),
+        Second::Live => {
+            let nights = "rooms 1 16 16 16 16 16 16 16\nquotes live\n";
+            game_with(alloc, 2, nights, FIRST_CLIENT)
+        }
     }
 }
 
-// Runs a line over two games, an account and a script. Fails where the code is another, the text does not begin with the first of the parts,
-// or lacks one of them, or the first is alone and not the whole text.
-fn check<R: Threads + Sync + Wait + Clock>(
+// Runs a line over the plain game and the second one, an account and a script. Fails where the code is another, the text does not begin with
+// the first of the parts, or lacks one of them, or the first is alone and not the whole text.
+fn check_beside<R: Threads + Sync + Wait + Clock>(
     rt: &R,
     alloc: Global,
+    second: Second,
     line: &str,
     script: &str,
     faults: Faults,
@@ -129,7 +135,7 @@ fn check<R: Threads + Sync + Wait + Clock>(
     parts: &[&str],
 ) -> Result<(), Fail> {
     let game = plain_game(alloc, FIRST_CLIENT)?;
-    let second = second_game(alloc, line)?;
+    let second = second_game(alloc, second)?;
     let script = String::from_str(alloc, script)?;
     let files = [
         ("game", game.as_bytes()),
@@ -143,6 +149,28 @@ fn check<R: Threads + Sync + Wait + Clock>(
         return Err(Fail::from(text));
     }
     Ok(())
+}
+
+// The same beside the game with a bad line.
+fn check<R: Threads + Sync + Wait + Clock>(
+    rt: &R,
+    alloc: Global,
+    line: &str,
+    script: &str,
+    faults: Faults,
+    code: u8,
+    parts: &[&str],
+) -> Result<(), Fail> {
+    check_beside(
+        rt,
+        alloc,
+        Second::BadLine,
+        line,
+        script,
+        faults,
+        code,
+        parts,
+    )
 }
 
 // Whether the text begins with the first of the parts, and has the others; or is the first, where that is alone.
@@ -287,7 +315,7 @@ fn hotels_are_run_from_scripts(rt: HostRuntime) -> Result<(), Fail> {
 #[test]
 fn games_are_made_played_and_scored(rt: HostRuntime) -> Result<(), Fail> {
     let alloc = rt.alloc();
-    let rows: [(&str, &str, &[&str]); 12] = [
+    let rows: [(&str, &str, &[&str]); 11] = [
         (
             "play game script",
             "",
@@ -346,15 +374,6 @@ fn games_are_made_played_and_scored(rt: HostRuntime) -> Result<(), Fail> {
             ],
         ),
         (
-            LIVE,
-            "0 bid 8 ((1 50))\n0 quote 8\n1 bid 8 ((1 50))\n1 bid 8 ((1 51))\n1 quote 8\n",
-            &[
-                "0 @0 taken 0 0\n0 @1 quote 0 50 open\n1 @1 no belowquote 1 51 0\n1 @2 taken 0 0\n1 @3 quote 0 51 open\ntaclog 1\n",
-                "\nauction 8 4\n",
-                "\n8 close = sold 1 51\ntrade 1 8 1 51\n",
-            ],
-        ),
-        (
             "worth account",
             "",
             &[
@@ -405,7 +424,20 @@ fn games_are_made_played_and_scored(rt: HostRuntime) -> Result<(), Fail> {
     for (line, script, parts) in rows {
         check(&rt, alloc, line, script, NO_FAULT, 0, parts)?;
     }
-    Ok(())
+    check_beside(
+        &rt,
+        alloc,
+        Second::Live,
+        "play second script",
+        "0 bid 8 ((1 50))\n0 quote 8\n1 bid 8 ((1 50))\n1 bid 8 ((1 51))\n1 quote 8\n",
+        NO_FAULT,
+        0,
+        &[
+            "0 @0 taken 0 0\n0 @1 quote 0 50 open\n1 @1 no belowquote 1 51 0\n1 @2 taken 0 0\n1 @3 quote 0 51 open\ntaclog 1\n",
+            "\nauction 8 4\n",
+            "\n8 close = sold 1 51\ntrade 1 8 1 51\n",
+        ],
+    )
 }
 
 #[test]
@@ -490,6 +522,8 @@ fn other_words_and_bad_files_are_refused(rt: HostRuntime) -> Result<(), Fail> {
         "serve script 7411 60001",
         "serve script 07411 5",
         "serve script 7411",
+        "serve script 7411 5 JSON",
+        "serve script 7411 5 json json",
     ] {
         check(&rt, alloc, line, "", NO_FAULT, 1, &["usage\n"])?;
     }

@@ -1,0 +1,121 @@
+#!/usr/bin/env node
+// An agent that speaks JSON, for a server that was started by `tac serve GAME PORT PACE json`:
+//
+//     node examples/agents/asker.mjs HOST PORT WORD [--pause SECONDS]
+//
+// It buys the trip of its first client: both seats at once, and a room for each night, for which it bids anew where the quote has come to
+// its bid. When the game is over it says what it holds, and ends. It wants Node 18 or later, and nothing beside it.
+import net from "node:net";
+import readline from "node:readline";
+import { setTimeout as sleep } from "node:timers/promises";
+import { parseArgs } from "node:util";
+
+const MOST_FOR_A_SEAT = 600; // dollars
+const MOST_FOR_A_ROOM = 300; // dollars
+
+// A connection to the server, which may still be starting: it is tried for two minutes.
+async function connect(host, port) {
+  for (let tries = 1; ; tries += 1) {
+    const socket = net.connect(port, host);
+    try {
+      await new Promise((done, failed) => socket.once("connect", done).once("error", failed));
+      return socket.setNoDelay(true);
+    } catch (error) {
+      if (error.code !== "ECONNREFUSED" || tries === 600) throw error;
+      await sleep(200);
+    }
+  }
+}
+
+// A seated link: one reply line for each request line.
+class Link {
+  constructor(socket) {
+    const lines = readline.createInterface({ input: socket });
+    this.socket = socket;
+    this.lines = lines[Symbol.asyncIterator]();
+    socket.on("error", () => {}); // then the link closes
+    socket.on("close", () => lines.close());
+  }
+
+  // The next line that the server sends.
+  async line() {
+    const { value, done } = await this.lines.next();
+    if (done) throw new Error("the link was closed");
+    return value;
+  }
+
+  // Takes a seat by its word, and waits until the game begins. The lines of admission are lines of words for every agent.
+  async greet(word) {
+    this.socket.write(`hello ${word}\n`);
+    const first = await this.line();
+    if (!first.startsWith("welcome ")) throw new Error(first);
+    this.agent = Number(first.split(" ")[1]);
+    await this.line(); // the tickets that it has at first
+    this.clients = [];
+    for (let number = 0; number < 8; number += 1) {
+      const [arrive, depart, premium, ...values] = (await this.line()).split(" ").slice(3).map(Number);
+      this.clients.push({ arrive, depart, premium, values });
+    }
+  }
+
+  // Sends a request, and gives its reply. Where the server had no memory to read the line nothing was asked, and it is sent again.
+  async ask(request) {
+    for (;;) {
+      this.socket.write(JSON.stringify(request) + "\n");
+      const reply = JSON.parse(await this.line());
+      if (reply.no !== "memory") return reply;
+    }
+  }
+
+  // Bids for one unit, in place of the earlier bid there.
+  bid(auction, price) {
+    return this.ask({ do: "bid", auction, points: [[1, price]] });
+  }
+}
+
+// The goods of a client's trip: the seats in and out, and the rooms.
+function trip({ arrive, depart, premium }) {
+  const hotel = premium > 100 ? 12 : 8;
+  const rooms = [];
+  for (let night = arrive; night < depart; night += 1) rooms.push(hotel + night - 1);
+  return { seats: [arrive - 1, depart + 2], rooms };
+}
+
+// Bids for the rooms whose quote has come to what stands. `standing` has the dollars of the standing bids.
+async function bidForRooms(link, rooms, standing) {
+  for (const room of rooms) {
+    const { quote, open } = await link.ask({ do: "quote", auction: room });
+    const before = standing.get(room) ?? 0;
+    const price = Math.min(quote[1] + 50, MOST_FOR_A_ROOM);
+    if (open && before <= quote[1] && before < price) {
+      await link.bid(room, price);
+      standing.set(room, price);
+    }
+  }
+}
+
+async function main() {
+  const { values, positionals } = parseArgs({ allowPositionals: true, options: { pause: { type: "string", default: "2" } } });
+  const [host, port, word] = positionals;
+  if (!word) throw new Error("usage: node asker.mjs HOST PORT WORD [--pause SECONDS]");
+  const link = new Link(await connect(host, Number(port)));
+  await link.greet(word);
+  const { seats, rooms } = trip(link.clients[0]);
+  for (const seat of seats) await link.bid(seat, MOST_FOR_A_SEAT);
+  const standing = new Map();
+  while ((await link.ask({ do: "quote", auction: 0 })).open) {
+    await bidForRooms(link, rooms, standing);
+    await sleep(1000 * Number(values.pause));
+  }
+  const held = [];
+  for (const auction of [...seats, ...rooms]) held.push((await link.ask({ do: "own", auction })).own);
+  const { cash } = await link.ask({ do: "cash" });
+  console.log(`agent ${link.agent} holds ${held.join(" ")} of the goods ${[...seats, ...rooms].join(" ")}, cash ${cash}`);
+  await link.ask({ do: "quit" });
+  link.socket.end();
+}
+
+main().catch((error) => {
+  console.error(`asker.mjs: ${error.message}`);
+  process.exit(1);
+});
