@@ -205,10 +205,7 @@ fn agents_are_told_by_objects(rt: HostRuntime) {
             Said::At(1, Reply::NoBid),
             &b"{\"at\":1,\"no\":\"nobid\"}"[..],
         ),
-        (
-            Said::At(1, Reply::Sell),
-            &b"{\"at\":1,\"no\":\"sell\"}"[..],
-        ),
+        (Said::At(1, Reply::Sell), &b"{\"at\":1,\"no\":\"sell\"}"[..]),
         (
             Said::At(1, Reply::SelfCross),
             &b"{\"at\":1,\"no\":\"selfcross\"}"[..],

@@ -7,7 +7,7 @@ use Rattle.tac_io.specs.Told.{and_then_told}
 use Rattle.game_text.specs.Games.{GameFile}
 use Rattle.line_protocol.specs.declared.asking.Request.{Request}
 use Rattle.line_protocol.specs.declared.asking.RequestFault.{RequestFault}
-use Rattle.line_protocol.specs.declared.asking.RequestFault.TheVariants as no_memory
+use Rattle.line_protocol.specs.declared.asking.RequestFault.TheVariants as request_faults
 use Rattle.line_protocol.specs.declared.saying.Said.{Said}
 use Rattle.line_protocol.specs.Requests.{request_of}
 use Rattle.line_protocol.specs.Replies.{said_text}
@@ -70,10 +70,10 @@ lapsed_code code missed = code
 
 -- ---- the form of lines
 
--- what a request line of a link may be read as
+-- what a request line of a link may be read as; one of JSON also as a line that there was no memory to read, whatever it says
 abbrev pub answers_by : Form → List ℕ → Result Request RequestFault → Type 0
 answers_by Lines line answer = answer ≡ request_of line
-answers_by Json line answer = (answer ≡ asks_json line) ⊎ (answer ≡ Err no_memory.Memory)
+answers_by Json line answer = (answer ≡ asks_json line) ⊎ (answer ≡ Err request_faults.Memory)
 
 -- what a link is sent of what is said
 abbrev pub texts_by : Form → Said → List ℕ
