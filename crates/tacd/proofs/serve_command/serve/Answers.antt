@@ -8,5 +8,5 @@ returns-in-Lines-clause-outcome g c =
 
 pub returns-in-Json-clause-outcome : goal.returns-in-Json-clause-outcome
 returns-in-Json-clause-outcome g c =
-    let served = c.serve_game-2.ensures in
+    let served = c.serve_game-in-Json.ensures in
     rw c.in-Json.is (served.0, inl (c.in-Ok.game, c.in-Ok.ensures.game, served.1, c.in-Ok.ensures.quiet), served.2)
