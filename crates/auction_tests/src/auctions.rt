@@ -8,7 +8,7 @@ use tac_base::{Call, Caller, Good, Party, Point, Points, Reply};
 use turn_lock::Kept;
 
 /// One call of a short history.
-#[tactic(auto, using(crate::proofs::Counting::room_below))]
+#[tactic(auto, using(auction_core::proofs::Counting::room_below))]
 fn strike(rt: &impl Abort, auction: &mut Auction, caller: u8, call: &Call) -> Result<Struck, Fail>
     requires { IsFit call.now }
 {

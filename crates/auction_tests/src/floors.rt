@@ -1,4 +1,4 @@
-ghost use Rattle.std.specs.Prelude.{◌≡◌, ◌<◌, ◌≤◌, ℕ, length, IfOk};
+ghost use Rattle.std.specs.Prelude.{◌≡◌, ◌<◌, ◌≤◌, ◌++◌, ◌∷◌, [], ℕ, length, IfOk, OnOk};
 ghost use Rattle.tac_base.specs.declared.limits.TheConstants.{CLOCK_CALLS, CLOCK_CASH_ENTRIES};
 ghost use Rattle.floor.specs.Desks.{desk_ids, desk_caller, entries_of, entries_at};
 ghost use Rattle.floor.specs.Keeping.{count_entries};
@@ -138,6 +138,16 @@ fn bid_often<R: Wait + Clock>(
     desk
 }
 
+/// Puts a desk with those that are handed back to their floor.
+fn hand_back(desks: &mut Vec<Desk>, desk: Desk) -> Result<(), Memory>
+    ensures { OnOk result (desks.new.items ≡ desks.old.items ++ desk ∷ []) }
+{
+    match desks.push(desk) {
+        Ok(()) => Ok(()),
+        Err(e) => Err(AllocError::from(e).into()),
+    }
+}
+
 /// The game in which the agents 0 and 1 bid 500 times each, at once.
 fn bid_at_once<R: Threads + Wait + Clock + Sync>(
     rt: &R,
@@ -156,10 +166,10 @@ fn bid_at_once<R: Threads + Wait + Clock + Sync>(
         || bid_often(rt, &floor, second, good, buys),
     );
     let mut all = Vec::new(alloc);
-    all.push(first).map_err(AllocError::from)?;
-    all.push(second).map_err(AllocError::from)?;
+    hand_back(&mut all, first)?;
+    hand_back(&mut all, second)?;
     for desk in others {
-        all.push(desk).map_err(AllocError::from)?;
+        hand_back(&mut all, desk)?;
     }
     Ok(floor.close(all))
 }

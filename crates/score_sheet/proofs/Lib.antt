@@ -1,4 +1,3 @@
 mod Filling
 mod Dollars
 mod EightScores
-mod GoodNumbers

@@ -17,6 +17,6 @@ close-requires g c =
     let rest : into_iter_items c.into_iter-desk-iterator.result ≡ into_iter_items c.next-2.new.self = search rules in
     let ids_a : desk_ids a' ≡ desk_ids a = search rules in let ids_b : desk_ids b' ≡ desk_ids b = search rules in
     let caller_a : desk_caller a' ≡ desk_caller a = search rules in let caller_b : desk_caller b' ≡ desk_caller b = search rules in (
-      put_back (λ d. desk_ids d) _ _ _ _ _ _ _ _ a b a' b' v.ids left c.new-all.ensures.items c.in_ok-add.ensures c.in_ok-add-2.ensures rest whole ids_a ids_b ∙ told.0,
-      put_back (λ d. desk_caller d) _ _ _ _ _ _ _ _ a b a' b' v.callers left c.new-all.ensures.items c.in_ok-add.ensures c.in_ok-add-2.ensures rest whole caller_a caller_b ∙ told.1,
+      put_back (λ d. desk_ids d) _ _ _ _ _ _ _ _ a b a' b' v.ids left c.new-all.ensures.items c.in_ok-hand_back.ensures c.in_ok-hand_back-2.ensures rest whole ids_a ids_b ∙ told.0,
+      put_back (λ d. desk_caller d) _ _ _ _ _ _ _ _ a b a' b' v.callers left c.new-all.ensures.items c.in_ok-hand_back.ensures c.in_ok-hand_back-2.ensures rest whole caller_a caller_b ∙ told.1,
     )

@@ -1,4 +1,4 @@
-use Rattle.score_sheet.proofs.GoodNumbers.{goods_more}
+use Rattle.auction_tests.proofs.GoodNumbers.{goods_more}
 use Rattle.auction_tests.proofs.scores.played_game.Goals as goal
 
 pub loop-good-preserved : goal.loop-good-preserved
