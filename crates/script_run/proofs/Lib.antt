@@ -8,3 +8,8 @@ pub mod ClosedCounts
 pub mod Written
 pub mod PlayedGames
 pub mod GameCounting
+pub mod LineRanges
+pub mod OwedPosts
+pub mod ClockParts
+pub mod LawfulSteps
+pub mod LawfulGames

@@ -17,3 +17,4 @@ pub mod GameRuns
 pub mod GameOuts
 pub mod PlayedGames
 pub mod QuietGames
+pub mod LawfulGames
