@@ -2,3 +2,4 @@ pub mod Faults
 pub mod Histories
 pub mod Logs
 pub mod Numbers
+pub mod SoundLog

@@ -2,6 +2,7 @@ pub mod Unambiguous
 pub mod LongFiles
 pub mod MadeScripts
 pub mod OneThreadCash
+pub mod SoundLogs
 pub mod CodedOutcomes
 pub mod Endings
 pub mod ReadFiles

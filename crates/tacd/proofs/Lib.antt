@@ -1,3 +1,5 @@
+pub mod SeatedOnce
+pub mod SoundServices
 pub mod PostedCash
 pub mod WrittenLogs
 pub mod LapsedGames

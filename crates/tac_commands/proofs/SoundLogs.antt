@@ -1,0 +1,70 @@
+-- The log of a lawful game is sound.
+use Rattle.std.proofs.Common.{◌≡◌, ℕ, ◌+◌, Bool, true, false, cond, List, [], ◌∷◌, ◌++◌, length, map, get_or, drop, refl, sym, ap, ◌∙◌, subst, append_assoc}
+use Rattle.std.specs.Prelude.{◌==◌, filter}
+use Rattle.std.specs.List.{enumerate_from, range_with_len}
+use Rattle.std.proofs.lemmas.List.{length-map}
+use Rattle.tac_base.specs.declared.calls.Call.{Call}
+use Rattle.tac_base.specs.Goods.{clock}
+use Rattle.game_text.specs.Games.{GameFile}
+use Rattle.auction_rules.specs.Setup.{Setup}
+use Rattle.auction_rules.specs.History.{Entry}
+use Rattle.turn_lock.specs.Part.{part_from}
+use Rattle.auction_core.specs.Auctions.{AuctionHistory}
+use Rattle.auction_core.specs.ClosedGame.{ClosedGame, all_goods}
+use Rattle.auction_core.specs.Setups.{setup_of}
+use Rattle.score_sheet.specs.Settlement.{settlement_of}
+use Rattle.score_sheet.specs.Sheets.{Scored, IsSheet}
+use Rattle.line_protocol.specs.Heads.{Head}
+use Rattle.log_text.specs.LogText.{first_lines, histories_of, histories_text, play_part}
+use Rattle.log_text.specs.SheetText.{sheet_part}
+use Rattle.log_text.specs.LoggedGames.{LoggedGame, logged_text}
+use Rattle.log_reader.specs.SoundLog.{auctions_in, IsSoundHead, IsSound}
+use Rattle.game_log.specs.ScoredGames.{IsSheetOf}
+use Rattle.script_run.specs.LawfulGames.{IsLawfulGame}
+
+-- what the log of a game tells
+abbrev pub told_of : Head → ClosedGame → List Scored → LoggedGame
+told_of head closed sheet = record { head = head; histories = histories_of closed; cash = closed.cash; scores = sheet }
+
+-- its text is that of the two parts
+pub text_is : (head : Head) (closed : ClosedGame) (sheet : List Scored) → play_part head closed ++ sheet_part sheet ≡ logged_text (told_of head closed sheet)
+text_is head closed sheet = append_assoc (first_lines head) (histories_text (histories_of closed) closed.cash) (sheet_part sheet)
+
+-- the calls of a caller's part are those of its entries
+calls_from : (caller n : ℕ) (history : List Entry) →
+    map (λ (p : ℕ × Entry). p.1.call) (part_from (λ e. e.caller) caller n history) ≡ map (λ (e : Entry). e.call) (filter (λ e. e.caller == caller) history)
+calls_from caller n [] = refl
+calls_from caller n (e ∷ history) = by_test (e.caller == caller) (calls_from caller (n + 1) history)
+  where
+    by_test : (b : Bool) → map (λ (p : ℕ × Entry). p.1.call) (part_from (λ x. x.caller) caller (n + 1) history) ≡ map (λ (x : Entry). x.call) (filter (λ x. x.caller == caller) history)
+        → map (λ (p : ℕ × Entry). p.1.call) (cond b ((n, e) ∷ part_from (λ x. x.caller) caller (n + 1) history) (part_from (λ x. x.caller) caller (n + 1) history))
+        ≡ map (λ (x : Entry). x.call) (cond b (e ∷ filter (λ x. x.caller == caller) history) (filter (λ x. x.caller == caller) history))
+    by_test true rest = ap (λ (l : List Call). e.call ∷ l) rest
+    by_test false rest = rest
+
+-- the auctions that are found again are those of the game
+auctions_from : (game : GameFile) (n : ℕ) (auctions : List AuctionHistory) → map (λ (a : AuctionHistory). a.setup) auctions ≡ map (λ (good : ℕ). setup_of good game) (range_with_len n (length auctions)) →
+    map (λ (p : ℕ × List Entry). record { setup = setup_of p.0 game; history = p.1 }) (enumerate_from n (map (λ (a : AuctionHistory). a.history) auctions)) ≡ auctions
+auctions_from game n [] is = refl
+auctions_from game n (a ∷ auctions) is =
+    let first : a.setup ≡ setup_of n game = ap (λ (l : List Setup). get_or l 0 a.setup) is in
+    let others : map (λ (x : AuctionHistory). x.setup) auctions ≡ map (λ (good : ℕ). setup_of good game) (range_with_len (n + 1) (length auctions)) = ap (drop 1) is in
+    λ i. record { setup = sym first i; history = a.history } ∷ auctions_from game (n + 1) auctions others i
+
+auctions_again : (game : GameFile) (head : Head) (closed : ClosedGame) (sheet : List Scored) → map (λ (a : AuctionHistory). a.setup) closed.auctions ≡ map (λ (good : ℕ). setup_of good game) all_goods →
+    auctions_in game (told_of head closed sheet) ≡ closed.auctions
+auctions_again game head closed sheet is =
+    let count : length closed.auctions ≡ 28 = sym (length-map closed.auctions (λ (a : AuctionHistory). a.setup)) ∙ ap length is in
+    auctions_from game 0 closed.auctions (is ∙ ap (λ (n : ℕ). map (λ (good : ℕ). setup_of good game) (range_with_len 0 n)) (sym count))
+
+-- with a sheet of the game, and a head that goes with it
+pub sound_log : (game : GameFile) (head : Head) (closed : ClosedGame) (sheet : List Scored) → IsLawfulGame game closed → IsSheetOf game closed sheet → IsSoundHead (told_of head closed sheet) head →
+    IsSound game (told_of head closed sheet)
+sound_log game head closed sheet lawful scores sound = record {
+  legal = lawful.legal;
+  scheduled = λ good low. sym (calls_from clock 0 (get_or (histories_of closed) good [])) ∙ lawful.scheduled good low;
+  cash = lawful.cash;
+  matched = lawful.matched;
+  scores = subst (λ (auctions : List AuctionHistory). IsSheet game (settlement_of auctions) sheet) (sym (auctions_again game head closed sheet lawful.setups)) scores;
+  head = sound;
+}

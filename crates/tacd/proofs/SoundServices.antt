@@ -1,0 +1,167 @@
+-- The log of a game that was played over links is sound.
+use Rattle.std.proofs.Common.{◌≡◌, ℕ, suc, ◌+◌, ◌<◌, ◌≤◌, Bool, true, false, cond, List, [], ◌∷◌, length, map, take, get_or, replicate, refl, sym, ap, ◌∙◌, subst, arith, Option}
+use Rattle.std.specs.Prelude.{◌==◌, ◌||◌, nat_lt, Result}
+use Rattle.std.specs.List.{list_any}
+use Rattle.std.proofs.lemmas.List.{get_or-map, get_or-replicate, length-map, length-take-le}
+use Rattle.std.proofs.lemmas.List.Elements.{All-get_or}
+use Rattle.std.proofs.lemmas.List.FromFn.{get_or-map-range_with_len}
+use Rattle.std.proofs.lemmas.List.Sums.{count_by-le-length}
+use mathlib.Core.Logic.{dite}
+use native.Mathlib.Decide.{dec_le}
+use Rattle.tac_base.specs.declared.calls.Call.{Call}
+use Rattle.tac_base.specs.Goods.{agents, clock}
+use Rattle.game_text.specs.Games.{GameFile}
+use Rattle.game_text.specs.Schedule.{clock_calls}
+use Rattle.auction_rules.specs.Setup.{Setup}
+use Rattle.auction_rules.specs.History.{Entry}
+use Rattle.auction_rules.specs.Legal.{Legal}
+use Rattle.turn_lock.specs.Part.{part_from, part}
+use Rattle.trade_ledger.specs.declared.cash_calls.CashEntry.{CashEntry}
+use Rattle.auction_core.specs.Auctions.{AuctionHistory}
+use Rattle.auction_core.specs.ClosedGame.{ClosedGame}
+use Rattle.auction_core.specs.Setups.{setup_of}
+use Rattle.score_sheet.specs.Sheets.{Scored}
+use Rattle.line_protocol.specs.declared.asking.Request.{Request}
+use Rattle.line_protocol.specs.declared.asking.RequestFault.{RequestFault}
+use Rattle.line_protocol.specs.declared.saying.Said.{Said}
+use Rattle.line_protocol.specs.declared.admission.Cause.{Cause}
+use Rattle.line_protocol.specs.declared.admission.Verdict.{Verdict}
+use Rattle.line_protocol.specs.Heads.{Head, Serve, head_of}
+use Rattle.log_reader.specs.SoundLog as sound
+use Rattle.log_reader.specs.SoundLog.{seatings, IsService, IsSound}
+use Rattle.clock_events.specs.Clocking.{WaitsForAll}
+use Rattle.game_log.specs.ScoredGames.{IsSheetOf}
+use Rattle.game_run.specs.Admission.{free_seats, seats_given}
+use Rattle.game_run.specs.LinkRuns.{RunsLink}
+use Rattle.game_run.specs.LinkStates.{LinkState}
+use Rattle.game_run.specs.Outcomes.{IsPlayed, IsEnd}
+use Rattle.game_run.specs.PlayedGame.{parts_of, IsAbsent, IsPlayedBy}
+use Rattle.game_run.proofs.SeatPlaces.{seat_was_free}
+use Rattle.game_run.specs.declared.run.GameEnd.{GameEnd}
+use Rattle.script_run.specs.LawfulGames.{history_at, calls_by, IsLawfulGame}
+use Rattle.tac_commands.proofs.SoundLogs.{told_of, sound_log}
+use Rattle.tacd.proofs.SeatedOnce.{is_taken, taken_after, given_once, same_kept}
+
+-- ---- who has no part has no entry
+
+none_of : {E : Type 0} (caller_of : E → ℕ) (caller n : ℕ) (history : List E) → part_from caller_of caller n history ≡ [] → list_any (λ e. caller_of e == caller) history ≡ false
+none_of caller_of caller n [] none = refl
+none_of {E} caller_of caller n (e ∷ history) none = by_test (caller_of e == caller) none (none_of caller_of caller (n + 1) history)
+  where
+    by_test : (b : Bool) → cond b ((n, e) ∷ part_from caller_of caller (n + 1) history) (part_from caller_of caller (n + 1) history) ≡ []
+        → (part_from caller_of caller (n + 1) history ≡ [] → list_any (λ (x : E). caller_of x == caller) history ≡ false) → (b || list_any (λ (x : E). caller_of x == caller) history) ≡ false
+    by_test true is rest = absurd (let never : suc (length (part_from caller_of caller (n + 1) history)) ≡ 0 = ap length is in omega (arith, never))
+    by_test false is rest = rest is
+
+-- ---- the histories
+
+module _ (game : GameFile) (verdicts : List Verdict) (ends : List (ℕ × Cause)) (closed : ClosedGame) (played : IsPlayedBy game verdicts ends closed) where
+  count : length closed.auctions ≡ 28
+  count = sym (length-map closed.auctions (λ (a : AuctionHistory). a.setup)) ∙ ap length played.legal_game.setups
+
+  -- an auction of the good, if it has none
+  abbrev none_at : ℕ → AuctionHistory
+  none_at good = record { setup = setup_of good game; history = [] }
+
+  abbrev auction_at : ℕ → AuctionHistory
+  auction_at good = get_or closed.auctions good (none_at good)
+
+  inside : (good : ℕ) → good < 28 → good < length closed.auctions
+  inside good low = let many = count in omega (arith, low, many)
+
+  setup_there : (good : ℕ) → good < 28 → (auction_at good).setup ≡ setup_of good game
+  setup_there good low =
+      sym (get_or-map (λ (a : AuctionHistory). a.setup) closed.auctions good (none_at good) (setup_of good game) (inside good low))
+      ∙ (ap (λ (l : List Setup). get_or l good (setup_of good game)) played.legal_game.setups
+      ∙ get_or-map-range_with_len (λ (g : ℕ). setup_of g game) 0 28 good good (setup_of good game) low (omega arith))
+
+  history_there : (good : ℕ) → good < 28 → history_at closed good ≡ (auction_at good).history
+  history_there good low = get_or-map (λ (a : AuctionHistory). a.history) closed.auctions good (none_at good) [] (inside good low)
+
+  part_there : (good caller : ℕ) → good < 28 → get_or (parts_of closed caller) good [] ≡ part (λ (e : Entry). e.caller) (history_at closed good) caller
+  part_there good caller low =
+      get_or-map (λ (a : AuctionHistory). part (λ (e : Entry). e.caller) a.history caller) closed.auctions good (none_at good) [] (inside good low)
+      ∙ ap (λ (h : List Entry). part (λ (e : Entry). e.caller) h caller) (sym (history_there good low))
+
+  on_schedule : (good : ℕ) → good < 28 → calls_by clock (history_at closed good) ≡ clock_calls game good
+  on_schedule good low =
+      let calls = λ (p : List (ℕ × Entry)). map (λ (q : ℕ × Entry). q.1.call) p in
+      let wide : length (parts_of closed clock) ≡ 28 = length-map closed.auctions (λ (a : AuctionHistory). part (λ (e : Entry). e.caller) a.history clock) ∙ count in
+      ap calls (sym (part_there good clock low))
+      ∙ (sym (get_or-map calls (parts_of closed clock) good [] [] (omega (arith, low, wide)))
+      ∙ (ap (λ (l : List (List Call)). get_or l good []) played.scheduled
+      ∙ get_or-map-range_with_len (clock_calls game) 0 28 good good [] low (omega arith)))
+
+  pub lawful : IsLawfulGame game closed
+  lawful = record {
+    setups = played.legal_game.setups;
+    legal = λ good low. subst (λ (h : List Entry). Legal (setup_of good game) h) (sym (history_there good low))
+        (subst (λ (s : Setup). Legal s (auction_at good).history) (setup_there good low)
+        (All-get_or (λ (a : AuctionHistory). Legal a.setup a.history) closed.auctions good (none_at good) (inside good low) played.legal_game.legal));
+    scheduled = on_schedule;
+    cash = played.legal_game.cash;
+    matched = played.legal_game.matched;
+  }
+
+  -- who has no seat has no entry
+  absent : (head : Head) (sheet : List Scored) (agent : ℕ) → IsAbsent closed agent → sound.IsAbsent (told_of head closed sheet) agent
+  absent head sheet agent none = record {
+    calls = λ good low. none_of (λ (e : Entry). e.caller) agent 0 (history_at closed good)
+        (sym (part_there good agent low) ∙ (ap (λ (l : List (List (ℕ × Entry))). get_or l good []) none.calls ∙ get_or-replicate 28 good [] [] low));
+    cash = none_of (λ (e : CashEntry). e.caller) agent 0 closed.cash none.cash;
+  }
+
+-- ---- the head
+
+few_links : {A : Type 0} (verdicts : List Verdict) (pending : Option A) (n : ℕ) → (n < length verdicts → length (take n verdicts) < 64) → n ≡ 64 → length verdicts ≤ 64
+few_links verdicts pending n may is = dite (dec_le (length verdicts) 64) (λ low. low)
+    (λ high. let lt : n < length verdicts = omega (arith, is, high) in
+    let many = length-take-le n verdicts (omega (arith, lt)) in
+    let few = may lt in absurd (omega (arith, is, many, few)))
+
+few_missed : (waited waited' : Option (List (ℕ × Bool))) (missed : ℕ) → WaitsForAll waited waited' missed → missed ≤ 54
+few_missed waited waited' missed all =
+    let many : length all.waits ≡ 54 = sym (length-map all.waits (λ (w : ℕ × Bool). w.0)) ∙ ap length all.all_ticks in
+    let few = count_by-le-length (λ (w : ℕ × Bool). w.1) all.waits in
+    let lapses = all.lapses in
+    omega (arith, many, few, lapses)
+
+module _ {L : Type 0} (state : L → LinkState) (may_answer : List ℕ → Result Request RequestFault → Type 0) (text : Said → List ℕ) (game : GameFile)
+    (pending pending' : Option (List L)) (verdicts : List Verdict) (ends : List (ℕ × Cause)) (closed : ClosedGame) (links : List L)
+    (played : IsPlayed state may_answer text game pending pending' verdicts ends closed links) where
+  -- an agent's seat is taken where it was given
+  seat_is : (agent : ℕ) → agent ≤ 7 → is_taken (seats_given game verdicts) agent ≡ nat_lt 0 (seatings verdicts agent)
+  seat_is agent low =
+      let free : get_or (replicate 8 false) agent false ≡ false = get_or-replicate 8 agent false false (omega (arith, low)) in
+      taken_after (free_seats game) verdicts agent (omega (arith, low)) ∙ ap (λ (b : Bool). b || nat_lt 0 (seatings verdicts agent)) free
+
+  once : (agent : ℕ) → agent ≤ 7 → seatings verdicts agent ≤ 1
+  once agent low =
+      let given = given_once (RunsLink may_answer text game closed ends) (λ seats a before after runs. seat_was_free seats runs.2.line a runs.2.seat) (free_seats game) (map state played.given) verdicts (map state links)
+      agent (omega (arith, low)) played.admitted in
+      omega (arith, given)
+
+  each_end : map (λ (end : ℕ × Cause). end.0) ends ≡ sound.seated_agents verdicts
+  each_end = played.played.each_end
+      ∙ same_kept (is_taken (seats_given game verdicts)) (λ agent. nat_lt 0 (seatings verdicts agent)) agents
+      (seat_is 0 (omega arith), (seat_is 1 (omega arith), (seat_is 2 (omega arith), (seat_is 3 (omega arith), (seat_is 4 (omega arith), (seat_is 5 (omega arith), (seat_is 6 (omega arith), (seat_is 7 (omega arith), tt))))))))
+
+  pub service : (missed : ℕ) (sheet : List Scored) → missed ≤ 54 → IsService (told_of (Serve verdicts ends missed) closed sheet) verdicts ends missed
+  service missed sheet few = record {
+    few_links = few_links verdicts pending' 64 (λ lt. (played.all.no_more 64 lt).0) refl;
+    seats_differ = once;
+    each_end = each_end;
+    few_missed = few;
+    absent = λ agent low none. absent game verdicts ends closed played.played (Serve verdicts ends missed) sheet agent
+        (played.played.absent agent (omega (arith, low)) (seat_is agent low ∙ ap (nat_lt 0) none));
+  }
+
+-- a game that was played over links, with a sheet of it
+pub served_soundly : {L : Type 0} (state : L → LinkState) (may_answer : List ℕ → Result Request RequestFault → Type 0) (text : Said → List ℕ) (game : GameFile) (pending pending' : Option (List L))
+    (waited waited' : Option (List (ℕ × Bool))) (lapses lapses' : ℕ) (end : GameEnd L) (sheet : List Scored) →
+    IsEnd state may_answer text game pending pending' waited waited' lapses lapses' end → IsSheetOf game end.closed sheet → IsSound game (told_of (head_of end.head) end.closed sheet)
+served_soundly state may_answer text game pending pending' waited waited' lapses lapses' end sheet is scores =
+    let head : Head = Serve is.verdicts is.ends is.missed in
+    subst (λ (h : Head). IsSound game (told_of h end.closed sheet)) (sym is.head)
+    (sound_log game head end.closed sheet (lawful game is.verdicts is.ends end.closed is.played.played) scores
+    (service state may_answer text game pending pending' is.verdicts is.ends end.closed end.links.items is.played is.missed sheet (few_missed waited waited' is.missed is.waits)))
