@@ -11,7 +11,11 @@ use Rattle.script_run.specs.declared.fault.ScriptFault.TheVariants.{Line, TooLon
 use Rattle.script_run.specs.declared.play_count.PlayCount.{PlayCount}
 use Rattle.game_log.specs.Written.{IsUntouched}
 use Rattle.script_run.specs.HotelOuts.{IsOut, RunsScript}
-use Rattle.script_run.specs.GameOuts.{IsFirstOut, IsPlayOut, PlaysScript}
+use Rattle.script_run.specs.declared.game_lines.GameLine.{GameLine}
+use Rattle.script_run.specs.GameOuts.{closed_game, IsFirstOut, IsPlayOut, PlaysScript}
+use Rattle.script_run.specs.GameScripts.{game_script}
+use Rattle.script_run.specs.LawfulGames.{IsLawfulGame}
+use Rattle.script_run.specs.OneThreadRun.{replies}
 use Rattle.tac_commands.specs.declared.file_kinds.FileKind.TheVariants.{HotelScript, GameScript}
 use Rattle.tac_commands.specs.declared.refusals.Refusal.TheVariants as refusals
 use Rattle.tac_commands.specs.declared.ends.End.TheVariants as ends
@@ -20,9 +24,11 @@ use Rattle.tac_commands.specs.Commands.{Hotel, batch_files, file}
 use Rattle.tac_commands.specs.Files.{Content}
 use Rattle.tac_commands.specs.Outcomes.{Done, Cut}
 use Rattle.tac_commands.specs.Runs.{Names, Runs}
+use Rattle.tac_commands.specs.SoundTexts.{EndsInSoundLog}
 use Rattle.tac_commands.specs.Ends.{EndsBatch, PlaysNamed, script_end}
 use Rattle.tac_commands.proofs.LongFiles.{long_file, good_hotel, bad_hotel, good_script, bad_script}
 use Rattle.tac_commands.proofs.OneThreadCash.{cash_of_script}
+use Rattle.tac_commands.proofs.SoundLogs.{played_soundly}
 
 module _ (content : Content) (name bytes : List ℕ) (names names' : Names) (before now : ℕ) (taken taken' : Option (List ℕ)) (out_before out_now : ℕ)
     (is : IsFile content name bytes) (selected : names' ≡ and_then_told names (name ∷ [])) (quiet : now ≡ before) where
@@ -41,10 +47,13 @@ module _ (content : Content) (name bytes : List ℕ) (names names' : Names) (bef
 
   -- ---- a game
 
-  module _ (game : GameFile) where
+  module _ (game : GameFile) (law : (script : List ℕ) (lines : List GameLine) → game_script script ≡ Ok lines → IsLawfulGame game (closed_game game lines)) where
     play_run : (text : List ℕ) → IsPlayOut game bytes text → Runs content (file GameScript name ∷ []) (λ values. PlayAllows game values.0) names names' before now (Done text)
     play_run text out =
-        inl (out.lines, (bytes, is, good_script bytes out.lines out.good.within out.good.good), (((out.sheet, out.scores, out.due), cash_of_script game out.lines), selected, quiet))
+        inl (out.lines, (bytes, is, good_script bytes out.lines out.good.within out.good.good), (((out.sheet, out.scores, out.due, ends out), cash_of_script game out.lines), selected, quiet))
+      where
+        ends : (played : IsPlayOut game bytes text) → EndsInSoundLog game (replies game played.lines) text
+        ends played = played_soundly game played.lines played.sheet text (law bytes played.lines played.good.good) played.scores played.due
 
     first_run : (text : List ℕ) → IsFirstOut game bytes text → Runs content (file GameScript name ∷ []) (λ values. PlayAllows game values.0) names names' before now (Cut text)
     first_run text out = inl (out.lines, (bytes, is, good_script bytes out.lines out.good.within out.good.good), ((out.due, cash_of_script game out.lines), selected, quiet))

@@ -14,13 +14,17 @@ use Rattle.auction_core.specs.ClosedGame.{ClosedGame, all_goods}
 use Rattle.auction_core.specs.Setups.{setup_of}
 use Rattle.score_sheet.specs.Settlement.{settlement_of}
 use Rattle.score_sheet.specs.Sheets.{Scored, IsSheet}
-use Rattle.line_protocol.specs.Heads.{Head}
+use Rattle.line_protocol.specs.Heads.{Head, Play}
 use Rattle.log_text.specs.LogText.{first_lines, histories_of, histories_text, play_part}
 use Rattle.log_text.specs.SheetText.{sheet_part}
 use Rattle.log_text.specs.LoggedGames.{LoggedGame, logged_text}
 use Rattle.log_reader.specs.SoundLog.{auctions_in, IsSoundHead, IsSound}
 use Rattle.game_log.specs.ScoredGames.{IsSheetOf}
+use Rattle.script_run.specs.declared.game_lines.GameLine.{GameLine}
+use Rattle.script_run.specs.GameOuts.{closed_game, play_out}
 use Rattle.script_run.specs.LawfulGames.{IsLawfulGame}
+use Rattle.script_run.specs.OneThreadRun.{replies}
+use Rattle.tac_commands.specs.SoundTexts.{EndsInSoundLog}
 
 -- what the log of a game tells
 abbrev pub told_of : Head → ClosedGame → List Scored → LoggedGame
@@ -68,3 +72,13 @@ sound_log game head closed sheet lawful scores sound = record {
   scores = subst (λ (auctions : List AuctionHistory). IsSheet game (settlement_of auctions) sheet) (sym (auctions_again game head closed sheet lawful.setups)) scores;
   head = sound;
 }
+
+-- the text of a game by the lines of a script ends in such a log
+pub played_soundly : (game : GameFile) (lines : List GameLine) (sheet : List Scored) (text : List ℕ) → IsLawfulGame game (closed_game game lines) → IsSheetOf game (closed_game game lines) sheet → text ≡ play_out game lines sheet →
+    EndsInSoundLog game (replies game lines) text
+played_soundly game lines sheet text lawful scores due =
+    let closed : ClosedGame = closed_game game lines in (
+      told_of Play closed sheet,
+      sound_log game Play closed sheet lawful scores tt,
+      due ∙ (append_assoc (replies game lines) (play_part Play closed) (sheet_part sheet) ∙ ap (λ (t : List ℕ). replies game lines ++ t) (text_is Play closed sheet)),
+    )

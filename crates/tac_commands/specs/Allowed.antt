@@ -14,6 +14,7 @@ use Rattle.script_run.specs.declared.play_count.PlayCount.{PlayCount}
 use Rattle.script_run.specs.HotelScripts.{hotel_out}
 use Rattle.game_log.specs.ScoredGames.{IsSheetOf}
 use Rattle.script_run.specs.GameOuts.{closed_game, first_out, play_out}
+use Rattle.script_run.specs.OneThreadRun.{replies}
 use Rattle.script_run.specs.QuietGames.{IsSummary}
 use Rattle.tac_commands.specs.declared.refusals.Refusal.TheVariants.{Usage, LinkFault, Memory}
 use Rattle.tac_commands.specs.Cash.{IsCashOfPosts}
@@ -21,6 +22,7 @@ use Rattle.tac_commands.specs.Commands.{BatchCommand, Hotel, Show, Upgrade, Make
 use Rattle.tac_commands.specs.Files.{Content}
 use Rattle.tac_commands.specs.Outcomes.{Outcome, Done, Lapsed, Cut, Refused}
 use Rattle.tac_commands.specs.Runs.{Values, Names, Runs}
+use Rattle.tac_commands.specs.SoundTexts.{EndsInSoundLog}
 use Rattle.tac_commands.specs.Trials.{trial_text}
 
 -- a text that is due is written, or memory was refused
@@ -36,9 +38,10 @@ WritesInParts IsDue IsFirst (Cut text) = IsFirst text
 WritesInParts IsDue IsFirst (Refused Memory) = ⊤
 WritesInParts IsDue IsFirst outcome = ⊥
 
--- the replies and the log of a game by the lines of a script, with some sheet of it
+-- the replies and the log of a game by the lines of a script, with some sheet of it; that log is sound
 abbrev pub IsPlayed : GameFile → List ScriptLine → List ℕ → Type 0
-IsPlayed game lines text = (sheet : List Scored) × IsSheetOf game (closed_game game lines) sheet × (text ≡ play_out game lines sheet)
+IsPlayed game lines text =
+    (sheet : List Scored) × IsSheetOf game (closed_game game lines) sheet × (text ≡ play_out game lines sheet) × EndsInSoundLog game (replies game lines) text
 
 -- the summary of the made game by the made script, with some sheet of it
 abbrev pub IsTrial : ℕ → ℕ → List ℕ → Type 0

@@ -7,6 +7,7 @@ pub mod Files
 pub mod Runs
 pub mod Cash
 pub mod Trials
+pub mod SoundTexts
 pub mod Allowed
 pub mod Ends
 pub mod Causes

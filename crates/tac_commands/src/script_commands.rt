@@ -9,7 +9,7 @@ use crate::file_kinds::FileKind;
 use crate::reading::{read_bytes, read_game_file};
 use crate::refusals::Refusal;
 use game_text::Game;
-use script_run::{ScriptFault, play, run_hotel_script};
+use script_run::{ScriptFault, play, run_hotel_script, script_law};
 use std::alloc::Global;
 use std::thread::Threads;
 use tac_io::{Files, Sink};
@@ -59,6 +59,7 @@ fn play_by_file<R: Threads + Sync, F: Files, K: Sink>(
     ensures { PlaysNamed (F.content files.old) game.now name.now (F.names files.old) (F.names files.new) (F.faults files.old) (F.faults files.new)
         (K.taken out.old) (K.taken out.new) (K.faults out.old) (K.faults out.new) result }
 {
+    script_law(game);
     match read_bytes(alloc, files, name, FileKind::GameScript) {
         Ok(script) => script_end(play(rt, alloc, game, script.as_slice(), out)),
         Err(refusal) => End::Refused(refusal),

@@ -2,6 +2,7 @@
 use Rattle.std.proofs.Common.{◌≡◌, ℕ, suc, ◌+◌, ◌<◌, ◌≤◌, Bool, true, false, cond, List, [], ◌∷◌, length, map, take, get_or, replicate, refl, sym, ap, ◌∙◌, subst, arith, Option}
 use Rattle.std.specs.Prelude.{◌==◌, ◌||◌, nat_lt, Result}
 use Rattle.std.specs.List.{list_any}
+use Rattle.std.specs.Global.{Vec}
 use Rattle.std.proofs.lemmas.List.{get_or-map, get_or-replicate, length-map, length-take-le}
 use Rattle.std.proofs.lemmas.List.Elements.{All-get_or}
 use Rattle.std.proofs.lemmas.List.FromFn.{get_or-map-range_with_len}
@@ -39,7 +40,11 @@ use Rattle.game_run.specs.PlayedGame.{parts_of, IsAbsent, IsPlayedBy}
 use Rattle.game_run.proofs.SeatPlaces.{seat_was_free}
 use Rattle.game_run.specs.declared.run.GameEnd.{GameEnd}
 use Rattle.script_run.specs.LawfulGames.{history_at, calls_by, IsLawfulGame}
-use Rattle.tac_commands.proofs.SoundLogs.{told_of, sound_log}
+use Rattle.tac_commands.specs.Outcomes.{Outcome, Done, Lapsed, Cut, Refused}
+use Rattle.tac_commands.specs.SoundTexts.{EndsInSoundLog}
+use Rattle.tac_commands.proofs.SoundLogs.{told_of, text_is, sound_log}
+use Rattle.tacd.specs.declared.answer.Played.{Played}
+use Rattle.tacd.specs.Service.{IsLogOf, PlayedAllows, TellsSoundly}
 use Rattle.tacd.proofs.SeatedOnce.{is_taken, taken_after, given_once, same_kept}
 
 -- ---- who has no part has no entry
@@ -165,3 +170,20 @@ served_soundly state may_answer text game pending pending' waited waited' lapses
     subst (λ (h : Head). IsSound game (told_of h end.closed sheet)) (sym is.head)
     (sound_log game head end.closed sheet (lawful game is.verdicts is.ends end.closed is.played.played) scores
     (service state may_answer text game pending pending' is.verdicts is.ends end.closed end.links.items is.played is.missed sheet (few_missed waited waited' is.missed is.waits)))
+
+module _ {L : Type 0} (state : L → LinkState) (may_answer : List ℕ → Result Request RequestFault → Type 0) (text : Said → List ℕ) (game : GameFile) (pending pending' : Option (List L))
+    (waited waited' : Option (List (ℕ × Bool))) (lapses lapses' : ℕ) (played : Played) (ended : Vec L)
+    (is : IsEnd state may_answer text game pending pending' waited waited' lapses lapses' (record { closed = played.closed; head = played.head; links = ended })) where
+  log_soundly : (told : List ℕ) → IsLogOf game played told → EndsInSoundLog game [] told
+  log_soundly told log = (
+    told_of (head_of played.head) played.closed log.sheet,
+    served_soundly state may_answer text game pending pending' waited waited' lapses lapses' (record { closed = played.closed; head = played.head; links = ended }) log.sheet is log.scores,
+    log.due ∙ text_is (head_of played.head) played.closed log.sheet,
+  )
+
+  -- the log of that game that is told is sound
+  pub tells_soundly : (outcome : Outcome) → PlayedAllows game played outcome → TellsSoundly game outcome
+  tells_soundly (Done told) allows = log_soundly told allows.0
+  tells_soundly (Lapsed told) allows = log_soundly told allows.0
+  tells_soundly (Cut told) allows = tt
+  tells_soundly (Refused refusal) allows = tt

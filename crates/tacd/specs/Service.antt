@@ -1,5 +1,5 @@
 -- What `serve` leaves: the game that was played, its log, the links and the ticker.
-use Rattle.std.specs.Prelude.{◌≡◌, ℕ, ◌<◌, ◌⊎◌, List, [], ◌∷◌, Bool, nat_lt, if◌then◌else◌, Result, Err, Option, Some, None}
+use Rattle.std.specs.Prelude.{◌≡◌, ℕ, ◌<◌, ◌⊎◌, ⊤, List, [], ◌∷◌, Bool, nat_lt, if◌then◌else◌, Result, Err, Option, Some, None}
 use Rattle.std.specs.Global.{Vec}
 use Rattle.std.specs.Option.{option_map}
 use Rattle.tac_io.specs.Counts.{Rose}
@@ -30,6 +30,7 @@ use Rattle.tac_commands.specs.declared.words.Form.{Form}
 use Rattle.tac_commands.specs.declared.words.Form.TheVariants.{Lines, Json}
 use Rattle.tac_commands.specs.Files.{Content, IsRead, IsNotRead}
 use Rattle.tac_commands.specs.Outcomes.{Outcome, Done, Lapsed, Cut, Refused}
+use Rattle.tac_commands.specs.SoundTexts.{EndsInSoundLog}
 
 -- ---- the text
 
@@ -62,6 +63,12 @@ PlayedAllows game played (Done text) = IsLogOf game played text × (missed_of (h
 PlayedAllows game played (Lapsed text) = IsLogOf game played text × (0 < missed_of (head_of played.head))
 PlayedAllows game played (Cut text) = text ≡ first_part played
 PlayedAllows game played (Refused refusal) = ⊥
+
+-- the log that is written is sound, and nothing else is written
+abbrev pub TellsSoundly : GameFile → Outcome → Type 0
+TellsSoundly game (Done text) = EndsInSoundLog game [] text
+TellsSoundly game (Lapsed text) = EndsInSoundLog game [] text
+TellsSoundly game outcome = ⊤
 
 -- the code of a game that was played is that of a lapsed tick where no other applies
 abbrev pub lapsed_code : Code → ℕ → Code
@@ -132,7 +139,7 @@ module _ {L : Type 0} (state : L → LinkState) where
   abbrev pub ServesGame : (List ℕ → Result Request RequestFault → Type 0) → (Said → List ℕ) → GameFile → ℕ → ℕ → LinksState L → LinksState L
       → TickerState → TickerState → Option Played → Vec L → Outcome → Type 0
   ServesGame may_answer text game port pace links links' ticker ticker' (Some played) ended outcome =
-      IsPlayedOver may_answer text game port pace links links' ticker ticker' played ended × PlayedAllows game played outcome
+      IsPlayedOver may_answer text game port pace links links' ticker ticker' played ended × PlayedAllows game played outcome × TellsSoundly game outcome
   ServesGame may_answer text game port pace links links' ticker ticker' None ended (Refused LinkFault) = HasLinkFault game port pace links links' ticker ticker' ended
   ServesGame may_answer text game port pace links links' ticker ticker' None ended (Refused Memory) =
       IsUnasked links links' ticker ticker' ended × (ticker'.paced ≡ option_map (λ _. Some pace) ticker.paced)

@@ -9,5 +9,5 @@ returns-in-Ok g c =
     let name = c.args.name.now in
     rw c.script_end.ensures (
     played content name c.as_slice.result.now _ _ _ _ _ _ _ _ (subst (λ (bytes : List ℕ). IsFile content name bytes) (sym c.as_slice.ensures.value) c.in-Ok.ensures.whole)
-    c.in-Ok.ensures.names c.in-Ok.ensures.quiet c.args.game.now c.play.result c.play.ensures
+    c.in-Ok.ensures.names c.in-Ok.ensures.quiet c.args.game.now c.script_law.ensures c.play.result c.play.ensures
     )
