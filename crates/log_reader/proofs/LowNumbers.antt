@@ -21,14 +21,14 @@ use Rattle.bound_cert.specs.Faults.{refused, IsRefusal}
 use Rattle.bound_cert.specs.NodeLines.{is_leaf, leaf_columns, split_columns}
 use Rattle.bound_cert.specs.Trees.{Tree, split, Trees, more}
 use Rattle.bound_cert.specs.Reading.{Step, forest_by, tree_in, root_in, cert_of}
-use Rattle.log_reader.specs.Numbers.{LastNumber, AreLow, IsLowFault}
+use Rattle.log_reader.specs.Numbers.{last_number, AreLow, IsLowFault}
 
 -- ---- lines
 
 abbrev IsLow : NumberedLine → Type 0
-IsLow line = line.number ≤ LastNumber
+IsLow line = line.number ≤ last_number
 
-from_low : (number : ℕ) (parts : List (List ℕ)) → number ≤ LastNumber → number + length parts ≤ LastNumber + 1 → AreLow (lines_from false number parts)
+from_low : (number : ℕ) (parts : List (List ℕ)) → number ≤ last_number → number + length parts ≤ last_number + 1 → AreLow (lines_from false number parts)
 from_low number [] low h = record { lines = tt; last = low }
 from_low number (rest ∷ []) low h = record { lines = tt; last = low }
 from_low number (line ∷ next ∷ parts) low h =
@@ -40,12 +40,12 @@ pub whole_low : (text : List ℕ) → length text ≤ 67108864 → AreLow (lines
 whole_low text short =
     from_low 1 (parts_of 10 text) (omega arith) (omega (arith, length-slice_split (λ b. eqb b 10) text, count_by-le-length (λ b. eqb b 10) text))
 
-due_low_in : (left : Remaining) (lines : List NumberedLine) (x : NumberedLine × Remaining) → left.last ≤ LastNumber → AllByRecursion IsLow lines → due_in left lines ≡ Ok x → (x.0.number ≤ LastNumber) × AreLow x.1
+due_low_in : (left : Remaining) (lines : List NumberedLine) (x : NumberedLine × Remaining) → left.last ≤ last_number → AllByRecursion IsLow lines → due_in left lines ≡ Ok x → (x.0.number ≤ last_number) × AreLow x.1
 due_low_in left [] x last low h = absurd cc
 due_low_in left (line ∷ lines) x last low h =
-    subst (λ (y : NumberedLine × Remaining). (y.0.number ≤ LastNumber) × AreLow y.1) (ok_is {E = BadLine} (line, record left { lines = lines }) x h) (low.0, record { lines = low.1; last = last })
+    subst (λ (y : NumberedLine × Remaining). (y.0.number ≤ last_number) × AreLow y.1) (ok_is {E = BadLine} (line, record left { lines = lines }) x h) (low.0, record { lines = low.1; last = last })
 
-pub due_low : (left : Remaining) (x : NumberedLine × Remaining) → AreLow left → due_of left ≡ Ok x → (x.0.number ≤ LastNumber) × AreLow x.1
+pub due_low : (left : Remaining) (x : NumberedLine × Remaining) → AreLow left → due_of left ≡ Ok x → (x.0.number ≤ last_number) × AreLow x.1
 due_low left x low h = due_low_in left left.lines x low.last low.lines h
 
 chosen_block : (b : Bool) (block : Option (List ℕ × Remaining)) (x : List ℕ × Remaining) → cond b block None ≡ Some x → block ≡ Some x
@@ -56,7 +56,7 @@ mapped_block : (line : List ℕ) (block : Option (List ℕ × Remaining)) (x : L
 mapped_block line None x h = absurd cc
 mapped_block line (Some y) x h = (y, refl, (let same : after_line line y ≡ x = cc in subst (λ (z : List ℕ × Remaining). y.1 ≡ z.1) same refl))
 
-block_low_in : (number count : ℕ) (left : Remaining) (lines : List NumberedLine) (x : List ℕ × Remaining) → left.last ≤ LastNumber → AllByRecursion IsLow lines → block_in number count left lines ≡ Some x → AreLow x.1
+block_low_in : (number count : ℕ) (left : Remaining) (lines : List NumberedLine) (x : List ℕ × Remaining) → left.last ≤ last_number → AllByRecursion IsLow lines → block_in number count left lines ≡ Some x → AreLow x.1
 block_low_in number zero left lines x last low h = subst (λ (y : List ℕ × Remaining). AreLow y.1) (same_Some ([], record left { lines = lines }) x h) (record { lines = low; last = last })
 block_low_in number (suc count) left [] x last low h = absurd cc
 block_low_in number (suc count) left (line ∷ lines) x last low h =
@@ -137,10 +137,10 @@ tree_low zero left low = node_low zero (λ below is. absurd (omega arith)) left.
 tree_low (suc level) left low =
     node_low (suc level) (λ below is. let same : level ≡ below = omega arith in subst (λ (n : ℕ). KeepsLow Tree (tree_in n)) same (tree_low level)) left.lines left.last left.ended low
 
-nothing_low : (left : Remaining) (lines : List NumberedLine) → left.last ≤ LastNumber → AllByRecursion IsLow lines → Outcome (λ (x : Unit {0}). ⊤) (refused (nothing_in left lines))
+nothing_low : (left : Remaining) (lines : List NumberedLine) → left.last ≤ last_number → AllByRecursion IsLow lines → Outcome (λ (x : Unit {0}). ⊤) (refused (nothing_in left lines))
 nothing_low left [] last low = ended_low left.ended left.last last
   where
-    ended_low : (b : Bool) (number : ℕ) → number ≤ LastNumber → Outcome (λ (x : Unit {0}). ⊤) (refused (cond b (Ok tt) (Err (record { line = number; reason = TextEnd }))))
+    ended_low : (b : Bool) (number : ℕ) → number ≤ last_number → Outcome (λ (x : Unit {0}). ⊤) (refused (cond b (Ok tt) (Err (record { line = number; reason = TextEnd }))))
     ended_low true number is = tt
     ended_low false number is = is
 nothing_low left (line ∷ lines) last low = low.0

@@ -9,17 +9,17 @@ use Rattle.bound_cert.specs.declared.faults.CertFault.TheVariants as certs
 use Rattle.log_text.specs.LogReading.{begins, refused_line}
 
 -- the greatest number that a line of a log may have, or what stands after its last line end
-abbrev pub LastNumber : ℕ
-LastNumber = TEXT_BYTES + 1
+abbrev pub last_number : ℕ
+last_number = TEXT_BYTES + 1
 
 -- no number is greater
 pub record AreLow (left : Remaining) : Type 0 where
-  pub lines : AllByRecursion (λ line. line.number ≤ LastNumber) left.lines
-  pub last : left.last ≤ LastNumber
+  pub lines : AllByRecursion (λ line. line.number ≤ last_number) left.lines
+  pub last : left.last ≤ last_number
 
 -- a certificate is refused at a line of no greater number
 abbrev pub IsLowFault : CertFault → Type 0
-IsLowFault (certs.Line line reason) = line ≤ LastNumber
+IsLowFault (certs.Line line reason) = line ≤ last_number
 IsLowFault certs.TooLong = ⊤
 IsLowFault certs.Memory = ⊤
 

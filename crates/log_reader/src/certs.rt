@@ -4,7 +4,7 @@ ghost use Rattle.bound_cert.specs.Reading.{cert_of};
 ghost use Rattle.bound_cert.specs.Views.{tree_of};
 ghost use Rattle.log_text.specs.LogReading as reading;
 ghost use Rattle.log_reader.specs.Faults.{fault_by, refused, IsReading};
-ghost use Rattle.log_reader.specs.Numbers.{LastNumber, IsLowFault};
+ghost use Rattle.log_reader.specs.Numbers.{last_number, IsLowFault};
 
 use crate::LogFault;
 use crate::log_lines::{LogLines, well_formed};
@@ -18,7 +18,7 @@ const TEXT_END: u8 = 7;
 
 /// The fault of a log in which the block after the line of a number is no certificate.
 fn fault_at(number: u32, fault: CertFault) -> LogFault
-    requires number { number ≤ LastNumber }
+    requires number { number ≤ last_number }
     requires line { IsLowFault fault }
     ensures { result ≡ fault_by number fault }
 {
@@ -35,7 +35,7 @@ fn fault_at(number: u32, fault: CertFault) -> LogFault
 
 /// Reads the certificate of a block that follows the line of a number.
 fn cert_at(alloc: Global, number: u32, block: &[u8]) -> Result<Cert, LogFault>
-    requires { number ≤ LastNumber }
+    requires { number ≤ last_number }
     ensures { IsReading (λ cert. tree_of cert.root) result (refused (reading.cert_by number (cert_of block.now))) }
 {
     match read_cert(alloc, block) {

@@ -5,7 +5,7 @@ ghost use Rattle.text_forms.specs.Words.{parts_of, words_of};
 ghost use Rattle.log_text.specs.EntryForms.{first_is};
 ghost use Rattle.log_text.specs.HeadForms as head;
 ghost use Rattle.log_text.specs.LogReading as reading;
-ghost use Rattle.log_reader.specs.Numbers.{LastNumber, nothing_begins};
+ghost use Rattle.log_reader.specs.Numbers.{last_number, nothing_begins};
 
 use std::marker::Model;
 use text_forms::{BadLine, Lines, NumberedLine, Reason, Words};
@@ -41,7 +41,7 @@ impl<'a> LogLines<'a> {
     /// The next line and those after it; a text that ends here ends too early.
     pub(crate) fn due(self) -> Result<(NumberedLine<'a>, LogLines<'a>), BadLine>
         ensures value { result ≡ lines.due_of self.entry }
-        ensures low { IfOk result (λ x. x.0.number ≤ LastNumber) }
+        ensures low { IfOk result (λ x. x.0.number ≤ last_number) }
     {
         let (line, lines) = self.lines.due()?;
         Ok((line, LogLines { lines }))
