@@ -130,6 +130,7 @@ impl Sides {
         requires few { count_by (λ u. u.agent == agent) (both self.old) + length units.now ≤ BID_UNITS }
         ensures { HaveSame (both self.new) (both self.old ++ units.now) }
     {
+        // An agent has a number of at most 7.
         let _ = agent.get();
         for unit in units {
             self.put(unit);
