@@ -12,8 +12,6 @@ mod logs;
 mod parts;
 mod reading;
 mod scores;
-#[cfg(test)]
-mod tests;
 
 pub use fault::LogFault;
 pub use histories::LogHistory;

@@ -1,6 +1,6 @@
 // A log is read, and what is none is told from its first bad line on. The log is that of a quiet game in which agent 0 buys a trip with a ticket of agent 1,
 // and agent 2 another ticket.
-use crate::{LogFault, LogHead, read_log};
+use log_reader::{LogFault, LogHead, read_log};
 use std::alloc::{AllocError, Global};
 use std::test::Fail;
 use tac_base::{Agent, Good, Reply};

@@ -1,0 +1,5 @@
+//! Tests of the public calls that read and judge logs: worked rows, one after another.
+#![tactic(auto)]
+
+#[cfg(test)]
+mod read_logs;
