@@ -1,0 +1,57 @@
+-- Whether two entries of a cash history are one, by their codes.
+use Rattle.std.proofs.Common.{◌≡◌, Bool, true, false, ◌&&◌, refl, ap, eq-eqb}
+use Rattle.std.proofs.lemmas.Bool.{eqb-true}
+use Rattle.std.specs.Prelude.{◌==◌}
+use Rattle.std.specs.Coded.{Coded, codes}
+use base.Stored.{Gv, gnil, gnum, gcons}
+use Rattle.trade_ledger.specs.declared.cash_calls.CashEntry.{CashEntry}
+
+abbrev same_code : Gv → Gv → Bool
+same_code gnil gnil = true
+same_code gnil (gnum n) = false
+same_code gnil (gcons a b) = false
+same_code (gnum n) gnil = false
+same_code (gnum n) (gnum k) = n == k
+same_code (gnum n) (gcons a b) = false
+same_code (gcons a b) gnil = false
+same_code (gcons a b) (gnum n) = false
+same_code (gcons a b) (gcons c d) = same_code a c && same_code b d
+
+code-same : (c : Gv) → same_code c c ≡ true
+code-same gnil = refl
+code-same (gnum n) = eq-eqb n n refl
+code-same (gcons a b) = λ i. code-same a i && code-same b i
+
+same_code-true : (c d : Gv) → same_code c d ≡ true → c ≡ d
+same_code-true gnil gnil is = refl
+same_code-true gnil (gnum n) is = absurd cc
+same_code-true gnil (gcons a b) is = absurd cc
+same_code-true (gnum n) gnil is = absurd cc
+same_code-true (gnum n) (gnum k) is = ap gnum (eqb-true n k is)
+same_code-true (gnum n) (gcons a b) is = absurd cc
+same_code-true (gcons a b) gnil is = absurd cc
+same_code-true (gcons a b) (gnum n) is = absurd cc
+same_code-true (gcons a b) (gcons c d) is = λ i. gcons (same_code-true a c (left (same_code a c) (same_code b d) is) i) (same_code-true b d (right (same_code a c) (same_code b d) is) i)
+  where
+    left : (p q : Bool) → (p && q) ≡ true → p ≡ true
+    left true q is' = refl
+    left false q is' = absurd cc
+
+    right : (p q : Bool) → (p && q) ≡ true → q ≡ true
+    right true q is' = is'
+    right false q is' = absurd cc
+
+cash_code : Coded CashEntry
+cash_code = hlevel codes
+
+-- whether two entries are one
+pub is_one : CashEntry → CashEntry → Bool
+is_one e other = same_code (cash_code.code e) (cash_code.code other)
+
+pub one-same : (e : CashEntry) → is_one e e ≡ true
+unfolding is_one
+one-same e = code-same (cash_code.code e)
+
+pub one-true : (e other : CashEntry) → is_one e other ≡ true → e ≡ other
+unfolding is_one
+one-true e other is = cash_code.inj e other (same_code-true (cash_code.code e) (cash_code.code other) is)

@@ -1,0 +1,30 @@
+-- A cash history is legal where each of its readings is true, and then alone.
+use Rattle.std.proofs.Common.{◌≡◌, ℕ, List, take, refl, Some, slice_get}
+use Rattle.trade_ledger.specs.declared.cash_calls.CashCall.{CashCall}
+use Rattle.trade_ledger.specs.declared.cash_calls.CashCall.TheVariants.{Post, Read}
+use Rattle.trade_ledger.specs.declared.cash_calls.CashReply.{CashReply}
+use Rattle.trade_ledger.specs.declared.cash_calls.CashReply.TheVariants.{Done, Cash}
+use Rattle.trade_ledger.specs.declared.cash_calls.CashEntry.{CashEntry}
+use Rattle.trade_ledger.specs.CashHistory.{IsFit, IsLegalCash, reply_of}
+use Rattle.log_text.specs.LoggedGames.{IsLoggedCash, IsLoggedCashEntry}
+use Rattle.log_audit.specs.Flaws.{IsTrueReading, HasTrueReading}
+
+true_by : (before : List CashEntry) (e : CashEntry) (call : CashCall) → e.reply ≡ reply_of before e.call → IsTrueReading before e call
+true_by before e (Post good position nets) is = tt
+true_by before e (Read agent) is = is
+
+-- the readings of a legal history are true
+pub true_from_legal : (cash : List CashEntry) → IsLegalCash cash → (position : ℕ) → HasTrueReading cash position
+true_from_legal cash legal position e at = true_by (take position cash) e e.call (legal position e at).1
+
+due_by : (before : List CashEntry) (caller : ℕ) (call : CashCall) (reply : CashReply) → IsLoggedCash caller call reply
+    → IsTrueReading before (record { caller = caller; call = call; reply = reply }) call → IsFit caller call × (reply ≡ reply_of before call)
+due_by before caller (Post good position nets) Done logged is = (tt, refl)
+due_by before caller (Post good position nets) (Cash dollars) logged is = absurd logged
+due_by before caller (Read agent) Done logged is = absurd logged
+due_by before caller (Read agent) (Cash dollars) logged is = (logged.1, is)
+
+-- a history of true readings is legal
+pub legal_from_true : (cash : List CashEntry) → ((position : ℕ) (e : CashEntry) → slice_get cash position ≡ Some e → IsLoggedCashEntry e)
+    → ((position : ℕ) → HasTrueReading cash position) → IsLegalCash cash
+legal_from_true cash logged each position e at = due_by (take position cash) e.caller e.call e.reply (logged position e at) (each position e at)

@@ -1,0 +1,8 @@
+use Rattle.std.proofs.Common.{ℕ, ◌<◌, sym, subst}
+use Rattle.trade_ledger.specs.declared.cash_calls.CashCall.{CashCall}
+use Rattle.trade_ledger.specs.CashHistory.{gain_of}
+use Rattle.trade_ledger.specs.CashKeeping.{IsWithin}
+use Rattle.log_audit.proofs.readings.reads_total.Goals as goal
+
+pub returns-in-Post-clause-small : goal.returns-in-Post-clause-small
+returns-in-Post-clause-small c = subst (λ (call : CashCall). (party : ℕ) → party < 9 → IsWithin 2147483648 (gain_of call party)) (sym c.in-Post.is) c.add_nets.ensures.small

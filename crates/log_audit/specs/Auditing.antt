@@ -1,0 +1,88 @@
+-- What the parts of an audit say; for private clauses.
+use Rattle.std.specs.Prelude.{◌≡◌, ◌≢◌, ℕ, ◌+◌, ◌*◌, ◌<◌, ◌≤◌, ◌==◌, ◌⊎◌, Bool, true, false, ℤ, pos, List, [], take, map, filter, Option, Some, None, slice_get, slice_index, slice_index_or}
+use Rattle.tac_base.specs.declared.calls.Call.{Call}
+use Rattle.tac_base.specs.declared.calls.Nets.{Nets}
+use Rattle.tac_base.specs.declared.limits.TheConstants.{AUCTION_ENTRIES}
+use Rattle.tac_base.specs.Goods.{clock}
+use Rattle.auction_rules.specs.Setup.{Setup}
+use Rattle.auction_rules.specs.History.{Entry}
+use Rattle.auction_rules.specs.Effects.{nets as nets_of}
+use Rattle.auction_rules.specs.Legal.{entries_of}
+use Rattle.trade_ledger.specs.declared.cash_calls.CashEntry.{CashEntry}
+use Rattle.trade_ledger.specs.CashHistory.{total_of}
+use Rattle.log_audit.specs.Flaws.{HasFairEntry, IsLower, is_posted}
+
+-- ---- the lowest place
+
+-- the lowest number at which a sentence does not hold, and none where it holds at each
+abbrev pub IsLowest : (ℕ → Type 0) → Option ℕ → Type 0
+IsLowest Holds None = (n : ℕ) → Holds n
+IsLowest Holds (Some n) = (Holds n → ⊥) × ((k : ℕ) → k < n → Holds k)
+
+-- the same of the numbers below a bound
+abbrev pub IsLowestBelow : ℕ → (ℕ → Type 0) → Option ℕ → Type 0
+IsLowestBelow bound Holds None = (n : ℕ) → n < bound → Holds n
+IsLowestBelow bound Holds (Some n) = (n < bound) × (Holds n → ⊥) × ((k : ℕ) → k < n → Holds k)
+
+-- the same of the positions of all goods, the lowest good first
+abbrev pub IsLowestPlace : (ℕ → ℕ → Type 0) → Option (ℕ × ℕ) → Type 0
+IsLowestPlace Holds None = (good position : ℕ) → good < 28 → Holds good position
+IsLowestPlace Holds (Some place) =
+    (place.0 < 28) × (Holds place.0 place.1 → ⊥) × ((good position : ℕ) → good < 28 → IsLower (good, position) place → Holds good position)
+
+-- ---- replays
+
+-- each caller has had so many entries
+abbrev pub AreCounts : List Entry → List ℕ → Type 0
+AreCounts history counts = (caller : ℕ) → caller ≤ clock → slice_index counts caller ≡ entries_of history caller
+
+-- what the trades of an entry give each party
+abbrev pub nets_by : Entry → Nets
+nets_by e = record { dollars = nets_of e.trades }
+
+-- the entry at a position was struck: it is fair, the history now has it, and these are its nets
+pub record IsStruck (setup : Setup) (history : List Entry) (position : ℕ) (after : List Entry) (counts : List ℕ) (nets : Nets) : Type 0 where
+  pub fair : HasFairEntry setup history position
+  pub after_is : after ≡ take (position + 1) history
+  pub counted : AreCounts (take (position + 1) history) counts
+  pub nets_are : slice_get (map nets_by history) position ≡ Some nets
+
+-- ---- the clock
+
+-- the calls of a good among calls of all goods
+abbrev pub calls_for : ℕ → List (ℕ × Call) → List Call
+calls_for good calls = map (λ entry. entry.1) (filter (λ entry. entry.0 == good) calls)
+
+-- An entry, before which so many of the calls that are due were made: how many were made with it, and none where it is of the clock and
+-- not the next one.
+abbrev pub IsFollowed : List Call → ℕ → ℕ → Call → Option ℕ → Type 0
+IsFollowed due made caller call None = (caller ≡ clock) × (slice_get due made ≡ Some call → ⊥)
+IsFollowed due made caller call (Some next) = ((caller ≡ clock) × (slice_get due made ≡ Some call) × (next ≡ made + 1)) ⊎ ((caller ≢ clock) × (next ≡ made))
+
+-- ---- cash
+
+-- each party has so much after a cash history
+abbrev pub AreTotals : List CashEntry → List ℤ → Type 0
+AreTotals history totals = (party : ℕ) → party < 9 → slice_index_or totals party (pos 0) ≡ total_of history party
+
+-- ---- posts
+
+-- where the place of an entry is among all places
+abbrev pub place_at : ℕ → ℕ → ℕ
+place_at good position = good * AUCTION_ENTRIES + position
+
+-- the places that are named are those that posts of these entries name
+abbrev pub AreNamed : List CashEntry → List Bool → Type 0
+AreNamed cash named = (good position : ℕ) → good < 28 → position < AUCTION_ENTRIES → slice_index_or named (place_at good position) false ≡ is_posted cash good position
+
+-- an entry of a good with a trade has a place that is named
+abbrev pub HasNamedEntry : List Entry → List Bool → ℕ → ℕ → Type 0
+HasNamedEntry history named good position = (e : Entry) → slice_get history position ≡ Some e → e.trades ≢ [] → slice_index_or named (place_at good position) false ≡ true
+
+-- ---- ends
+
+-- An agent of which so many links have the seat, before which so many ends were due: how many are due with it, and none where it has a seat
+-- and the next end is not its own.
+abbrev pub IsEndFollowed : List ℕ → ℕ → ℕ → ℕ → Option ℕ → Type 0
+IsEndFollowed ended place agent seats None = (0 < seats) × (slice_get ended place ≡ Some agent → ⊥)
+IsEndFollowed ended place agent seats (Some next) = ((0 < seats) × (slice_get ended place ≡ Some agent) × (next ≡ place + 1)) ⊎ ((seats ≡ 0) × (next ≡ place))

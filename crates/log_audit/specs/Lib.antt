@@ -1,0 +1,4 @@
+pub mod Flaws
+pub mod Auditing
+pub mod Replays
+pub mod Parts

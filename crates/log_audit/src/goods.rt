@@ -1,0 +1,22 @@
+ghost use Rattle.std.specs.Prelude.{◌≡◌, ◌+◌, ◌<◌};
+
+use tac_base::{Good, Tick};
+
+/// How many goods there are.
+pub(crate) const GOODS: u8 = 28;
+
+/// The good of a number, 0..27.
+pub(crate) fn good_of(number: u8) -> Good
+    requires { number < 28 }
+    ensures { result ≡ number }
+{
+    Good::new(number).unwrap()
+}
+
+/// The tick after so many, which are fewer than all 54.
+pub(crate) fn tick_after(number: u8) -> Tick
+    requires { number < 54 }
+    ensures { result ≡ number + 1 }
+{
+    Tick::new(number + 1).unwrap()
+}

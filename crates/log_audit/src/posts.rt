@@ -1,0 +1,129 @@
+// The posts of a log beside its entries with trades.
+ghost use Rattle.std.specs.Prelude.{◌≡◌, ℕ, ◌<◌, ◌↔◌, ◌++◌, List, [], ◌∷◌, Some, None, length, map, slice_get, IsTrue};
+ghost use Rattle.auction_rules.specs.History.{Entry as HistoryEntry};
+ghost use Rattle.trade_ledger.specs.declared.cash_calls.CashEntry.{CashEntry};
+ghost use Rattle.log_reader.specs.SoundLog.{history_at};
+ghost use Rattle.log_audit.specs.Flaws.{IsEarned, IsDuePost, HasDuePost, HasPost};
+ghost use Rattle.log_audit.specs.Replays.{AreNets};
+ghost use Rattle.log_audit.specs.Auditing.{AreNamed, IsLowest, IsLowestPlace, HasNamedEntry, nets_by};
+
+use crate::goods::{GOODS, good_of};
+use crate::places::Places;
+use log_reader::{Log, LogHistory};
+use tac_base::{Caller, Entry, Good, Nets};
+use trade_ledger::{CashCall, CashEntry};
+
+/// Whether an entry of this caller has a trade.
+fn trades_for(entry: &Entry, caller: Caller) -> bool
+    ensures { IsTrue result ↔ ((0 < entry.now.trades) × (caller ≡ entry.now.caller)) }
+{
+    entry.trades > 0 && caller == entry.caller
+}
+
+/// Whether the parties gain the same.
+fn same_nets(a: &Nets, b: &Nets) -> bool
+    ensures { IsTrue result ↔ (a.now.dollars ≡ b.now.dollars) }
+{
+    a.dollars == b.dollars
+}
+
+/// What the trades of an entry, which is there, gave each party.
+fn nets_at(log: &Log, earned: &[Vec<Nets>], good: Good, position: u32) -> Nets
+    requires nets { AreNets log.now earned.now }
+    requires inside { position < length (history_at log.now good) }
+    ensures { slice_get (map nets_by (history_at log.now good)) position ≡ Some result }
+{
+    // There are 28 histories, by the ranges of the log.
+    let _head = log.head();
+    earned[usize::from(good.get())][position as usize]
+}
+
+/// Whether the entry of a good at a position is there, and has trades, this caller and these nets.
+fn is_earned(
+    log: &Log,
+    earned: &[Vec<Nets>],
+    caller: Caller,
+    good: Good,
+    position: u32,
+    nets: &Nets,
+) -> bool
+    requires { AreNets log.now earned.now }
+    ensures { IsTrue result ↔ ((e : HistoryEntry) × (slice_get (history_at log.now good) position ≡ Some e) × IsEarned caller nets.now e) }
+{
+    match log.history(good).entry(position) {
+        Some(entry) => {
+            trades_for(entry, caller) && same_nets(&nets_at(log, earned, good, position), nets)
+        }
+        None => false,
+    }
+}
+
+/// Whether an entry of the cash history, if it is a post, is due, where these places were named by the posts before it. Names its place.
+fn is_due(log: &Log, earned: &[Vec<Nets>], places: &mut Places, entry: &CashEntry) -> bool
+    requires { AreNets log.now earned.now }
+    ensures answer { (before : List CashEntry) → AreNamed before places.old → IsTrue result ↔ IsDuePost (history_at log.now) before entry.now.caller entry.now.call }
+    ensures named { (before : List CashEntry) → AreNamed before places.old → IsTrue result → AreNamed (before ++ entry.now ∷ []) places.new }
+{
+    // No history has more than 8,256 entries, by the ranges of the log.
+    let _head = log.head();
+    match &entry.call {
+        CashCall::Post {
+            good,
+            position,
+            nets,
+        } => {
+            if !is_earned(log, earned, entry.caller, *good, *position, nets)
+                || places.is_named(*good, *position)
+            {
+                return false;
+            }
+            places.name(*good, *position);
+            true
+        }
+        CashCall::Read { .. } => true,
+    }
+}
+
+/// The lowest position of a post that is not due, if there is one. Names the places of the posts before it.
+pub(crate) fn false_post(log: &Log, earned: &[Vec<Nets>], places: &mut Places) -> Option<u32>
+    requires earned { AreNets log.now earned.now }
+    requires none { AreNamed [] places.old }
+    ensures lowest { IsLowest (HasDuePost log.now) result }
+    ensures named { result ≡ None → AreNamed log.now.cash places.new }
+{
+    // Each entry is in its ranges.
+    let _head = log.head();
+    for (position, entry) in log.cash().iter().enumerate() {
+        if !is_due(log, earned, places, entry) {
+            return Some(position as u32);
+        }
+    }
+    None
+}
+
+/// The lowest position in the history of a good of an entry with trades that is not named, if there is one.
+fn unposted_in(history: &LogHistory, good: Good, places: &Places) -> Option<u32>
+    ensures { IsLowest (HasNamedEntry history.now places.now good) result }
+{
+    for position in 0..history.len() {
+        let entry = history.entry(position).unwrap();
+        if entry.trades > 0 && !places.is_named(good, position) {
+            return Some(position);
+        }
+    }
+    None
+}
+
+/// The lowest place of an entry with trades that is not named, if there is one.
+pub(crate) fn unposted(log: &Log, places: &Places) -> Option<(Good, u32)>
+    requires { AreNamed log.now.cash places.now }
+    ensures { IsLowestPlace (HasPost log.now) result }
+{
+    for number in 0..GOODS {
+        let good = good_of(number);
+        if let Some(position) = unposted_in(log.history(good), good, places) {
+            return Some((good, position));
+        }
+    }
+    None
+}

@@ -1,0 +1,157 @@
+// The histories of a log are played again by the rules, call by call.
+ghost use Rattle.std.specs.Prelude.{◌≡◌, ◌+◌, ◌<◌, ◌≤◌, ◌↔◌, ◌++◌, [], ◌∷◌, take, length, reverse, slice_index, slice_set, IfOk, IsTrue, MatchOption};
+ghost use Rattle.auction_core.specs.Calls.{IsFit};
+ghost use Rattle.auction_rules.specs.Legal.{entry_of, reply_of, trades_of, entries_of, cap};
+ghost use Rattle.auction_rules.specs.Effects as effects;
+ghost use Rattle.auction_core.specs.Setups.{setup_of};
+ghost use Rattle.log_audit.specs.Flaws.{HasFairEntry};
+ghost use Rattle.log_audit.specs.Auditing.{AreCounts, IsStruck};
+ghost use Rattle.log_audit.specs.Replays.{IsReplay, AreReplays};
+
+use crate::goods::{GOODS, good_of};
+use auction_core::Auction;
+use game_text::Game;
+use log_reader::{Log, LogHistory};
+use std::alloc::Global;
+use tac_base::limits::{AGENT_CALLS, CLOCK_CALLS};
+use tac_base::{Caller, Entry, Good, Memory, Nets, Trade, same_reply};
+use turn_lock::Kept;
+
+/// What playing a history again gave.
+#[derive(Drop)]
+pub(crate) enum Replay {
+    /// Each entry is the one that the rules give: the auction after them all, and what the trades of each gave the parties.
+    Fair { auction: Auction, nets: Vec<Nets> },
+    /// The entry at the position is the first that is not.
+    Unfair { position: u32 },
+}
+
+/// What playing the histories of all goods again gave.
+#[derive(Drop)]
+pub(crate) enum Replays {
+    /// Each entry is the one that the rules give: the auctions by good, and by good and position what the trades gave the parties.
+    Fair {
+        auctions: Vec<Auction>,
+        nets: Vec<Vec<Nets>>,
+    },
+    /// The entry at the position of the good is the first that is not.
+    Unfair {
+        good: Good,
+        position: u32,
+    },
+}
+
+/// Whether a caller has an entry left, where the callers have had so many.
+fn has_room(counts: &[u32; 9], caller: Caller) -> bool
+    ensures room { IsTrue result ↔ (slice_index counts.now caller < cap caller) }
+    ensures known { caller ≤ 8 }
+{
+    let cap = if caller == Caller::clock() {
+        CLOCK_CALLS
+    } else {
+        AGENT_CALLS
+    };
+    counts[usize::from(caller.get())] < cap
+}
+
+/// Counts one entry more of a caller.
+fn count(counts: &mut [u32; 9], caller: Caller)
+    requires { slice_index counts.old caller < 1024 }
+    ensures { counts.new ≡ slice_set counts.old caller (slice_index counts.old caller + 1) }
+{
+    counts[usize::from(caller.get())] += 1;
+}
+
+/// Whether two lists have the same trades in the same order.
+fn same_trades(a: &[Trade], b: &[Trade]) -> bool
+    ensures { IsTrue result ↔ (a.now ≡ b.now) }
+{
+    a == b
+}
+
+/// Makes the call of an entry in the auction. Answers what its trades gave each party, and None where the reply or the trades are not those
+/// of the entry.
+fn strike(auction: &mut Auction, entry: &Entry, trades: &[Trade]) -> Option<Nets>
+    requires fit { IsFit entry.now.call }
+    requires room { entries_of auction.old.history entry.now.caller < cap entry.now.caller }
+    ensures setup { auction.new.setup ≡ auction.old.setup }
+    ensures history { auction.new.history ≡ auction.old.history ++ entry_of auction.old.setup (reverse auction.old.history) entry.now.caller entry.now.call ∷ [] }
+    ensures same { MatchOption result
+        ((entry.now.reply ≡ reply_of auction.old.setup (reverse auction.old.history) entry.now.caller entry.now.call) →
+        (trades.now ≡ trades_of auction.old.setup (reverse auction.old.history) entry.now.caller entry.now.call) → ⊥)
+        (λ nets. (entry.now.reply ≡ reply_of auction.old.setup (reverse auction.old.history) entry.now.caller entry.now.call)
+        × (trades.now ≡ trades_of auction.old.setup (reverse auction.old.history) entry.now.caller entry.now.call)
+        × (nets.dollars ≡ effects.nets trades.now)) }
+{
+    let position = auction.len();
+    let struck = auction.act(entry.caller, &entry.call);
+    if same_reply(&struck.reply, &entry.reply) && same_trades(auction.trades_of(position), trades) {
+        Some(struck.nets)
+    } else {
+        None
+    }
+}
+
+/// Makes the call of the next entry of a history, whose entries before it the auction has. Answers what its trades gave each party, and None
+/// where the entry is not fair.
+fn strike_next(auction: &mut Auction, counts: &mut [u32; 9], history: &LogHistory) -> Option<Nets>
+    requires before { auction.old.history ≡ take (length auction.old.history) history.now }
+    requires inside { length auction.old.history < length history.now }
+    requires counted { AreCounts auction.old.history counts.old }
+    ensures setup { auction.new.setup ≡ auction.old.setup }
+    ensures struck { MatchOption result (HasFairEntry auction.old.setup history.now (length auction.old.history) → ⊥)
+        (λ nets. IsStruck auction.old.setup history.now (length auction.old.history) auction.new.history counts.new nets) }
+{
+    let position = auction.len();
+    let entry = history.entry(position).unwrap();
+    if !has_room(counts, entry.caller) {
+        return None;
+    }
+    count(counts, entry.caller);
+    strike(auction, entry, history.trades_of(position))
+}
+
+/// Plays the history of a good again. After `Memory` nothing was made.
+fn play_again(
+    alloc: Global,
+    game: &Game,
+    good: Good,
+    history: &LogHistory,
+) -> Result<Replay, Memory>
+    ensures { IfOk result (IsReplay (setup_of good game.now) history.now) }
+{
+    let mut auction = Auction::begin(alloc, good, game)?;
+    let mut counts = [0; 9];
+    let mut nets = Vec::with_capacity(alloc, history.len() as usize)?;
+    for position in 0..history.len() {
+        match strike_next(&mut auction, &mut counts, history) {
+            Some(struck) => nets.push_reserved(struck),
+            None => return Ok(Replay::Unfair { position }),
+        }
+    }
+    Ok(Replay::Fair { auction, nets })
+}
+
+/// Plays the histories of all goods again. After `Memory` nothing was made.
+pub(crate) fn replay_all(alloc: Global, game: &Game, log: &Log) -> Result<Replays, Memory>
+    ensures { IfOk result (AreReplays game.now log.now) }
+{
+    // There are 28 histories, by the ranges of the log.
+    let _head = log.head();
+    let mut auctions = Vec::with_capacity(alloc, usize::from(GOODS))?;
+    let mut nets = Vec::with_capacity(alloc, usize::from(GOODS))?;
+    for number in 0..GOODS {
+        let good = good_of(number);
+        match play_again(alloc, game, good, log.history(good))? {
+            Replay::Fair {
+                auction,
+                nets: of_good,
+            } => {
+                auctions.push_reserved(auction);
+                nets.push_reserved(of_good);
+            }
+            Replay::Unfair { position } => return Ok(Replays::Unfair { good, position }),
+        }
+    }
+    Ok(Replays::Fair { auctions, nets })
+}

@@ -1,0 +1,106 @@
+// The clock's calls of a log beside those of the game's schedule.
+ghost use Rattle.std.specs.Prelude.{◌≡◌, ◌↔◌, ◌++◌, [], ◌∷◌, ◌≤◌, Some, length, slice_get, IfOk, OnOk, IsTrue};
+ghost use Rattle.game_text.specs.Schedule.{calls_at, clock_calls};
+ghost use Rattle.log_reader.specs.SoundLog.{clock_calls_in, history_at};
+ghost use Rattle.log_audit.specs.Flaws.{IsOnSchedule};
+ghost use Rattle.log_audit.specs.Auditing.{IsFollowed, IsLowestBelow, calls_for};
+
+use crate::goods::{GOODS, good_of, tick_after};
+use clock_events::{schedule, schedule_law};
+use game_text::Game;
+use log_reader::{Log, LogHistory};
+use std::alloc::{AllocError, Global};
+use tac_base::limits::TICKS;
+use tac_base::{Call, Caller, Entry, Good, Memory, Tick, same_call};
+
+/// Adds a call, if it is one of the good. After an error it was not added.
+#[tactic(auto, using(crate::proofs::Scheduled::for_own, crate::proofs::Scheduled::for_other))]
+fn push_for(calls: &mut Vec<Call>, good: Good, next: (Good, Call)) -> Result<(), AllocError>
+    ensures { OnOk result (calls.new.items ≡ calls.old.items ++ calls_for good (next ∷ [])) }
+{
+    let (other, call) = next;
+    if other != good {
+        return Ok(());
+    }
+    calls.push(call)?;
+    Ok(())
+}
+
+/// Adds the calls that the clock makes of a good at a tick. After an error some of them may be there.
+fn push_tick(calls: &mut Vec<Call>, game: &Game, good: Good, tick: Tick) -> Result<(), AllocError>
+    ensures { OnOk result (calls.new.items ≡ calls.old.items ++ calls_for good (calls_at game.now tick)) }
+{
+    // That a tick has few calls is a law of the schedule, and rests on the tick's range.
+    let _number = tick.get();
+    schedule_law(game);
+    let mut n = 0;
+    while let Some(next) = schedule(game, tick, n) {
+        push_for(calls, good, next)?;
+        n += 1;
+    }
+    Ok(())
+}
+
+/// The calls that the clock makes of a good, in order.
+fn due_calls(alloc: Global, game: &Game, good: Good) -> Result<Vec<Call>, AllocError>
+    ensures { IfOk result (λ calls. calls.items ≡ clock_calls game.now good) }
+{
+    let mut calls = Vec::new(alloc);
+    for number in 0..TICKS {
+        push_tick(&mut calls, game, good, tick_after(number))?;
+    }
+    Ok(calls)
+}
+
+/// Whether a call stands at a place among those that are due.
+fn is_next(due: &[Call], place: usize, call: &Call) -> bool
+    ensures { IsTrue result ↔ (slice_get due.now place ≡ Some call.now) }
+{
+    match due.get(place) {
+        Some(next) => same_call(next, call),
+        None => false,
+    }
+}
+
+/// How many calls that are due were made with an entry, if so many were made before it. None where it is of the clock, and not the next one.
+fn follow(due: &[Call], made: usize, entry: &Entry) -> Option<usize>
+    requires { made ≤ length due.now }
+    ensures { IsFollowed due.now made entry.now.caller entry.now.call result }
+{
+    if entry.caller != Caller::clock() {
+        return Some(made);
+    }
+    if is_next(due, made, &entry.call) {
+        Some(made + 1)
+    } else {
+        None
+    }
+}
+
+/// Whether the clock's calls in a history are these.
+fn makes(history: &LogHistory, due: &[Call]) -> bool
+    ensures { IsTrue result ↔ (clock_calls_in history.now ≡ due.now) }
+{
+    let mut made = 0;
+    for position in 0..history.len() {
+        match follow(due, made, history.entry(position).unwrap()) {
+            Some(next) => made = next,
+            None => return false,
+        }
+    }
+    made == due.len()
+}
+
+/// The lowest good whose clock's calls are not those of the schedule, if there is one.
+pub(crate) fn off_schedule(alloc: Global, game: &Game, log: &Log) -> Result<Option<Good>, Memory>
+    ensures { IfOk result (IsLowestBelow 28 (λ good. IsOnSchedule game.now good (history_at log.now good))) }
+{
+    for number in 0..GOODS {
+        let good = good_of(number);
+        let due = due_calls(alloc, game, good)?;
+        if !makes(log.history(good), &due) {
+            return Ok(Some(good));
+        }
+    }
+    Ok(None)
+}

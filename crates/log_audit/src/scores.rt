@@ -1,0 +1,99 @@
+// The scores of a log beside what the histories leave to each agent.
+ghost use Rattle.std.specs.Prelude.{◌≡◌, ◌<◌, ◌≤◌, ◌*◌, ◌↔◌, pos, unsigned_abs, length, sum_by, slice_index_or, IsTrue};
+ghost use Rattle.std.specs.List.{All};
+ghost use Rattle.tac_base.specs.declared.limits.TheConstants.{HOLDING};
+ghost use Rattle.game_text.specs.Accounts.{IsHolding};
+ghost use Rattle.score_sheet.specs.Score as rules;
+ghost use Rattle.score_sheet.specs.Settlement.{AreHoldings, settlement_of};
+ghost use Rattle.score_sheet.specs.Sheets.{account_of, IsDue};
+ghost use Rattle.allocator.specs.Solutions.{IsSolution};
+ghost use Rattle.bound_cert.specs.Views.{tree_of};
+ghost use Rattle.log_text.specs.LoggedGames.{IsLoggedScore};
+ghost use Rattle.log_reader.specs.SoundLog.{auctions_in};
+ghost use Rattle.log_audit.specs.Flaws.{HasDueScore};
+ghost use Rattle.log_audit.specs.Auditing.{IsLowest};
+
+use bound_cert::check;
+use dual_bound::{is_enough, worth};
+use game_text::{Account, Game};
+use log_reader::{Log, ScoreLine};
+use score_sheet::Accounts;
+use tac_base::Agent;
+
+/// How many units these holdings lie below 0 together.
+fn lacking(holdings: &[i32]) -> u32
+    requires few { length holdings.now ≤ 28 }
+    requires range { All IsHolding holdings.now }
+    ensures value { result ≡ sum_by rules.lacking holdings.now }
+    ensures bound { result ≤ 28 * unsigned_abs HOLDING }
+{
+    let mut units = 0;
+    for holding in holdings {
+        if *holding < 0 {
+            units += holding.unsigned_abs();
+        }
+    }
+    units
+}
+
+/// How many tickets are short.
+fn short(holdings: &[i32]) -> u32
+    requires { AreHoldings holdings.now }
+    ensures { result ≡ rules.short_of holdings.now }
+{
+    lacking(&holdings[16..])
+}
+
+/// The score that the numbers of a line give.
+fn reckoned(line: &ScoreLine) -> i64
+    requires { IsLoggedScore line.now }
+    ensures { result ≡ rules.score_of line.now.best line.now.cash line.now.short }
+{
+    i64::from(line.best) + line.cash - 200 * i64::from(line.short)
+}
+
+/// Whether a score has this cash and is short of so many tickets, and is reckoned by its own numbers.
+fn is_reckoned(line: &ScoreLine, cash: i64, short: u32) -> bool
+    requires { IsLoggedScore line.now }
+    ensures { IsTrue result ↔ ((line.now.cash ≡ cash) × (line.now.short ≡ short) × (line.now.score ≡ rules.score_of line.now.best line.now.cash line.now.short)) }
+{
+    line.cash == cash && line.short == short && line.score == reckoned(line)
+}
+
+/// Whether the packages of a score are feasible for the account and are worth its best total, and the certificate holds for it.
+fn is_best(account: &Account, line: &ScoreLine) -> bool
+    requires { IsLoggedScore line.now }
+    ensures { IsTrue result ↔ IsSolution account.now line.now.best line.now.allocation line.now.tree }
+{
+    is_enough(account, &line.allocation)
+        && worth(account, &line.allocation) == line.best
+        && check(account, line.best, &line.cert)
+}
+
+/// Whether a score is the one that is due to an agent.
+fn is_due(game: &Game, accounts: &Accounts, agent: Agent, line: &ScoreLine) -> bool
+    requires { IsLoggedScore line.now }
+    ensures { IsTrue result ↔ IsDue game.now accounts.now agent line.now }
+{
+    let number = usize::from(agent.get());
+    let account = Account {
+        clients: game.clients[number],
+        holdings: accounts.holdings[number],
+    };
+    is_reckoned(line, accounts.cash[number], short(&account.holdings)) && is_best(&account, line)
+}
+
+/// The lowest agent whose score is not the one that is due to it, if there is one.
+pub(crate) fn false_score(game: &Game, log: &Log, accounts: &Accounts) -> Option<Agent>
+    requires { accounts.now ≡ settlement_of (auctions_in game.now log.now) }
+    ensures { IsLowest (HasDueScore game.now log.now) result }
+{
+    // There are eight scores, by the ranges of the log.
+    let _head = log.head();
+    for agent in Agent::all() {
+        if !is_due(game, accounts, agent, log.score(agent)) {
+            return Some(agent);
+        }
+    }
+    None
+}
