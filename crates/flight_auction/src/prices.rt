@@ -4,6 +4,9 @@ ghost use Rattle.auction_rules.specs.FlightRule as rule;
 use tac_base::Tick;
 use tac_base::limits::{TICKS, UPDATE_TICKS};
 
+/// The ticks of a game, by which the flight rule divides.
+const ALL_TICKS: i32 = TICKS as i32;
+
 /// Flights are sold at 150 dollars at least.
 const LOWEST: i32 = 150;
 
@@ -18,7 +21,7 @@ fn drift(bound: i8, tick: Tick) -> i32
     ensures from { negsuc 9 ≤ℤ result }
     ensures to { result ≤ℤ pos 30 }
 {
-    10 + (i32::from(tick.get()) * (i32::from(bound) - 10)).div_euclid(i32::from(TICKS))
+    10 + (i32::from(tick.get()) * (i32::from(bound) - 10)).div_euclid(ALL_TICKS)
 }
 
 /// The least change where the drift is `x`.
