@@ -10,10 +10,11 @@ use Rattle.tac_commands.specs.Files.{Content}
 use Rattle.tac_commands.specs.Allowed.{Allows, CommandAllows}
 use Rattle.tac_commands.specs.Ends.{Tells}
 use Rattle.tac_commands.specs.Selected.{Selects}
-use Rattle.tac_commands.specs.Causes.{IsQuiet, UsageExactly, ReadFaultExactly, GameRefusedExactly, TextRefusedExactly, HasRefused, HasRefusedGame, HasRefusedText, IsReady, IsComplete, LinkFaultExactly, ClockFaultExactly}
+use Rattle.tac_commands.specs.Causes.{IsQuiet, UsageExactly, ReadFaultExactly, GameRefusedExactly, TextRefusedExactly, HasRefused, HasRefusedGame, HasRefusedText, IsReady, HasUnsoundLog, UnsoundExactly, IsGoodEnd, IsComplete, LinkFaultExactly, ClockFaultExactly}
 use Rattle.tac_commands.proofs.CodedOutcomes.{coded, told_only, told_always}
 use Rattle.tac_commands.proofs.OwnCodes.{OwnCode, own_code, no_file_code}
 use Rattle.tac_commands.proofs.FileCauses as causes
+use Rattle.tac_commands.proofs.UnsoundLogs as unsound_logs
 
 module _ (content : Content) (names names' : Names) (before now : ℕ) (outcome : Outcome) where
   -- ---- what is known of the outcome
@@ -47,12 +48,16 @@ module _ (content : Content) (names names' : Names) (before now : ℕ) (outcome 
 
   -- a code of a file, or one of these
   abbrev OneOf : ℕ → Type 0
-  OneOf code = (code ≡ 0) ⊎ (code ≡ 5) ⊎ (code ≡ 6) ⊎ (code ≡ 7)
+  OneOf code = (code ≡ 0) ⊎ (code ≡ 5) ⊎ (code ≡ 6) ⊎ (code ≡ 7) ⊎ (code ≡ 9)
 
   one_of : (command : Command) (code : ℕ) → OwnCode command code → OneOf code
-  one_of (Batch command) code (inl zero) = inl zero
-  one_of (Batch command) code (inr seven) = inr (inr (inr seven))
-  one_of (Serve game port pace form) code own = own
+  one_of (Batch command) code (inl (inl zero)) = inl zero
+  one_of (Batch command) code (inl (inr seven)) = inr (inr (inr (inl seven)))
+  one_of (Batch command) code (inr nine) = inr (inr (inr (inr nine)))
+  one_of (Serve game port pace form) code (inl zero) = inl zero
+  one_of (Serve game port pace form) code (inr (inl five)) = inr (inl five)
+  one_of (Serve game port pace form) code (inr (inr (inl six))) = inr (inr (inl six))
+  one_of (Serve game port pace form) code (inr (inr (inr seven))) = inr (inr (inr (inl seven)))
 
   ready_code : (command : Option Command) → Allows content command names names' before now outcome → IsReady content command → IsQuiet before now → OneOf (code_of outcome)
   ready_code None allowed ready quiet = absurd ready
@@ -61,7 +66,35 @@ module _ (content : Content) (names names' : Names) (before now : ℕ) (outcome 
     where
       either : OwnCode command (code_of outcome) ⊎ (code_of outcome ≡ 7) → OneOf (code_of outcome)
       either (inl own) = one_of command (code_of outcome) own
-      either (inr seven) = inr (inr (inr seven))
+      either (inr seven) = inr (inr (inr (inl seven)))
+
+  -- ---- a log that is not sound
+
+  found : (command : Command) → Allows content (Some command) names names' before now outcome → code_of outcome ≡ 9 → unsound_logs.FoundUnsound content command
+  found command allowed is =
+      by_run (causes.ran content before now outcome (OwnCode command) (no_file_code command) (files_of command) (CommandAllows command) names names' allowed)
+    where
+      by_run : causes.RanOver content (files_of command) (CommandAllows command) outcome ⊎ causes.IsFileCode content before now outcome (OwnCode command) (no_file_code command) (code_of outcome) → unsound_logs.FoundUnsound content command
+      by_run (inl over) = unsound_logs.found content outcome command over is
+      by_run (inr file) = absurd (grind (arith, file, is))
+
+  unsound_only : (command : Option Command) → Allows content command names names' before now outcome → code_of outcome ≡ 9 → IfSome content (λ _. HasUnsoundLog content command)
+  unsound_only None allowed is = let one = ap code_of allowed.0 in absurd (omega (arith, one, is))
+  unsound_only (Some command) allowed is = unsound_logs.told content command (found command allowed is)
+
+  ready_unsound : (command : Option Command) → Allows content command names names' before now outcome → IsReady content command → code_of outcome ≡ 9 → HasUnsoundLog content command
+  ready_unsound None allowed ready is = absurd ready
+  ready_unsound (Some command) allowed ready is = unsound_logs.ready content command ready (found command allowed is)
+
+  unsound_due : (command : Option Command) → Allows content command names names' before now outcome → IsReady content command → HasUnsoundLog content command → IsQuiet before now →
+      (code_of outcome ≡ 9) ⊎ (code_of outcome ≡ 7)
+  unsound_due None allowed ready unsound quiet = absurd ready
+  unsound_due (Some command) allowed ready unsound quiet =
+      by_run (causes.ready_ran content before now outcome (OwnCode command) (no_file_code command) (files_of command) (CommandAllows command) names names' quiet ready allowed)
+    where
+      by_run : causes.RanOver content (files_of command) (CommandAllows command) outcome ⊎ (code_of outcome ≡ 7) → (code_of outcome ≡ 9) ⊎ (code_of outcome ≡ 7)
+      by_run (inl over) = unsound_logs.due content outcome command unsound over
+      by_run (inr seven) = inr seven
 
   -- ---- the codes
 
@@ -107,6 +140,12 @@ module _ (content : Content) (names names' : Names) (before now : ℕ) (outcome 
       always = λ bad quiet. told_always 8 out_before out_now code outcome (text_due command allowed bad quiet) either;
     }
 
+    pub unsound : (command : Option Command) → Allows content command names names' before now outcome → UnsoundExactly content command before now code
+    unsound command allowed = record {
+      only = told_only 9 (IfSome content (λ _. HasUnsoundLog content command)) out_before out_now code outcome (λ e. absurd (omega (arith, e))) (unsound_only command allowed) either;
+      always = λ ready unsound quiet. told_always 9 out_before out_now code outcome (unsound_due command allowed ready unsound quiet) either;
+    }
+
     pub read_fault : (command : Option Command) → Allows content command names names' before now outcome → ReadFaultExactly before now code
     read_fault command allowed = record {
       only = told_only 3 (Rose before now) out_before out_now code outcome (λ e. absurd (omega (arith, e))) (λ is. only_three (read_told command allowed) is) either;
@@ -138,13 +177,22 @@ module _ (content : Content) (names names' : Names) (before now : ℕ) (outcome 
       good = λ ready quiet out_quiet links_quiet ticks_quiet. by_code ready quiet out_quiet links_quiet ticks_quiet either;
     }
       where
-        by_own : IsQuiet links_before links_now → IsQuiet ticks_before ticks_now → code ≡ code_of outcome → OneOf (code_of outcome) → (code ≡ 0) ⊎ (code ≡ 7)
+        by_own : IsQuiet links_before links_now → IsQuiet ticks_before ticks_now → code ≡ code_of outcome → OneOf (code_of outcome) → (code ≡ 0) ⊎ (code ≡ 7) ⊎ (code ≡ 9)
         by_own links_quiet ticks_quiet same (inl zero) = inl (same ∙ zero)
         by_own links_quiet ticks_quiet same (inr (inl five)) = absurd (causes.quiet_did_not_rise links_before links_now links_quiet (link.only (same ∙ five)))
         by_own links_quiet ticks_quiet same (inr (inr (inl six))) = absurd (causes.quiet_did_not_rise ticks_before ticks_now ticks_quiet (clock.only (same ∙ six)))
-        by_own links_quiet ticks_quiet same (inr (inr (inr seven))) = inr (same ∙ seven)
+        by_own links_quiet ticks_quiet same (inr (inr (inr (inl seven)))) = inr (inl (same ∙ seven))
+        by_own links_quiet ticks_quiet same (inr (inr (inr (inr nine)))) = inr (inr (same ∙ nine))
+
+        told_due : code ≡ code_of outcome → (code_of outcome ≡ 9) ⊎ (code_of outcome ≡ 7) → (code ≡ 9) ⊎ (code ≡ 7)
+        told_due same (inl nine) = inl (same ∙ nine)
+        told_due same (inr seven) = inr (same ∙ seven)
 
         by_code : IsReady content command → IsQuiet before now → IsQuiet out_before out_now → IsQuiet links_before links_now → IsQuiet ticks_before ticks_now →
-            ((code ≡ 4) × Rose out_before out_now) ⊎ (code ≡ code_of outcome) → (code ≡ 0) ⊎ (code ≡ 7)
+            ((code ≡ 4) × Rose out_before out_now) ⊎ (code ≡ code_of outcome) → IsGoodEnd content command code
         by_code ready quiet out_quiet links_quiet ticks_quiet (inl four) = absurd (causes.quiet_did_not_rise out_before out_now out_quiet four.1)
-        by_code ready quiet out_quiet links_quiet ticks_quiet (inr same) = by_own links_quiet ticks_quiet same (ready_code command allowed ready quiet)
+        by_code ready quiet out_quiet links_quiet ticks_quiet (inr same) = record {
+          one_of = by_own links_quiet ticks_quiet same (ready_code command allowed ready quiet);
+          only = λ nine. ready_unsound command allowed ready (sym same ∙ nine);
+          always = λ unsound. told_due same (unsound_due command allowed ready unsound quiet);
+        }

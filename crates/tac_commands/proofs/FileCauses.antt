@@ -6,7 +6,7 @@ use Rattle.tac_io.specs.Told.{and_then_told}
 use Rattle.game_text.specs.declared.fault.GameFault.{GameFault}
 use Rattle.game_text.specs.declared.fault.GameFault.TheVariants.{Line, TooLong}
 use Rattle.tac_commands.specs.declared.file_kinds.FileKind.{FileKind}
-use Rattle.tac_commands.specs.declared.file_kinds.FileKind.TheVariants.{Game, HotelScript, GameScript, Account}
+use Rattle.tac_commands.specs.declared.file_kinds.FileKind.TheVariants.{Game, HotelScript, GameScript, Account, Log}
 use Rattle.tac_commands.specs.declared.refusals.Refusal.{Refusal}
 use Rattle.tac_commands.specs.Codes.{number_of}
 use Rattle.tac_commands.specs.Commands.{NamedFile}
@@ -30,6 +30,7 @@ kind_code Game = inl refl
 kind_code HotelScript = inr refl
 kind_code GameScript = inr refl
 kind_code Account = inr refl
+kind_code Log = inr refl
 
 fault_code : (kind : FileKind) (fault : GameFault) → number_of (refusal_code (refusal_of kind fault)) ≡ code_at kind
 fault_code Game (Line line reason) = refl
@@ -40,6 +41,8 @@ fault_code GameScript (Line line reason) = refl
 fault_code GameScript TooLong = refl
 fault_code Account (Line line reason) = refl
 fault_code Account TooLong = refl
+fault_code Log (Line line reason) = refl
+fault_code Log TooLong = refl
 
 -- why the run stopped at a file, with its code
 abbrev StopsSo : Content → FileKind → List ℕ → ℕ → ℕ → ℕ → Type 0
@@ -84,6 +87,12 @@ good_no_fault None file fault good is = let told = good.told in absurd (cc)
 good_no_fault (Some files) file fault good is =
     not_both (read_as file.kind good.bytes) good.value fault good.good
     (subst (λ (f : List ℕ). read_as file.kind f ≡ Err fault) (same_file (files file.name) is.0 good.bytes is.1 good.told) is.2)
+
+-- all files were read, and the outcome is one that their values allow
+abbrev pub RanOver : Content → (files : List NamedFile) → (Values files → Outcome → Type 0) → Outcome → Type 0
+RanOver content [] allows outcome = allows tt outcome
+RanOver content (file ∷ files) allows outcome =
+    (value : Value file.kind) × IsRead content file.kind file.name value × RanOver content files (λ values. allows (value, values)) outcome
 
 -- ---- all files
 
@@ -163,16 +172,33 @@ module _ (content : Content) (before now : ℕ) (outcome : Outcome) (Own : ℕ �
   refused_due code (file ∷ files) allows names names' quiet (inr later) (inr stop) =
       inr (good_at file later.0 quiet (stopped content file.kind file.name before now stop.0 outcome stop.1 stop.2))
 
-  -- where all files are good the code is the command's own, or that of memory
-  pub ready_own : (files : List NamedFile) (allows : Values files → Outcome → Type 0) → ((values : Values files) → allows values outcome → Own (code_of outcome)) → (names names' : Names) → IsQuiet before now →
-      AreGood content files → Runs content files allows names names' before now outcome → Own (code_of outcome) ⊎ (code_of outcome ≡ 7)
-  ready_own [] allows own names names' quiet are_good run = inl (own tt run.0)
-  ready_own (file ∷ files) allows own names names' quiet are_good (inl read) =
-      ready_own files (λ values. allows (read.0, values)) (λ values. own (read.0, values)) (and_then_told names (file.name ∷ [])) names' quiet are_good.1 read.2
-  ready_own (file ∷ files) allows own names names' quiet are_good (inr stop) =
+  -- what is one of the command's own codes wherever the outcome is allowed is one where all files were read
+  own_of : (files : List NamedFile) (allows : Values files → Outcome → Type 0) → ((values : Values files) → allows values outcome → Own (code_of outcome)) → RanOver content files allows outcome → Own (code_of outcome)
+  own_of [] allows own over = own tt over
+  own_of (file ∷ files) allows own (value, is, over) = own_of files (λ values. allows (value, values)) (λ values. own (value, values)) over
+
+  -- where all files are good they were read, or the code is that of memory
+  pub ready_ran : (files : List NamedFile) (allows : Values files → Outcome → Type 0) → (names names' : Names) → IsQuiet before now →
+      AreGood content files → Runs content files allows names names' before now outcome → RanOver content files allows outcome ⊎ (code_of outcome ≡ 7)
+  ready_ran [] allows names names' quiet are_good run = inl run.0
+  ready_ran (file ∷ files) allows names names' quiet are_good (inl (value, is, run)) = later (ready_ran files (λ values. allows (value, values)) (and_then_told names (file.name ∷ [])) names' quiet are_good.1 run)
+    where
+      later : RanOver content files (λ values. allows (value, values)) outcome ⊎ (code_of outcome ≡ 7) → RanOver content (file ∷ files) allows outcome ⊎ (code_of outcome ≡ 7)
+      later (inl over) = inl (value, is, over)
+      later (inr seven) = inr seven
+  ready_ran (file ∷ files) allows names names' quiet are_good (inr stop) =
       inr (good_at file are_good.0 quiet (stopped content file.kind file.name before now stop.0 outcome stop.1 stop.2))
 
-  -- the code is the command's own, or one of a file
+  -- so the code is the command's own, or that of memory
+  pub ready_own : (files : List NamedFile) (allows : Values files → Outcome → Type 0) → ((values : Values files) → allows values outcome → Own (code_of outcome)) → (names names' : Names) → IsQuiet before now →
+      AreGood content files → Runs content files allows names names' before now outcome → Own (code_of outcome) ⊎ (code_of outcome ≡ 7)
+  ready_own files allows own names names' quiet are_good run = either (ready_ran files allows names names' quiet are_good run)
+    where
+      either : RanOver content files allows outcome ⊎ (code_of outcome ≡ 7) → Own (code_of outcome) ⊎ (code_of outcome ≡ 7)
+      either (inl over) = inl (own_of files allows own over)
+      either (inr seven) = inr seven
+
+  -- all files were read, or the code is one of a file
   abbrev pub IsFileCode : ℕ → Type 0
   IsFileCode code = (code ≡ 2) ⊎ (code ≡ 3) ⊎ (code ≡ 7) ⊎ (code ≡ 8)
 
@@ -185,12 +211,24 @@ module _ (content : Content) (before now : ℕ) (outcome : Outcome) (Own : ℕ �
       by_kind (inl two) = inl (refused.0 ∙ two)
       by_kind (inr eight) = inr (inr (inr (refused.0 ∙ eight)))
 
+  pub ran : (files : List NamedFile) (allows : Values files → Outcome → Type 0) → (names names' : Names) → Runs content files allows names names' before now outcome →
+      RanOver content files allows outcome ⊎ IsFileCode (code_of outcome)
+  ran [] allows names names' run = inl run.0
+  ran (file ∷ files) allows names names' (inl (value, is, run)) = later (ran files (λ values. allows (value, values)) (and_then_told names (file.name ∷ [])) names' run)
+    where
+      later : RanOver content files (λ values. allows (value, values)) outcome ⊎ IsFileCode (code_of outcome) → RanOver content (file ∷ files) allows outcome ⊎ IsFileCode (code_of outcome)
+      later (inl over) = inl (value, is, over)
+      later (inr code) = inr code
+  ran (file ∷ files) allows names names' (inr stop) = inr (file_code_at file.kind file.name (stopped content file.kind file.name before now stop.0 outcome stop.1 stop.2))
+
+  -- the code is the command's own, or one of a file
   pub codes : (files : List NamedFile) (allows : Values files → Outcome → Type 0) → ((values : Values files) → allows values outcome → Own (code_of outcome)) → (names names' : Names) →
       Runs content files allows names names' before now outcome → Own (code_of outcome) ⊎ IsFileCode (code_of outcome)
-  codes [] allows own names names' run = inl (own tt run.0)
-  codes (file ∷ files) allows own names names' (inl read) =
-      codes files (λ values. allows (read.0, values)) (λ values. own (read.0, values)) (and_then_told names (file.name ∷ [])) names' read.2
-  codes (file ∷ files) allows own names names' (inr stop) = inr (file_code_at file.kind file.name (stopped content file.kind file.name before now stop.0 outcome stop.1 stop.2))
+  codes files allows own names names' run = either (ran files allows names names' run)
+    where
+      either : RanOver content files allows outcome ⊎ IsFileCode (code_of outcome) → Own (code_of outcome) ⊎ IsFileCode (code_of outcome)
+      either (inl over) = inl (own_of files allows own over)
+      either (inr code) = inr code
 
   -- ---- the files that were selected
 

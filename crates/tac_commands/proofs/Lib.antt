@@ -9,4 +9,5 @@ pub mod ReadFiles
 pub mod RanScripts
 pub mod OwnCodes
 pub mod FileCauses
+pub mod UnsoundLogs
 pub mod CommandCauses

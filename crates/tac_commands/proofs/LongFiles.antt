@@ -1,4 +1,4 @@
--- What a file that is too long is read as, and what a script is that is not.
+-- What a file that is too long is read as, and what a script or a log is that is not.
 use Rattle.std.proofs.Common.{◌≡◌, ℕ, suc, ◌<◌, ◌≤◌, List, length, true, false, ap, ◌∙◌, arith}
 use Rattle.std.specs.Prelude.{nat_lt, replicate, Result, Ok, Err, Some, None}
 use Rattle.std.proofs.lemmas.Bool.Decides.{nat_tests}
@@ -7,14 +7,16 @@ use Rattle.tac_io.specs.Reading.{IsTooLong}
 use Rattle.game_text.specs.declared.fault.GameFault.TheVariants.{Line, TooLong}
 use Rattle.game_text.specs.Accounts.{account_of}
 use Rattle.game_text.specs.Games.{game_of}
+use Rattle.log_reader.specs.declared.fault.LogFault.TheVariants as logs
+use Rattle.log_reader.specs.Logs.{log_of}
 use Rattle.script_run.specs.declared.hotel_lines.HotelLine.{HotelLine}
 use Rattle.script_run.specs.declared.game_lines.GameLine.{GameLine as ScriptLine}
 use Rattle.script_run.specs.ScriptLines.{BadLine}
 use Rattle.script_run.specs.HotelScripts.{script_of}
 use Rattle.script_run.specs.GameScripts.{game_script}
 use Rattle.tac_commands.specs.declared.file_kinds.FileKind.{FileKind}
-use Rattle.tac_commands.specs.declared.file_kinds.FileKind.TheVariants.{Game, HotelScript, GameScript, Account}
-use Rattle.tac_commands.specs.FileKinds.{most_bytes, lines_or_fault, script_in, read_as}
+use Rattle.tac_commands.specs.declared.file_kinds.FileKind.TheVariants.{Game, HotelScript, GameScript, Account, Log}
+use Rattle.tac_commands.specs.FileKinds.{most_bytes, lines_or_fault, script_in, read_as, logged_or_fault}
 use Rattle.tac_commands.specs.Files.{Content, HasFault}
 
 long_game : (bytes : List ℕ) → 1048576 < length bytes → game_of bytes ≡ Err TooLong
@@ -25,6 +27,10 @@ long_account : (bytes : List ℕ) → 67108864 < length bytes → account_of byt
 unfolding account_of
 long_account bytes long = let test : nat_lt 67108864 (length bytes) ≡ true = grind (arith, nat_tests) in rw test
 
+long_log : (bytes : List ℕ) → 67108864 < length bytes → logged_or_fault (log_of bytes) ≡ Err TooLong
+unfolding log_of
+long_log bytes long = let test : nat_lt 67108864 (length bytes) ≡ true = grind (arith, nat_tests) in rw test
+
 long_script : {A : Type 0} (bytes : List ℕ) (read : Result A BadLine) → 67108864 < length bytes → script_in bytes read ≡ Err TooLong
 long_script bytes read long = let test : nat_lt 67108864 (length bytes) ≡ true = grind (arith, nat_tests) in rw test
 
@@ -33,6 +39,7 @@ long_file Game bytes long = long_game bytes long
 long_file HotelScript bytes long = long_script bytes (script_of bytes) long
 long_file GameScript bytes long = long_script bytes (game_script bytes) long
 long_file Account bytes long = long_account bytes long
+long_file Log bytes long = long_log bytes long
 
 -- some bytes are too many
 longer : (n : ℕ) (zeros : List ℕ) → length zeros ≡ suc n → (bytes : List ℕ) × (n < length bytes)
@@ -46,7 +53,7 @@ pub told_long : (content : Content) (kind : FileKind) (name : List ℕ) → IsTo
 told_long None kind name long = let some = some_long (most_bytes kind) in (some.0, tt, long_file kind some.0 some.1)
 told_long (Some files) kind name long = (long.0, long.1, long_file kind long.0 long.2)
 
--- ---- scripts
+-- ---- scripts and logs
 
 short_script : {A : Type 0} (bytes : List ℕ) (read : Result A BadLine) → length bytes ≤ 67108864 → script_in bytes read ≡ lines_or_fault read
 short_script bytes read short = let test : nat_lt 67108864 (length bytes) ≡ false = grind (arith, nat_tests) in rw test
@@ -56,6 +63,9 @@ good_hotel bytes lines short good = short_script bytes (script_of bytes) short �
 
 pub bad_hotel : (bytes : List ℕ) (line reason : ℕ) → length bytes ≤ 67108864 → script_of bytes ≡ Err (line, reason) → read_as HotelScript bytes ≡ Err (Line line reason)
 bad_hotel bytes line reason short bad = short_script bytes (script_of bytes) short ∙ ap lines_or_fault bad
+
+pub bad_log : (bytes : List ℕ) (line : ℕ) → log_of bytes ≡ Err (logs.Line line) → read_as Log bytes ≡ Err (Line line 1)
+bad_log bytes line bad = ap logged_or_fault bad
 
 pub good_script : (bytes : List ℕ) (lines : List ScriptLine) → length bytes ≤ 67108864 → game_script bytes ≡ Ok lines → read_as GameScript bytes ≡ Ok lines
 good_script bytes lines short good = short_script bytes (game_script bytes) short ∙ ap lines_or_fault good

@@ -42,7 +42,7 @@ module _ (content : Content) (name bytes : List ℕ) (names names' : Names) (bef
   hotel_ran (Err (Line line reason)) ran =
       inl (inr (refusals.TextLine line reason, refl, inr (inr (faults.Line line reason, refl, (bytes, is, bad_hotel bytes line reason ran.0.within ran.0.bad), quiet)), selected), ran.1)
   hotel_ran (Err TooLong) ran = inl (inr (refusals.TextTooLong, refl, inr (inr (faults.TooLong, refl, (bytes, is, long_file HotelScript bytes ran.0), quiet)), selected), ran.1)
-  hotel_ran (Err Failed) ran = inl (ran.0, hotel_run ran.0 ran.1, ran.2, ran.3)
+  hotel_ran (Err Failed) ran = inl (ran.0, inl (hotel_run ran.0 ran.1), ran.2, ran.3)
   hotel_ran (Err Memory) ran = inl (inr (refusals.Memory, refl, inr (inl (refl, quiet)), selected), ran)
 
   -- ---- a game
@@ -62,7 +62,7 @@ module _ (content : Content) (name bytes : List ℕ) (names names' : Names) (bef
     failed : (text : List ℕ) → IsFirstOut game bytes text ⊎ IsPlayOut game bytes text → TakesSome taken taken' text → Rose out_before out_now →
         PlaysNamed content game name names names' before now taken taken' out_before out_now ends.WriteFault
     failed text (inl first) some rose = inr (text, first_run text first, (some, rose))
-    failed text (inr whole) some rose = inl (text, play_run text whole, some, rose)
+    failed text (inr whole) some rose = inl (text, inl (play_run text whole), some, rose)
 
     no_memory : IsUntouched taken taken' out_before out_now ⊎ ((text : List ℕ) × IsFirstOut game bytes text × (taken' ≡ and_then_told taken text) × (out_now ≡ out_before)) →
         PlaysNamed content game name names names' before now taken taken' out_before out_now (ends.Refused refusals.Memory)

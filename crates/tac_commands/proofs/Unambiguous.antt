@@ -7,3 +7,6 @@ same_file file a b e f = cc
 
 pub not_both : {A E : Type 0} (read : Result A E) (x : A) (fault : E) → read ≡ Ok x → read ≡ Err fault → ⊥
 not_both read x fault e f = absurd (cc)
+
+pub same_value : {A E : Type 0} (read : Result A E) (x y : A) → read ≡ Ok x → read ≡ Ok y → x ≡ y
+same_value read x y e f = cc

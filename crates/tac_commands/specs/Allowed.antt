@@ -1,5 +1,5 @@
 -- What each command makes of the values of its files, and so which outcomes the words and the files allow.
-use Rattle.std.specs.Prelude.{◌≡◌, ℕ, ◌<◌, ⊤, List, Option, Some, None, ◌≤ℤ◌, ◌<ℤ◌, pos}
+use Rattle.std.specs.Prelude.{◌≡◌, ℕ, ◌<◌, ⊤, codes, List, Option, Some, None, ◌≤ℤ◌, ◌<ℤ◌, pos}
 use Rattle.game_text.specs.Games.{GameFile, spelling, upgraded}
 use Rattle.game_text.specs.Accounts.{AccountFile}
 use Rattle.good_worth.specs.Worth.{IsUp, IsDown, held}
@@ -16,11 +16,16 @@ use Rattle.game_log.specs.ScoredGames.{IsSheetOf}
 use Rattle.script_run.specs.GameOuts.{closed_game, first_out, play_out}
 use Rattle.script_run.specs.OneThreadRun.{replies}
 use Rattle.script_run.specs.QuietGames.{IsSummary}
+use Rattle.log_text.specs.LoggedGames.{LoggedGame}
+use Rattle.log_reader.specs.SoundLog.{IsSound}
+use Rattle.log_audit.specs.declared.findings.Flaw.{Flaw}
+use Rattle.log_audit.specs.Flaws.{IsFirstFlaw}
 use Rattle.tac_commands.specs.declared.refusals.Refusal.TheVariants.{Usage, LinkFault, Memory}
 use Rattle.tac_commands.specs.Cash.{IsCashOfPosts}
-use Rattle.tac_commands.specs.Commands.{BatchCommand, Hotel, Show, Upgrade, Make, Solve, Worth, Play, Trial, Command, Batch, Serve, batch_files, files_of}
+use Rattle.tac_commands.specs.Commands.{BatchCommand, Hotel, Show, Upgrade, Make, Solve, Worth, Play, Trial, Audit, Command, Batch, Serve, batch_files, files_of}
 use Rattle.tac_commands.specs.Files.{Content}
-use Rattle.tac_commands.specs.Outcomes.{Outcome, Done, Lapsed, Cut, Refused}
+use Rattle.tac_commands.specs.FlawTexts.{flaw_text}
+use Rattle.tac_commands.specs.Outcomes.{Outcome, Done, Lapsed, Unsound, Cut, Refused}
 use Rattle.tac_commands.specs.Runs.{Values, Names, Runs}
 use Rattle.tac_commands.specs.SoundTexts.{EndsInSoundLog}
 use Rattle.tac_commands.specs.Trials.{trial_text}
@@ -66,6 +71,20 @@ IsValued account text =
 abbrev pub PlayAllows : GameFile → List ScriptLine → Outcome → Type 0
 PlayAllows game lines outcome = WritesInParts (IsPlayed game lines) (λ text. text ≡ first_out game lines) outcome × IsCashOfPosts (closed_game game lines)
 
+-- a log that is not sound, with what is written of its first flaw
+pub record IsFlawed (game : GameFile) (log : LoggedGame) (text : List ℕ) : Type 0 where
+  pub not_sound : IsSound game log → ⊥
+  pub flaw : Flaw
+  pub first : IsFirstFlaw game log flaw
+  pub due : text ≡ flaw_text flaw
+
+-- a log is judged by its game: it is sound, or its first flaw is told
+abbrev pub Judges : GameFile → LoggedGame → Outcome → Type 0
+Judges game log (Done text) = IsSound game log × (text ≡ codes "sound\n")
+Judges game log (Unsound text) = IsFlawed game log text
+Judges game log (Refused Memory) = ⊤
+Judges game log outcome = ⊥
+
 -- What a command that needs no links makes of the values of its files.
 abbrev pub BatchAllows : (command : BatchCommand) → Values (batch_files command) → Outcome → Type 0
 -- the replies and trades of one hotel, run by a script
@@ -84,6 +103,8 @@ BatchAllows (Worth account) values outcome = Writes (IsValued values.0) outcome
 BatchAllows (Play game script) values outcome = PlayAllows values.0 values.1.0 outcome
 -- the summary of the made game by the made script
 BatchAllows (Trial seed count) values outcome = Writes (IsTrial seed count) outcome
+-- whether the log of a game is sound
+BatchAllows (Audit game log) values outcome = Judges values.0 values.1.0 outcome
 
 -- How the service of a game may end whose file is good: its log is written, whole or without its sheet; or the links failed, or there was no
 -- memory for the game. What the log tells, and what became of the links, is said where the service is.
@@ -94,6 +115,7 @@ IsServiceEnd (Cut text) = ⊤
 IsServiceEnd (Refused LinkFault) = ⊤
 IsServiceEnd (Refused Memory) = ⊤
 IsServiceEnd (Refused refusal) = ⊥
+IsServiceEnd (Unsound text) = ⊥
 
 abbrev pub CommandAllows : (command : Command) → Values (files_of command) → Outcome → Type 0
 CommandAllows (Batch command) values outcome = BatchAllows command values outcome

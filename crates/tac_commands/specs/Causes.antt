@@ -3,6 +3,11 @@
 use Rattle.std.specs.Prelude.{◌≡◌, ℕ, ◌-◌, ◌^◌, ◌<◌, ◌⊎◌, ⊤, List, [], ◌∷◌, Option, Some, None, Ok, Err, IfSome}
 use Rattle.tac_io.specs.Counts.{Rose}
 use Rattle.game_text.specs.declared.fault.GameFault.{GameFault}
+use Rattle.game_text.specs.Games.{GameFile}
+use Rattle.log_text.specs.LoggedGames.{LoggedGame}
+use Rattle.log_reader.specs.SoundLog.{IsSound}
+use Rattle.tac_commands.specs.declared.file_kinds.FileKind.{FileKind}
+use Rattle.tac_commands.specs.declared.file_kinds.FileKind.TheVariants.{Game, Log}
 use Rattle.tac_commands.specs.Codes.{number_of}
 use Rattle.tac_commands.specs.Commands.{Command, NamedFile, files_of}
 use Rattle.tac_commands.specs.FileKinds.{Value, read_as, refused_code}
@@ -63,7 +68,7 @@ abbrev pub HasRefusedGame : Content → Option Command → Type 0
 HasRefusedGame content None = ⊥
 HasRefusedGame content (Some command) = HasRefused content 2 (files_of command)
 
--- a script or an account of the command is refused; where it has a game file, that one is not refused
+-- a script, an account or a log of the command is refused; where it has a game file, that one is not refused
 abbrev pub HasRefusedText : Content → Option Command → Type 0
 HasRefusedText content None = ⊥
 HasRefusedText content (Some command) = HasRefused content 8 (files_of command)
@@ -73,7 +78,7 @@ pub record GameRefusedExactly (content : Content) (command : Option Command) (be
   pub only : code ≡ 2 → IfSome content (λ _. HasRefusedGame content command)
   pub always : HasRefusedGame content command → IsQuiet before now → (code ≡ 2) ⊎ (code ≡ 4) ⊎ (code ≡ 7)
 
--- 8 comes exactly where a script or an account is read and refused
+-- 8 comes exactly where a script, an account or a log is read and refused
 pub record TextRefusedExactly (content : Content) (command : Option Command) (before now code : ℕ) : Type 0 where
   pub only : code ≡ 8 → IfSome content (λ _. HasRefusedText content command)
   pub always : HasRefusedText content command → IsQuiet before now → (code ≡ 8) ⊎ (code ≡ 4) ⊎ (code ≡ 7)
@@ -83,9 +88,45 @@ abbrev pub IsReady : Content → Option Command → Type 0
 IsReady content None = ⊥
 IsReady content (Some command) = AreGood content (files_of command)
 
--- where the words are a command, its files are good and no count of the files, the sink, the links or the ticker rose, the code is 0, or 7
+-- the file is of this kind, there and good, and holds this value
+pub record Holds (content : Content) (kind : FileKind) (file : NamedFile) (value : Value kind) : Type 0 where
+  pub is_kind : file.kind ≡ kind
+  pub bytes : List ℕ
+  pub told : told_file content file.name ≡ Some bytes
+  pub good : read_as kind bytes ≡ Ok value
+
+-- a game, and the log of a game that is not sound by it
+pub record IsUnsoundPair (content : Content) (game_file log_file : NamedFile) : Type 0 where
+  pub game : GameFile
+  pub is_game : Holds content Game game_file game
+  pub log : LoggedGame
+  pub is_log : Holds content Log log_file log
+  pub not_sound : IsSound game log → ⊥
+
+-- one of the files is a game, and the next one a log that is not sound by it
+abbrev pub HasUnsound : Content → List NamedFile → Type 0
+HasUnsound content (file ∷ next ∷ files) = IsUnsoundPair content file next ⊎ HasUnsound content (next ∷ files)
+HasUnsound content files = ⊥
+
+-- a log that the command audits is not sound: a log of a command stands behind its game
+abbrev pub HasUnsoundLog : Content → Option Command → Type 0
+HasUnsoundLog content None = ⊥
+HasUnsoundLog content (Some command) = HasUnsound content (files_of command)
+
+-- 9 comes exactly where the files were read and accepted, memory sufficed and a log that the command audits is not sound
+pub record UnsoundExactly (content : Content) (command : Option Command) (before now code : ℕ) : Type 0 where
+  pub only : code ≡ 9 → IfSome content (λ _. HasUnsoundLog content command)
+  pub always : IsReady content command → HasUnsoundLog content command → IsQuiet before now → (code ≡ 9) ⊎ (code ≡ 4) ⊎ (code ≡ 7)
+
+-- the code is 0, 7 or 9, and it is 9 exactly where a log that the command audits is not sound, unless memory was refused
+pub record IsGoodEnd (content : Content) (command : Option Command) (code : ℕ) : Type 0 where
+  pub one_of : (code ≡ 0) ⊎ (code ≡ 7) ⊎ (code ≡ 9)
+  pub only : code ≡ 9 → HasUnsoundLog content command
+  pub always : HasUnsoundLog content command → (code ≡ 9) ⊎ (code ≡ 7)
+
+-- so it is where the words are a command, its files are good and no count of the files, the sink, the links or the ticker rose
 pub record IsComplete (content : Content) (command : Option Command) (before now out_before out_now links_before links_now ticks_before ticks_now code : ℕ) : Type 0 where
-  pub good : IsReady content command → IsQuiet before now → IsQuiet out_before out_now → IsQuiet links_before links_now → IsQuiet ticks_before ticks_now → (code ≡ 0) ⊎ (code ≡ 7)
+  pub good : IsReady content command → IsQuiet before now → IsQuiet out_before out_now → IsQuiet links_before links_now → IsQuiet ticks_before ticks_now → IsGoodEnd content command code
 
 -- 5 comes exactly where the count of faults of the links rose
 pub record LinkFaultExactly (before now code : ℕ) : Type 0 where

@@ -22,6 +22,7 @@ pub data BatchCommand : Type 0 where
   Worth : (account : List ℕ) → BatchCommand
   Play : (game : List ℕ) → (script : List ℕ) → BatchCommand
   Trial : (seed : ℕ) → (count : ℕ) → BatchCommand
+  Audit : (game : List ℕ) → (log : List ℕ) → BatchCommand
 
 -- a command of the list
 pub data Command : Type 0 where
@@ -51,6 +52,7 @@ trial_of (Some seed) (Some count) = Some (Batch (Trial seed count))
 abbrev pub command_with_two : List ℕ → List ℕ → List ℕ → Option Command
 command_with_two word first second =
     if bytes_eq word (codes "play") then Some (Batch (Play first second))
+    else if bytes_eq word (codes "audit") then Some (Batch (Audit first second))
     else if bytes_eq word (codes "trial") then trial_of (below (2 ^ 64) (numeral 20 first)) (below (MADE_REQUESTS + 1) (numeral 5 second))
     else None
 
@@ -107,6 +109,7 @@ batch_files (Solve account) = file kinds.Account account ∷ []
 batch_files (Worth account) = file kinds.Account account ∷ []
 batch_files (Play game script) = file kinds.Game game ∷ file kinds.GameScript script ∷ []
 batch_files (Trial seed count) = []
+batch_files (Audit game log) = file kinds.Game game ∷ file kinds.Log log ∷ []
 
 abbrev pub files_of : Command → List NamedFile
 files_of (Batch command) = batch_files command
@@ -136,6 +139,7 @@ seen_batch (batch.Solve account) = Solve account.now
 seen_batch (batch.Worth account) = Worth account.now
 seen_batch (batch.Play game script) = Play game.now script.now
 seen_batch (batch.Trial seed count) = Trial seed count
+seen_batch (batch.Audit game log) = Audit game.now log.now
 
 abbrev pub seen : Asked → Command
 seen (asked.Batch command) = Batch (seen_batch command)

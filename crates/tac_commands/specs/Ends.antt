@@ -8,12 +8,12 @@ use Rattle.script_run.specs.declared.fault.ScriptFault.TheVariants as faults
 use Rattle.tac_commands.specs.declared.refusals.Refusal.TheVariants.{Memory, TextLine, TextTooLong}
 use Rattle.tac_commands.specs.declared.ends.End.{End}
 use Rattle.tac_commands.specs.declared.ends.End.TheVariants as ends
-use Rattle.tac_commands.specs.declared.file_kinds.FileKind.TheVariants.{GameScript}
+use Rattle.tac_commands.specs.declared.file_kinds.FileKind.TheVariants.{GameScript, Log}
 use Rattle.game_text.specs.Games.{GameFile}
-use Rattle.tac_commands.specs.Allowed.{BatchAllows, PlayAllows}
+use Rattle.tac_commands.specs.Allowed.{BatchAllows, PlayAllows, Judges}
 use Rattle.tac_commands.specs.Commands.{BatchCommand, batch_files, file}
 use Rattle.tac_commands.specs.Files.{Content}
-use Rattle.tac_commands.specs.Outcomes.{Outcome, Done, Cut, Refused, code_of, text_of}
+use Rattle.tac_commands.specs.Outcomes.{Outcome, Done, Unsound, Cut, Refused, code_of, text_of}
 use Rattle.tac_commands.specs.Runs.{Names, Runs}
 
 -- The text that is due was written and the code that is due answered; or a write failed, the code is 4, and the first bytes of
@@ -23,15 +23,18 @@ Tells outcome taken taken' before now code = MatchBool (code == 4)
     (TakesSome taken taken' (text_of outcome) × Rose before now)
     ((code ≡ code_of outcome) × (taken' ≡ and_then_told taken (text_of outcome)) × (now ≡ before))
 
--- a command that allows these outcomes ended so, and left the sink so: its text was written, or the first bytes of it, or nothing
+-- a command that allows these outcomes ended so, and left the sink so: its text was written, or one that tells that a log is not sound, or the
+-- first bytes of either, or nothing
 abbrev pub Ends : (Outcome → Type 0) → Option (List ℕ) → Option (List ℕ) → ℕ → ℕ → End → Type 0
 Ends allows taken taken' before now ends.Done = (text : List ℕ) × allows (Done text) × (taken' ≡ and_then_told taken text) × (now ≡ before)
-Ends allows taken taken' before now ends.WriteFault = (text : List ℕ) × allows (Done text) × TakesSome taken taken' text × Rose before now
+Ends allows taken taken' before now ends.Unsound = (text : List ℕ) × allows (Unsound text) × (taken' ≡ and_then_told taken text) × (now ≡ before)
+Ends allows taken taken' before now ends.WriteFault = (text : List ℕ) × (allows (Done text) ⊎ allows (Unsound text)) × TakesSome taken taken' text × Rose before now
 Ends allows taken taken' before now (ends.Refused refusal) = allows (Refused refusal) × IsUntouched taken taken' before now
 
 -- a first part of a text was written, and then there was no memory for the rest; or the first bytes of that part alone
 abbrev pub IsCut : List ℕ → Option (List ℕ) → Option (List ℕ) → ℕ → ℕ → End → Type 0
 IsCut text taken taken' before now ends.Done = ⊥
+IsCut text taken taken' before now ends.Unsound = ⊥
 IsCut text taken taken' before now ends.WriteFault = TakesSome taken taken' text × Rose before now
 IsCut text taken taken' before now (ends.Refused Memory) = (taken' ≡ and_then_told taken text) × (now ≡ before)
 IsCut text taken taken' before now (ends.Refused refusal) = ⊥
@@ -51,6 +54,11 @@ abbrev pub PlaysNamed : Content → GameFile → List ℕ → Names → Names �
 PlaysNamed content game name names names' before now taken taken' out_before out_now end =
     EndsOrIsCut (Runs content (file GameScript name ∷ []) (λ values. PlayAllows game values.0) names names' before now) taken taken' out_before out_now end
 
+-- so does judging the log of that name by a game
+abbrev pub JudgesNamed : Content → GameFile → List ℕ → Names → Names → ℕ → ℕ → Option (List ℕ) → Option (List ℕ) → ℕ → ℕ → End → Type 0
+JudgesNamed content game name names names' before now taken taken' out_before out_now end =
+    EndsOrIsCut (Runs content (file Log name ∷ []) (λ values. Judges game values.0) names names' before now) taken taken' out_before out_now end
+
 -- how a command ends that runs a script
 abbrev pub script_end : {A : Type 0} → Result A ScriptFault → End
 script_end (Ok run) = ends.Done
@@ -62,6 +70,7 @@ script_end (Err faults.Memory) = ends.Refused Memory
 -- the effect on the sink of writing a command's whole text
 abbrev pub WritesWhole : List ℕ → Option (List ℕ) → Option (List ℕ) → ℕ → ℕ → End → Type 0
 WritesWhole text taken taken' before now ends.Done = (taken' ≡ and_then_told taken text) × (now ≡ before)
+WritesWhole text taken taken' before now ends.Unsound = ⊥
 WritesWhole text taken taken' before now ends.WriteFault = TakesSome taken taken' text × Rose before now
 WritesWhole text taken taken' before now (ends.Refused Memory) = IsUntouched taken taken' before now
 WritesWhole text taken taken' before now (ends.Refused refusal) = ⊥
@@ -69,5 +78,6 @@ WritesWhole text taken taken' before now (ends.Refused refusal) = ⊥
 -- what is left to do for a command that ended so: a refusal is written, and else nothing is
 abbrev pub Finishes : End → Option (List ℕ) → Option (List ℕ) → ℕ → ℕ → ℕ → Type 0
 Finishes ends.Done taken taken' before now code = (code ≡ 0) × IsUntouched taken taken' before now
+Finishes ends.Unsound taken taken' before now code = (code ≡ 9) × IsUntouched taken taken' before now
 Finishes ends.WriteFault taken taken' before now code = (code ≡ 4) × IsUntouched taken taken' before now
 Finishes (ends.Refused refusal) taken taken' before now code = Tells (Refused refusal) taken taken' before now code

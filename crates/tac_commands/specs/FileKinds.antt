@@ -5,6 +5,10 @@ use Rattle.game_text.specs.declared.fault.GameFault.{GameFault}
 use Rattle.game_text.specs.declared.fault.GameFault.TheVariants.{Line, TooLong}
 use Rattle.game_text.specs.Games.{GameFile, game_of}
 use Rattle.game_text.specs.Accounts.{AccountFile, account_of}
+use Rattle.log_text.specs.LoggedGames.{LoggedGame}
+use Rattle.log_reader.specs.declared.fault.LogFault.{LogFault}
+use Rattle.log_reader.specs.declared.fault.LogFault.TheVariants as logs
+use Rattle.log_reader.specs.Logs.{log_of}
 use Rattle.script_run.specs.declared.hotel_lines.HotelLine.{HotelLine}
 use Rattle.script_run.specs.declared.game_lines.GameLine.{GameLine as ScriptLine}
 use Rattle.script_run.specs.ScriptLines.{BadLine}
@@ -15,7 +19,7 @@ use Rattle.tac_commands.specs.declared.code.Code.TheVariants.{GameRefused, TextR
 use Rattle.tac_commands.specs.declared.refusals.Refusal.{Refusal}
 use Rattle.tac_commands.specs.declared.refusals.Refusal.TheVariants.{GameLine, GameTooLong, TextLine, TextTooLong}
 use Rattle.tac_commands.specs.declared.file_kinds.FileKind.{FileKind}
-use Rattle.tac_commands.specs.declared.file_kinds.FileKind.TheVariants.{Game, HotelScript, GameScript, Account}
+use Rattle.tac_commands.specs.declared.file_kinds.FileKind.TheVariants.{Game, HotelScript, GameScript, Account, Log}
 
 -- the most bytes of such a file
 abbrev pub most_bytes : FileKind → ℕ
@@ -23,13 +27,15 @@ most_bytes Game = GAME_BYTES
 most_bytes HotelScript = TEXT_BYTES
 most_bytes GameScript = TEXT_BYTES
 most_bytes Account = TEXT_BYTES
+most_bytes Log = TEXT_BYTES
 
--- what such a file holds: a game, the lines of a script, the last line first, or an account
+-- what such a file holds: a game, the lines of a script, the last line first, an account, or the log of a game
 abbrev pub Value : FileKind → Type 0
 Value Game = GameFile
 Value HotelScript = List HotelLine
 Value GameScript = List ScriptLine
 Value Account = AccountFile
+Value Log = LoggedGame
 
 -- the lines of a script, or its first bad line with the first reason
 abbrev pub lines_or_fault : {A : Type 0} → Result A BadLine → Result A GameFault
@@ -40,12 +46,23 @@ lines_or_fault (Err bad) = Err (Line bad.0 bad.1)
 abbrev pub script_in : {A : Type 0} → List ℕ → Result A BadLine → Result A GameFault
 script_in bytes read = if nat_lt TEXT_BYTES (length bytes) then Err TooLong else lines_or_fault read
 
+-- a log has one reason for a bad line; to read it by its definition takes no memory
+abbrev pub fault_of : LogFault → GameFault
+fault_of (logs.Line line) = Line line 1
+fault_of logs.TooLong = TooLong
+fault_of logs.Memory = TooLong
+
+abbrev pub logged_or_fault : Result LoggedGame LogFault → Result LoggedGame GameFault
+logged_or_fault (Ok log) = Ok log
+logged_or_fault (Err fault) = Err (fault_of fault)
+
 -- what the bytes of such a file hold; or that they are too many, or the first bad line with the first reason
 abbrev pub read_as : (kind : FileKind) → List ℕ → Result (Value kind) GameFault
 read_as Game bytes = game_of bytes
 read_as HotelScript bytes = script_in bytes (script_of bytes)
 read_as GameScript bytes = script_in bytes (game_script bytes)
 read_as Account bytes = account_of bytes
+read_as Log bytes = logged_or_fault (log_of bytes)
 
 -- what is written where such a file has this fault
 abbrev pub refusal_of : FileKind → GameFault → Refusal
@@ -57,6 +74,8 @@ refusal_of GameScript (Line line reason) = TextLine line reason
 refusal_of GameScript TooLong = TextTooLong
 refusal_of Account (Line line reason) = TextLine line reason
 refusal_of Account TooLong = TextTooLong
+refusal_of Log (Line line reason) = TextLine line reason
+refusal_of Log TooLong = TextTooLong
 
 -- the code of that
 abbrev pub refused_code : FileKind → Code
@@ -64,3 +83,4 @@ refused_code Game = GameRefused
 refused_code HotelScript = TextRefused
 refused_code GameScript = TextRefused
 refused_code Account = TextRefused
+refused_code Log = TextRefused

@@ -1,3 +1,5 @@
+pub mod NumberedLines
+pub mod FlawTexts
 pub mod Codes
 pub mod FileKinds
 pub mod Commands

@@ -1,16 +1,18 @@
 -- How a run of the program ends, with its code and its text.
-use Rattle.std.specs.Prelude.{ℕ, List, ◌++◌, decimal, codes}
+use Rattle.std.specs.Prelude.{ℕ, List, ◌++◌, codes}
 use Rattle.tac_commands.specs.declared.code.Code.{Code}
 use Rattle.tac_commands.specs.declared.code.Code.TheVariants as ended
 use Rattle.tac_commands.specs.declared.refusals.Refusal.{Refusal}
 use Rattle.tac_commands.specs.declared.refusals.Refusal.TheVariants.{Usage, GameLine, GameTooLong, ReadFault, LinkFault, Memory, TextLine, TextTooLong}
 use Rattle.tac_commands.specs.Codes.{number_of}
+use Rattle.tac_commands.specs.NumberedLines.{numbered}
 
--- a command's text; the same of a game in which ticks lapsed; a first part of it where memory was refused for the rest; or what is written in
--- its place
+-- a command's text; the same of a game in which ticks lapsed; a text that tells that a log is not sound; a first part of a text where memory
+-- was refused for the rest; or what is written in its place
 pub data Outcome : Type 0 where
   Done : (text : List ℕ) → Outcome
   Lapsed : (text : List ℕ) → Outcome
+  Unsound : (text : List ℕ) → Outcome
   Cut : (text : List ℕ) → Outcome
   Refused : (refusal : Refusal) → Outcome
 
@@ -24,10 +26,6 @@ refusal_code LinkFault = ended.LinkFault
 refusal_code Memory = ended.Memory
 refusal_code (TextLine line reason) = ended.TextRefused
 refusal_code TextTooLong = ended.TextRefused
-
--- a line of a word and two numbers
-abbrev pub numbered : List ℕ → ℕ → ℕ → List ℕ
-numbered word line reason = word ++ codes " " ++ decimal line ++ codes " " ++ decimal reason ++ codes "\n"
 
 -- the line that is written of a refusal
 abbrev pub refusal_text : Refusal → List ℕ
@@ -44,6 +42,7 @@ refusal_text TextTooLong = codes "text too long\n"
 abbrev pub end_code : Outcome → Code
 end_code (Done text) = ended.Success
 end_code (Lapsed text) = ended.ClockFault
+end_code (Unsound text) = ended.Unsound
 end_code (Cut text) = ended.Memory
 end_code (Refused refusal) = refusal_code refusal
 
@@ -55,5 +54,6 @@ code_of outcome = number_of (end_code outcome)
 abbrev pub text_of : Outcome → List ℕ
 text_of (Done text) = text
 text_of (Lapsed text) = text
+text_of (Unsound text) = text
 text_of (Cut text) = text ++ refusal_text Memory
 text_of (Refused refusal) = refusal_text refusal

@@ -5,20 +5,17 @@ use Rattle.text_forms.specs.Steps.{lines_of_parts, one_line}
 use Rattle.score_sheet.specs.Sheets.{Scored}
 use Rattle.game_log.specs.SheetText.{score_line}
 use Rattle.script_run.specs.declared.play_count.PlayCount.{PlayCount}
+use Rattle.tac_commands.specs.NumberedLines.{counted}
 
 -- trial SEED COUNT
 abbrev pub trial_line : ℕ → ℕ → List ℕ
 trial_line seed count = codes "trial " ++ decimal seed ++ codes " " ++ decimal count ++ codes "\n"
 
--- entries E, or trades T
-abbrev pub counted_line : List ℕ → ℕ → List ℕ
-counted_line word n = word ++ codes " " ++ decimal n ++ codes "\n"
-
 -- how much happened in the auctions, and the scores of the eight agents, a line each
 abbrev pub trial_text : ℕ → ℕ → PlayCount → List Scored → List ℕ
 trial_text seed count played sheet =
     trial_line seed count
-    ++ counted_line (codes "entries") played.entries
-    ++ counted_line (codes "trades") played.trades
+    ++ counted (codes "entries") played.entries
+    ++ counted (codes "trades") played.trades
     ++ text_of (lines_of_parts (one_line score_line) 0 sheet)
     ++ codes "end\n"

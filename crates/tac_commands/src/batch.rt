@@ -9,6 +9,7 @@ ghost use Rattle.tac_commands.specs.Commands.{seen_batch};
 ghost use Rattle.tac_commands.specs.Ends.{Ends, EndsBatch};
 ghost use Rattle.tac_commands.specs.Words.{IsShortBatch};
 
+use crate::audit_command::audit_files;
 use crate::ends::End;
 use crate::reading::{read_account_file, read_game_file};
 use crate::refusals::Refusal;
@@ -125,5 +126,6 @@ pub fn run_batch<R: Threads + Sync, F: Files, K: Sink>(
         BatchCommand::Worth { account } => worth_file(alloc, account, files, out),
         BatchCommand::Play { game, script } => play_files(rt, alloc, game, script, files, out),
         BatchCommand::Trial { seed, count } => trial(rt, alloc, seed, count, out),
+        BatchCommand::Audit { game, log } => audit_files(alloc, game, log, files, out),
     }
 }

@@ -21,8 +21,10 @@ pub enum Code {
     ClockFault,
     /// Memory was refused.
     Memory,
-    /// A script or an account is refused.
+    /// A script, an account or a log is refused.
     TextRefused,
+    /// A log is not sound.
+    Unsound,
 }
 
 impl Code {
@@ -40,6 +42,7 @@ impl Code {
             Code::ClockFault => 6,
             Code::Memory => 7,
             Code::TextRefused => 8,
+            Code::Unsound => 9,
         }
     }
 }

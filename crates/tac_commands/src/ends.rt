@@ -12,6 +12,8 @@ use tac_io::{Sink, write_all};
 pub enum End {
     /// Its text was written.
     Done,
+    /// A text was written that tells that a log is not sound.
+    Unsound,
     /// A write failed, and its text was not written whole.
     WriteFault,
     /// This is to be written in place of its text, or after the first part of it.
@@ -24,6 +26,7 @@ pub fn finish<K: Sink>(out: &mut K, end: End) -> Code
 {
     match end {
         End::Done => Code::Success,
+        End::Unsound => Code::Unsound,
         End::WriteFault => Code::WriteFault,
         End::Refused(refusal) => match write_all(out, refusal.text().as_slice()) {
             Ok(()) => refusal.code(),

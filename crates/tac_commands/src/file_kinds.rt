@@ -17,6 +17,8 @@ pub enum FileKind {
     GameScript,
     /// An account.
     Account,
+    /// The log of a game.
+    Log,
 }
 
 impl FileKind {
@@ -26,7 +28,8 @@ impl FileKind {
     {
         match self {
             FileKind::Game => GAME_BYTES as usize,
-            FileKind::HotelScript | FileKind::GameScript | FileKind::Account => TEXT_BYTES as usize,
+            FileKind::HotelScript | FileKind::GameScript | FileKind::Account | FileKind::Log =>
+                TEXT_BYTES as usize,
         }
     }
 

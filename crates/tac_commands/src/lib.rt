@@ -2,10 +2,12 @@
 //! links are run here.
 #![tactic(auto)]
 
+mod audit_command;
 mod batch;
 mod code;
 mod ends;
 mod file_kinds;
+mod numbered_lines;
 mod reading;
 mod refusals;
 mod script_commands;

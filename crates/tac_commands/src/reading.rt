@@ -4,11 +4,12 @@ ghost use Rattle.tac_io.specs.Reading.{IsFile};
 ghost use Rattle.tac_io.specs.Told.{and_then_told};
 ghost use Rattle.tac_commands.specs.FileKinds.{most_bytes};
 ghost use Rattle.tac_commands.specs.Files.{IsNotRead, IsRead};
-ghost use Rattle.tac_commands.specs.declared.file_kinds.FileKind.TheVariants.{Account as AccountKind, Game as GameKind};
+ghost use Rattle.tac_commands.specs.declared.file_kinds.FileKind.TheVariants.{Account as AccountKind, Game as GameKind, Log as LogKind};
 
 use crate::file_kinds::FileKind;
 use crate::refusals::Refusal;
 use game_text::{Account, Game, GameFault, read_account, read_game};
+use log_reader::{Log, LogFault, read_log};
 use std::alloc::Global;
 use tac_io::{FileFault, Files, read_file};
 
@@ -75,5 +76,31 @@ pub(crate) fn read_account_file<F: Files>(
     match read_account(bytes.as_slice()) {
         Ok(account) => Ok(account),
         Err(fault) => Err(FileKind::Account.refusal(fault)),
+    }
+}
+
+/// The log of the file of that name, or what is written in its place.
+pub(crate) fn read_log_file<F: Files>(
+    alloc: Global,
+    files: &mut F,
+    name: &str,
+) -> Result<Log, Refusal>
+    requires { IfSome (F.names files.old) (λ names. (length names < 128) × (length name.now ≤ 1024)) }
+    ensures log { IfOk result (λ log. IsRead (F.content files.old) LogKind name.now log) }
+    ensures quiet { OnOk result (F.faults files.new ≡ F.faults files.old) }
+    ensures unread { IfErr result (IsNotRead (F.content files.old) LogKind name.now (F.faults files.old) (F.faults files.new)) }
+    ensures names { F.names files.new ≡ and_then_told (F.names files.old) (name.now ∷ []) }
+    ensures content { F.content files.new ≡ F.content files.old }
+{
+    let bytes = match read_bytes(alloc, files, name, FileKind::Log) {
+        Ok(bytes) => bytes,
+        Err(refusal) => return Err(refusal),
+    };
+    match read_log(alloc, bytes.as_slice()) {
+        Ok(log) => Ok(log),
+        // A log has one reason for a bad line.
+        Err(LogFault::Line { line }) => Err(Refusal::TextLine { line, reason: 1 }),
+        Err(LogFault::TooLong) => Err(Refusal::TextTooLong),
+        Err(LogFault::Memory) => Err(Refusal::Memory),
     }
 }

@@ -1,10 +1,11 @@
 // What is written in place of a command's text.
-ghost use Rattle.std.specs.Prelude.{◌≡◌, ◌≢◌, ◌+◌, ◌++◌, ◌≤◌, length};
+ghost use Rattle.std.specs.Prelude.{◌≡◌, ◌≢◌};
 ghost use Rattle.tac_commands.specs.Codes.{number_of};
 ghost use Rattle.tac_commands.specs.Outcomes as outcomes;
 
 use crate::code::Code;
-use tac_base::{Text, print_numeral};
+use crate::numbered_lines::{numbered, plain};
+use tac_base::Text;
 
 /// What is written in place of a command's text.
 #[derive(Clone, Copy, Debug, PartialEq, Eq)]
@@ -21,35 +22,10 @@ pub enum Refusal {
     LinkFault,
     /// Memory was refused.
     Memory,
-    /// The first bad line of a script or an account, counted from 1, and the first reason that applies to it.
+    /// The first bad line of a script, an account or a log, counted from 1, and the first reason that applies to it.
     TextLine { line: u32, reason: u8 },
-    /// A script or an account has more bytes than its limit.
+    /// A script, an account or a log has more bytes than its limit.
     TextTooLong,
-}
-
-/// The line of a word and two numbers.
-fn numbered(word: &[u8], line: u32, reason: u8) -> Text
-    requires { length word.now ≤ 16 }
-    ensures { result ≡ outcomes.numbered word.now line reason }
-{
-    let mut text = Text::new();
-    text.push_bytes(word);
-    text.push(b' ');
-    print_numeral(u64::from(line), &mut text);
-    text.push(b' ');
-    print_numeral(u64::from(reason), &mut text);
-    text.push(b'\n');
-    text
-}
-
-/// A line that has no numbers.
-fn plain(line: &[u8]) -> Text
-    requires { length line.now ≤ 16 }
-    ensures { result ≡ line.now }
-{
-    let mut text = Text::new();
-    text.push_bytes(line);
-    text
 }
 
 impl Refusal {
@@ -74,12 +50,12 @@ impl Refusal {
     {
         match self {
             Refusal::Usage => plain(b"usage\n"),
-            Refusal::GameLine { line, reason } => numbered(b"game", *line, *reason),
+            Refusal::GameLine { line, reason } => numbered(b"game", *line, u32::from(*reason)),
             Refusal::GameTooLong => plain(b"game too long\n"),
             Refusal::ReadFault => plain(b"fault read\n"),
             Refusal::LinkFault => plain(b"fault links\n"),
             Refusal::Memory => plain(b"memory\n"),
-            Refusal::TextLine { line, reason } => numbered(b"text", *line, *reason),
+            Refusal::TextLine { line, reason } => numbered(b"text", *line, u32::from(*reason)),
             Refusal::TextTooLong => plain(b"text too long\n"),
         }
     }

@@ -1,5 +1,5 @@
 // The command that plays a made game by a made script.
-ghost use Rattle.std.specs.Prelude.{◌≡◌, ◌+◌, ◌≤◌, ◌++◌, length, IfOk};
+ghost use Rattle.std.specs.Prelude.{◌≡◌, ◌+◌, ◌≤◌, ◌++◌, IfOk};
 ghost use Rattle.tac_base.specs.declared.limits.TheConstants.{MADE_REQUESTS};
 ghost use Rattle.draw_maker.specs.BidScripts.{IsBidScript};
 ghost use Rattle.script_run.specs.QuietGames.{IsSummary};
@@ -8,6 +8,7 @@ ghost use Rattle.tac_commands.specs.Ends.{Ends, WritesWhole};
 ghost use Rattle.tac_commands.specs.Trials as trials;
 
 use crate::ends::End;
+use crate::numbered_lines::counted;
 use crate::refusals::Refusal;
 use draw_maker::{make_game, make_script};
 use game_log::print_score;
@@ -29,19 +30,6 @@ fn trial_line(seed: u64, count: u32) -> Text
     print_numeral(seed, &mut line);
     line.push(b' ');
     print_numeral(u64::from(count), &mut line);
-    line.push(b'\n');
-    line
-}
-
-/// The line of a word and a count.
-fn counted_line(word: &[u8], n: u32) -> Text
-    requires { length word.now ≤ 16 }
-    ensures { result ≡ trials.counted_line word.now n }
-{
-    let mut line = Text::new();
-    line.push_bytes(word);
-    line.push(b' ');
-    print_numeral(u64::from(n), &mut line);
     line.push(b'\n');
     line
 }
@@ -75,8 +63,8 @@ fn trial_text(
 {
     let mut out = Vec::new(alloc);
     out.extend_from_slice(trial_line(seed, count).as_slice())?;
-    out.extend_from_slice(counted_line(b"entries", played.entries).as_slice())?;
-    out.extend_from_slice(counted_line(b"trades", played.trades).as_slice())?;
+    out.extend_from_slice(counted(b"entries", played.entries).as_slice())?;
+    out.extend_from_slice(counted(b"trades", played.trades).as_slice())?;
     print_parts(&ScoreLines, sheet.agents.as_slice(), &mut out)?;
     out.extend_from_slice(b"end\n")?;
     Ok(out)

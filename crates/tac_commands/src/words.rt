@@ -27,6 +27,8 @@ pub enum BatchCommand<'a> {
     Play { game: &'a str, script: &'a str },
     /// The made game, played by the made script of so many requests, 0 to 50,000.
     Trial { seed: u64, count: u32 },
+    /// The log of a game, judged by the game.
+    Audit { game: &'a str, log: &'a str },
 }
 
 /// The wire format of a served game.
@@ -121,6 +123,11 @@ fn command_with_two<'a>(word: &str, first: &'a str, second: &'a str) -> Option<A
         Some(Asked::Batch(BatchCommand::Play {
             game: first,
             script: second,
+        }))
+    } else if word == "audit" {
+        Some(Asked::Batch(BatchCommand::Audit {
+            game: first,
+            log: second,
         }))
     } else if word == "trial" {
         trial_of(seed_of(first), count_of(second))

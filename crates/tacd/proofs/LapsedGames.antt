@@ -10,7 +10,7 @@ use Rattle.tacd.specs.declared.answer.Played.{Played}
 use Rattle.tac_commands.specs.declared.code.Code.{Code}
 use Rattle.tac_commands.specs.declared.code.Code.TheVariants.{Success}
 use Rattle.tac_commands.specs.Codes.{number_of}
-use Rattle.tac_commands.specs.Outcomes.{Outcome, Done, Lapsed, Cut, Refused}
+use Rattle.tac_commands.specs.Outcomes.{Outcome, Done, Lapsed, Unsound, Cut, Refused}
 use Rattle.tac_commands.specs.Ends.{Tells}
 use Rattle.tacd.specs.Service.{IsLogOf, LogAllows, PlayedAllows, lapsed_code, missed_of}
 
@@ -37,6 +37,7 @@ kept : (game : GameFile) (played : Played) (taken taken' : Option (List ℕ)) (b
     (code ≡ 0 → missed played ≡ 0) → (o : Outcome) × PlayedAllows game played o × Tells o taken taken' before now code
 kept game played taken taken' before now code (Done text) log told none = kept_by (code == 4) game played text taken taken' before now code log none refl told
 kept game played taken taken' before now code (Lapsed text) log told none = absurd log
+kept game played taken taken' before now code (Unsound text) log told none = absurd log
 kept game played taken taken' before now code (Cut text) first told none = (Cut text, first, told)
 kept game played taken taken' before now code (Refused refusal) log told none = absurd log
 
@@ -45,6 +46,7 @@ lapsed : (game : GameFile) (played : Played) (taken taken' : Option (List ℕ)) 
     0 < missed played → (o : Outcome) × PlayedAllows game played o × Tells o taken taken' before now 6
 lapsed game played taken taken' before now (Done text) log told some = (Lapsed text, (log, some), (refl, told.1, told.2))
 lapsed game played taken taken' before now (Lapsed text) log told some = absurd log
+lapsed game played taken taken' before now (Unsound text) log told some = absurd log
 lapsed game played taken taken' before now (Cut text) first told some = let is = told.0 in absurd (omega (arith, is))
 lapsed game played taken taken' before now (Refused refusal) log told some = absurd log
 

@@ -13,7 +13,7 @@ use Rattle.tacd.specs.declared.answer.Played.{Played}
 use Rattle.tac_commands.specs.declared.file_kinds.FileKind.TheVariants.{Game}
 use Rattle.tac_commands.specs.declared.refusals.Refusal.TheVariants.{LinkFault, Memory}
 use Rattle.tac_commands.specs.declared.words.Form.{Form}
-use Rattle.tac_commands.specs.Outcomes.{Outcome, Done, Lapsed, Cut, Refused, code_of}
+use Rattle.tac_commands.specs.Outcomes.{Outcome, Done, Lapsed, Unsound, Cut, Refused, code_of}
 use Rattle.tac_commands.specs.Commands.{Command, Serve, OffService, OnService}
 use Rattle.tac_commands.specs.Allowed.{Allows, IsServiceEnd}
 use Rattle.tac_commands.specs.Causes.{LinkFaultExactly, ClockFaultExactly}
@@ -72,6 +72,7 @@ module _ {L : Type 0} (state : L → LinkState) (may_answer : List ℕ → Resul
   ended_so (Some played) (Done text') game plays = tt
   ended_so (Some played) (Lapsed text') game plays = tt
   ended_so (Some played) (Cut text') game plays = tt
+  ended_so (Some played) (Unsound text') game plays = absurd plays.1
   ended_so (Some played) (Refused refusal) game plays = absurd plays.1
   ended_so None (Refused LinkFault) game plays = tt
   ended_so None (Refused Memory) game plays = tt
@@ -91,6 +92,7 @@ module _ {L : Type 0} (state : L → LinkState) (may_answer : List ℕ → Resul
   link_game game (Some played) (Done text') plays = inr (omega arith, plays.0.no_fault)
   link_game game (Some played) (Lapsed text') plays = inr (omega arith, plays.0.no_fault)
   link_game game (Some played) (Cut text') plays = inr (omega arith, plays.0.no_fault)
+  link_game game (Some played) (Unsound text') plays = absurd plays.1
   link_game game (Some played) (Refused refusal) plays = absurd plays.1
   link_game game None (Refused LinkFault) plays = inl (refl, plays.fault)
   link_game game None (Refused Memory) plays = inr (omega arith, ap (λ l. l.faults) plays.0.same)
@@ -112,6 +114,7 @@ module _ {L : Type 0} (state : L → LinkState) (may_answer : List ℕ → Resul
   clock_game game (Some played) (Lapsed text') plays =
       let end = plays.0.end in inl (refl, end.cause.rose (subst (λ (n : ℕ). 0 < n) (ap missed_of end.head) plays.1.1))
   clock_game game (Some played) (Cut text') plays = inr (inr refl)
+  clock_game game (Some played) (Unsound text') plays = absurd plays.1
   clock_game game (Some played) (Refused refusal) plays = absurd plays.1
   clock_game game None (Refused LinkFault) plays = inr (inl (omega arith, plays.no_lapse))
   clock_game game None (Refused Memory) plays = inr (inr refl)

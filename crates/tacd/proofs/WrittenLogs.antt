@@ -26,7 +26,7 @@ module _ (game : GameFile) (played : Played) (t0 t1 t2 : Option (List ℕ)) (f0 
   pub cut_in_second : t1 ≡ and_then_told t0 (first_part played) → f1 ≡ f0 → WritesSheet game played.closed t1 t2 f1 f2 (Err log.Failed) → EndsOrIsCut (LogAllows game played) t0 t2 f0 f2 ends.WriteFault
   cut_in_second first quiet second = inl (
     first_part played ++ sheet_part second.0,
-    record { sheet = second.0; scores = second.1; due = refl },
+    inl (record { sheet = second.0; scores = second.1; due = refl }),
     some_after t0 t1 t2 (first_part played) (sheet_part second.0) first second.2,
     subst (λ (f : ℕ). Rose f f2) quiet second.3,
   )

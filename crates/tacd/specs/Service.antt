@@ -29,7 +29,7 @@ use Rattle.tac_commands.specs.declared.refusals.Refusal.TheVariants.{LinkFault, 
 use Rattle.tac_commands.specs.declared.words.Form.{Form}
 use Rattle.tac_commands.specs.declared.words.Form.TheVariants.{Lines, Json}
 use Rattle.tac_commands.specs.Files.{Content, IsRead, IsNotRead}
-use Rattle.tac_commands.specs.Outcomes.{Outcome, Done, Lapsed, Cut, Refused}
+use Rattle.tac_commands.specs.Outcomes.{Outcome, Done, Lapsed, Unsound, Cut, Refused}
 use Rattle.tac_commands.specs.SoundTexts.{EndsInSoundLog}
 
 -- ---- the text
@@ -62,6 +62,7 @@ abbrev pub PlayedAllows : GameFile → Played → Outcome → Type 0
 PlayedAllows game played (Done text) = IsLogOf game played text × (missed_of (head_of played.head) ≡ 0)
 PlayedAllows game played (Lapsed text) = IsLogOf game played text × (0 < missed_of (head_of played.head))
 PlayedAllows game played (Cut text) = text ≡ first_part played
+PlayedAllows game played (Unsound text) = ⊥
 PlayedAllows game played (Refused refusal) = ⊥
 
 -- the log that is written is sound, and nothing else is written

@@ -441,6 +441,71 @@ fn games_are_made_played_and_scored(rt: HostRuntime) -> Result<(), Fail> {
 }
 
 #[test]
+fn logs_are_judged_by_their_games(rt: HostRuntime) -> Result<(), Fail> {
+    let alloc = rt.alloc();
+    let game = plain_game(alloc, FIRST_CLIENT)?;
+    let files = [("game", game.as_bytes()), ("script", TRADES.as_bytes())];
+    let played = run(&rt, alloc, "play game script", &files, NO_FAULT)?;
+    let text = str::from_utf8(played.text.as_slice())?;
+    let (_, log) = text.split_once("taclog 1\n").ok_or("no log")?;
+    // What is changed in the log, and what is written of it then.
+    let rows: [(&[(&str, &str)], u8, &str); 9] = [
+        (&[], 0, "sound\n"),
+        (
+            &[("trade 0 1 1 60\n", "trade 0 1 1 61\n")],
+            9,
+            "unsound entry 24 1\n",
+        ),
+        (
+            &[("auction 27 1\n8 close = done\n", "auction 27 0\n")],
+            9,
+            "unsound clock 27\n",
+        ),
+        (
+            &[("0 read = -660\n", "0 read = -661\n")],
+            9,
+            "unsound cash 4\n",
+        ),
+        (&[("8 post 8 1 0 ", "8 post 8 0 0 ")], 9, "unsound post 5\n"),
+        (
+            &[
+                ("cash 6\n", "cash 5\n"),
+                ("8 post 8 1 0 0 0 0 0 0 0 0 0\n", ""),
+            ],
+            9,
+            "unsound unposted 8 1\n",
+        ),
+        (
+            &[("score 0 1100 -660 0 440\n", "score 0 1100 -660 0 441\n")],
+            9,
+            "unsound score 0\n",
+        ),
+        (
+            &[("taclog 1\nplay\n", "taclog 1\nserve\nmissed 0\n")],
+            9,
+            "unsound head\n",
+        ),
+        (&[("taclog 1\n", "taclog 2\n")], 8, "text 1 1\n"),
+    ];
+    for (changes, code, told) in rows {
+        let mut changed = format!(in alloc; "taclog 1\n{log}")?;
+        for (old, new) in changes {
+            changed = changed.replace(alloc, *old, new)?;
+        }
+        check(
+            &rt,
+            alloc,
+            "audit game script",
+            changed.as_str(),
+            NO_FAULT,
+            code,
+            &[told],
+        )?;
+    }
+    Ok(())
+}
+
+#[test]
 fn an_agent_has_1024_calls_and_a_clock_64(rt: HostRuntime) -> Result<(), Fail> {
     let alloc = rt.alloc();
     let rows: [(&str, &str, usize, u8, &[&str]); 4] = [
@@ -507,6 +572,9 @@ fn other_words_and_bad_files_are_refused(rt: HostRuntime) -> Result<(), Fail> {
         "Hotel script",
         "hotel script script",
         "play script",
+        "audit",
+        "audit game",
+        "audit game script script",
         "solve",
         "worth",
         "upgrade",
@@ -541,6 +609,9 @@ fn other_words_and_bad_files_are_refused(rt: HostRuntime) -> Result<(), Fail> {
         ("play second script", "", 1, 3, "fault read\n"),
         ("play game script", "0 quit\n0 cash\n", 0, 8, "text 2 2\n"),
         ("play game script", "", 4, 3, "fault read\n"),
+        ("audit second script", "", 0, 2, "game 20 4\n"),
+        ("audit game script", "", 4, 3, "fault read\n"),
+        ("audit game script", "", 0, 8, "text 1 1\n"),
         ("hotel other", "", 0, 3, "fault read\n"),
         ("hotel script", "close\n", 1, 3, "fault read\n"),
         ("hotel script", "close\n", 2, 3, "fault read\n"),

@@ -1,7 +1,7 @@
 // The top call.
 ghost use Rattle.std.specs.Prelude.{◌≡◌, ◌≤◌, [], None, map, string_bytes, string_len, All, IfSome};
 ghost use Rattle.game_run.specs.LinkStates.{link_state};
-ghost use Rattle.tac_commands.specs.Causes.{ClockFaultExactly, GameRefusedExactly, IsComplete, LinkFaultExactly, ReadFaultExactly, TextRefusedExactly, UsageExactly, WriteFaultExactly};
+ghost use Rattle.tac_commands.specs.Causes.{ClockFaultExactly, GameRefusedExactly, IsComplete, LinkFaultExactly, ReadFaultExactly, TextRefusedExactly, UnsoundExactly, UsageExactly, WriteFaultExactly};
 ghost use Rattle.tac_commands.specs.Cash.{IsCashOfPosts};
 ghost use Rattle.tac_commands.specs.Commands.{OffService, OnService, command_of};
 ghost use Rattle.tac_commands.specs.Allowed.{Allows};
@@ -54,6 +54,7 @@ pub fn tac<R: Threads + Sync + Wait + Clock, F: Files, K: Sink, N: Links, T: Tic
     ensures clock_fault { ClockFaultExactly (T.faults ticker.old) (T.faults ticker.new) result.code }
     ensures game_refused { GameRefusedExactly (F.content files.old) (command_of (map (λ word. string_bytes word) words.now)) (F.faults files.old) (F.faults files.new) result.code }
     ensures text_refused { TextRefusedExactly (F.content files.old) (command_of (map (λ word. string_bytes word) words.now)) (F.faults files.old) (F.faults files.new) result.code }
+    ensures unsound { UnsoundExactly (F.content files.old) (command_of (map (λ word. string_bytes word) words.now)) (F.faults files.old) (F.faults files.new) result.code }
     ensures complete { IsComplete (F.content files.old) (command_of (map (λ word. string_bytes word) words.now)) (F.faults files.old) (F.faults files.new) (K.faults out.old) (K.faults out.new)
         (N.faults links.old) (N.faults links.new) (T.faults ticker.old) (T.faults ticker.new) result.code }
     ensures names { Selects (F.content files.old) (command_of (map (λ word. string_bytes word) words.now)) (F.names files.old) (F.names files.new) result.code }

@@ -27,3 +27,6 @@ returns-in-Play g c = rw c.in-Play.is c.play_files.ensures
 pub returns-in-Trial : goal.returns-in-Trial
 returns-in-Trial g c =
     rw c.in-Trial.is (ends_alone (g.F.Files.content c.args.files.now) (BatchAllows (Trial c.in-Trial.seed c.in-Trial.count)) _ _ _ _ _ _ _ c.trial.ensures)
+
+pub returns-in-Audit : goal.returns-in-Audit
+returns-in-Audit g c = rw c.in-Audit.is c.audit_files.ensures

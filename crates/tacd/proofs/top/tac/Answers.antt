@@ -24,6 +24,11 @@ returns-clause-text_refused g c =
     let outcome = c.run.ensures.outcome in
     causes.text_refused _ _ _ _ _ outcome.0 _ _ _ _ _ outcome.2 _ outcome.1
 
+pub returns-clause-unsound : goal.returns-clause-unsound
+returns-clause-unsound g c =
+    let outcome = c.run.ensures.outcome in
+    causes.unsound _ _ _ _ _ outcome.0 _ _ _ _ _ outcome.2 _ outcome.1
+
 pub returns-clause-read_fault : goal.returns-clause-read_fault
 returns-clause-read_fault g c =
     let outcome = c.run.ensures.outcome in

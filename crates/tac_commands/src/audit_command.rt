@@ -1,0 +1,91 @@
+// The command that judges the log of a game by the game.
+ghost use Rattle.std.specs.Prelude.{◌≡◌, ◌<◌, ◌≤◌, [], ◌∷◌, length, IfSome};
+ghost use Rattle.tac_commands.specs.Allowed.{Judges};
+ghost use Rattle.tac_commands.specs.Commands as commands;
+ghost use Rattle.tac_commands.specs.Ends.{Ends, EndsBatch, JudgesNamed};
+ghost use Rattle.tac_commands.specs.FlawTexts as texts;
+
+use crate::ends::End;
+use crate::numbered_lines::{counted, numbered, plain};
+use crate::reading::{read_game_file, read_log_file};
+use crate::refusals::Refusal;
+use game_text::Game;
+use log_audit::{Finding, Flaw, audit_log};
+use log_reader::Log;
+use std::alloc::Global;
+use tac_base::Text;
+use tac_io::{Files, Sink, write_all};
+
+/// The line that is written of the flaw of a log.
+fn flaw_text(flaw: Flaw) -> Text
+    ensures { result ≡ texts.flaw_text flaw }
+{
+    match flaw {
+        Flaw::Entry { good, position } => {
+            numbered(b"unsound entry", u32::from(good.get()), position)
+        }
+        Flaw::Clock { good } => counted(b"unsound clock", u32::from(good.get())),
+        Flaw::Cash { position } => counted(b"unsound cash", position),
+        Flaw::Post { position } => counted(b"unsound post", position),
+        Flaw::Unposted { good, position } => {
+            numbered(b"unsound unposted", u32::from(good.get()), position)
+        }
+        Flaw::Score { agent } => counted(b"unsound score", u32::from(agent.get())),
+        Flaw::Head => plain(b"unsound head\n"),
+    }
+}
+
+/// Judges a log by its game, and writes what was found.
+fn judge<K: Sink>(alloc: Global, game: &Game, log: &Log, out: &mut K) -> End
+    ensures { Ends (Judges game.now log.now) (K.taken out.old) (K.taken out.new) (K.faults out.old) (K.faults out.new) result }
+{
+    let Ok(finding) = audit_log(alloc, game, log) else {
+        return End::Refused(Refusal::Memory);
+    };
+    match finding {
+        Finding::Sound => match write_all(out, b"sound\n") {
+            Ok(()) => End::Done,
+            Err(_) => End::WriteFault,
+        },
+        Finding::Unsound(flaw) => match write_all(out, flaw_text(flaw).as_slice()) {
+            Ok(()) => End::Unsound,
+            Err(_) => End::WriteFault,
+        },
+    }
+}
+
+/// Judges the log of that name by a game.
+fn audit_by_file<F: Files, K: Sink>(
+    alloc: Global,
+    game: &Game,
+    name: &str,
+    files: &mut F,
+    out: &mut K,
+) -> End
+    requires { IfSome (F.names files.old) (λ names. (length names < 128) × (length name.now ≤ 1024)) }
+    ensures { JudgesNamed (F.content files.old) game.now name.now (F.names files.old) (F.names files.new) (F.faults files.old) (F.faults files.new)
+        (K.taken out.old) (K.taken out.new) (K.faults out.old) (K.faults out.new) result }
+{
+    match read_log_file(alloc, files, name) {
+        Ok(log) => judge(alloc, game, &log, out),
+        Err(refusal) => End::Refused(refusal),
+    }
+}
+
+/// Judges the log of the second file by the game of the first; the log is read only where the game is not refused.
+pub(crate) fn audit_files<F: Files, K: Sink>(
+    alloc: Global,
+    game: &str,
+    log: &str,
+    files: &mut F,
+    out: &mut K,
+) -> End
+    requires { IfSome (F.names files.old) (λ names. (names ≡ []) × (length game.now ≤ 1024) × (length log.now ≤ 1024)) }
+    ensures { EndsBatch (F.content files.old) (commands.Audit game.now log.now) (F.names files.old) (F.names files.new) (F.faults files.old) (F.faults files.new)
+        (K.taken out.old) (K.taken out.new) (K.faults out.old) (K.faults out.new) result }
+{
+    match read_game_file(alloc, files, game) {
+        Ok(game) => audit_by_file(alloc, &game, log, files, out),
+        Err(refusal) => End::Refused(refusal),
+    }
+}
