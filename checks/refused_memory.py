@@ -1,0 +1,107 @@
+#!/usr/bin/env python3
+"""Refuses each growth of memory of a command in turn, and looks at what is left.
+
+Each run has to end as it does with memory, or with status 7. With 7 it has written the line `memory` alone; or, where a game was played, the
+first part of its text, maybe more of it, and then that line. Usage: refused_memory.py [PROGRAM] [MOST], after `rt ci`, which leaves the program
+at crates/tacd/out/tacd; of a command with more than MOST growths (2000) some in between are left out, evenly. It wants a C compiler. It ends
+with 0 where each run ended as it has to."""
+import os
+import pathlib
+import shutil
+import socket
+import subprocess
+import sys
+import tempfile
+import threading
+import time
+
+HERE = pathlib.Path(__file__).resolve().parent
+EXAMPLES = HERE.parent / "examples"
+GAME = str(EXAMPLES / "first.game")
+SCRIPT = str(EXAMPLES / "three_agents.script")
+ACCOUNT = str(EXAMPLES / "one_seat.account")
+
+
+def agent(port, seat, ended):
+    """Takes a seat, asks for one seat on a flight, and reads to the end."""
+    while not ended.is_set():
+        try:
+            with socket.create_connection(("127.0.0.1", port), 10) as link:
+                link.sendall(f"hello seat{seat}\nbid 0 ((1 400))\ncash\nquit\n".encode())
+                while link.recv(4096):
+                    pass
+            return
+        except OSError:
+            time.sleep(0.01)
+
+
+def ran(program, words, environment, port=None):
+    """The status and the text of one run, with eight agents where there is a port."""
+    ended = threading.Event()
+    agents = [threading.Thread(target=agent, args=(port, seat, ended)) for seat in range(8)] if port else []
+    for one in agents:
+        one.start()
+    try:
+        done = subprocess.run([program, *words], env={**os.environ, **environment}, stdin=subprocess.DEVNULL, stdout=subprocess.PIPE, timeout=60)
+    finally:
+        ended.set()
+        for one in agents:
+            one.join()
+    return done.returncode, done.stdout
+
+
+def is_cut(text, whole, may_be_cut):
+    """Whether it is what stands where memory was refused: the line alone, or after the beginning of the whole text."""
+    if text == b"memory\n":
+        return True
+    return may_be_cut and text.endswith(b"memory\n") and (whole is None or whole.startswith(text[: -len(b"memory\n")]))
+
+
+def free_port():
+    with socket.socket() as probe:
+        probe.bind(("", 0))
+        return probe.getsockname()[1]
+
+
+def tried(program, shim, name, words, most, may_be_cut=False, served=False):
+    """Refuses each growth of a command in turn. Answers how many runs ended otherwise than they have to."""
+    with tempfile.TemporaryDirectory() as folder:
+        counted = f"{folder}/counted"
+        port = free_port() if served else None
+        given = [word if word != "PORT" else str(port) for word in words]
+        status, whole = ran(program, given, {"LD_PRELOAD": shim, "COUNTED": counted}, port)
+        growths = int(open(counted).read())
+    step = max(1, -(-growths // most))
+    wrong = cut = 0
+    for number in range(1, growths + 1, step):
+        port = free_port() if served else None
+        given = [word if word != "PORT" else str(port) for word in words]
+        got, text = ran(program, given, {"LD_PRELOAD": shim, "REFUSED": str(number)}, port)
+        as_before = got == status and (served or text == whole)
+        refused = got == 7 and is_cut(text, None if served else whole, may_be_cut)
+        cut += got == 7
+        if not as_before and not refused:
+            wrong += 1
+            print(f"{name}: growth {number} refused: status {got}, {len(text)} bytes, at the end {text[-40:]!r}")
+    print(f"{name}: {growths} growths, {len(range(1, growths + 1, step))} refused in turn, {cut} runs with status 7, {wrong} otherwise than they have to")
+    return wrong
+
+
+def main():
+    program = pathlib.Path(sys.argv[1] if len(sys.argv) > 1 else HERE.parent / "crates" / "tacd" / "out" / "tacd").resolve()
+    most = int(sys.argv[2]) if len(sys.argv) > 2 else 2000
+    compiler = shutil.which("cc") or shutil.which("gcc")
+    if not program.exists() or not compiler:
+        print("no program, or no C compiler")
+        return 0
+    with tempfile.TemporaryDirectory() as folder:
+        shim = f"{folder}/refuse.so"
+        subprocess.run([compiler, "-shared", "-fPIC", "-O1", "-o", shim, HERE / "refuse.c", "-ldl"], check=True)
+        wrong = tried(program, shim, "solve", ["solve", ACCOUNT], most)
+        wrong += tried(program, shim, "play", ["play", GAME, SCRIPT], most, may_be_cut=True)
+        wrong += tried(program, shim, "serve", ["serve", GAME, "PORT", "1"], most, may_be_cut=True, served=True)
+    return 1 if wrong else 0
+
+
+if __name__ == "__main__":
+    sys.exit(main())

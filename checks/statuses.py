@@ -1,0 +1,58 @@
+#!/usr/bin/env python3
+"""Runs the program for each exit status that a shell can bring about, and compares what it ends with.
+
+A contract speaks of the code that `tac` answers, and none of what the process ends with. Usage: statuses.py [PROGRAM], after `rt ci`, which
+leaves the program at crates/tacd/out/tacd. It ends with 0 where each status is the one due, with 1 where one differs, and says nothing and
+ends with 0 where there is no program."""
+import pathlib
+import resource
+import socket
+import subprocess
+import sys
+import tempfile
+
+TOP = pathlib.Path(__file__).resolve().parent.parent
+GAME = str(TOP / "examples" / "first.game")
+
+
+def little_memory():
+    """Leaves the process room for itself and its libraries, and not for a game."""
+    resource.setrlimit(resource.RLIMIT_AS, (32 << 20, 32 << 20))
+
+
+def cases(bad, port):
+    """The words, the status due, and how the process is started."""
+    return [
+        ("a made game", ["make", "1"], 0, {}),
+        ("no command", ["mak", "1"], 1, {}),
+        ("a bad game", ["show", bad], 2, {}),
+        ("a file that is not there", ["show", bad + ".none"], 3, {}),
+        ("an output that is full", ["make", "1"], 4, {"stdout": open("/dev/full", "wb")}),
+        ("a port that is taken", ["serve", GAME, str(port), "1"], 5, {}),
+        ("little memory", ["serve", GAME, "65534", "1"], 7, {"preexec_fn": little_memory}),
+        ("a bad account", ["solve", bad], 8, {}),
+    ]
+
+
+def main():
+    program = pathlib.Path(sys.argv[1] if len(sys.argv) > 1 else TOP / "crates" / "tacd" / "out" / "tacd")
+    if not program.exists():
+        return 0
+    different = 0
+    with tempfile.TemporaryDirectory() as folder, socket.socket() as taken:
+        bad = pathlib.Path(folder) / "bad"
+        bad.write_text("neither a game nor an account\n")
+        taken.bind(("", 0))
+        taken.listen()
+        for name, words, due, how in cases(str(bad), taken.getsockname()[1]):
+            how = {"stdout": subprocess.DEVNULL, **how}
+            status = subprocess.run([program, *words], stdin=subprocess.DEVNULL, timeout=60, **how).returncode
+            if status != due:
+                different += 1
+                print(f"{name}: {due} was due, and it ended with {status}")
+    print(f"statuses: {8 - different} of 8 as due")
+    return 1 if different else 0
+
+
+if __name__ == "__main__":
+    sys.exit(main())
