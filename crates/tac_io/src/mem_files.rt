@@ -1,6 +1,7 @@
 // Files in memory.
 ghost use Rattle.std.specs.Prelude.{◌≡◌, ◌+◌, ◌<◌, ◌≤◌, ◌++◌, ◌∷◌, [], All, IfOk, length, min, max, take, map, position, vec_len, vec_capacity, string_bytes};
 ghost use Rattle.std.specs.Option.{ForSome};
+ghost use Rattle.tac_base.specs.declared.limits.TheConstants.{FILE_NAMES};
 ghost use Rattle.tac_io.specs.Calls.{no_calls};
 ghost use Rattle.tac_io.specs.FileList.{IsSpare, content_of, is_named, left_of};
 
