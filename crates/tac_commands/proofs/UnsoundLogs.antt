@@ -1,5 +1,5 @@
 -- When a command tells that a log is not sound. Each command that audits no log has a line here that says so.
-use Rattle.std.proofs.Common.{◌≡◌, ℕ, List, [], ◌∷◌, refl, sym, ◌∙◌, ap, subst, inl, inr, arith, Option, Some, None}
+use Rattle.std.proofs.Common.{◌≡◌, ℕ, List, refl, sym, subst, inl, inr, arith, Option, Some, None}
 use Rattle.std.specs.Prelude.{◌⊎◌, Ok, IfSome}
 use Rattle.game_text.specs.Games.{GameFile}
 use Rattle.log_text.specs.LoggedGames.{LoggedGame}
@@ -7,12 +7,12 @@ use Rattle.log_reader.specs.SoundLog.{IsSound}
 use Rattle.tac_commands.specs.declared.file_kinds.FileKind.{FileKind}
 use Rattle.tac_commands.specs.declared.file_kinds.FileKind.TheVariants.{Game, GameScript, Log}
 use Rattle.tac_commands.specs.declared.refusals.Refusal.TheVariants.{Memory}
-use Rattle.tac_commands.specs.Commands.{Hotel, Show, Upgrade, Make, Solve, Worth, Play, Trial, Audit, Command, Batch, Serve, NamedFile, files_of, file}
+use Rattle.tac_commands.specs.Commands.{Hotel, Show, Upgrade, Make, Solve, Worth, Play, Trial, Audit, Command, Batch, Serve, files_of, file}
 use Rattle.tac_commands.specs.FileKinds.{Value, read_as}
 use Rattle.tac_commands.specs.Files.{Content, IsRead}
 use Rattle.tac_commands.specs.Outcomes.{Outcome, Done, Unsound, Refused, code_of}
 use Rattle.tac_commands.specs.Allowed.{Writes, WritesInParts, Judges, IsServiceEnd, CommandAllows}
-use Rattle.tac_commands.specs.Causes.{HasGood, AreGood, Holds, IsUnsoundPair, HasUnsound}
+use Rattle.tac_commands.specs.Causes.{AreGood, Holds, IsUnsoundPair, HasUnsound}
 use Rattle.tac_commands.proofs.FileCauses.{RanOver}
 use Rattle.tac_commands.proofs.OwnCodes.{writes, in_parts, service}
 use Rattle.tac_commands.proofs.Unambiguous.{same_file, same_value}
