@@ -32,14 +32,14 @@ const HEADS: [(&str, &str); 3] = [
         good 20 0 0\ngood 21 0 0\ngood 22 0 0\ngood 23 0 0\ngood 24 0 0\ngood 25 0 0\ngood 26 0 0\n\
         good 27 0 0\nbase\ntotal 0\npackage 0 none\n",
     ),
-    // A room is owed, and two tickets: one more of them is still none to use.
+    // A room is owed, and two tickets: one more of them is still none to use. Any one of the eight clients may travel.
     (
         "1 0 0 0 2 0 0 0 2 0 0 0 -1 0 0 0 -2 0 0 0 0 0 0 0 0 0 0 0",
         "worth 1000\ngood 0 1000 1000\ngood 1 0 0\ngood 2 0 0\ngood 3 0 0\ngood 4 0 0\ngood 5 0 0\n\
         good 6 0 0\ngood 7 0 0\ngood 8 0 0\ngood 9 0 0\ngood 10 0 0\ngood 11 0 0\ngood 12 0 0\n\
         good 13 0 0\ngood 14 0 0\ngood 15 0 0\ngood 16 0 0\ngood 17 0 0\ngood 18 0 0\ngood 19 0 0\n\
         good 20 0 0\ngood 21 0 0\ngood 22 0 0\ngood 23 0 0\ngood 24 0 0\ngood 25 0 0\ngood 26 0 0\n\
-        good 27 0 0\nbase\ntotal 1000\npackage 0 none\n",
+        good 27 0 0\nbase\ntotal 1000\n",
     ),
 ];
 
