@@ -1,0 +1,10 @@
+pub mod Words
+pub mod Firsts
+pub mod Tallied
+pub mod Growing
+pub mod Ranges
+pub mod Scores
+pub mod Seats
+pub mod LowestTerms
+pub mod TeamRows
+pub mod Worked
