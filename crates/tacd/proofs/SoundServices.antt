@@ -40,7 +40,7 @@ use Rattle.game_run.specs.PlayedGame.{parts_of, IsAbsent, IsPlayedBy}
 use Rattle.game_run.proofs.SeatPlaces.{seat_was_free}
 use Rattle.game_run.specs.declared.run.GameEnd.{GameEnd}
 use Rattle.script_run.specs.LawfulGames.{history_at, calls_by, IsLawfulGame}
-use Rattle.tac_commands.specs.Outcomes.{Outcome, Done, Lapsed, Cut, Refused}
+use Rattle.tac_commands.specs.Outcomes.{Outcome, Done, Lapsed, Unsound, Cut, Refused}
 use Rattle.tac_commands.specs.SoundTexts.{EndsInSoundLog}
 use Rattle.tac_commands.proofs.SoundLogs.{told_of, text_is, sound_log}
 use Rattle.tacd.specs.declared.answer.Played.{Played}
@@ -185,5 +185,6 @@ module _ {L : Type 0} (state : L → LinkState) (may_answer : List ℕ → Resul
   pub tells_soundly : (outcome : Outcome) → PlayedAllows game played outcome → TellsSoundly game outcome
   tells_soundly (Done told) allows = log_soundly told allows.0
   tells_soundly (Lapsed told) allows = log_soundly told allows.0
+  tells_soundly (Unsound told) allows = tt
   tells_soundly (Cut told) allows = tt
   tells_soundly (Refused refusal) allows = tt
