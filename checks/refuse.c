@@ -1,12 +1,16 @@
 /* Refuses one growth of memory. Loaded before the C library by refused_memory.py: of the calls of malloc and realloc after the process has
-   begun, the one of the number REFUSED answers that there is no memory. How many there were is written to the file COUNTED at the end. */
+   begun, the one of the number REFUSED answers that there is no memory. How many there were stands in the file COUNTED, as a number of eight
+   bytes, which is shared while the process runs, since a program may end without a word. */
 #define _GNU_SOURCE
 #include <dlfcn.h>
+#include <fcntl.h>
 #include <stdatomic.h>
-#include <stdio.h>
 #include <stdlib.h>
+#include <sys/mman.h>
+#include <unistd.h>
 
-static atomic_long calls;
+static atomic_long own_calls;
+static atomic_long *calls = &own_calls;
 static long refused = -1;
 static int begun;
 static void *(*own_malloc)(size_t);
@@ -16,21 +20,19 @@ __attribute__((constructor)) static void begin(void) {
     own_malloc = dlsym(RTLD_NEXT, "malloc");
     own_realloc = dlsym(RTLD_NEXT, "realloc");
     const char *number = getenv("REFUSED");
+    const char *name = getenv("COUNTED");
     refused = number ? atol(number) : -1;
+    if (name) {
+        int file = open(name, O_RDWR | O_CREAT, 0600);
+        if (file >= 0 && ftruncate(file, sizeof(long)) == 0) {
+            void *shared = mmap(NULL, sizeof(long), PROT_READ | PROT_WRITE, MAP_SHARED, file, 0);
+            if (shared != MAP_FAILED) calls = shared;
+        }
+    }
     begun = 1;
 }
 
-__attribute__((destructor)) static void end(void) {
-    const char *name = getenv("COUNTED");
-    begun = 0;
-    if (!name) return;
-    FILE *file = fopen(name, "w");
-    if (!file) return;
-    fprintf(file, "%ld\n", (long)calls);
-    fclose(file);
-}
-
-static int is_refused(void) { return begun && ++calls == refused; }
+static int is_refused(void) { return begun && atomic_fetch_add(calls, 1) + 1 == refused; }
 
 void *malloc(size_t size) {
     if (!own_malloc) own_malloc = dlsym(RTLD_NEXT, "malloc");

@@ -70,7 +70,7 @@ def tried(program, shim, name, words, most, may_be_cut=False, served=False):
         port = free_port() if served else None
         given = [word if word != "PORT" else str(port) for word in words]
         status, whole = ran(program, given, {"LD_PRELOAD": shim, "COUNTED": counted}, port)
-        growths = int(open(counted).read())
+        growths = int.from_bytes(pathlib.Path(counted).read_bytes(), sys.byteorder)
     step = max(1, -(-growths // most))
     wrong = cut = 0
     for number in range(1, growths + 1, step):
