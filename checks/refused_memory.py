@@ -2,9 +2,10 @@
 """Refuses each growth of memory of a command in turn, and looks at what is left.
 
 Each run has to end as it does with memory, or with status 7. With 7 it has written the line `memory` alone; or, where a game was played, the
-first part of its text, maybe more of it, and then that line. Usage: refused_memory.py [PROGRAM] [MOST], after `rt ci`, which leaves the program
-at crates/tacd/out/tacd; of a command with more than MOST growths (2000) some in between are left out, evenly. It wants a C compiler. It ends
+first part of its text, maybe more of it, and then that line. It is run after `rt ci`, which leaves the program at
+crates/tacd/out/tacd; of a command with more than MOST growths (2000) some in between are left out, evenly. It wants a C compiler. It ends
 with 0 where each run ended as it has to."""
+import argparse
 import os
 import pathlib
 import shutil
@@ -88,8 +89,11 @@ def tried(program, shim, name, words, most, may_be_cut=False, served=False):
 
 
 def main():
-    program = pathlib.Path(sys.argv[1] if len(sys.argv) > 1 else HERE.parent / "crates" / "tacd" / "out" / "tacd").resolve()
-    most = int(sys.argv[2]) if len(sys.argv) > 2 else 2000
+    parser = argparse.ArgumentParser(description=__doc__, formatter_class=argparse.RawDescriptionHelpFormatter)
+    parser.add_argument("program", nargs="?", type=pathlib.Path, default=HERE.parent / "crates" / "tacd" / "out" / "tacd")
+    parser.add_argument("most", nargs="?", type=int, default=2000, help="how many growths of a command are refused (2000)")
+    given = parser.parse_args()
+    program, most = given.program.resolve(), given.most
     compiler = shutil.which("cc") or shutil.which("gcc")
     if not program.exists() or not compiler:
         print("no program, or no C compiler")

@@ -1,9 +1,10 @@
 #!/usr/bin/env python3
 """Runs the program for each exit status that a shell can bring about, and compares what it ends with.
 
-A contract speaks of the code that `tac` answers, and none of what the process ends with. Usage: statuses.py [PROGRAM], after `rt ci`, which
+A contract speaks of the code that `tac` answers, and none of what the process ends with. It is run after `rt ci`, which
 leaves the program at crates/tacd/out/tacd. It ends with 0 where each status is the one due, with 1 where one differs, and says nothing and
 ends with 0 where there is no program."""
+import argparse
 import pathlib
 import resource
 import socket
@@ -35,7 +36,9 @@ def cases(bad, port):
 
 
 def main():
-    program = pathlib.Path(sys.argv[1] if len(sys.argv) > 1 else TOP / "crates" / "tacd" / "out" / "tacd")
+    parser = argparse.ArgumentParser(description=__doc__, formatter_class=argparse.RawDescriptionHelpFormatter)
+    parser.add_argument("program", nargs="?", type=pathlib.Path, default=TOP / "crates" / "tacd" / "out" / "tacd")
+    program = parser.parse_args().program
     if not program.exists():
         return 0
     different = 0

@@ -1,8 +1,8 @@
 #!/usr/bin/env python3
 """Learns the most that it pays for a room, against seven agents that pay at most 200 dollars: each try is a game in steps."""
 
+import argparse
 import random
-import sys
 from collections import Counter
 
 from step import Game
@@ -32,8 +32,12 @@ def play(game, seed, most):
     return rewards[first]
 
 
+parser = argparse.ArgumentParser(description=__doc__)
+parser.add_argument("games", nargs="?", type=int, default=10, help="how many games it learns from (10)")
+given = parser.parse_args()
+
 game, best = Game(), (float("-inf"), 100)
-for count in range(int(sys.argv[1]) if len(sys.argv) > 1 else 10):
+for count in range(given.games):
     most = max(50, best[1] + random.choice([-100, -50, 0, 50, 100]))
     best = max(best, (play(game, 1, most), most))
     print(f"game {count}: at most {most} dollars; the best score so far is {best[0]}, with {best[1]}", flush=True)

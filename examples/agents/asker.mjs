@@ -95,7 +95,11 @@ async function bidForRooms(link, rooms, standing) {
 }
 
 async function main() {
-  const { values, positionals } = parseArgs({ allowPositionals: true, options: { pause: { type: "string", default: "2" } } });
+  const { values, positionals } = parseArgs({ allowPositionals: true, options: { pause: { type: "string", default: "2" }, help: { type: "boolean", short: "h" } } });
+  if (values.help) {
+    console.log("usage: node asker.mjs HOST PORT WORD [--pause SECONDS]");
+    return;
+  }
   const [host, port, word] = positionals;
   if (!word) throw new Error("usage: node asker.mjs HOST PORT WORD [--pause SECONDS]");
   const link = new Link(await connect(host, Number(port)));
