@@ -448,50 +448,58 @@ fn logs_are_judged_by_their_games(rt: HostRuntime) -> Result<(), Fail> {
     let played = run(&rt, alloc, "play game script", &files, NO_FAULT)?;
     let text = str::from_utf8(played.text.as_slice())?;
     let (_, log) = text.split_once("taclog 1\n").ok_or("no log")?;
-    // What is changed in the log, and what is written of it then.
-    let rows: [(&[(&str, &str)], u8, &str); 9] = [
-        (&[], 0, "sound\n"),
+    // What is changed in the log, twice where one change is not enough, and what is written of it then.
+    let kept = ("taclog 1\n", "taclog 1\n");
+    let rows: [((&str, &str), (&str, &str), u8, &str); 9] = [
+        (kept, kept, 0, "sound\n"),
         (
-            &[("trade 0 1 1 60\n", "trade 0 1 1 61\n")],
+            ("trade 0 1 1 60\n", "trade 0 1 1 61\n"),
+            kept,
             9,
             "unsound entry 24 1\n",
         ),
         (
-            &[("auction 27 1\n8 close = done\n", "auction 27 0\n")],
+            ("auction 27 1\n8 close = done\n", "auction 27 0\n"),
+            kept,
             9,
             "unsound clock 27\n",
         ),
         (
-            &[("0 read = -660\n", "0 read = -661\n")],
+            ("0 read = -660\n", "0 read = -661\n"),
+            kept,
             9,
             "unsound cash 4\n",
         ),
-        (&[("8 post 8 1 0 ", "8 post 8 0 0 ")], 9, "unsound post 5\n"),
         (
-            &[
-                ("cash 6\n", "cash 5\n"),
-                ("8 post 8 1 0 0 0 0 0 0 0 0 0\n", ""),
-            ],
+            ("8 post 8 1 0 ", "8 post 8 0 0 "),
+            kept,
+            9,
+            "unsound post 5\n",
+        ),
+        (
+            ("cash 6\n", "cash 5\n"),
+            ("8 post 8 1 0 0 0 0 0 0 0 0 0\n", ""),
             9,
             "unsound unposted 8 1\n",
         ),
         (
-            &[("score 0 1100 -660 0 440\n", "score 0 1100 -660 0 441\n")],
+            ("score 0 1100 -660 0 440\n", "score 0 1100 -660 0 441\n"),
+            kept,
             9,
             "unsound score 0\n",
         ),
         (
-            &[("taclog 1\nplay\n", "taclog 1\nserve\nmissed 0\n")],
+            ("taclog 1\nplay\n", "taclog 1\nserve\nmissed 0\n"),
+            kept,
             9,
             "unsound head\n",
         ),
-        (&[("taclog 1\n", "taclog 2\n")], 8, "text 1 1\n"),
+        (("taclog 1\n", "taclog 2\n"), kept, 8, "text 1 1\n"),
     ];
-    for (changes, code, told) in rows {
-        let mut changed = format!(in alloc; "taclog 1\n{log}")?;
-        for (old, new) in changes {
-            changed = changed.replace(alloc, *old, new)?;
-        }
+    for (first, second, code, told) in rows {
+        let whole = format!(in alloc; "taclog 1\n{log}")?;
+        let once = whole.replace(alloc, first.0, first.1)?;
+        let changed = once.replace(alloc, second.0, second.1)?;
         check(
             &rt,
             alloc,
