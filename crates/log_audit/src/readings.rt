@@ -1,26 +1,13 @@
 // The readings of a cash history beside the posts before them.
 ghost use Rattle.std.specs.Prelude.{◌≡◌, ℕ, ◌<◌, ◌≤◌, ◌↔◌, ◌+ℤ◌, List, pos, length, slice_index_or, IsTrue};
 ghost use Rattle.tac_base.specs.declared.limits.TheConstants.{CASH_ENTRIES};
-ghost use Rattle.trade_ledger.specs.CashHistory.{gain_of, total_of};
+ghost use Rattle.trade_ledger.specs.CashHistory.{gain_of};
 ghost use Rattle.trade_ledger.specs.CashKeeping.{IsWithin};
 ghost use Rattle.trade_ledger.specs.declared.cash_calls.CashEntry.{CashEntry};
 ghost use Rattle.log_audit.specs.Flaws.{HasTrueReading, IsTrueReading};
 ghost use Rattle.log_audit.specs.Auditing.{IsLowest, AreTotals};
 
-use tac_base::Nets;
-use trade_ledger::{CashCall, CashEntry, CashReply};
-
-/// Adds the nets of a post to the totals.
-fn add_nets(totals: &mut [i64; 9], nets: &Nets)
-    requires { (party : ℕ) → party < 9 → IsWithin 600000000000000 (slice_index_or totals.old party (pos 0)) }
-    ensures totals { (party : ℕ) → party < 9 →
-        slice_index_or totals.new party (pos 0) ≡ slice_index_or totals.old party (pos 0) +ℤ slice_index_or nets.now.dollars party (pos 0) }
-    ensures small { (party : ℕ) → party < 9 → IsWithin 2147483648 (slice_index_or nets.now.dollars party (pos 0)) }
-{
-    for (party, total) in totals.iter_mut().enumerate() {
-        *total += i64::from(nets.dollars[party]);
-    }
-}
+use trade_ledger::{CashCall, CashEntry, CashReply, add_nets};
 
 /// Whether an entry, if it is a reading, answers its agent's total, and adds what a post gives to the totals.
 fn reads_total(totals: &mut [i64; 9], entry: &CashEntry) -> bool

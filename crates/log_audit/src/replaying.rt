@@ -56,7 +56,7 @@ fn has_room(counts: &[u32; 9], caller: Caller) -> bool
 
 /// Counts one entry more of a caller.
 fn count(counts: &mut [u32; 9], caller: Caller)
-    requires { slice_index counts.old caller < 1024 }
+    requires { slice_index counts.old caller < AGENT_CALLS }
     ensures { counts.new ≡ slice_set counts.old caller (slice_index counts.old caller + 1) }
 {
     counts[usize::from(caller.get())] += 1;

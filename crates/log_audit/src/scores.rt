@@ -1,13 +1,9 @@
 // The scores of a log beside what the histories leave to each agent.
-ghost use Rattle.std.specs.Prelude.{◌≡◌, ◌<◌, ◌≤◌, ◌*◌, ◌↔◌, pos, unsigned_abs, length, sum_by, slice_index_or, IsTrue};
-ghost use Rattle.std.specs.List.{All};
-ghost use Rattle.tac_base.specs.declared.limits.TheConstants.{HOLDING};
-ghost use Rattle.game_text.specs.Accounts.{IsHolding};
+ghost use Rattle.std.specs.Prelude.{◌≡◌, ◌<◌, ◌↔◌, IsTrue};
 ghost use Rattle.score_sheet.specs.Score as rules;
-ghost use Rattle.score_sheet.specs.Settlement.{AreHoldings, settlement_of};
-ghost use Rattle.score_sheet.specs.Sheets.{account_of, IsDue};
+ghost use Rattle.score_sheet.specs.Settlement.{settlement_of};
+ghost use Rattle.score_sheet.specs.Sheets.{IsDue};
 ghost use Rattle.allocator.specs.Solutions.{IsSolution};
-ghost use Rattle.bound_cert.specs.Views.{tree_of};
 ghost use Rattle.log_text.specs.LoggedGames.{IsLoggedScore};
 ghost use Rattle.log_reader.specs.SoundLog.{auctions_in};
 ghost use Rattle.log_audit.specs.Flaws.{HasDueScore};
@@ -17,32 +13,8 @@ use bound_cert::check;
 use dual_bound::{is_enough, worth};
 use game_text::{Account, Game};
 use log_reader::{Log, ScoreLine};
-use score_sheet::Accounts;
+use score_sheet::{Accounts, short};
 use tac_base::Agent;
-
-/// How many units these holdings lie below 0 together.
-fn lacking(holdings: &[i32]) -> u32
-    requires few { length holdings.now ≤ 28 }
-    requires range { All IsHolding holdings.now }
-    ensures value { result ≡ sum_by rules.lacking holdings.now }
-    ensures bound { result ≤ 28 * unsigned_abs HOLDING }
-{
-    let mut units = 0;
-    for holding in holdings {
-        if *holding < 0 {
-            units += holding.unsigned_abs();
-        }
-    }
-    units
-}
-
-/// How many tickets are short.
-fn short(holdings: &[i32]) -> u32
-    requires { AreHoldings holdings.now }
-    ensures { result ≡ rules.short_of holdings.now }
-{
-    lacking(&holdings[16..])
-}
 
 /// The score that the numbers of a line give.
 fn reckoned(line: &ScoreLine) -> i64

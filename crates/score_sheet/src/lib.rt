@@ -7,5 +7,5 @@ mod scores;
 mod settling;
 
 pub use joining::sheet;
-pub use scores::{AgentScore, Sheet};
+pub use scores::{AgentScore, Sheet, short};
 pub use settling::{Accounts, settle};

@@ -99,8 +99,8 @@ fn all_lacking(holdings: &[i32]) -> u32
     units
 }
 
-/// How many tickets are short.
-fn short(holdings: &[i32]) -> u32
+/// How many entertainment tickets an agent with these holdings of the 28 goods is short of.
+pub fn short(holdings: &[i32]) -> u32
     requires { AreHoldings holdings.now }
     ensures value { result ≡ rules.short_of holdings.now }
     ensures bound { result ≤ 28 * unsigned_abs HOLDING }

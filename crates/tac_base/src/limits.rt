@@ -63,6 +63,12 @@ pub const FILE_NAMES: usize = 128;
 /// The most bytes of a word of the command line, a file's name among them.
 pub const NAME_BYTES: usize = 1_024;
 
+/// The highest port that a game is served at; the lowest is 1.
+pub const PORT: u16 = 65_535;
+
+/// The longest pace of a served game, in milliseconds a tick; the shortest is 1.
+pub const PACE: u16 = 60_000;
+
 /// The highest price of a bid, in dollars; the lowest is 1.
 pub const BID_PRICE: u16 = 10_000;
 

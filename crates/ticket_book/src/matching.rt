@@ -9,7 +9,7 @@ use crate::order::first_of_others;
 use crate::sides::Sides;
 use arrayvec::ArrayVec;
 use auction_rules::{BidUnit, Placed, push_units};
-use tac_base::limits::{BID_PRICE, BID_UNITS};
+use tac_base::limits::{BID_PRICE, BID_UNITS, ENTRY_TRADES};
 use tac_base::{Fills, Good, Trade, Unit};
 
 /// Whether two units are one.
@@ -116,7 +116,7 @@ impl Sides {
         fills: &mut Fills,
         gone: &mut ArrayVec<BidUnit, 32>,
     )
-        requires fills { length fills.old < 128 }
+        requires fills { length fills.old < ENTRY_TRADES }
         requires gone { length gone.old.items + 2 ≤ 32 }
         ensures trades { fills.new ≡ fills.old ++ rule.trades_of_pairs good (rule.pair_with unit.now (rule.partner (both self.old) unit.now)) }
         ensures gone { gone.new.items ≡ gone.old.items ++ rule.units_of_pairs (rule.pair_with unit.now (rule.partner (both self.old) unit.now)) }

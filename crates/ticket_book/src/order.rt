@@ -5,6 +5,7 @@ ghost use Rattle.ticket_book.specs.Sides as spec;
 
 use arrayvec::ArrayVec;
 use tac_base::Unit;
+use tac_base::limits::STANDING_UNITS;
 
 /// Of two units of a side, whether the first goes before the second.
 fn goes_first(buys: bool, first: &Unit, second: &Unit) -> bool
@@ -49,8 +50,8 @@ fn place_of(units: &[Unit], buys: bool, unit: &Unit) -> usize
 }
 
 /// Puts a unit in its place among those of a side.
-pub(crate) fn put(units: &mut ArrayVec<Unit, 128>, buys: bool, unit: &Unit)
-    requires { length units.old.items < 128 }
+pub(crate) fn put(units: &mut ArrayVec<Unit, STANDING_UNITS>, buys: bool, unit: &Unit)
+    requires { length units.old.items < STANDING_UNITS }
     ensures { units.new.items ≡ insert units.old.items (position_or_len (spec.goes_first buys unit.now) units.old.items) unit.now }
 {
     let place = place_of(units, buys, unit);
@@ -58,14 +59,14 @@ pub(crate) fn put(units: &mut ArrayVec<Unit, 128>, buys: bool, unit: &Unit)
 }
 
 /// Takes a unit out of a side.
-pub(crate) fn take_out(units: &mut ArrayVec<Unit, 128>, taken: &Unit)
+pub(crate) fn take_out(units: &mut ArrayVec<Unit, STANDING_UNITS>, taken: &Unit)
     ensures { units.new.items ≡ filter (λ u. not (spec.is_same u taken.now)) units.old.items }
 {
     units.retain(|unit| !is_same(unit, taken));
 }
 
 /// Takes the units of the agent that has the number out of a side.
-pub(crate) fn take_out_of(units: &mut ArrayVec<Unit, 128>, number: u8)
+pub(crate) fn take_out_of(units: &mut ArrayVec<Unit, STANDING_UNITS>, number: u8)
     ensures { units.new.items ≡ filter (λ u. not (u.agent == number)) units.old.items }
 {
     units.retain(|unit| unit.agent.get() != number);

@@ -10,15 +10,15 @@ use crate::order::{first_price, has_units_of, is_on, put, take_out, take_out_of}
 use arrayvec::ArrayVec;
 use auction_rules::BidUnit;
 use std::marker::Model;
-use tac_base::limits::{BID_PRICE, BID_UNITS};
+use tac_base::limits::{BID_PRICE, BID_UNITS, STANDING_UNITS};
 use tac_base::{Agent, Unit};
 
 /// The standing units of a ticket auction, those that buy and those that sell, each in the order in which they trade. Contracts see them as
 /// two lists.
 #[derive(Debug, Drop)]
 pub(crate) struct Sides {
-    buys: ArrayVec<Unit, 128>,
-    sells: ArrayVec<Unit, 128>,
+    buys: ArrayVec<Unit, STANDING_UNITS>,
+    sells: ArrayVec<Unit, STANDING_UNITS>,
 }
 
 impl Model for Sides {

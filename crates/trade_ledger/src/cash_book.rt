@@ -29,8 +29,8 @@ impl Model for CashBook {
     ghost invariant = { λ b. IsSound b.entries.items b.totals (vec_capacity b.entries) };
 }
 
-/// Adds the nets of a post to the totals.
-fn add_nets(totals: &mut [i64; 9], nets: &Nets)
+/// Adds the nets of a post to the totals of nine parties, in dollars.
+pub fn add_nets(totals: &mut [i64; 9], nets: &Nets)
     requires { (party : ℕ) → party < 9 → IsWithin 600000000000000 (slice_index_or totals.old party (pos 0)) }
     ensures totals { (party : ℕ) → party < 9 →
         slice_index_or totals.new party (pos 0) ≡ slice_index_or totals.old party (pos 0) +ℤ slice_index_or nets.now.dollars party (pos 0) }

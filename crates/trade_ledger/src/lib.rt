@@ -5,6 +5,6 @@ mod cash_book;
 mod cash_calls;
 mod good_book;
 
-pub use cash_book::CashBook;
+pub use cash_book::{CashBook, add_nets};
 pub use cash_calls::{CashCall, CashEntry, CashReply};
 pub use good_book::GoodBook;
