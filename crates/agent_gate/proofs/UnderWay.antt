@@ -4,7 +4,7 @@ use Rattle.std.specs.Prelude.{Option, Result}
 use Rattle.std.specs.List.{flat_map}
 use Rattle.std.proofs.lemmas.List.{append_assoc, append-nil}
 use Rattle.std.proofs.lemmas.Grind.{flat_map-append}
-use Rattle.tac_io.specs.AllAnswers.{answers_left}
+use Rattle.tac_io.specs.AnswersInTurn.{answers_left}
 use Rattle.tac_io.specs.HeldBytes.{Held}
 use Rattle.tac_io.specs.LineAnswers.{Answers}
 use Rattle.tac_io.specs.Told.{and_then_told, before_told, IsAtEnd, TakesSome}

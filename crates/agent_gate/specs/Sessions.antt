@@ -2,7 +2,7 @@
 use Rattle.std.specs.Prelude.{◌≡◌, ℕ, ◌<◌, List, ◌++◌, Result, Option, map}
 use Rattle.game_text.specs.Games.{GameFile}
 use Rattle.auction_core.specs.ClosedGame.{all_goods}
-use Rattle.tac_io.specs.AllAnswers.{answers_left}
+use Rattle.tac_io.specs.AnswersInTurn.{answers_left}
 use Rattle.tac_io.specs.HeldBytes.{Held}
 use Rattle.tac_io.specs.Told.{and_then_told, before_told, IsAtEnd}
 use Rattle.line_protocol.specs.declared.asking.Request.{Request}

@@ -2,7 +2,7 @@
 use Rattle.std.specs.Prelude.{◌≡◌, ℕ, List, length, map}
 use Rattle.std.specs.List.{AllZip}
 use Rattle.turn_lock.specs.Part.{part}
-use Rattle.turn_lock.specs.TurnRule.{AreNotes}
+use Rattle.turn_lock.specs.Notes.{AreNotes}
 use Rattle.auction_core.specs.ClosedGame.{ClosedGame, all_goods}
 use Rattle.floor.specs.Closing.{board_of}
 use Rattle.agent_gate.specs.Turns.{Turn, made_at, cash_made, boards_shown, AreLawful}

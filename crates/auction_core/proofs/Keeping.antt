@@ -31,7 +31,7 @@ use Rattle.auction_core.specs.Stored.{entry_with, stored, entry_behind}
 use Rattle.auction_core.specs.Struck.{struck_of}
 use Rattle.auction_core.proofs.Answering.{held_is}
 use Rattle.game_text.specs.Accounts.{IsHolding}
-use Rattle.auction_core.specs.Auctions.{IsKept, IsSound}
+use Rattle.auction_core.specs.KeptAuctions.{IsKept, IsSound}
 use Rattle.auction_core.proofs.Counting.{by, length-part, called_snoc, capped_snoc, few_entries, room_for}
 use Rattle.auction_core.proofs.Holding.{net_units-append, net_units_within}
 use Rattle.auction_core.proofs.Chains.{stored_more, stores_more}

@@ -19,7 +19,7 @@ use Rattle.auction_core.specs.declared.book.Book.{Book}
 use Rattle.auction_core.specs.declared.book.Book.TheVariants.{Flight, Hotel, Tickets}
 use Rattle.auction_core.specs.Books.{Stands, units_left, held_by}
 use Rattle.auction_core.specs.Setups.{AreInRange, AreEndowed}
-use Rattle.auction_core.specs.Auctions.{IsSound}
+use Rattle.auction_core.specs.KeptAuctions.{IsSound}
 
 same : (z : ℤ) → z ≡ z +ℤ pos 0
 same z = omega (arith, ints)

@@ -5,5 +5,6 @@ pub mod Stored
 pub mod Loggable
 pub mod Struck
 pub mod Auctions
+pub mod KeptAuctions
 pub mod ClosedGame
 pub mod Laws

@@ -38,7 +38,8 @@ pub struct Auction {
 
 impl Model for Auction {
     ghost use Rattle.std.specs.Prelude.{All, vec_capacity};
-    ghost use Rattle.auction_core.specs.Auctions.{AuctionHistory, IsSound};
+    ghost use Rattle.auction_core.specs.Auctions.{AuctionHistory};
+    ghost use Rattle.auction_core.specs.KeptAuctions.{IsSound};
     ghost use Rattle.auction_core.specs.Stored.{stored};
 
     ghost Value = { AuctionHistory };

@@ -15,7 +15,7 @@ use Rattle.auction_rules.specs.Effects.{bought, sold}
 use Rattle.auction_rules.specs.Legal.{Legal, IsLawful, entry_of, entry_by, admitted_trades}
 use Rattle.auction_rules.specs.Refusals.{refusal}
 use Rattle.auction_core.specs.Auctions.{AuctionHistory}
-use Rattle.turn_lock.specs.TurnRule.{AreNotes}
+use Rattle.turn_lock.specs.Notes.{AreNotes}
 use Rattle.floor.specs.declared.desk.Desk.{Desk}
 use Rattle.floor.specs.declared.outcomes.Outcome.{Outcome}
 use Rattle.floor.specs.declared.outcomes.Outcome.TheVariants.{At, Spent}

@@ -11,7 +11,8 @@ use Rattle.auction_core.specs.Auctions.{AuctionHistory}
 use Rattle.turn_lock.specs.declared.view.Returned.{Returned}
 use Rattle.turn_lock.specs.Part.{part}
 use Rattle.turn_lock.specs.Passes.{caller_of, made_by, noted_by, returned_by}
-use Rattle.turn_lock.specs.TurnRule.{AreNotes, AreKnown}
+use Rattle.turn_lock.specs.Notes.{AreNotes}
+use Rattle.turn_lock.specs.TurnRule.{AreKnown}
 use Rattle.turn_lock.proofs.Places.{place_below}
 use Rattle.trade_ledger.specs.declared.cash_calls.CashEntry.{CashEntry}
 use Rattle.trade_ledger.specs.Posts.{HoldSame, posts_of, due_posts, Matched}

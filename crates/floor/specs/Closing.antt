@@ -13,7 +13,8 @@ use Rattle.auction_core.specs.Auctions.{AuctionHistory}
 use Rattle.auction_core.specs.ClosedGame.{ClosedGame}
 use Rattle.turn_lock.specs.declared.view.Returned.{Returned}
 use Rattle.turn_lock.specs.Part.{part}
-use Rattle.turn_lock.specs.TurnRule.{AreNotes, AreKnown}
+use Rattle.turn_lock.specs.Notes.{AreNotes}
+use Rattle.turn_lock.specs.TurnRule.{AreKnown}
 use Rattle.floor.specs.declared.desk.Desk.{Desk}
 use Rattle.floor.specs.Desks.{desk_caller, entries_of, cash_of, boards_of}
 

@@ -1,6 +1,7 @@
 // The second part of the log of a game, from its histories.
 ghost use Rattle.std.specs.Prelude.{IfOk};
-ghost use Rattle.game_log.specs.ScoredGames.{IsSheetOf, WritesSheet};
+ghost use Rattle.game_log.specs.ScoredGames.{IsSheetOf};
+ghost use Rattle.game_log.specs.SheetWritten.{WritesSheet};
 
 use crate::{LogWriteFault, write_sheet_part};
 use auction_core::Closed;

@@ -7,7 +7,7 @@ use Rattle.std.proofs.lemmas.Slice.Zip.{AllZip-long}
 use Rattle.game_text.specs.Games.{GameFile}
 use Rattle.auction_rules.specs.History.{Entry}
 use Rattle.turn_lock.specs.Part.{part}
-use Rattle.turn_lock.specs.TurnRule.{AreNotes}
+use Rattle.turn_lock.specs.Notes.{AreNotes}
 use Rattle.auction_core.specs.ClosedGame.{ClosedGame, all_goods}
 use Rattle.floor.specs.declared.desk.Desk.{Desk}
 use Rattle.floor.specs.Desks.{desk_caller, entries_of, cash_of, boards_of, IsNewDesk}

@@ -1,5 +1,6 @@
 pub mod TreeCodes
 pub mod Settlement
+pub mod SettledRanges
 pub mod Score
 pub mod Sheets
 pub mod Joined

@@ -1,10 +1,7 @@
 -- What a game leaves to each agent.
-use Rattle.std.specs.Prelude.{◌≡◌, ℕ, List, ℤ, pos, ◌+ℤ◌, length, map, fold, reverse}
-use Rattle.std.specs.List.{All}
+use Rattle.std.specs.Prelude.{ℕ, List, ℤ, pos, ◌+ℤ◌, map, fold, reverse}
 use Rattle.tac_base.specs.Goods.{agents}
 use Rattle.auction_rules.specs.Effects.{all_trades, dollars, holding}
-use Rattle.trade_ledger.specs.CashKeeping.{IsWithin}
-use Rattle.game_text.specs.Accounts.{IsHolding}
 use Rattle.auction_core.specs.Auctions.{AuctionHistory}
 
 -- by agent: the holdings of the goods in order, and the cash in dollars
@@ -23,15 +20,3 @@ cash_of auctions agent = fold ◌+ℤ◌ (pos 0) (map (λ auction. dollars (all_
 -- the settlement of a game whose calls are over
 abbrev pub settlement_of : List AuctionHistory → Settlement
 settlement_of auctions = record { holdings = map (holdings_of auctions) agents; cash = map (cash_of auctions) agents }
-
--- a holding of each good, in its range
-pub record AreHoldings (holdings : List ℤ) : Type 0 where
-  pub count : length holdings ≡ 28
-  pub each : All IsHolding holdings
-
--- the holdings and the cash of eight agents, in their ranges
-pub record IsSettlement (settlement : Settlement) : Type 0 where
-  pub holdings_count : length settlement.holdings ≡ 8
-  pub holdings : All AreHoldings settlement.holdings
-  pub cash_count : length settlement.cash ≡ 8
-  pub cash : All (IsWithin 1000000000000000) settlement.cash

@@ -5,7 +5,7 @@ ghost use Rattle.tac_base.specs.declared.limits.TheConstants.{HOLDING};
 ghost use Rattle.game_text.specs.Accounts.{IsHolding};
 ghost use Rattle.trade_ledger.specs.CashKeeping.{IsWithin};
 ghost use Rattle.score_sheet.specs.Score as rules;
-ghost use Rattle.score_sheet.specs.Settlement.{AreHoldings};
+ghost use Rattle.score_sheet.specs.SettledRanges.{AreHoldings};
 ghost use Rattle.score_sheet.specs.Sheets.{account_of, IsDue};
 
 use crate::settling::Accounts;

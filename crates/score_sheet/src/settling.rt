@@ -3,7 +3,8 @@ ghost use Rattle.std.specs.Prelude.{◌≡◌, map};
 ghost use Rattle.std.specs.List.{All};
 ghost use Rattle.trade_ledger.specs.CashKeeping.{IsWithin};
 ghost use Rattle.tac_base.specs.Goods.{agents};
-ghost use Rattle.score_sheet.specs.Settlement.{AreHoldings, holdings_of, cash_of, settlement_of};
+ghost use Rattle.score_sheet.specs.Settlement.{holdings_of, cash_of, settlement_of};
+ghost use Rattle.score_sheet.specs.SettledRanges.{AreHoldings};
 
 use crate::gains::gain_of_game;
 use auction_core::Closed;
@@ -20,7 +21,8 @@ pub struct Accounts {
 }
 
 impl Model for Accounts {
-    ghost use Rattle.score_sheet.specs.Settlement.{Settlement, IsSettlement};
+    ghost use Rattle.score_sheet.specs.Settlement.{Settlement};
+    ghost use Rattle.score_sheet.specs.SettledRanges.{IsSettlement};
 
     ghost Value = { Settlement };
 

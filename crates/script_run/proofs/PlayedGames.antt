@@ -8,7 +8,8 @@ use Rattle.auction_core.specs.ClosedGame.{ClosedGame}
 use Rattle.score_sheet.specs.Sheets.{Scored}
 use Rattle.game_log.specs.LogText.{play_part}
 use Rattle.game_log.specs.SheetText.{sheet_part}
-use Rattle.game_log.specs.ScoredGames.{IsSheetOf, WritesSheet}
+use Rattle.game_log.specs.ScoredGames.{IsSheetOf}
+use Rattle.game_log.specs.SheetWritten.{WritesSheet}
 use Rattle.line_protocol.specs.Heads.{Play}
 use Rattle.game_log.specs.declared.fault.LogWriteFault.TheVariants as log
 use Rattle.game_log.proofs.Writing.{some_after}

@@ -3,7 +3,8 @@ use Rattle.std.proofs.Common.{zero, suc, ◌≡◌, ℕ, ◌+◌, ◌-◌, ◌<�
 use Rattle.std.specs.Prelude.{◌==◌, ◌^◌, None, Some, if◌then◌else◌}
 use Rattle.std.specs.declared.option.Option.{Option}
 use Rattle.std.proofs.lemmas.Bool.Decides.{nat_tests}
-use Rattle.tac_io.specs.AllAnswers.{all_answers, answers_left, ended_line, IsFirst, IsInTurn}
+use Rattle.tac_io.specs.AllAnswers.{all_answers, ended_line}
+use Rattle.tac_io.specs.AnswersInTurn.{answers_left, IsFirst, IsInTurn}
 use Rattle.tac_io.specs.HeldBytes.{Held}
 use Rattle.tac_io.specs.LineAnswers.{Answers, IsNext}
 use Rattle.tac_io.specs.LineText.{has_end, Begins}

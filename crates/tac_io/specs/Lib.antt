@@ -13,4 +13,5 @@ pub mod LineText
 pub mod HeldBytes
 pub mod LineAnswers
 pub mod AllAnswers
+pub mod AnswersInTurn
 pub mod Lines

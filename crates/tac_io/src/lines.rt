@@ -93,7 +93,7 @@ pub struct Lines<L> {
 }
 
 impl<L: Link> Lines<L> {
-    ghost use Rattle.tac_io.specs.AllAnswers.{IsInTurn};
+    ghost use Rattle.tac_io.specs.AnswersInTurn.{IsInTurn};
     ghost use Rattle.tac_io.specs.LineAnswers.{goes_on};
     ghost use Rattle.tac_io.specs.Lines.{count_of, held_of, last_of, link_of};
 

@@ -1,6 +1,6 @@
 -- The rule that holds of the table of a lock between any two steps. Word 0 is how many tickets were drawn, word 1 is the packed board,
 -- and the one slot has the state while no pass has the turn. Seat 0 is the lock's own, and the pass of caller c has the seat c + 1.
-use Rattle.std.specs.Prelude.{◌≡◌, ℕ, ◌+◌, ◌<◌, ◌≤◌, ◌⊎◌, List, [], ◌∷◌, length, take, sum_by, Some, None}
+use Rattle.std.specs.Prelude.{◌≡◌, ℕ, ◌+◌, ◌<◌, ◌≤◌, ◌⊎◌, List, [], ◌∷◌, length, sum_by, Some, None}
 use mathlib.Core.Option.{some, none}
 use mathlib.Core.Option.{Option as Option_}
 use lib.ListN.{get_elem?}
@@ -9,13 +9,10 @@ use Rattle.tac_base.specs.declared.calls.Board.{Board}
 use Rattle.turn_lock.specs.declared.view.View.{View}
 use Rattle.turn_lock.specs.declared.view.Returned.{Returned}
 use Rattle.turn_lock.specs.Part.{part}
+use Rattle.turn_lock.specs.Notes.{AreNotes}
 use Rattle.turn_lock.specs.BoardWord.{IsSmall, packed}
 
 module _ {E : Type 0} where
-  -- each note, a count and a board, is of a prefix of the history: the count is its length, at most `seen`, and the board is its board
-  abbrev pub AreNotes : (List E → Board) → List E → ℕ → List (ℕ × Board) → Type 0
-  AreNotes board history seen notes = (k : ℕ) (n : ℕ × Board) → get_elem? notes k ≡ some n → (n.0 ≤ seen) × (n.1 ≡ board (take n.0 history))
-
   -- what each returned pass knew is so of the history: its own entries are its caller's part, and its notes are of prefixes
   abbrev pub AreKnown : (List E → Board) → (E → ℕ) → List E → List (Returned E) → Type 0
   AreKnown board caller_of history returned = (k : ℕ) (r : Returned E) → get_elem? returned k ≡ some r →

@@ -1,6 +1,7 @@
 use Rattle.std.proofs.Common.{◌≡◌, ℕ, List, length-set, get_or, sym, ap, ◌∙◌, arith}
 use Rattle.tac_base.specs.Goods.{agents}
-use Rattle.score_sheet.specs.Settlement.{AreHoldings, holdings_of}
+use Rattle.score_sheet.specs.Settlement.{holdings_of}
+use Rattle.score_sheet.specs.SettledRanges.{AreHoldings}
 use Rattle.score_sheet.proofs.Filling.{filled_more, all_more}
 use Rattle.score_sheet.proofs.settling.all_holdings.Goals as goal
 

@@ -1,7 +1,8 @@
 use Rattle.std.proofs.Common.{◌≡◌, length, take, map}
 use Rattle.std.specs.List.{All}
 use Rattle.tac_base.specs.Goods.{agents}
-use Rattle.score_sheet.specs.Settlement.{AreHoldings, holdings_of}
+use Rattle.score_sheet.specs.Settlement.{holdings_of}
+use Rattle.score_sheet.specs.SettledRanges.{AreHoldings}
 use Rattle.score_sheet.proofs.settling.all_holdings.Given as goal
 
 abbrev pub invariant-loop-number : goal.invariant-loop-number

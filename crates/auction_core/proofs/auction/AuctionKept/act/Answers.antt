@@ -9,7 +9,8 @@ use Rattle.auction_rules.specs.Traded.{traded}
 use Rattle.auction_rules.proofs.Histories.{entry_caller, entry_call}
 use Rattle.turn_lock.specs.Part.{part}
 use Rattle.trade_ledger.specs.Holdings.{held_after}
-use Rattle.auction_core.specs.Auctions.{AuctionHistory, IsSound}
+use Rattle.auction_core.specs.Auctions.{AuctionHistory}
+use Rattle.auction_core.specs.KeptAuctions.{IsSound}
 use Rattle.auction_core.specs.Books.{Stands}
 use Rattle.auction_core.specs.Stored.{stored, entry_behind}
 use Rattle.auction_core.specs.Struck.{struck_of}

@@ -1,0 +1,10 @@
+-- What is so of the notes of a pass.
+use Rattle.std.specs.Prelude.{◌≡◌, ℕ, ◌≤◌, List, take}
+use mathlib.Core.Option.{some}
+use lib.ListN.{get_elem?}
+use Rattle.tac_base.specs.declared.calls.Board.{Board}
+
+module _ {E : Type 0} where
+  -- each note, a count and a board, is of a prefix of the history: the count is its length, at most `seen`, and the board is its board
+  abbrev pub AreNotes : (List E → Board) → List E → ℕ → List (ℕ × Board) → Type 0
+  AreNotes board history seen notes = (k : ℕ) (n : ℕ × Board) → get_elem? notes k ≡ some n → (n.0 ≤ seen) × (n.1 ≡ board (take n.0 history))
