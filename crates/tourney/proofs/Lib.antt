@@ -7,4 +7,6 @@ pub mod Scores
 pub mod Seats
 pub mod LowestTerms
 pub mod TeamRows
+pub mod OneAverage
+pub mod OneText
 pub mod Worked

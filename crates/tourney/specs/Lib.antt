@@ -1,3 +1,4 @@
 pub mod Standings
 pub mod Rows
 pub mod Tallies
+pub mod StandingsTexts

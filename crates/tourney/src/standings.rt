@@ -111,6 +111,15 @@ impl Standings {
         })
     }
 
+    /// How many games there were, 0..64.
+    pub fn games(&self) -> u8
+        ensures stands { (played : List (GameFile × LoggedGame)) → StandsFor self.now played → result ≡ length played }
+        ensures few { result ≤ 64 }
+        ensures kept { result ≡ self.now.games }
+    {
+        self.games
+    }
+
     /// The row of the team at a place.
     #[tactic(auto, using(crate::proofs::Ranges::all_ranged))]
     fn row(&self, place: usize) -> TeamRow
