@@ -1,2 +1,4 @@
 pub mod Writing
 pub mod TradedGoods
+pub mod RangedHistories
+pub mod RangedSheets

@@ -5,3 +5,4 @@ pub use Rattle.log_text.specs.LoggedSheet
 pub mod Written
 pub mod SheetWritten
 pub mod ScoredGames
+pub mod LogRanges
