@@ -10,6 +10,7 @@ use Rattle.game_log.specs.LogText.{play_part}
 use Rattle.game_log.specs.SheetText.{sheet_part}
 use Rattle.game_log.specs.ScoredGames.{IsSheetOf}
 use Rattle.game_log.specs.SheetWritten.{WritesSheet}
+use Rattle.game_log.specs.LogRanges.{IsShowable}
 use Rattle.line_protocol.specs.Heads.{Play}
 use Rattle.game_log.specs.declared.fault.LogWriteFault.TheVariants as log
 use Rattle.game_log.proofs.Writing.{some_after}
@@ -69,6 +70,7 @@ is_play_out game script lines played sheet good has scores = record {
   sheet = sheet;
   scores = sheet_due game lines played sheet has scores;
   due = play_due game lines played sheet has;
+  shown = subst (IsShowable game Play) has.closed has.shown;
 }
 
 -- the sheet was not written whole, after the first part

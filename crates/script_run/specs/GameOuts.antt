@@ -9,6 +9,7 @@ use Rattle.score_sheet.specs.Sheets.{Scored}
 use Rattle.game_log.specs.LogText.{play_part}
 use Rattle.game_log.specs.SheetText.{sheet_part}
 use Rattle.game_log.specs.ScoredGames.{IsSheetOf}
+use Rattle.game_log.specs.LogRanges.{IsShowable}
 use Rattle.game_log.specs.Written.{IsUntouched}
 use Rattle.line_protocol.specs.Heads.{Play}
 use Rattle.script_run.specs.declared.game_lines.GameLine.{GameLine}
@@ -40,13 +41,14 @@ pub record IsBadScript (script : List ℕ) (line reason : ℕ) : Type 0 where
   pub within : length script ≤ TEXT_BYTES
   pub bad : game_script script ≡ Err (line, reason)
 
--- the text of a game by a script, with some sheet of the game
+-- the text of a game by a script, with some sheet of the game, whose numbers are those that a log can show
 pub record IsPlayOut (game : GameFile) (script text : List ℕ) : Type 0 where
   pub lines : List GameLine
   pub good : IsGoodScript script lines
   pub sheet : List Scored
   pub scores : IsSheetOf game (closed_game game lines) sheet
   pub due : text ≡ play_out game lines sheet
+  pub shown : IsShowable game Play (closed_game game lines)
 
 -- the text of a game by a script, without its sheet
 pub record IsFirstOut (game : GameFile) (script text : List ℕ) : Type 0 where

@@ -4,11 +4,11 @@ use Rattle.tac_io.specs.Counts.{Rose}
 use Rattle.tac_io.specs.Told.{and_then_told, TakesSome}
 use Rattle.game_text.specs.Games.{GameFile}
 use Rattle.tac_base.specs.declared.limits.TheConstants.{TEXT_BYTES}
-use Rattle.auction_core.specs.ClosedGame.{ClosedGame}
 use Rattle.score_sheet.specs.Sheets.{Scored}
 use Rattle.game_log.specs.LogText.{play_part}
 use Rattle.game_log.specs.SheetText.{sheet_part}
 use Rattle.game_log.specs.ScoredGames.{IsSheetOf}
+use Rattle.game_log.specs.LogRanges.{IsShowable}
 use Rattle.line_protocol.specs.Heads.{Play}
 use Rattle.script_run.specs.declared.game_lines.GameLine.{GameLine}
 use Rattle.script_run.specs.declared.fault.ScriptFault.{ScriptFault}
@@ -17,10 +17,11 @@ use Rattle.script_run.specs.declared.playing.Played.{Played}
 use Rattle.script_run.specs.OneThreadRun.{replies}
 use Rattle.script_run.specs.GameOuts.{closed_game, IsGoodScript, IsBadScript}
 
--- the game by these lines was played to its end
+-- the game by these lines was played to its end, and a log can show it
 pub record HasPlayed (game : GameFile) (lines : List GameLine) (played : Played) : Type 0 where
   pub replies : played.replies.items ≡ replies game lines
   pub closed : played.closed ≡ closed_game game lines
+  pub shown : IsShowable game Play played.closed
 
 -- the game of a script was played to its end, or the script is refused
 abbrev pub PlaysToEnd : GameFile → List ℕ → Result Played ScriptFault → Type 0

@@ -10,7 +10,7 @@ use crate::fault::{QuietFault, ScriptFault, ScriptReason};
 use crate::game_run::GameRun;
 use crate::play_count::{PlayCount, counted};
 use auction_core::Closed;
-use game_log::{LogHead, LogWriteFault, score_game, write_play_part, write_scores};
+use game_log::{LogHead, LogWriteFault, log_ranges, score_game, write_play_part, write_scores};
 use game_text::Game;
 use score_sheet::Sheet;
 use std::alloc::Global;
@@ -61,6 +61,7 @@ fn play_to_end(alloc: Global, game: &Game, script: &[u8]) -> Result<Played, Scri
     match play_lines(alloc, game, script) {
         Ok(run) => {
             let (replies, closed) = run.close();
+            log_ranges(game, &LogHead::Play, &closed);
             Ok(Played { replies, closed })
         }
         Err(fault) => Err(fault),
