@@ -42,7 +42,7 @@ fn whole(before: u32, cause: Cause) -> u32
 }
 
 /// Welcomes the link of an agent, and answers each of its lines with one, until it leaves, ends, fails or comes to a limit. The limits and
-/// the causes are our own. It may wait for the link and for turns, and takes no memory.
+/// the causes are our own. It may wait for the link and for turns, and takes no memory but in reading a request.
 pub fn run_session<R: Wait + Clock, L: Link, D: Dialect>(
     rt: &R,
     floor: &Floor,

@@ -1,57 +1,30 @@
 -- What a desk's entries show of a list of calls, each of a good.
-use Rattle.std.proofs.Common.{◌≡◌, ◌≢◌, ℕ, suc, ◌+◌, ◌==◌, ◌≤◌, ◌<◌, Bool, true, false, cond, List, [], ◌∷◌, ◌++◌, length, map, get_or, slice_index_or, slice_set, refl, sym, ap, ◌∙◌, arith, subst, append-nil}
+use Rattle.std.proofs.Common.{◌≡◌, ℕ, suc, ◌+◌, ◌==◌, ◌≤◌, ◌<◌, Bool, cond, List, [], ◌∷◌, ◌++◌, length, map, get_or, slice_index_or, sym, ap, ◌∙◌, arith}
 use Rattle.std.specs.Prelude.{filter, count_by, nat_le}
 use Rattle.std.specs.List.{sum_by}
-use Rattle.std.proofs.lemmas.List.{length-map, map-append, get_or-set_same, get_or-set_other}
-use Rattle.std.proofs.lemmas.List.Elements.{filter-append}
+use Rattle.std.proofs.lemmas.List.{length-map}
 use Rattle.std.proofs.lemmas.List.Sums.{sum_by-cons, length-filter, count_by-le-length}
 use Rattle.std.proofs.lemmas.Bool.Decides.{nat_tests}
 use Rattle.tac_base.specs.declared.calls.Call.{Call}
 use Rattle.auction_rules.specs.History.{Entry}
+use Rattle.floor.specs.declared.desk.Desk.{Desk}
+use Rattle.floor.specs.Desks.{calls_of, entries_of}
+use Rattle.floor.specs.Keeping.{calls_of_good}
+use Rattle.floor.proofs.CallLists.{calls_of_good-append}
 use Rattle.clock_events.proofs.GoodCounts.{count-cons}
 
 abbrev of : ℕ → ℕ × Call → Bool
 of good call = call.0 == good
 
--- the calls of a good among calls
-abbrev pub calls_of_good : List (ℕ × Call) → ℕ → List Call
-calls_of_good calls good = map (λ call. call.1) (filter (λ call. call.0 == good) calls)
-
 -- the entries of the goods are those of these calls, in order
 abbrev pub AreMade : List (ℕ × Call) → List (List (ℕ × Entry)) → Type 0
 AreMade calls entries = (good : ℕ) → good < 28 → map (λ p. p.1.call) (slice_index_or entries good []) ≡ calls_of_good calls good
 
--- ---- one call more
-
-calls-more : (calls : List (ℕ × Call)) (good : ℕ) (call : Call) (other : ℕ) → calls_of_good (calls ++ (good, call) ∷ []) other ≡ calls_of_good calls other ++ cond (good == other) (call ∷ []) []
-calls-more calls good call other =
-    ap (map (λ c. c.1)) (filter-append (of other) calls ((good, call) ∷ []))
-    ∙ map-append (λ c. c.1) (filter (of other) calls) (filter (of other) ((good, call) ∷ []))
-    ∙ ap (λ more. calls_of_good calls other ++ more) (by_test (good == other))
-  where
-    by_test : (b : Bool) → map (λ (c : ℕ × Call). c.1) (cond b ((good, call) ∷ []) []) ≡ cond b (call ∷ []) []
-    by_test true = refl
-    by_test false = refl
-
-pub made_more : (calls : List (ℕ × Call)) (entries entries' : List (List (ℕ × Entry))) (good : ℕ) (call : Call) (position : ℕ) (entry : Entry) → AreMade calls entries → good < length entries → entry.call ≡ call
-    → entries' ≡ slice_set entries good (slice_index_or entries good [] ++ (position, entry) ∷ []) → AreMade (calls ++ (good, call) ∷ []) entries'
-made_more calls entries entries' good call position entry made within is e other low =
-    ap (λ rows. map (λ p. p.1.call) (slice_index_or rows other [])) e ∙ by_test (good == other) refl ∙ sym (calls-more calls good call other)
-  where
-    row : List (ℕ × Entry)
-    row = slice_index_or entries good [] ++ (position, entry) ∷ []
-
-    by_test : (b : Bool) → (good == other) ≡ b → map (λ p. p.1.call) (slice_index_or (slice_set entries good (slice_index_or entries good [] ++ (position, entry) ∷ [])) other []) ≡ calls_of_good calls other ++ cond b (call ∷ []) []
-    by_test true here =
-        let same : good ≡ other = grind (arith, nat_tests, here) in
-        subst (λ g. g < 28 → map (λ p. p.1.call) (slice_index_or (slice_set entries good (slice_index_or entries good [] ++ (position, entry) ∷ [])) g []) ≡ calls_of_good calls g ++ call ∷ []) same
-        (λ under. ap (map (λ p. p.1.call)) (get_or-set_same entries good (slice_index_or entries good [] ++ (position, entry) ∷ []) [] within)
-        ∙ map-append (λ p. p.1.call) (slice_index_or entries good []) ((position, entry) ∷ [])
-        ∙ ap (λ xs. xs ++ entry.call ∷ []) (made good under) ∙ ap (λ c. calls_of_good calls good ++ c ∷ []) is) low
-    by_test false here =
-        let apart : other ≢ good = grind (arith, nat_tests, here) in
-        ap (map (λ p. p.1.call)) (get_or-set_other entries good other (slice_index_or entries good [] ++ (position, entry) ∷ []) [] apart)
-        ∙ made other low ∙ sym (append-nil (calls_of_good calls other))
+-- a desk that had made some calls, and then these in order
+pub made_after : (before calls : List (ℕ × Call)) (d d' : Desk) → AreMade before (entries_of d) → calls_of d' ≡ calls_of d ++ calls → AreMade (before ++ calls) (entries_of d')
+made_after before calls d d' made grew good low =
+    d'.listed.each good low ∙ ap (λ all. calls_of_good all good) grew ∙ calls_of_good-append (calls_of d) calls good
+    ∙ ap (λ l. l ++ calls_of_good calls good) (sym (d.listed.each good low) ∙ made good low) ∙ sym (calls_of_good-append before calls good)
 
 -- ---- how many entries there are
 

@@ -80,19 +80,15 @@ module _ (game : GameFile) where
         let rest = length-drop n (calls_at game tick) in
         omega (arith, whole, parts, later, rest, left)
 
-  -- one call more of a tick
-  pub one_more : (tick n good : ℕ) (call : Call) → slice_get (calls_at game tick) n ≡ Some (good, call)
-      → (flat_map (calls_at game) (take (tick - 1) ticks) ++ take n (calls_at game tick)) ++ (good, call) ∷ [] ≡ flat_map (calls_at game) (take (tick - 1) ticks) ++ take (n + 1) (calls_at game tick)
-  one_more tick n good call at =
-      append_assoc (flat_map (calls_at game) (take (tick - 1) ticks)) (take n (calls_at game tick)) ((good, call) ∷ [])
-      ∙ ap (λ calls. flat_map (calls_at game) (take (tick - 1) ticks) ++ calls)
-      (ap (λ c. take n (calls_at game tick) ++ c ∷ []) (sym (get_or_from_slice_get (calls_at game tick) n (good, call) (good, call) at))
-      ∙ sym (take-suc (calls_at game tick) n (good, call) (slice_get_within (calls_at game tick) n (good, call) at)) ∙ ap (λ k. take k (calls_at game tick)) (suc_is n))
+module _ {A : Type 0} where
+  -- one element more from the front
+  pub one_more : (xs : List A) (n : ℕ) (x : A) → slice_get xs n ≡ Some x → take n xs ++ x ∷ [] ≡ take (n + 1) xs
+  one_more xs n x at =
+      ap (λ y. take n xs ++ y ∷ []) (sym (get_or_from_slice_get xs n x x at)) ∙ sym (take-suc xs n x (slice_get_within xs n x at)) ∙ ap (λ k. take k xs) (suc_is n)
     where
       suc_is : (k : ℕ) → suc k ≡ k + 1
       suc_is k = omega arith
 
-module _ {A : Type 0} where
   pub all_taken : (xs : List A) (n : ℕ) → slice_get xs n ≡ None → take n xs ≡ xs
   all_taken [] zero past = refl
   all_taken [] (suc n) past = refl

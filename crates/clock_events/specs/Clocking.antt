@@ -1,5 +1,5 @@
 -- What the clock's desk made of the schedule, and what was waited for.
-use Rattle.std.specs.Prelude.{◌≡◌, ℕ, ◌<◌, ◌==◌, List, Bool, Option, filter, map, take}
+use Rattle.std.specs.Prelude.{◌≡◌, ℕ, ◌<◌, List, Bool, Option, map, take}
 use Rattle.std.specs.List.{count_by, flat_map}
 use Rattle.tac_base.specs.declared.calls.Call.{Call}
 use Rattle.game_text.specs.Games.{GameFile}
@@ -7,11 +7,12 @@ use Rattle.tac_io.specs.Counts.{Rose}
 use Rattle.tac_io.specs.Told.{and_then_told}
 use Rattle.floor.specs.declared.desk.Desk.{Desk}
 use Rattle.floor.specs.Desks.{entries_at}
+use Rattle.floor.specs.Keeping.{calls_of_good}
 use Rattle.game_text.specs.Schedule.{calls_at, ticks}
 
 -- the calls of a good at the first `count` ticks
 abbrev pub calls_until : GameFile → ℕ → ℕ → List Call
-calls_until game count good = map (λ call. call.1) (filter (λ call. call.0 == good) (flat_map (calls_at game) (take count ticks)))
+calls_until game count good = calls_of_good (flat_map (calls_at game) (take count ticks)) good
 
 -- the desk made the calls of the first `count` ticks, of each good in order, and no others
 abbrev pub HasMade : GameFile → ℕ → Desk → Type 0

@@ -1,11 +1,12 @@
 // The clock of a game, over a ticker.
-ghost use Rattle.std.specs.Prelude.{◌≡◌, ◌<◌, [], ◌∷◌, ◌-◌, ℕ, length, map, replicate, IfSome, MatchBool};
+ghost use Rattle.std.specs.Prelude.{◌≡◌, ◌<◌, [], ◌∷◌, ◌++◌, ◌-◌, ℕ, length, map, replicate, IfSome, MatchBool};
 ghost use Rattle.floor.specs.Answers.{IsSameDesk};
-ghost use Rattle.floor.specs.Desks.{boards_of, cash_of, desk_caller, desk_ids, entries_at, entries_of};
+ghost use Rattle.floor.specs.Desks.{boards_of, calls_of, cash_of, desk_caller, desk_ids, entries_at, entries_of};
 ghost use Rattle.floor.specs.Floors.{floor_ids};
 ghost use Rattle.tac_io.specs.Counts.{Rose};
 ghost use Rattle.tac_io.specs.Told.{and_then_told};
 ghost use Rattle.clock_events.specs.Clocking.{HasMade, HasMissedCause, WaitsForAll};
+ghost use Rattle.game_text.specs.Schedule as spec;
 ghost use Rattle.game_text.specs.Schedule.{clock_calls};
 
 use crate::{schedule, schedule_law};
@@ -26,7 +27,7 @@ pub struct ClockEnd {
     pub missed: u8,
 }
 
-/// Makes the clock's calls of a tick, whose due it takes. It may wait for turns.
+/// Makes the clock's calls of a tick, whose due it takes, in the schedule's order, and no other call. It may wait for turns.
 pub fn clock_tick<R: Wait + Clock, T: Ticker>(
     rt: &R,
     floor: &Floor,
@@ -39,6 +40,7 @@ pub fn clock_tick<R: Wait + Clock, T: Ticker>(
     requires own { desk_ids desk.old ≡ floor_ids floor.now }
     requires clock { desk_caller desk.old ≡ 8 }
     requires before { HasMade game.now (tick - 1) desk.old }
+    ensures calls { calls_of desk.new ≡ calls_of desk.old ++ spec.calls_at game.now tick }
     ensures made { HasMade game.now tick desk.new }
     ensures boards { boards_of desk.new ≡ boards_of desk.old }
     ensures same { IsSameDesk desk.old desk.new }
@@ -68,8 +70,9 @@ fn wait_for<R: Wait + Clock, T: Ticker>(rt: &R, ticker: &mut T, tick: Tick) -> (
     }
 }
 
-/// Waits for each of the 54 ticks in turn, and makes its calls. The calls of a tick that lapsed are made at once, and the next one is
-/// waited for again. That a tick's calls are made before the next wait, no clause says. It takes no memory.
+/// Waits for each of the 54 ticks in turn, and makes its calls: in all the schedule of the game from its first call to its last, in
+/// that order across the goods, and no other call. The calls of a tick that lapsed are made at once, and the next one is waited for
+/// again. That a tick's calls are made before the next wait, no clause says. It takes no memory.
 pub fn run_clock<R: Wait + Clock, T: Ticker>(
     rt: &R,
     floor: &Floor,
@@ -81,6 +84,7 @@ pub fn run_clock<R: Wait + Clock, T: Ticker>(
     requires clock { desk_caller desk ≡ 8 }
     requires no_calls { (entries_of desk ≡ replicate 28 []) × (cash_of desk ≡ []) }
     requires ticks { IfSome (T.waited ticker.old) (λ ticks. ticks ≡ []) }
+    ensures calls { calls_of result.desk ≡ spec.schedule game.now }
     ensures made { HasMade game.now TICKS result.desk }
     ensures whole { (good : ℕ) → good < 28 → map (λ p. p.1.call) (entries_at result.desk good) ≡ clock_calls game.now good }
     ensures boards { boards_of result.desk ≡ boards_of desk }

@@ -18,6 +18,7 @@ use Rattle.floor.specs.Desks.{IsNewDesk}
 use Rattle.floor.proofs.Tables.{with_each_at}
 use Rattle.floor.proofs.Desks.{kept_first, kept_as}
 use Rattle.floor.proofs.Orders.{order_as, order_first}
+use Rattle.floor.proofs.CallLists.{listed_as, listed_first, none_listed}
 
 -- how many calls each caller may make
 pub calls_are : (i : ℕ) → i < 9 → get_or (1024 ∷ 1024 ∷ 1024 ∷ 1024 ∷ 1024 ∷ 1024 ∷ 1024 ∷ 1024 ∷ 64 ∷ []) i 0 ≡ cap i
@@ -90,6 +91,7 @@ module _ {S C R G T D Q H : Type 0} {K : Ghosts S C R G Entry} {L : Ghosts T D Q
     kept_as (kept_first i) one.caller_is
         (fresh.callers ∙ ap (λ (n : ℕ). replicate n i) long) (fresh.lefts ∙ ap (λ (n : ℕ). replicate n (cap i)) long) (fresh.made ∙ ap (λ (n : ℕ). replicate n []) long) one.left_is one.made refl,
     order_as order_first (fresh.made ∙ ap (λ (n : ℕ). replicate n []) long) (fresh.noted ∙ ap (λ (n : ℕ). replicate n []) long) (fresh.seen ∙ ap (λ (n : ℕ). replicate n 0) long),
+    listed_as listed_first (fresh.made ∙ ap (λ (n : ℕ). replicate n []) long) refl,
   )
 
 pub new_desk : (d : Desk) (i : ℕ) (ids : List (LockId AuctionHistory)) (id : LockId (List CashEntry)) → length ids ≡ 28 → IsFresh ids i (cap i) d.passes.items → IsFreshPass id i (cash_cap i) d.cash → IsNewDesk (ids, id) i d
@@ -97,6 +99,7 @@ new_desk d i ids id long fresh one = record {
   ids = λ k. (fresh.locks k, one.lock k);
   caller = one.caller_is;
   entries = fresh.made ∙ ap (λ (n : ℕ). replicate n []) long;
+  calls = none_listed (map (λ p. made_by p) d.passes.items) d.calls.items (fresh.made ∙ ap (λ (n : ℕ). replicate n []) long) d.listed;
   cash = one.made;
   boards = fresh.noted ∙ ap (λ (n : ℕ). replicate n []) long;
   seen = fresh.seen ∙ ap (λ (n : ℕ). replicate n 0) long;

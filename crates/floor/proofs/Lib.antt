@@ -4,6 +4,7 @@ pub mod Posts
 pub mod CashReplies
 pub mod Desks
 pub mod Orders
+pub mod CallLists
 pub mod FreshPasses
 pub mod BornOut
 pub mod Told

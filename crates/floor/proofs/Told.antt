@@ -1,7 +1,9 @@
 -- What the desks' passes left at the locks, and that it is so of the closed game.
 use Rattle.std.proofs.Common.{◌≡◌, ℕ, zero, suc, ◌<◌, ◌≤◌, List, [], ◌∷◌, ◌++◌, map, fold, length, get_or, replicate, refl, sym, ap, ◌∙◌, subst, arith}
 use Rattle.std.proofs.lemmas.List.{length-map, get_or-replicate}
-use Rattle.std.specs.List.{AllByRecursion}
+use Rattle.std.specs.List.{AllByRecursion, Contains}
+use Rattle.std.specs.List.Sorted.{IsPermutation}
+use Rattle.std.proofs.lemmas.List.Sorted.{Contains-permutation}
 use mathlib.Core.Option.{some, some-injective}
 use lib.ListN.{get_elem?}
 use Rattle.atomic_table.proofs.Lists.{at_map}
@@ -101,16 +103,16 @@ module _ (desks : List Desk) (auctions : List AuctionHistory) (cash : List CashE
         subst (AreNotes (board_of a) a.history (length a.history)) (ap (λ (r : Returned Entry). r.notes) left ∙ is) (known good a at_a k (told d good) (at_map (λ x. told x good) desks k d at)).1);
   }
 
-  nine_callers : (c : ℕ) → c ≤ 8 → get_elem? (0 ∷ 1 ∷ 2 ∷ 3 ∷ 4 ∷ 5 ∷ 6 ∷ 7 ∷ 8 ∷ []) c ≡ some c
-  nine_callers zero low = refl
-  nine_callers (suc zero) low = refl
-  nine_callers (suc (suc zero)) low = refl
-  nine_callers (suc (suc (suc zero))) low = refl
-  nine_callers (suc (suc (suc (suc zero)))) low = refl
-  nine_callers (suc (suc (suc (suc (suc zero))))) low = refl
-  nine_callers (suc (suc (suc (suc (suc (suc zero)))))) low = refl
-  nine_callers (suc (suc (suc (suc (suc (suc (suc zero))))))) low = refl
-  nine_callers (suc (suc (suc (suc (suc (suc (suc (suc zero)))))))) low = refl
+  nine_callers : (c : ℕ) → c ≤ 8 → Contains (0 ∷ 1 ∷ 2 ∷ 3 ∷ 4 ∷ 5 ∷ 6 ∷ 7 ∷ 8 ∷ []) c
+  nine_callers zero low = (0, omega arith, refl)
+  nine_callers (suc zero) low = (1, omega arith, refl)
+  nine_callers (suc (suc zero)) low = (2, omega arith, refl)
+  nine_callers (suc (suc (suc zero))) low = (3, omega arith, refl)
+  nine_callers (suc (suc (suc (suc zero)))) low = (4, omega arith, refl)
+  nine_callers (suc (suc (suc (suc (suc zero))))) low = (5, omega arith, refl)
+  nine_callers (suc (suc (suc (suc (suc (suc zero)))))) low = (6, omega arith, refl)
+  nine_callers (suc (suc (suc (suc (suc (suc (suc zero))))))) low = (7, omega arith, refl)
+  nine_callers (suc (suc (suc (suc (suc (suc (suc (suc zero)))))))) low = (8, omega arith, refl)
   nine_callers (suc (suc (suc (suc (suc (suc (suc (suc (suc c))))))))) low = absurd (omega arith)
 
   histories_of : (all : List AuctionHistory) (c : ℕ) → parts_of (map (λ a. a.history) all) c ≡ map (λ a. part who a.history c) all
@@ -118,12 +120,12 @@ module _ (desks : List Desk) (auctions : List AuctionHistory) (cash : List CashE
   histories_of (a ∷ all) c = ap (λ (l : List (List (ℕ × Entry))). part who a.history c ∷ l) (histories_of all c)
 
   -- the posts of each desk are those that are due to its own entries; so the whole cash history is matched
-  pub all_matched : map (λ d. desk_caller d) desks ≡ 0 ∷ 1 ∷ 2 ∷ 3 ∷ 4 ∷ 5 ∷ 6 ∷ 7 ∷ 8 ∷ [] → ((good : ℕ) (a : AuctionHistory) → get_elem? auctions good ≡ some a → Legal a.setup a.history)
+  pub all_matched : IsPermutation (0 ∷ 1 ∷ 2 ∷ 3 ∷ 4 ∷ 5 ∷ 6 ∷ 7 ∷ 8 ∷ []) (map (λ d. desk_caller d) desks) → ((good : ℕ) (a : AuctionHistory) → get_elem? auctions good ≡ some a → Legal a.setup a.history)
       → AllByRecursion (λ (e : CashEntry). e.caller ≤ 8) cash → Matched (map (λ a. a.history) auctions) cash
   all_matched callers legal called = matched_by_parts (map (λ a. a.history) auctions) cash (called_by_place auctions (λ good a at. (legal good a at).called)) called
       (λ c low.
-      let nine : length desks ≡ 9 = sym (length-map desks (λ d. desk_caller d)) ∙ ap length callers in
-      let here = at_some desks c (omega arith) in let d = here.0 in let borne = borne_out c d here.1 in
-      let is : desk_caller d ≡ c = some-injective (desk_caller d) c (sym (at_map (λ x. desk_caller x) desks c d here.1) ∙ (ap (λ (l : List ℕ). get_elem? l c) callers ∙ nine_callers c low)) in
+      let found = Contains-permutation _ (map (λ x. desk_caller x) desks) c callers (nine_callers c low) in
+      let here = at_some desks found.0 (omega (arith, found.1, length-map desks (λ x. desk_caller x))) in let d = here.0 in let borne = borne_out found.0 d here.1 in
+      let is : desk_caller d ≡ c = sym (get_or_place (map (λ x. desk_caller x) desks) found.0 (desk_caller d) c (at_map (λ x. desk_caller x) desks found.0 d here.1)) ∙ found.2 in
       let entries : entries_of d ≡ parts_of (map (λ a. a.history) auctions) c = borne.entries ∙ (ap (λ (j : ℕ). map (λ a. part who a.history j) auctions) is ∙ sym (histories_of auctions c)) in
-      subst (λ (t : List (ℕ × CashEntry) × List (List (ℕ × Entry))). HoldSame (posts_of (map (λ p. p.1) t.0)) (due_posts t.1)) (λ i. ((cash_known c d here.1 ∙ ap (part by cash) is) i, entries i)) d.kept.posted)
+      subst (λ (t : List (ℕ × CashEntry) × List (List (ℕ × Entry))). HoldSame (posts_of (map (λ p. p.1) t.0)) (due_posts t.1)) (λ i. ((cash_known found.0 d here.1 ∙ ap (part by cash) is) i, entries i)) d.kept.posted)

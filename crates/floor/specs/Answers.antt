@@ -22,21 +22,22 @@ use Rattle.floor.specs.declared.outcomes.Outcome.TheVariants.{At, Spent}
 use Rattle.floor.specs.declared.outcomes.CashOutcome.{CashOutcome}
 use Rattle.floor.specs.declared.outcomes.CashOutcome.TheVariants as cash_outcomes
 use Rattle.floor.specs.Keeping.{Adds, count_readings}
-use Rattle.floor.specs.Desks.{desk_ids, desk_caller, setup_at, entries_of, entries_at, cash_of, boards_of, boards_at, seen_of, seen_at}
+use Rattle.floor.specs.Desks.{desk_ids, desk_caller, setup_at, entries_of, entries_at, calls_of, cash_of, boards_of, boards_at, seen_of, seen_at}
 
 -- the desk is of the same locks, and of the same caller
 abbrev pub IsSameDesk : Desk → Desk → Type 0
 IsSameDesk before after = (desk_ids after ≡ desk_ids before) × (desk_caller after ≡ desk_caller before)
 
--- a call at a good was answered at a position: the desk has one entry more there, and at the other goods as before; the post that is
--- due to that entry was made; and the position is not below what the desk had seen there. The entry is the one that the rules give
--- after the entries before it, of which the desk's own are those that it had made
+-- a call at a good was answered at a position: the desk has one entry more there, and at the other goods as before; its list of calls
+-- goes on with this one; the post that is due to that entry was made; and the position is not below what the desk had seen there. The
+-- entry is the one that the rules give after the entries before it, of which the desk's own are those that it had made
 pub record IsAnswered (before after : Desk) (good : ℕ) (asked : Call) (position : ℕ) (answered : Reply) : Type 0 where
   pub entry : Entry
   pub caller : entry.caller ≡ desk_caller before
   pub call : entry.call ≡ asked
   pub reply : entry.reply ≡ answered
   pub entries : entries_of after ≡ slice_set (entries_of before) good (entries_at before good ++ (position, entry) ∷ [])
+  pub calls : calls_of after ≡ calls_of before ++ (good, asked) ∷ []
   pub posts : Adds (cash_of before) (cash_of after) (due_post good position entry)
   pub seen_before : seen_at before good ≤ position
   pub seen : seen_of after ≡ slice_set (seen_of before) good (position + 1)
@@ -66,6 +67,7 @@ TakesLawfulBid before after good points (At position reply) = (told : IsAnswered
 pub record IsRead (before after : Desk) (position : ℕ) (entry : CashEntry) : Type 0 where
   pub cash : cash_of after ≡ cash_of before ++ (position, entry) ∷ []
   pub entries : entries_of after ≡ entries_of before
+  pub calls : calls_of after ≡ calls_of before
   pub seen : seen_of after ≡ seen_of before
   pub boards : boards_of after ≡ boards_of before
   pub same : IsSameDesk before after
@@ -82,6 +84,7 @@ pub record IsSeen (before after : Desk) (good : ℕ) (board : Board) : Type 0 wh
   pub seen_before : seen_at before good ≤ board.count
   pub seen : seen_of after ≡ slice_set (seen_of before) good board.count
   pub entries : entries_of after ≡ entries_of before
+  pub calls : calls_of after ≡ calls_of before
   pub cash : cash_of after ≡ cash_of before
   pub same : IsSameDesk before after
 

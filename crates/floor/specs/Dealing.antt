@@ -6,7 +6,7 @@ use Rattle.turn_lock.specs.declared.kept.Kept.{Ghosts}
 use Rattle.turn_lock.specs.declared.pass.Pass.{Pass}
 use Rattle.auction_rules.specs.History.{Entry}
 use Rattle.trade_ledger.specs.declared.cash_calls.CashEntry.{CashEntry}
-use Rattle.floor.specs.Keeping.{IsKept, AreInOrder}
+use Rattle.floor.specs.Keeping.{IsKept, AreInOrder, AreListed}
 use Rattle.turn_lock.specs.Passes.{LockId, lock_of, caller_of, left_of, made_by, noted_by, seen_by}
 
 module _ {S C R G E : Type 0} {K : Ghosts S C R G E} where
@@ -24,7 +24,8 @@ module _ {S C R G E : Type 0} {K : Ghosts S C R G E} where
   AreFresh ids left hands = (caller : ℕ) (passes : List (Pass S C R G E K)) → get_elem? hands caller ≡ some passes → IsFresh ids caller (left caller) passes
 
 module _ {S C R G T D Q H : Type 0} {K : Ghosts S C R G Entry} {L : Ghosts T D Q H CashEntry} where
-  -- passes of auctions and a pass of the cash book are those of one desk that made no reading
+  -- passes of auctions and a pass of the cash book are those of one desk that made no call and no reading
   abbrev pub MakeDesk : List (Pass S C R G Entry K) → Pass T D Q H CashEntry L → Type 0
   MakeDesk passes cash = IsKept (caller_of cash) (map (λ p. caller_of p) passes) (map (λ p. left_of p) passes) (map (λ p. made_by p) passes) (left_of cash) (made_by cash) 0
       × AreInOrder (map (λ p. made_by p) passes) (map (λ p. noted_by p) passes) (map (λ p. seen_by p) passes)
+      × AreListed (map (λ p. made_by p) passes) []

@@ -2,6 +2,7 @@
 use Rattle.std.specs.Prelude.{◌≡◌, ℕ, List, [], map, replicate, slice_index_or, slice_get, Option, option_and_then}
 use Rattle.std.specs.Option.{option_map}
 use Rattle.tac_base.specs.declared.calls.Board.{Board}
+use Rattle.tac_base.specs.declared.calls.Call.{Call}
 use Rattle.auction_rules.specs.History.{Entry}
 use Rattle.auction_rules.specs.Setup.{Setup}
 use Rattle.auction_core.specs.Auctions.{AuctionHistory}
@@ -28,6 +29,10 @@ entries_of d = map (λ p. made_by p) d.passes.items
 abbrev pub entries_at : Desk → ℕ → List (ℕ × Entry)
 entries_at d good = slice_index_or (entries_of d) good []
 
+-- its calls of auctions so far with their goods, in the order in which it made them
+abbrev pub calls_of : Desk → List (ℕ × Call)
+calls_of d = d.calls.items
+
 -- its own entries of the cash history so far, each with its position
 abbrev pub cash_of : Desk → List (ℕ × CashEntry)
 cash_of d = made_by d.cash
@@ -51,6 +56,7 @@ pub record IsNewDesk (floor : List (LockId AuctionHistory) × LockId (List CashE
   pub ids : desk_ids d ≡ floor
   pub caller : desk_caller d ≡ number
   pub entries : entries_of d ≡ replicate 28 []
+  pub calls : calls_of d ≡ []
   pub cash : cash_of d ≡ []
   pub boards : boards_of d ≡ replicate 28 []
   pub seen : seen_of d ≡ replicate 28 0

@@ -1,8 +1,9 @@
 -- What is so of every desk and every floor.
-use Rattle.std.specs.Prelude.{◌≡◌, ℕ, ◌+◌, ◌<◌, ◌≤◌, not, List, map, length, replicate, count_by, sum_by, slice_index_or, [], ◌++◌, All}
+use Rattle.std.specs.Prelude.{◌≡◌, ℕ, ◌+◌, ◌==◌, ◌<◌, ◌≤◌, not, List, filter, map, length, replicate, count_by, sum_by, slice_index_or, [], ◌++◌, All}
 use Rattle.std.specs.List.Sorted.{IsStrictlyIncreasing}
 use Rattle.tac_base.specs.declared.limits.TheConstants.{CASH_READINGS}
 use Rattle.tac_base.specs.declared.calls.Board.{Board}
+use Rattle.tac_base.specs.declared.calls.Call.{Call}
 use Rattle.auction_rules.specs.History.{Entry}
 use Rattle.tac_base.specs.Goods.{clock}
 use Rattle.auction_rules.specs.Legal.{cap}
@@ -49,6 +50,15 @@ pub record IsInOrder (entries : List (ℕ × Entry)) (boards : List (ℕ × Boar
 pub record AreInOrder (entries : List (List (ℕ × Entry))) (boards : List (List (ℕ × Board))) (seen : List ℕ) : Type 0 where
   pub goods : length entries ≡ 28
   pub each : (good : ℕ) → good < 28 → IsInOrder (slice_index_or entries good []) (slice_index_or boards good []) (slice_index_or seen good 0)
+
+-- the calls of a good among calls with their goods, in order
+abbrev pub calls_of_good : List (ℕ × Call) → ℕ → List Call
+calls_of_good calls good = map (λ call. call.1) (filter (λ call. call.0 == good) calls)
+
+-- a desk's list of its calls has those of its entries, of each of the 28 goods in order, and no others
+pub record AreListed (entries : List (List (ℕ × Entry))) (calls : List (ℕ × Call)) : Type 0 where
+  pub goods : All (λ call. call.0 < 28) calls
+  pub each : (good : ℕ) → good < 28 → map (λ p. p.1.call) (slice_index_or entries good []) ≡ calls_of_good calls good
 
 -- the goods of auctions in order
 abbrev pub goods_of : List AuctionHistory → List ℕ

@@ -1,7 +1,8 @@
 ghost use Rattle.std.specs.Prelude.{◌≡◌, ◌≤◌, map};
 ghost use Rattle.turn_lock.specs.Passes.{caller_of, left_of, made_by, noted_by, seen_by};
-ghost use Rattle.floor.specs.Keeping.{IsKept, AreInOrder};
+ghost use Rattle.floor.specs.Keeping.{IsKept, AreInOrder, AreListed};
 
+use crate::call_list::CallList;
 use crate::cash_turns::{post, read};
 use crate::floor::Floor;
 use crate::outcomes::{CashOutcome, Outcome};
@@ -21,10 +22,13 @@ pub struct Desk {
     pub(crate) cash: Pass<CashBook>,
     /// How many readings of its cash it made.
     pub(crate) readings: u32,
+    pub(crate) calls: CallList,
     ghost kept: { IsKept (caller_of cash) (map (λ p. caller_of p) passes.items) (map (λ p. left_of p) passes.items)
         (map (λ p. made_by p) passes.items) (left_of cash) (made_by cash) readings },
     /// What it was told of each good is in order.
     pub ghost in_order: { AreInOrder (map (λ p. made_by p) passes.items) (map (λ p. noted_by p) passes.items) (map (λ p. seen_by p) passes.items) },
+    /// The list of its calls has those of its entries.
+    pub ghost listed: { AreListed (map (λ p. made_by p) passes.items) calls.items },
 }
 
 /// The number of a good's auction.
@@ -70,6 +74,7 @@ impl Desk {
         let place = place(good);
         let lock = &floor.auctions[place];
         let (position, struck) = lock.call(rt, &mut self.passes[place], call);
+        self.calls = self.calls.with(&good, call);
         post(rt, &floor.cash, &mut self.cash, good, position, &struck);
         let Struck { reply, .. } = struck;
         (position, reply)

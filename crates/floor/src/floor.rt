@@ -41,7 +41,7 @@ impl Floor {
     ghost use Rattle.trade_ledger.specs.CashHistory.{IsLegalCash, total_of};
     ghost use Rattle.trade_ledger.specs.Posts.{Matched, trades_of_all};
     ghost use Rattle.floor.specs.Desks.{IsNewDesk, setup_at};
-    ghost use Rattle.floor.specs.Floors.{floor_ids, starts_of, AreDesksOf};
+    ghost use Rattle.floor.specs.Floors.{floor_ids, starts_of, AreDesksOf, AreAllDesksOf};
     ghost use Rattle.floor.specs.Closing.{IsBorneOut, TakesLawfulBids};
 
     /// The floor of a game at which nobody has called, and its nine desks: those of the agents in order, and then the clock's. All
@@ -70,9 +70,9 @@ impl Floor {
         Ok((floor, desks))
     }
 
-    /// The game, once all its desks are back, in the order of callers.
+    /// The game, once all its desks are back, in any order.
     pub fn close(self, desks: Vec<Desk>) -> Closed
-        requires { AreDesksOf self desks.items }
+        requires { AreAllDesksOf self desks.items }
         ensures setups { map (λ auction. auction.setup) result.auctions ≡ map (λ start. start.setup) (starts_of self) }
         ensures legal { All (λ auction. Legal auction.setup auction.history) result.auctions }
         ensures cash { IsLegalCash result.cash }
@@ -92,6 +92,7 @@ impl Floor {
                 passes,
                 cash: pass,
                 readings: _,
+                calls: _,
             } = desk;
             return_passes(&mut auctions, passes);
             cash.take_back(pass);

@@ -2,6 +2,7 @@
 //! entries. No lock is taken inside another.
 #![tactic(auto)]
 
+mod call_list;
 mod cash_turns;
 mod closing;
 mod desk;

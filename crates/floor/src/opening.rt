@@ -10,6 +10,7 @@ ghost use Rattle.turn_lock.specs.Passes.{LockId, lock_of, lock_id, caller_of, le
 ghost use Rattle.floor.specs.Rows.{with_each};
 ghost use Rattle.floor.specs.Dealing.{AreFresh, MakeDesk};
 
+use crate::call_list::CallList;
 use crate::desk::Desk;
 use crate::growing::add;
 use auction_core::Auction;
@@ -127,6 +128,7 @@ pub(crate) fn seat(
             passes: hand,
             cash,
             readings: 0,
+            calls: CallList::new(),
         };
         add(&mut desks, desk)?;
     }

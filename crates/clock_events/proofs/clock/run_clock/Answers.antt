@@ -1,14 +1,17 @@
-use Rattle.std.proofs.Common.{rules, ◌≡◌, ◌≤◌, ◌+◌, ◌-◌, [], ◌∷◌, ℕ, List, map, slice_index_or, subst, sym, ap, ◌∙◌, arith}
-use Rattle.std.proofs.lemmas.List.{get_or-replicate}
-use Rattle.auction_rules.specs.History.{Entry}
+use Rattle.std.proofs.Common.{rules, ◌≡◌, ◌≤◌, ◌+◌, ◌-◌, [], ◌∷◌, ◌++◌, take, subst, sym, ap, ◌∙◌, arith}
+use Rattle.std.specs.List.{flat_map}
+use Rattle.floor.specs.Keeping.{calls_of_good}
+use Rattle.floor.proofs.CallLists.{none_listed}
+use Rattle.game_text.specs.Schedule.{calls_at, ticks}
 use Rattle.tac_io.specs.Told.{and_then_told}
-use Rattle.clock_events.specs.Clocking.{HasMade, HasMissedCause}
+use Rattle.clock_events.specs.Clocking.{HasMissedCause}
+use Rattle.clock_events.proofs.TickCalls.{tick_done}
 use Rattle.clock_events.proofs.Waits.{WaitsFor, missed_more, one_at_most, waits_for_more, waits_for_none}
 use Rattle.clock_events.proofs.clock.run_clock.Goals as goal
 
 pub loop-number-init : goal.loop-number-init
 loop-number-init g c = record {
-  made = λ good low. ap (λ (rows : List (List (ℕ × Entry))). map (λ p. p.1.call) (slice_index_or rows good [])) c.requires.no_calls.0 ∙ ap (map (λ (p : ℕ × Entry). p.1.call)) (get_or-replicate 28 good [] [] low);
+  calls = none_listed _ _ c.requires.no_calls.0 c.args.desk.listed;
   boards = search rules;
   same = search rules;
   few = omega arith;
@@ -29,7 +32,7 @@ loop-number-preserved g c =
     let count = c.from-missed.ensures in
     let few = before.few in
     record {
-      made = subst (λ k. HasMade c.args.game.now k c.clock_tick.new.desk) (tick ∙ sym same) c.clock_tick.ensures.made;
+      calls = c.clock_tick.ensures.calls ∙ (λ i. before.calls i ++ calls_at c.args.game.now (tick i)) ∙ tick_done c.args.game.now c.loop-number.number first last ∙ ap (λ k. flat_map (calls_at c.args.game.now) (take k ticks)) (sym same);
       boards = c.clock_tick.ensures.boards ∙ before.boards;
       same = (c.clock_tick.ensures.same.0 ∙ before.same.0, c.clock_tick.ensures.same.1 ∙ before.same.1);
       few = omega (arith, one, count, few);
@@ -40,8 +43,11 @@ loop-number-preserved g c =
           (missed_more _ _ _ c.loop-number.missed c.wait_for-due.result.1 before.cause c.wait_for-due.ensures.cause);
     }
 
+pub returns-clause-calls : goal.returns-clause-calls
+returns-clause-calls g c = let last : c.loop-number.number - 1 ≡ 54 = omega arith in c.loop-number.invariant.calls ∙ ap (λ k. flat_map (calls_at c.args.game.now) (take k ticks)) last
+
 pub returns-clause-made : goal.returns-clause-made
-returns-clause-made g c = let last : c.loop-number.number - 1 ≡ 54 = omega arith in subst (λ count. HasMade c.args.game.now count c.loop-number.desk) last c.loop-number.invariant.made
+returns-clause-made g c good low = c.loop-number.desk.listed.each good low ∙ ap (λ calls. calls_of_good calls good) (returns-clause-calls g c)
 
 pub returns-clause-whole : goal.returns-clause-whole
-returns-clause-whole g c = let last : c.loop-number.number - 1 ≡ 54 = omega arith in subst (λ count. HasMade c.args.game.now count c.loop-number.desk) last c.loop-number.invariant.made
+returns-clause-whole g c = returns-clause-made g c

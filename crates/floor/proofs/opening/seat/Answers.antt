@@ -1,9 +1,10 @@
-use Rattle.std.proofs.Common.{◌≡◌, ℕ, ◌+◌, [], ◌∷◌, ◌++◌, map, length, sym, ap, ◌∙◌, arith, append-nil, length-append}
+use Rattle.std.proofs.Common.{◌≡◌, ℕ, ◌+◌, [], ◌∷◌, ◌++◌, map, length, refl, sym, ap, ◌∙◌, arith, append-nil, length-append}
 use Rattle.std.specs.Vec.Iter.{into_iter_items}
 use Rattle.std.specs.Option.{option_to_list}
 use Rattle.std.proofs.lemmas.List.{length-map, append_assoc, nil_from_length, map_push}
 use lib.ListN.{get_elem?}
 use Rattle.floor.proofs.Tables.{at_next}
+use Rattle.floor.proofs.CallLists.{listed_as}
 use Rattle.floor.proofs.opening.seat.Goals as goal
 
 pub invariant_of-desk : goal.invariant_of-desk
@@ -13,7 +14,7 @@ invariant_of-desk c =
     let passes_are = v.rest ∙ ap (λ l. map (λ d. d.cash) desks ++ l) c.in-Some.ensures.steps.0 in
     let fit = c.requires.fit (length desks) hand cash
     (ap (λ (k : ℕ). get_elem? c.args.hands.items k) (sym (length-map desks (λ d. d.passes))) ∙ at_next _ _ _ _ hands_are)
-    (ap (λ (k : ℕ). get_elem? c.args.passes.items k) (sym (length-map desks (λ d. d.cash))) ∙ at_next _ _ _ _ passes_are) in record { kept = fit.0; in_order = fit.1 }
+    (ap (λ (k : ℕ). get_elem? c.args.passes.items k) (sym (length-map desks (λ d. d.cash))) ∙ at_next _ _ _ _ passes_are) in record { kept = fit.0; in_order = fit.1; listed = listed_as fit.2 refl c.new.ensures }
 
 pub loop-cash-preserved : goal.loop-cash-preserved
 loop-cash-preserved c =

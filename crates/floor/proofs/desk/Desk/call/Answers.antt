@@ -10,6 +10,7 @@ use Rattle.turn_lock.specs.Passes.{LockId, lock_of, lock_id, start_of, caller_of
 use Rattle.floor.proofs.Rows.{map_get, map_at, map_set, map_set_same, same_at}
 use Rattle.floor.proofs.Desks.{kept_more, kept_as}
 use Rattle.floor.proofs.Orders.{orders_entry, order_as}
+use Rattle.floor.proofs.CallLists.{listed_more, listed_as}
 use Rattle.floor.proofs.BornOut.{last_is_ruled}
 use Rattle.floor.proofs.desk.Desk.call.Goals as goal
 
@@ -28,24 +29,25 @@ invariant_of-self g c =
     let caller : caller_of p ≡ caller_of d.cash = sym (map_get (λ q. caller_of q) ps k p 0 inside at) ∙ (ap (λ (l : List ℕ). get_or l k 0) d.kept.own ∙ get_or-replicate 28 k (caller_of d.cash) 0 (omega (arith, c.place-place.ensures.range))) in
     let posted = c.post.ensures.posted e entry.3 (entry.1 ∙ caller) in
     let left : left_of p' + 1 ≡ get_or (map (λ q. left_of q) ps) good 0 = own.2 ∙ (sym (map_get (λ q. left_of q) ps k p 0 inside at) ∙ ap (λ (j : ℕ). get_or (map (λ q. left_of q) ps) j 0) is) in
+    let entries = map_set (λ q. made_by q) ps k p' _ (entry.4 ∙ ap (λ (l : List (ℕ × Entry)). l ++ (position, e) ∷ []) (sym (map_get (λ q. made_by q) ps k p [] inside at)))
+    ∙ ap (λ (j : ℕ). set (map (λ q. made_by q) ps) j (get_or (map (λ q. made_by q) ps) j [] ++ (position, e) ∷ [])) is in
     let more = kept_more d.kept good (left_of p') position posted.0.0 (left_of c.post.new.pass) e (omega (arith, c.place-place.ensures.range)) (length-map ps (λ q. left_of q) ∙ long) left posted.1 in
     record {
       kept = kept_as more
           c.post.ensures.own.1
           (map_set_same (λ q. caller_of q) ps k p p' inside at own.1)
           (map_set (λ q. left_of q) ps k p' (left_of p') refl ∙ ap (λ (j : ℕ). set (map (λ q. left_of q) ps) j (left_of p')) is)
-          (map_set (λ q. made_by q) ps k p' _ (entry.4 ∙ ap (λ (l : List (ℕ × Entry)). l ++ (position, e) ∷ []) (sym (map_get (λ q. made_by q) ps k p [] inside at)))
-          ∙ ap (λ (j : ℕ). set (map (λ q. made_by q) ps) j (get_or (map (λ q. made_by q) ps) j [] ++ (position, e) ∷ [])) is)
+          entries
           refl
           posted.0.1
           refl;
       in_order = order_as
           (orders_entry (map (λ q. made_by q) ps) (map (λ q. noted_by q) ps) (map (λ q. seen_by q) ps) (length-map ps (λ q. seen_by q) ∙ long) good (omega (arith, c.place-place.ensures.range)) d.in_order position e
           (subst (λ (n : ℕ). n ≤ position) (sym (map_get (λ q. seen_by q) ps k p 0 inside at) ∙ ap (λ (j : ℕ). get_or (map (λ q. seen_by q) ps) j 0) is) c.call-position.ensures.seen.0))
-          (map_set (λ q. made_by q) ps k p' _ (entry.4 ∙ ap (λ (l : List (ℕ × Entry)). l ++ (position, e) ∷ []) (sym (map_get (λ q. made_by q) ps k p [] inside at)))
-          ∙ ap (λ (j : ℕ). set (map (λ q. made_by q) ps) j (get_or (map (λ q. made_by q) ps) j [] ++ (position, e) ∷ [])) is)
+          entries
           (map_set_same (λ q. noted_by q) ps k p p' inside at own.3)
           (map_set (λ q. seen_by q) ps k p' (position + 1) c.call-position.ensures.seen.1 ∙ ap (λ (j : ℕ). set (map (λ q. seen_by q) ps) j (position + 1)) is);
+      listed = listed_as (listed_more d.listed good c.args.call.now position e (omega (arith, c.place-place.ensures.range)) d.kept.goods entry.2) entries c.with-self.ensures;
     }
 
 pub returns : goal.returns
@@ -66,6 +68,7 @@ returns g c =
         reply = ap (λ s. s.reply) entry.3;
         entries = map_set (λ q. made_by q) ps k p' _ (entry.4 ∙ ap (λ (l : List (ℕ × Entry)). l ++ (position, e) ∷ []) (sym (map_get (λ q. made_by q) ps k p [] inside at)))
             ∙ ap (λ (j : ℕ). set (map (λ q. made_by q) ps) j (get_or (map (λ q. made_by q) ps) j [] ++ (position, e) ∷ [])) is;
+        calls = c.with-self.ensures;
         posts = posted.0;
         seen_before = subst (λ (n : ℕ). n ≤ position) (sym (map_get (λ q. seen_by q) ps k p 0 inside at) ∙ ap (λ (j : ℕ). get_or (map (λ q. seen_by q) ps) j 0) is) c.call-position.ensures.seen.0;
         seen = map_set (λ q. seen_by q) ps k p' (position + 1) c.call-position.ensures.seen.1 ∙ ap (λ (j : ℕ). set (map (λ q. seen_by q) ps) j (position + 1)) is;

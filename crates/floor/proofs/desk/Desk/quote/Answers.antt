@@ -5,6 +5,7 @@ use Rattle.turn_lock.specs.Passes.{lock_of, lock_id, caller_of, left_of, made_by
 use Rattle.floor.proofs.Rows.{map_get, map_set, map_set_same, same_at}
 use Rattle.floor.proofs.Desks.{kept_as}
 use Rattle.floor.proofs.Orders.{orders_board, order_as}
+use Rattle.floor.proofs.CallLists.{listed_as}
 use Rattle.floor.proofs.desk.Desk.quote.Goals as goal
 
 pub peek-requires-clause-own : goal.peek-requires-clause-own
@@ -25,6 +26,7 @@ invariant_of-self c =
           (map_set_same (λ q. made_by q) ps k p p' inside at own.3)
           (map_set (λ q. noted_by q) ps k p' _ (c.peek.ensures.note ∙ ap (λ (l : List (ℕ × Board)). l ++ (board.count, board) ∷ []) (sym (map_get (λ q. noted_by q) ps k p [] inside at))))
           (map_set (λ q. seen_by q) ps k p' board.count c.peek.ensures.seen.1);
+      listed = listed_as d.listed (map_set_same (λ q. made_by q) ps k p p' inside at own.3) refl;
     }
 
 pub returns-clause-seen : goal.returns-clause-seen
@@ -37,6 +39,7 @@ returns-clause-seen c =
       seen_before = subst (λ (n : ℕ). n ≤ board.count) (sym (map_get (λ q. seen_by q) ps k p 0 inside at) ∙ ap (λ (j : ℕ). get_or (map (λ q. seen_by q) ps) j 0) is) c.peek.ensures.seen.0;
       seen = map_set (λ q. seen_by q) ps k p' board.count c.peek.ensures.seen.1 ∙ ap (λ (j : ℕ). set (map (λ q. seen_by q) ps) j board.count) is;
       entries = map_set_same (λ q. made_by q) ps k p p' inside at own.3;
+      calls = refl;
       cash = refl;
       same = ((λ i. (map_set_same (λ q. lock_of q) ps k p p' inside at own.0 i, lock_of d.cash)), refl);
     }

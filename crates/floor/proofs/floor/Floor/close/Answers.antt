@@ -70,7 +70,7 @@ close_all-requires-clause-all_back c good lock at =
     let none : into_iter_items c.loop-desk.desk-iterator ≡ [] = let z = c.in-None.ensures.steps.0 in nil_from_length _ (sym c.loop-desk.desk-iterator.rest.ok.0 ∙ z) in
     let all : c.loop-desk.yielded ≡ c.args.desks.items = sym (v.rest ∙ (ap (λ l. c.loop-desk.yielded ++ l) none ∙ append-nil c.loop-desk.yielded)) in
     let rows : map (λ l. returned_to l) locks ≡ gathered c.args.desks.items = v.returned ∙ (ap (λ r. fold (λ rows (d : Desk). with_each rows (map (λ p. returned_by p) d.passes.items)) r c.loop-desk.yielded) c.args.self.returned.0 ∙ ap gathered all) in
-    let nine : length c.args.desks.items ≡ 9 = sym (length-map c.args.desks.items (λ d. desk_caller d)) ∙ ap length c.requires.1 in
+    let nine : length c.args.desks.items ≡ 9 = sym (length-map c.args.desks.items (λ d. desk_ids d)) ∙ ap length c.requires.0 in
     all_back (λ l. start_of l) (λ l. passes_of l) (λ l. returned_to l) locks c.args.desks.items (v.passes ∙ c.args.self.passes.0) rows nine good lock at
 
 pub close-requires-clause-all_back : goal.close-requires-clause-all_back
@@ -78,7 +78,7 @@ close-requires-clause-all_back c κs =
     let v = c.loop-desk.invariant in
     let none : into_iter_items c.loop-desk.desk-iterator ≡ [] = let z = c.in-None.ensures.steps.0 in nil_from_length _ (sym c.loop-desk.desk-iterator.rest.ok.0 ∙ z) in
     let all : c.loop-desk.yielded ≡ c.args.desks.items = sym (v.rest ∙ (ap (λ l. c.loop-desk.yielded ++ l) none ∙ append-nil c.loop-desk.yielded)) in
-    let nine : length c.args.desks.items ≡ 9 = sym (length-map c.args.desks.items (λ d. desk_caller d)) ∙ ap length c.requires.1 in
+    let nine : length c.args.desks.items ≡ 9 = sym (length-map c.args.desks.items (λ d. desk_ids d)) ∙ ap length c.requires.0 in
     let returned = v.cash_returned ∙ ap (λ r. r ++ map (λ (d : Desk). returned_by d.cash) c.loop-desk.yielded) c.args.self.returned.1 in
     ap length returned ∙ (length-map c.loop-desk.yielded (λ (d : Desk). returned_by d.cash) ∙ (ap length all ∙ (nine ∙ sym (v.cash_same.1 ∙ c.args.self.passes.1))))
 
