@@ -6,12 +6,21 @@ use Rattle.text_forms.specs.Steps.{◌>>=◌}
 use Rattle.packages.specs.Features.{values_of}
 use Rattle.bound_cert.specs.declared.faults.CertFault.{CertFault}
 use Rattle.bound_cert.specs.declared.faults.CertFault.TheVariants as faults
+use Rattle.bound_cert.specs.declared.node_lines.NodeLine.{NodeLine}
 use Rattle.bound_cert.specs.declared.node_lines.NodeLine.TheVariants.{Leaf, Split}
 use Rattle.bound_cert.specs.declared.trees.CertNode.{CertNode}
 use Rattle.bound_cert.specs.Faults.{IsRefusal, IsReading}
 use Rattle.bound_cert.specs.Trees.{Tree, leaf, split, Trees, no_trees, more}
 use Rattle.bound_cert.specs.Views.{tree_of, forest_of}
 use Rattle.bound_cert.specs.Reading.{Step, forest_by, node_line_in, tree_in}
+
+-- What a line of a node says, for the crates above: a leaf or a split.
+abbrev pub SaidNode : Type 0
+SaidNode = NodeLine
+
+pub said_node : (P : NodeLine → Type 0) → ((prices : List ℕ) → P (Leaf prices)) → ((client feature : ℕ) → P (Split client feature)) → (node : NodeLine) → P node
+said_node P of_leaf of_split (Leaf prices) = of_leaf prices
+said_node P of_leaf of_split (Split client feature) = of_split client feature
 
 -- the line of a node could not be read
 pub no_node : (level : ℕ) (left : Remaining) (fault : CertFault) → node_line_in left ≡ Err fault → tree_in level left ≡ Err fault

@@ -201,8 +201,12 @@ by_length : (b : Bool) (left : Remaining) (tree : Tree) → cond b (Err TooLong)
 by_length true left tree e = absurd cc
 by_length false left tree e = e
 
+-- however long the text is
+pub root_printed : (text : List ℕ) (tree : Tree) → root_in (lines_from false 1 (parts_of 10 text)) ≡ Ok tree → IsPrinted text tree
+root_printed text tree e =
+    let whole = root_took (lines_from false 1 (parts_of 10 text)) tree e in
+    record { same = text_is (tree_lines tree) text whole.lines; fits = whole.fits }
+
 pub cert_printed : (text : List ℕ) (tree : Tree) → cert_of text ≡ Ok tree → IsPrinted text tree
 unfolding cert_of
-cert_printed text tree e =
-    let whole = root_took (lines_from false 1 (parts_of 10 text)) tree (by_length (ltb 67108864 (length text)) (lines_from false 1 (parts_of 10 text)) tree e) in
-    record { same = text_is (tree_lines tree) text whole.lines; fits = whole.fits }
+cert_printed text tree e = root_printed text tree (by_length (ltb 67108864 (length text)) (lines_from false 1 (parts_of 10 text)) tree e)

@@ -111,7 +111,7 @@ mutual
 
 -- ---- a whole text
 
-lines_lack-append : (xs ys : List (List ℕ)) → AllByRecursion (Lacks 10) xs → AllByRecursion (Lacks 10) ys → AllByRecursion (Lacks 10) (xs ++ ys)
+pub lines_lack-append : (xs ys : List (List ℕ)) → AllByRecursion (Lacks 10) xs → AllByRecursion (Lacks 10) ys → AllByRecursion (Lacks 10) (xs ++ ys)
 lines_lack-append [] ys h k = k
 lines_lack-append (x ∷ xs) ys h k = (h.0, lines_lack-append xs ys h.1 k)
 
@@ -130,7 +130,7 @@ mutual
       let both = both_true (is_tree depth tree) (are_trees depth trees) h in
       lines_lack-append (tree_lines tree) (forest_lines trees) (tree_lines_lack depth tree both.0) (forest_lines_lack depth trees both.1)
 
-parts_again : (lines : List (List ℕ)) → AllByRecursion (Lacks 10) lines → parts_of 10 (text_of lines) ≡ lines ++ [] ∷ []
+pub parts_again : (lines : List (List ℕ)) → AllByRecursion (Lacks 10) lines → parts_of 10 (text_of lines) ≡ lines ++ [] ∷ []
 parts_again [] h = refl
 parts_again (line ∷ lines) h =
     let made : text_of (line ∷ lines) ≡ line ++ 10 ∷ text_of lines = flat_map-cons (λ l. l ++ 10 ∷ []) line lines ∙ append_assoc line (10 ∷ []) (text_of lines) in
@@ -155,11 +155,14 @@ root_again tree numbers m h =
     let whole : tree_lines tree ≡ tree_lines tree ++ [] = sym (append-nil (tree_lines tree)) in
     ap (λ (lines : List (List ℕ)). root_in (ahead numbers lines (at_end m))) whole ∙ rw read.1 refl
 
-pub cert_again : (tree : Tree) → IsCertificate tree → length (spelling tree) ≤ 67108864 → cert_of (spelling tree) ≡ Ok tree
-cert_again tree is short =
+-- however long its text is
+pub spelling_again : (tree : Tree) → IsCertificate tree → root_in (lines_from false 1 (parts_of 10 (spelling tree))) ≡ Ok tree
+spelling_again tree is =
     let cut = lines_ahead (tree_lines tree) 1 in
-    short_text (spelling tree) short ∙ ap (λ (parts : List (List ℕ)). root_in (lines_from false 1 parts)) (parts_again (tree_lines tree) (tree_lines_lack 32 tree is))
-    ∙ ap root_in cut.2 ∙ root_again tree cut.1 cut.0 is
+    ap (λ (parts : List (List ℕ)). root_in (lines_from false 1 parts)) (parts_again (tree_lines tree) (tree_lines_lack 32 tree is)) ∙ ap root_in cut.2 ∙ root_again tree cut.1 cut.0 is
+
+pub cert_again : (tree : Tree) → IsCertificate tree → length (spelling tree) ≤ 67108864 → cert_of (spelling tree) ≡ Ok tree
+cert_again tree is short = short_text (spelling tree) short ∙ spelling_again tree is
 
 pub text_again : (text : List ℕ) (tree : Tree) → IsCertificate tree → length text ≤ 67108864 → text ≡ spelling tree → cert_of text ≡ Ok tree
 text_again text tree is short same = ap cert_of same ∙ cert_again tree is (subst (λ (t : List ℕ). length t ≤ 67108864) same short)

@@ -1,0 +1,62 @@
+-- The first bad line of game files.
+use Rattle.std.proofs.Common.{◌≡◌, ℕ, ◌≤◌, ◌↔◌, true, false, ltb, List, length, Result, Ok, Err, refl, sym, ap, ◌∙◌}
+use Rattle.std.proofs.lemmas.Bool.{le-ltb}
+use Rattle.text_forms.specs.declared.lines.BadLine.{BadLine}
+use Rattle.text_forms.specs.Lines.{Remaining, number_of}
+use Rattle.text_forms.proofs.PrintedLines.{left_ahead}
+use Rattle.game_text.specs.declared.fault.GameFault.{GameFault}
+use Rattle.game_text.specs.declared.fault.GameFault.TheVariants.{Line}
+use Rattle.game_text.specs.Faults.{refused}
+use Rattle.game_text.specs.Games.{GameFile, game_lines, game_in, game_of}
+use Rattle.game_text.proofs.GameLaws.{game_in_is, game_in_again}
+use Rattle.reading_laws.specs.FirstBadLine.{IsFirstBadLine}
+use Rattle.reading_laws.specs.Games.{IsGameText, IsRefusedGameAt}
+use Rattle.reading_laws.proofs.Steady.{any_line, Never}
+use Rattle.reading_laws.proofs.Law.{left_of, is_first, is_refused}
+use Rattle.reading_laws.proofs.LineSteps.{IsBadAt}
+use Rattle.reading_laws.proofs.GameSteps.{game_closes}
+
+-- ---- what is shown of a bad line
+
+-- the bad line of a refusal
+pub record BadLineOf {A : Type 0} (r : Result A BadLine) (line : ℕ) : Type 0 where
+  pub bad : BadLine
+  pub is : r ≡ Err bad
+  pub at : bad.line ≡ line
+
+abbrev line_in : GameFault → ℕ
+line_in (Line line reason) = line
+line_in fault = 0
+
+pub bad_line_of : {A : Type 0} (r : Result A BadLine) (line reason : ℕ) → refused r ≡ Err (Line line reason) → BadLineOf r line
+bad_line_of (Ok x) line reason e = absurd cc
+bad_line_of (Err bad) line reason e = record { bad = bad; is = refl; at = cc }
+
+pub shown : {A : Type 0} (r : Result A BadLine) (bad : BadLine) (line : ℕ) → r ≡ Err bad → IsBadAt bad line → refused r ≡ Err (Line line (number_of bad.reason))
+shown r bad line e at = ap refused e ∙ ap (λ (n : ℕ). Err (Line n (number_of bad.reason))) at
+
+-- ---- the law
+
+found : (text : List ℕ) (game : GameFile) → game_in (left_of true text) ≡ Ok game → IsGameText text
+found text game e = let is = game_in_is (left_of true text) game e in (game, is.1, is.0)
+
+only : (text : List ℕ) → IsGameText text → (game : GameFile) × (game_in (left_of true text) ≡ Ok game)
+only text is =
+    let ahead = left_ahead (game_lines is.0) (left_of true text) is.2 in
+    (is.0, ap game_in ahead.2 ∙ game_in_again is.0 ahead.1 ahead.0 is.1)
+
+pub one_place : (bad : BadLine) (m n : ℕ) → IsBadAt bad m → IsBadAt bad n → m ≡ n
+one_place bad m n a b = sym a ∙ b
+
+abbrev pub never : (line : List ℕ) (left : Remaining) (bad : BadLine) → Never line left bad → ⊥
+never line left bad h = h
+
+short_game : (text : List ℕ) → length text ≤ 1048576 → game_of text ≡ refused (game_in (left_of true text))
+unfolding game_of
+short_game text short = let long : ltb 1048576 (length text) ≡ false = le-ltb _ _ short in rw long refl
+
+pub game_law : (text : List ℕ) (line : ℕ) → length text ≤ 1048576 → IsRefusedGameAt text line ↔ IsFirstBadLine IsGameText text line
+game_law text line short = (
+  λ r. let bad = bad_line_of (game_in (left_of true text)) line r.0 (sym (short_game text short) ∙ r.1) in is_first IsBadAt any_line Never true game_in IsGameText found only game_closes never one_place text line bad.bad bad.is bad.at,
+  λ is. let r = is_refused IsBadAt any_line Never true game_in IsGameText found only game_closes never text line is in (number_of r.0.reason, short_game text short ∙ shown (game_in (left_of true text)) r.0 line r.1 r.2),
+)

@@ -1,0 +1,21 @@
+-- The first bad line of a text, by what the texts of a kind are.
+use Rattle.std.specs.Prelude.{◌≡◌, ℕ, ◌-◌, List, [], ◌∷◌, ◌++◌, take}
+use Rattle.text_forms.specs.Words.{parts_of}
+
+-- the lines of a text that was cut at its line ends, each with its line end; what stands after the last line end, if only nothing, counts as a line
+abbrev pub with_ends : List (List ℕ) → List (List ℕ)
+with_ends [] = []
+with_ends (rest ∷ []) = rest ∷ []
+with_ends (line ∷ next ∷ parts) = (line ++ 10 ∷ []) ∷ with_ends (next ∷ parts)
+
+abbrev pub lines_of : List ℕ → List (List ℕ)
+lines_of text = with_ends (parts_of 10 text)
+
+-- the first so many lines are those of a text of the kind
+abbrev pub Begins : (List ℕ → Type 0) → List ℕ → ℕ → Type 0
+Begins IsText text count = (other : List ℕ) × IsText other × (take count (lines_of other) ≡ take count (lines_of text))
+
+-- the lines before this one begin a text of the kind, and with this one they begin none
+pub record IsFirstBadLine (IsText : List ℕ → Type 0) (text : List ℕ) (line : ℕ) : Type 0 where
+  pub before : Begins IsText text (line - 1)
+  pub bad : Begins IsText text line → ⊥

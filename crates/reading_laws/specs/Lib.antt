@@ -1,0 +1,3 @@
+pub mod FirstBadLine
+pub mod Certificates
+pub mod Games

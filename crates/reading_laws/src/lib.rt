@@ -1,0 +1,8 @@
+//! The laws of the readers of whole texts: which line of a text is the first bad one, by what the texts of a kind are.
+#![tactic(auto)]
+
+mod certificates;
+mod games;
+
+pub use certificates::first_bad_line_of_certificates;
+pub use games::{first_bad_line_of_accounts, first_bad_line_of_games};
