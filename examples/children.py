@@ -7,6 +7,7 @@ import subprocess
 from pathlib import Path
 
 PROGRAM = os.environ.get("TAC", str(Path(__file__).resolve().parent.parent / "crates/tacd/out/tacd"))
+ABSENT = f"there is no program {PROGRAM}: build it (README, The proved program), or set TAC to the file of tac"
 
 TICKS = 54
 

@@ -3,6 +3,7 @@
 
 import argparse
 import random
+import sys
 from collections import Counter
 
 from step import Game
@@ -39,5 +40,8 @@ given = parser.parse_args()
 game, best = Game(), (float("-inf"), 100)
 for count in range(given.games):
     most = max(50, best[1] + random.choice([-100, -50, 0, 50, 100]))
-    best = max(best, (play(game, 1, most), most))
+    try:
+        best = max(best, (play(game, 1, most), most))
+    except FileNotFoundError as fault:
+        sys.exit(f"learner.py: {fault}")
     print(f"game {count}: at most {most} dollars; the best score so far is {best[0]}, with {best[1]}", flush=True)

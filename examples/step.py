@@ -20,14 +20,17 @@ import subprocess
 import tempfile
 from pathlib import Path
 
-from children import PROGRAM, TICKS
+from children import ABSENT, PROGRAM, TICKS
 
 GOODS = 28
 
 
 def run(*words):
     """What tac writes. Where it refuses, that is an error with its text."""
-    done = subprocess.run([PROGRAM, *map(str, words)], stdout=subprocess.PIPE, text=True)
+    try:
+        done = subprocess.run([PROGRAM, *map(str, words)], stdout=subprocess.PIPE, text=True)
+    except FileNotFoundError:
+        raise FileNotFoundError(ABSENT) from None
     if done.returncode:
         raise ValueError(f"tac {words[0]} ended with exit status {done.returncode}: {done.stdout.strip()[:100]}")
     return done.stdout
