@@ -4,7 +4,7 @@ use Rattle.std.specs.List.{AllZip}
 use Rattle.turn_lock.specs.Part.{part}
 use Rattle.turn_lock.specs.Notes.{AreNotes}
 use Rattle.auction_core.specs.ClosedGame.{ClosedGame, all_goods}
-use Rattle.floor.specs.Closing.{board_of}
+use Rattle.floor.specs.ClosedBoards.{board_of}
 use Rattle.agent_gate.specs.Turns.{Turn, made_at, cash_made, boards_shown, AreLawful}
 
 -- At each good the agent's part of the history is what its turns made, by position, call and reply. Its part of the cash history is, in

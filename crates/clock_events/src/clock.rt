@@ -5,7 +5,8 @@ ghost use Rattle.floor.specs.Desks.{boards_of, calls_of, cash_of, desk_caller, d
 ghost use Rattle.floor.specs.Floors.{floor_ids};
 ghost use Rattle.tac_io.specs.Counts.{Rose};
 ghost use Rattle.tac_io.specs.Told.{and_then_told};
-ghost use Rattle.clock_events.specs.Clocking.{HasMade, HasMissedCause, WaitsForAll};
+ghost use Rattle.clock_events.specs.Clocking.{HasMissedCause, WaitsForAll};
+ghost use Rattle.clock_events.specs.MadeCalls.{HasMade};
 ghost use Rattle.game_text.specs.Schedule as spec;
 ghost use Rattle.game_text.specs.Schedule.{clock_calls};
 

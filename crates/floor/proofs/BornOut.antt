@@ -21,7 +21,8 @@ use Rattle.floor.specs.declared.outcomes.Outcome.{Outcome}
 use Rattle.floor.specs.declared.outcomes.Outcome.TheVariants.{At, Spent}
 use Rattle.floor.specs.Desks.{desk_caller}
 use Rattle.floor.specs.Answers.{IsOutcome, TakesLawfulBid}
-use Rattle.floor.specs.Closing.{board_of, AreBoards, TakesLawfulBids}
+use Rattle.floor.specs.Closing.{AreBoards, TakesLawfulBids}
+use Rattle.floor.specs.ClosedBoards.{board_of}
 
 module _ {A : Type 0} where
   pub place_of : (xs : List A) (k : ℕ) (d : A) → k < length xs → get_elem? xs k ≡ some (get_or xs k d)

@@ -22,7 +22,8 @@ use Rattle.trade_ledger.proofs.Matching.{parts_of, matched_by_parts}
 use Rattle.floor.specs.declared.desk.Desk.{Desk}
 use Rattle.floor.specs.Desks.{desk_caller, entries_of, cash_of, boards_of}
 use Rattle.floor.specs.Rows.{with_each}
-use Rattle.floor.specs.Closing.{board_of, IsGivenBack, IsBorneOut}
+use Rattle.floor.specs.Closing.{IsGivenBack, IsBorneOut}
+use Rattle.floor.specs.ClosedBoards.{board_of}
 use Rattle.floor.proofs.Tables.{gathered_at}
 use Rattle.floor.proofs.BornOut.{get_or_place, maps_agree, boards_by_place, called_by_place}
 use Rattle.floor.proofs.FreshPasses.{at_replicate}

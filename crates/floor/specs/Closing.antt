@@ -6,7 +6,6 @@ use Rattle.tac_base.specs.declared.bids.Points.{Points}
 use Rattle.tac_base.specs.declared.calls.Call.TheVariants.{Bid}
 use Rattle.tac_base.specs.declared.calls.Reply.TheVariants.{Taken}
 use Rattle.auction_rules.specs.History.{Entry}
-use Rattle.auction_rules.specs.Board as boards
 use Rattle.auction_rules.specs.Legal.{Legal}
 use Rattle.auction_rules.specs.Refusals.{refusal}
 use Rattle.auction_core.specs.Auctions.{AuctionHistory}
@@ -17,10 +16,7 @@ use Rattle.turn_lock.specs.Notes.{AreNotes}
 use Rattle.turn_lock.specs.TurnRule.{AreKnown}
 use Rattle.floor.specs.declared.desk.Desk.{Desk}
 use Rattle.floor.specs.Desks.{desk_caller, entries_of, cash_of, boards_of}
-
--- the board of an auction after a history
-abbrev pub board_of : AuctionHistory → List Entry → Board
-board_of auction history = boards.board auction.setup.rules (reverse history)
+use Rattle.floor.specs.ClosedBoards.{board_of}
 
 -- an auction that a lock gave back: its setup is that of its start, its history is legal, what the returned passes knew is so of the
 -- history, and callers without a pass have no entry

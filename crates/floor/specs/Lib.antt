@@ -4,4 +4,5 @@ pub mod Dealing
 pub mod Desks
 pub mod Floors
 pub mod Answers
+pub mod ClosedBoards
 pub mod Closing

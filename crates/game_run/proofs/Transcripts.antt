@@ -11,7 +11,8 @@ use Rattle.turn_lock.specs.Notes.{AreNotes}
 use Rattle.auction_core.specs.ClosedGame.{ClosedGame, all_goods}
 use Rattle.floor.specs.declared.desk.Desk.{Desk}
 use Rattle.floor.specs.Desks.{desk_caller, entries_of, cash_of, boards_of, IsNewDesk}
-use Rattle.floor.specs.Closing.{board_of, IsBorneOut}
+use Rattle.floor.specs.Closing.{IsBorneOut}
+use Rattle.floor.specs.ClosedBoards.{board_of}
 use Rattle.game_text.specs.Schedule.{clock_calls}
 use Rattle.agent_gate.specs.Sessions.{AreMadeBy}
 use Rattle.agent_gate.specs.Transcript.{IsTranscript}

@@ -18,7 +18,7 @@ use Rattle.turn_lock.proofs.Parts.{part_mine, part_other}
 use Rattle.auction_core.specs.Setups.{setup_of}
 use Rattle.auction_core.proofs.Counting.{by}
 use Rattle.clock_events.specs.Laws.{IsFor, IsDue}
-use Rattle.clock_events.specs.Clocking.{calls_until}
+use Rattle.clock_events.specs.MadeCalls.{calls_until}
 use Rattle.clock_events.proofs.MadeCalls.{calls_of_good}
 use Rattle.clock_events.proofs.TickCalls.{tick_done}
 use Rattle.script_run.specs.GameStates.{GameState, past_at, entry_at, called, clocked}

@@ -16,7 +16,7 @@ use Rattle.auction_core.specs.Auctions.{AuctionHistory}
 use Rattle.auction_core.specs.Setups.{setup_of}
 use Rattle.auction_core.proofs.Counting.{by, length-part, called_snoc}
 use Rattle.clock_events.specs.Laws.{IsDue}
-use Rattle.clock_events.specs.Clocking.{calls_until}
+use Rattle.clock_events.specs.MadeCalls.{calls_until}
 use Rattle.trade_ledger.specs.Posts.{Matched}
 use Rattle.game_log.specs.LogText.{histories_of}
 use Rattle.script_run.specs.declared.game_lines.GameLine.{GameLine}

@@ -25,7 +25,7 @@ use Rattle.trade_ledger.specs.Posts.{posts_of, post_for, due_post}
 use Rattle.trade_ledger.proofs.CashSteps.{legal_snoc}
 use Rattle.auction_core.specs.Setups.{setup_of}
 use Rattle.clock_events.specs.Laws.{IsDue}
-use Rattle.clock_events.specs.Clocking.{calls_until}
+use Rattle.clock_events.specs.MadeCalls.{calls_until}
 use Rattle.clock_events.proofs.MadeCalls.{calls_of_good}
 use Rattle.line_protocol.specs.declared.asking.Request.{Request}
 use Rattle.line_protocol.specs.declared.asking.Request.TheVariants as requests

@@ -22,10 +22,11 @@ use Rattle.script_run.specs.declared.play_count.PlayCount.{PlayCount}
 use Rattle.script_run.specs.declared.playing.Played.{Played}
 use Rattle.script_run.specs.GameScripts.{judge}
 use Rattle.script_run.specs.GameRuns.{HasRun, Steps, PlaysLines}
-use Rattle.script_run.specs.GameOuts.{closed_game, first_out, play_out, IsGoodScript, IsPlayOut, IsFirstOut, PlaysScript}
+use Rattle.script_run.specs.GameOuts.{closed_game, first_out, play_out, IsGoodScript}
+use Rattle.script_run.specs.PlayOuts.{IsPlayOut, IsFirstOut, PlaysScript}
 use Rattle.script_run.specs.OneThreadRun.{whole_game, count_of}
 use Rattle.script_run.specs.PlayedGames.{HasPlayed, PlaysToEnd, WritesPlayed, first_text}
-use Rattle.script_run.specs.QuietGames.{PlaysQuietly}
+use Rattle.script_run.specs.QuietRuns.{PlaysQuietly}
 use Rattle.script_run.proofs.ClosedCounts.{counted, count_closed}
 use Rattle.script_run.proofs.ScriptReading.{HasRead, stops}
 

@@ -15,6 +15,8 @@ pub mod OpenGames
 pub mod Tables
 pub mod GameRuns
 pub mod GameOuts
+pub mod PlayOuts
 pub mod PlayedGames
 pub mod QuietGames
+pub mod QuietRuns
 pub mod LawfulGames

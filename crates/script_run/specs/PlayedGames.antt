@@ -15,7 +15,8 @@ use Rattle.script_run.specs.declared.fault.ScriptFault.{ScriptFault}
 use Rattle.script_run.specs.declared.fault.ScriptFault.TheVariants.{Line, TooLong, Failed, Memory}
 use Rattle.script_run.specs.declared.playing.Played.{Played}
 use Rattle.script_run.specs.OneThreadRun.{replies}
-use Rattle.script_run.specs.GameOuts.{closed_game, IsGoodScript, IsBadScript}
+use Rattle.script_run.specs.GameOuts.{closed_game, IsGoodScript}
+use Rattle.script_run.specs.PlayOuts.{IsBadScript}
 
 -- the game by these lines was played to its end, and a log can show it
 pub record HasPlayed (game : GameFile) (lines : List GameLine) (played : Played) : Type 0 where

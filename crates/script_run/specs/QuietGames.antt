@@ -1,17 +1,12 @@
--- What playing a game script without writing answers.
-use Rattle.std.specs.Prelude.{◌≡◌, ℕ, ◌<◌, ⊤, List, length, Result, Ok, Err}
+-- The summary of a game by a script.
+use Rattle.std.specs.Prelude.{◌≡◌, ℕ, List}
 use Rattle.game_text.specs.Games.{GameFile}
-use Rattle.tac_base.specs.declared.limits.TheConstants.{TEXT_BYTES}
 use Rattle.score_sheet.specs.Sheets.{Scored}
 use Rattle.game_log.specs.ScoredGames.{IsSheetOf}
 use Rattle.script_run.specs.declared.game_lines.GameLine.{GameLine}
-use Rattle.script_run.specs.declared.fault.QuietFault.{QuietFault}
-use Rattle.script_run.specs.declared.fault.QuietFault.TheVariants.{Line, TooLong, Memory}
-use Rattle.script_run.specs.declared.fault.ScriptFault.{ScriptFault}
-use Rattle.script_run.specs.declared.fault.ScriptFault.TheVariants as faults
 use Rattle.script_run.specs.declared.play_count.PlayCount.{PlayCount}
 use Rattle.script_run.specs.OneThreadRun.{whole_game, count_of}
-use Rattle.script_run.specs.GameOuts.{closed_game, IsGoodScript, IsBadScript}
+use Rattle.script_run.specs.GameOuts.{closed_game, IsGoodScript}
 
 -- the count and some sheet of the game by a script
 pub record IsSummary (game : GameFile) (script : List ℕ) (count : PlayCount) (sheet : List Scored) : Type 0 where
@@ -19,23 +14,3 @@ pub record IsSummary (game : GameFile) (script : List ℕ) (count : PlayCount) (
   pub good : IsGoodScript script lines
   pub is : count ≡ count_of (whole_game game lines)
   pub scores : IsSheetOf game (closed_game game lines) sheet
-
--- a game was played, or its script is bad or too long, or there was no memory
-abbrev pub PlaysQuietly : GameFile → List ℕ → Result (PlayCount × List Scored) QuietFault → Type 0
-PlaysQuietly game script (Ok played) = IsSummary game script played.0 played.1
-PlaysQuietly game script (Err (Line line reason)) = IsBadScript script line reason
-PlaysQuietly game script (Err TooLong) = TEXT_BYTES < length script
-PlaysQuietly game script (Err Memory) = ⊤
-
--- a fault that comes where nothing is written, and what it is told as
-abbrev pub IsQuietFault : ScriptFault → Type 0
-IsQuietFault (faults.Line line reason) = ⊤
-IsQuietFault faults.TooLong = ⊤
-IsQuietFault faults.Failed = ⊥
-IsQuietFault faults.Memory = ⊤
-
-abbrev pub quiet_of : ScriptFault → QuietFault
-quiet_of (faults.Line line reason) = Line line reason
-quiet_of faults.TooLong = TooLong
-quiet_of faults.Failed = Memory
-quiet_of faults.Memory = Memory

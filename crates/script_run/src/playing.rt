@@ -1,10 +1,10 @@
 // A game that is played from a script.
 ghost use Rattle.std.specs.Prelude.{◌≡◌, ◌≤◌, length};
 ghost use Rattle.game_log.specs.Written.{Writes};
-ghost use Rattle.script_run.specs.GameOuts.{PlaysScript};
+ghost use Rattle.script_run.specs.PlayOuts.{PlaysScript};
 ghost use Rattle.script_run.specs.GameRuns.{PlaysLines};
 ghost use Rattle.script_run.specs.PlayedGames.{PlaysToEnd, WritesPlayed, first_text};
-ghost use Rattle.script_run.specs.QuietGames.{PlaysQuietly, IsQuietFault, quiet_of};
+ghost use Rattle.script_run.specs.QuietRuns.{PlaysQuietly, IsQuietFault, quiet_of};
 
 use crate::fault::{QuietFault, ScriptFault, ScriptReason};
 use crate::game_run::GameRun;

@@ -33,7 +33,8 @@ use Rattle.script_run.specs.declared.game_lines.GameLine.TheVariants.{Tick, Asks
 use Rattle.script_run.specs.HotelLines.{agent_of}
 use Rattle.script_run.specs.GameLines.{asks_of, agent_line, line_of}
 use Rattle.script_run.specs.GameScripts.{is_tick as is_tick_line, is_of, is_quit, quits, ticks_of, lines_of, has_quit, judged, judge, game_script}
-use Rattle.script_run.specs.GameOuts.{IsGoodScript, IsBadScript}
+use Rattle.script_run.specs.GameOuts.{IsGoodScript}
+use Rattle.script_run.specs.PlayOuts.{IsBadScript}
 use Rattle.script_run.specs.ScriptLines.{at_line, lines_from}
 use Rattle.tac_base.specs.declared.limits.TheConstants.{TEXT_BYTES}
 use Rattle.script_run.proofs.ScriptReading.{line_first}

@@ -12,7 +12,8 @@ use Rattle.script_run.specs.declared.play_count.PlayCount.{PlayCount}
 use Rattle.game_log.specs.Written.{IsUntouched}
 use Rattle.script_run.specs.HotelOuts.{IsOut, RunsScript}
 use Rattle.script_run.specs.declared.game_lines.GameLine.{GameLine}
-use Rattle.script_run.specs.GameOuts.{closed_game, IsFirstOut, IsPlayOut, PlaysScript}
+use Rattle.script_run.specs.GameOuts.{closed_game}
+use Rattle.script_run.specs.PlayOuts.{IsFirstOut, IsPlayOut, PlaysScript}
 use Rattle.script_run.specs.GameScripts.{game_script}
 use Rattle.script_run.specs.LawfulGames.{IsLawfulGame}
 use Rattle.script_run.specs.OneThreadRun.{replies}

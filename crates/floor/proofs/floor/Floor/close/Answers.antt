@@ -19,7 +19,8 @@ use Rattle.turn_lock.specs.TurnRule.{AreKnown}
 use Rattle.floor.specs.Floors.{floor_ids}
 use Rattle.floor.specs.Keeping.{goods_of}
 use Rattle.floor.specs.Rows.{with_each}
-use Rattle.floor.specs.Closing.{board_of, TakesLawfulBids}
+use Rattle.floor.specs.Closing.{TakesLawfulBids}
+use Rattle.floor.specs.ClosedBoards.{board_of}
 use Rattle.floor.proofs.Rows.{map_of}
 use Rattle.floor.proofs.Tables.{at_next}
 use Rattle.floor.proofs.FreshPasses.{at_replicate}

@@ -1,0 +1,57 @@
+-- What playing a game script does to a sink, and what is known of the game.
+use Rattle.std.specs.Prelude.{◌≡◌, ℕ, ◌<◌, ◌≤◌, ◌⊎◌, List, length, Result, Ok, Err, Option}
+use Rattle.tac_io.specs.Counts.{Rose}
+use Rattle.tac_io.specs.Told.{and_then_told, TakesSome}
+use Rattle.game_text.specs.Games.{GameFile}
+use Rattle.tac_base.specs.declared.limits.TheConstants.{TEXT_BYTES}
+use Rattle.score_sheet.specs.Sheets.{Scored}
+use Rattle.game_log.specs.ScoredGames.{IsSheetOf}
+use Rattle.game_log.specs.LogRanges.{IsShowable}
+use Rattle.game_log.specs.Written.{IsUntouched}
+use Rattle.line_protocol.specs.Heads.{Play}
+use Rattle.script_run.specs.declared.game_lines.GameLine.{GameLine}
+use Rattle.script_run.specs.declared.fault.ScriptFault.{ScriptFault}
+use Rattle.script_run.specs.declared.fault.ScriptFault.TheVariants.{Line, TooLong, Failed, Memory}
+use Rattle.script_run.specs.declared.play_count.PlayCount.{PlayCount}
+use Rattle.script_run.specs.GameScripts.{game_script}
+use Rattle.script_run.specs.OneThreadRun.{whole_game, count_of}
+use Rattle.script_run.specs.GameOuts.{closed_game, first_out, play_out, IsGoodScript}
+
+-- a script that is not too long, and its first bad line with the first reason
+pub record IsBadScript (script : List ℕ) (line reason : ℕ) : Type 0 where
+  pub within : length script ≤ TEXT_BYTES
+  pub bad : game_script script ≡ Err (line, reason)
+
+-- the text of a game by a script, with some sheet of the game, whose numbers are those that a log can show
+pub record IsPlayOut (game : GameFile) (script text : List ℕ) : Type 0 where
+  pub lines : List GameLine
+  pub good : IsGoodScript script lines
+  pub sheet : List Scored
+  pub scores : IsSheetOf game (closed_game game lines) sheet
+  pub due : text ≡ play_out game lines sheet
+  pub shown : IsShowable game Play (closed_game game lines)
+
+-- the text of a game by a script, without its sheet
+pub record IsFirstOut (game : GameFile) (script text : List ℕ) : Type 0 where
+  pub lines : List GameLine
+  pub good : IsGoodScript script lines
+  pub due : text ≡ first_out game lines
+
+-- the count of entries and trades in a game by a script
+pub record IsCount (game : GameFile) (script : List ℕ) (count : PlayCount) : Type 0 where
+  pub lines : List GameLine
+  pub good : IsGoodScript script lines
+  pub is : count ≡ count_of (whole_game game lines)
+
+-- What was answered and written of a game: its whole text; or nothing, since a line is bad, or the script too long; or, where a
+-- write failed, the first bytes of the text, but not all. Where there was no memory nothing was written, or all but the sheet.
+abbrev pub PlaysScript : GameFile → List ℕ → Option (List ℕ) → Option (List ℕ) → ℕ → ℕ → Result PlayCount ScriptFault → Type 0
+PlaysScript game script taken taken' faults faults' (Ok count) =
+    (text : List ℕ) × IsPlayOut game script text × IsCount game script count × (taken' ≡ and_then_told taken text) × (faults' ≡ faults)
+PlaysScript game script taken taken' faults faults' (Err (Line line reason)) = IsBadScript script line reason × IsUntouched taken taken' faults faults'
+PlaysScript game script taken taken' faults faults' (Err TooLong) = (TEXT_BYTES < length script) × IsUntouched taken taken' faults faults'
+PlaysScript game script taken taken' faults faults' (Err Failed) =
+    (text : List ℕ) × (IsFirstOut game script text ⊎ IsPlayOut game script text) × TakesSome taken taken' text × Rose faults faults'
+PlaysScript game script taken taken' faults faults' (Err Memory) =
+    IsUntouched taken taken' faults faults'
+    ⊎ ((text : List ℕ) × IsFirstOut game script text × (taken' ≡ and_then_told taken text) × (faults' ≡ faults))
