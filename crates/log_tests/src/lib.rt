@@ -4,4 +4,8 @@
 #[cfg(test)]
 mod audits;
 #[cfg(test)]
+mod quiet_logs;
+#[cfg(test)]
 mod read_logs;
+#[cfg(test)]
+mod tables;
