@@ -130,7 +130,7 @@ then_holdings left = read_by hold_of left >>= λ holdings. then_clients holdings
 abbrev after_holdings : List Preferences → List (List ℕ)
 after_holdings clients = lines_of_parts (one_line owned_text) 0 clients ++ codes "end" ∷ []
 
-account_in_is : (left : Remaining) (account : AccountFile) → account_in left ≡ Ok account → AreLeft (account_lines account) left × IsAccount account
+pub account_in_is : (left : Remaining) (account : AccountFile) → account_in left ≡ Ok account → AreLeft (account_lines account) left × IsAccount account
 unfolding account_in
 account_in_is left account e =
     let b1 = bind_ok (read_by title_of left) (λ title. then_holdings title.1) account e in
@@ -170,7 +170,7 @@ if_read text (Err fault) e = tt
 
 -- ---- a text of an account is read as that account
 
-account_in_again : (account : AccountFile) (numbers : List ℕ) (m : ℕ) → IsAccount account → account_in (ahead numbers (account_lines account) (at_end m)) ≡ Ok account
+pub account_in_again : (account : AccountFile) (numbers : List ℕ) (m : ℕ) → IsAccount account → account_in (ahead numbers (account_lines account) (at_end m)) ≡ Ok account
 unfolding account_in at_end
 account_in_again account numbers m is =
     let after = at_end m in

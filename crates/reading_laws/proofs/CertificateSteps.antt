@@ -1,5 +1,5 @@
 -- The reader of certificates goes from line to line.
-use Rattle.std.proofs.Common.{◌≡◌, ℕ, zero, suc, ◌+◌, ◌⊎◌, inl, inr, Bool, true, false, List, [], ◌∷◌, ◌++◌, Result, Ok, Err, refl, sym, ap, subst, ◌∙◌}
+use Rattle.std.proofs.Common.{◌≡◌, ℕ, zero, suc, ◌⊎◌, inl, inr, List, [], ◌∷◌, Result, Ok, Err, refl, subst}
 use Rattle.std.specs.Prelude.{codes, replicate}
 use Rattle.tac_base.specs.Numerals.{numeral}
 use Rattle.text_forms.specs.declared.lines.Reason.{Reason}
@@ -12,9 +12,9 @@ use Rattle.bound_cert.specs.declared.faults.CertFault.{CertFault}
 use Rattle.bound_cert.specs.declared.faults.CertFault.TheVariants.{Line, TooLong, Memory}
 use Rattle.bound_cert.specs.Faults.{refused}
 use Rattle.bound_cert.specs.NodeLines.{node_line_of}
-use Rattle.bound_cert.specs.Reading.{forest_by, node_by, last_node, node_line_in, tree_in, root_in}
+use Rattle.bound_cert.specs.Reading.{forest_by, node_by, tree_in, root_in}
 use Rattle.bound_cert.proofs.NodeCases.{SaidNode, said_node}
-use Rattle.bound_cert.specs.Trees.{Tree, leaf, split, Trees, no_trees, more}
+use Rattle.bound_cert.specs.Trees.{Tree, leaf, split, no_trees, more}
 use Rattle.reading_laws.proofs.Steady.{Step, onto, any_line, Never, Steady, ReadsLine, steady_line, steady_then, steady_done, Closes, closes_then, closes_end}
 
 -- a fault is at a line
@@ -92,7 +92,7 @@ node_goes_on : (tree_at : Step Tree CertFault) → GoesOn tree_at → (node : Sa
 node_goes_on tree_at each node = said_node (λ said. GoesOn (node_by tree_at said)) (λ prices. steady_done IsFaultAt any_line Never (leaf prices)) split_goes_on node where
   split_goes_on : (client feature : ℕ) → GoesOn (λ left. forest_by tree_at (values_of feature) left >>= λ trees. Ok (split client feature trees.0, trees.1))
   split_goes_on client feature =
-    steady_then IsFaultAt any_line Never (forest_by tree_at (values_of feature)) (λ trees left. Ok (split client feature trees, left)) (forest_goes_on tree_at each (values_of feature)) (λ trees. steady_done IsFaultAt any_line Never (split client feature trees))
+      steady_then IsFaultAt any_line Never (forest_by tree_at (values_of feature)) (λ trees left. Ok (split client feature trees, left)) (forest_goes_on tree_at each (values_of feature)) (λ trees. steady_done IsFaultAt any_line Never (split client feature trees))
 
 -- a node with the lines after it, and with its number too
 abbrev before_lines : Remaining → Result SaidNode CertFault → Result (SaidNode × Remaining) CertFault
@@ -111,6 +111,7 @@ unnumbered level left = by_line (refused (due_of left)) where
   by_node : (number : ℕ) (after : Remaining) (r : Result SaidNode CertFault) → (before_lines after r >>= λ node. node_by (tree_in level) node.0 node.1) ≡ (with_number number after r >>= λ node. node_by (tree_in level) node.1 node.2)
   by_node number after (Ok node) = refl
   by_node number after (Err fault) = refl
+
   by_line : (r : Result (NumberedLine × Remaining) CertFault)
       → ((r >>= λ line. before_lines line.1 (said_by line.0)) >>= λ node. node_by (tree_in level) node.0 node.1) ≡ ((r >>= λ line. with_number line.0.number line.1 (said_by line.0)) >>= λ node. node_by (tree_in level) node.1 node.2)
   by_line (Ok line) = by_node line.0.number line.1 (said_by line.0)

@@ -1,9 +1,8 @@
 -- The reader of game files goes from line to line.
-use Rattle.std.proofs.Common.{◌≡◌, ℕ, zero, suc, ◌+◌, ◌<◌, ◌≤◌, Bool, true, false, cond, List, [], ◌∷◌, Result, Ok, Err, refl, arith, lit≤}
+use Rattle.std.proofs.Common.{◌≡◌, ℕ, ◌<◌, Bool, true, false, cond, List, Result, Ok, refl, arith, lit≤}
 use Rattle.std.specs.Prelude.{codes, replicate, ◌==◌}
-use Rattle.std.specs.List.{All}
-use Rattle.std.proofs.lemmas.List.Elements.{All-head, All-tail}
-use Rattle.tac_base.specs.Clients.{Preferences, IsClient}
+use Rattle.std.proofs.lemmas.List.Elements.{All-head}
+use Rattle.tac_base.specs.Clients.{IsClient}
 use Rattle.tac_base.specs.Numerals.{numeral}
 use Rattle.text_forms.specs.declared.lines.BadLine.{BadLine}
 use Rattle.text_forms.specs.Lines.{Remaining, nothing_left}
@@ -11,7 +10,7 @@ use Rattle.text_forms.specs.Rows.{row}
 use Rattle.text_forms.specs.Steps.{◌>>=◌, read_by, repeat}
 use Rattle.text_forms.proofs.PrintedLines.{lacks_from}
 use Rattle.game_text.specs.SeatWords.{numbered_seats, seats_of, seats_text}
-use Rattle.game_text.specs.Flights.{FlightTerms, flight_of, flight_text}
+use Rattle.game_text.specs.Flights.{flight_of, flight_text}
 use Rattle.game_text.specs.ClosingOrders.{IsOrder, order_of, order_text}
 use Rattle.game_text.specs.Endowments.{IsEndowment, endow_of, endow_text}
 use Rattle.game_text.specs.ClientLines.{client_of, client_text}

@@ -1,5 +1,5 @@
 -- A text is refused at its first bad line, where a reader goes from line to line and reads just the texts of a kind.
-use Rattle.std.proofs.Common.{◌≡◌, ℕ, suc, ◌+◌, ◌-◌, ◌<◌, ◌≤◌, ◌⊎◌, ◌&&◌, inl, inr, Bool, true, false, ltb, List, [], ◌∷◌, ◌++◌, Result, Ok, Err, length, map, take, refl, sym, ap, subst, ◌∙◌, arith, append_assoc, append-nil, length-append}
+use Rattle.std.proofs.Common.{◌≡◌, ℕ, suc, ◌+◌, ◌-◌, ◌<◌, ◌≤◌, ◌&&◌, inl, inr, Bool, true, false, ltb, List, [], ◌∷◌, ◌++◌, Result, Ok, Err, length, map, take, refl, sym, ap, subst, ◌∙◌, arith, append_assoc, length-append}
 use Rattle.std.proofs.Math.Seq.{take-length}
 use Rattle.std.proofs.lemmas.Bool.Decides.{nat_tests}
 use Rattle.std.proofs.lemmas.List.{length-map}
@@ -8,7 +8,7 @@ use Rattle.text_forms.specs.Lines.{NumberedLine, Remaining, is_comment, lines_fr
 use Rattle.text_forms.proofs.Stepping.{HasPart, has_part, chosen}
 use Rattle.bound_cert.proofs.TreesAgain.{parts_again, lines_lack-append}
 use Rattle.reading_laws.specs.FirstBadLine.{lines_of, with_ends, Begins, IsFirstBadLine}
-use Rattle.reading_laws.proofs.Steady.{Reader, onto, bytes_of, ending, Ends, Closes, OutcomeAtEnd, Refuses, AtLine, AtEnd, Within}
+use Rattle.reading_laws.proofs.Steady.{Reader, onto, ending, Ends, Closes, OutcomeAtEnd, Refuses, AtLine, AtEnd}
 use Rattle.reading_laws.proofs.Spots.{AllLack, Front, with_end, parts_lack, front_lacks, plain_lacks, spot, end_spot, numbered, part_after, front_again, last_lacks, take_before, agree_before, ends_append, same_front, same_end}
 
 -- the lines of a text
@@ -28,8 +28,7 @@ module _ {X E : Type 0} (IsAt : E → ℕ → Type 0) (is_calm : List ℕ → Bo
       let cut : parts_of 10 (text_of lines) ≡ prior ++ last = parts_again lines lack ∙ append_assoc prior more ([] ∷ []) in
       let n = numbered skips (1 + length prior) more e.plain in
       let left : left_of skips (text_of lines) ≡ onto (front ++ n.all) (ending n.last) =
-          ap (lines_from skips 1) cut ∙ front_again skips 1 prior front f last last_has ∙ ap (onto front) n.left ∙ ap (λ (ls : List NumberedLine). record (ending n.last) { lines = ls }) (sym (append_assoc front n.all [])) in
-      (
+      ap (lines_from skips 1) cut ∙ front_again skips 1 prior front f last last_has ∙ ap (onto front) n.left ∙ ap (λ (ls : List NumberedLine). record (ending n.last) { lines = ls }) (sym (append_assoc front n.all [])) in (
         text_of lines,
         found (text_of lines) e.value (ap read left ∙ e.reads n.all n.same n.last),
         ap (λ (ps : List (List ℕ)). take (length prior) (with_ends ps)) cut ∙ take_before prior last last_has ∙ sym (ap (λ (ps : List (List ℕ)). take (length prior) (with_ends ps)) are ∙ take_before prior parts h),
@@ -51,53 +50,72 @@ module _ {X E : Type 0} (IsAt : E → ℕ → Type 0) (is_calm : List ℕ → Bo
   before_next : (text : List ℕ) (count : ℕ) → Begins IsText text count → Begins IsText text (suc count - 1)
   before_next text count h = let same : suc count - 1 ≡ count = omega arith in subst (Begins IsText text) (sym same) h
 
+  -- a text that goes with another so far has the same parts up to a line
+  taken_to : (text other : List ℕ) (prior : List (List ℕ)) (bytes next : List ℕ) (after : List (List ℕ)) → parts_of 10 text ≡ prior ++ bytes ∷ next ∷ after → take (suc (length prior)) (lines_of other) ≡ take (suc (length prior)) (lines_of text)
+      → take (length (prior ++ bytes ∷ [])) (lines_of other) ≡ map with_end (prior ++ bytes ∷ [])
+  taken_to text other prior bytes next after are same =
+      ap (λ (n : ℕ). take n (lines_of other)) count ∙ same ∙ ap (λ (n : ℕ). take n (lines_of text)) (sym count) ∙ ap (λ (ps : List (List ℕ)). take (length lines) (with_ends ps)) {y = lines ++ next ∷ after} (are ∙ sym (append_assoc prior (bytes ∷ []) (next ∷ after)))
+      ∙ take_before lines (next ∷ after) (next, after, refl) where
+        lines : List (List ℕ)
+        lines = prior ++ bytes ∷ []
+
+        count : length (prior ++ bytes ∷ []) ≡ suc (length prior)
+        count = let same = length-append prior (bytes ∷ []) in omega (arith, same)
+
+  -- and so the same lines
+  left_to : (other : List ℕ) (prior : List (List ℕ)) (front : List NumberedLine) (line : NumberedLine) (part : List ℕ) (parts : List (List ℕ)) → parts_of 10 other ≡ (prior ++ line.bytes ∷ []) ++ part ∷ parts → Front skips 1 prior front → line.number ≡ 1 + length prior
+      → skips && is_comment line.bytes ≡ false → left_of skips other ≡ onto front (onto (line ∷ []) (lines_from skips (1 + length prior + 1) (part ∷ parts)))
+  left_to other prior front line part parts are f number kept =
+      ap (lines_from skips 1) (are ∙ append_assoc prior (line.bytes ∷ []) (part ∷ parts)) ∙ front_again skips 1 prior front f (line.bytes ∷ part ∷ parts) (line.bytes, part ∷ parts, refl)
+      ∙ ap (λ (t : Bool). onto front (chosen t (1 + length prior) line.bytes (lines_from skips (1 + length prior + 1) (part ∷ parts)))) kept
+      ∙ ap (λ (n : ℕ). onto front (onto (record { number = n; bytes = line.bytes } ∷ []) (lines_from skips (1 + length prior + 1) (part ∷ parts)))) (sym number)
+
+  line_fits_none : (text : List ℕ) (fault : E) (prior : List (List ℕ)) (front : List NumberedLine) (line : NumberedLine) (next : List ℕ) (after : List (List ℕ)) → parts_of 10 text ≡ prior ++ line.bytes ∷ next ∷ after → Front skips 1 prior front → line.number ≡ 1 + length prior
+      → skips && is_comment line.bytes ≡ false → ((other : Remaining) → read (onto front (onto (line ∷ []) other)) ≡ Err fault) → Begins IsText text (suc (length prior)) → ⊥
+  line_fits_none text fault prior front line next after are f number kept again b =
+      let heads = same_front (prior ++ line.bytes ∷ []) (parts_of 10 b.0) (parts_lack b.0) (has_part 10 b.0) (taken_to text b.0 prior line.bytes next after are b.2) in
+      let value = only b.0 b.1 in
+      let left = left_to b.0 prior front line heads.part heads.rest heads.split f number kept in
+      not_both (read (left_of skips b.0)) value.0 fault value.1 (ap read left ∙ again (lines_from skips (1 + length prior + 1) (heads.part ∷ heads.rest)))
+
   bad_at_line : (text : List ℕ) (fault : E) (front : List NumberedLine) (more : List (List ℕ)) → Ends IsAt is_calm In read front more → AtLine IsAt is_calm In read front (left_of skips text) fault → FirstBad text fault
   bad_at_line text fault front more e a =
       let s = spot skips 1 (parts_of 10 text) front a.line a.lines a.split in
-      let bytes = a.line.bytes in
-      let lines = s.prior ++ bytes ∷ [] in
-      let regrouped : (ps : List (List ℕ)) → s.prior ++ bytes ∷ ps ≡ lines ++ ps = λ ps. sym (append_assoc s.prior (bytes ∷ []) ps) in
-      let count : length lines ≡ suc (length s.prior) = length-append s.prior (bytes ∷ []) ∙ (let same : length s.prior + 1 ≡ suc (length s.prior) = omega arith in same) in
       record {
         line = suc (length s.prior);
         at = let is = s.number_is in subst (IsAt fault) (let same : a.line.number ≡ suc (length s.prior) = omega (arith, is) in same) a.at;
         first = record {
-          before = before_next text (length s.prior) (begins text s.prior (bytes ∷ s.next ∷ s.after) front more s.parts_are (bytes, s.next ∷ s.after, refl) s.ahead e);
-          bad = λ b.
-            let other = b.0 in
-            let taken : take (length lines) (lines_of other) ≡ map with_end lines =
-                ap (λ (n : ℕ). take n (lines_of other)) count ∙ b.2 ∙ ap (λ (n : ℕ). take n (lines_of text)) (sym count) ∙ ap (λ (ps : List (List ℕ)). take (length lines) (with_ends ps)) (s.parts_are ∙ regrouped (s.next ∷ s.after)) ∙ take_before lines (s.next ∷ s.after) (s.next, s.after, refl) in
-            let heads = same_front lines (parts_of 10 other) (parts_lack other) (has_part 10 other) taken in
-            let ps = heads.part ∷ heads.rest in
-            let numbered_line : record { number = 1 + length s.prior; bytes = bytes } ≡ a.line = let is = s.number_is in ap (λ (n : ℕ). record { number = n; bytes = bytes }) (sym is) in
-            let rest = lines_from skips (1 + length s.prior + 1) ps in
-            let left : left_of skips other ≡ onto front (record rest { lines = a.line ∷ rest.lines }) =
-                ap (lines_from skips 1) (heads.split ∙ sym (regrouped ps)) ∙ front_again skips 1 s.prior front s.ahead (bytes ∷ ps) (bytes, ps, refl)
-                ∙ ap (λ (t : Bool). onto front (chosen t (1 + length s.prior) bytes rest)) s.kept ∙ ap (λ (l : NumberedLine). onto front (record rest { lines = l ∷ rest.lines })) numbered_line in
-            let value = only other b.1 in
-            not_both (read (left_of skips other)) value.0 fault value.1 (ap read left ∙ a.again rest);
+          before = before_next text (length s.prior) (begins text s.prior (a.line.bytes ∷ s.next ∷ s.after) front more s.parts_are (a.line.bytes, s.next ∷ s.after, refl) s.ahead e);
+          bad = line_fits_none text fault s.prior front a.line s.next s.after s.parts_are s.ahead s.number_is s.kept a.again;
         };
       }
+
+  -- a text that goes with another to its end is that text
+  whole_to : (text other : List ℕ) (prior : List (List ℕ)) (rest : List ℕ) → parts_of 10 text ≡ prior ++ rest ∷ [] → take (suc (length prior)) (lines_of other) ≡ take (suc (length prior)) (lines_of text) → parts_of 10 other ≡ parts_of 10 text
+  whole_to text other prior rest are same = same_end prior rest (parts_of 10 other) (last_lacks prior rest (subst AllLack are (parts_lack text))) (has_part 10 other) taken ∙ sym are where
+    whole : lines_of text ≡ map with_end prior ++ rest ∷ []
+    whole = ap with_ends are ∙ ends_append prior rest []
+
+    count : suc (length prior) ≡ length (map with_end prior ++ rest ∷ [])
+    count = let l = length-append (map with_end prior) (rest ∷ []) in let m = length-map prior with_end in omega (arith, l, m)
+
+    taken : take (suc (length prior)) (lines_of other) ≡ map with_end prior ++ rest ∷ []
+    taken = same ∙ ap (take (suc (length prior))) whole ∙ ap (λ (n : ℕ). take n (map with_end prior ++ rest ∷ [])) count ∙ take-length (map with_end prior ++ rest ∷ [])
+
+  end_fits_none : (text : List ℕ) (fault : E) (prior : List (List ℕ)) (rest : List ℕ) → parts_of 10 text ≡ prior ++ rest ∷ [] → read (left_of skips text) ≡ Err fault → Begins IsText text (suc (length prior)) → ⊥
+  end_fits_none text fault prior rest are refused b =
+      let value = only b.0 b.1 in
+      not_both (read (left_of skips b.0)) value.0 fault value.1 (ap (λ (ps : List (List ℕ)). read (lines_from skips 1 ps)) (whole_to text b.0 prior rest are b.2) ∙ refused)
 
   bad_at_end : (text : List ℕ) (fault : E) (front : List NumberedLine) (more : List (List ℕ)) → Ends IsAt is_calm In read front more → AtEnd IsAt is_calm In front (left_of skips text) fault → read (left_of skips text) ≡ Err fault → FirstBad text fault
   bad_at_end text fault front more e a refused =
       let s = end_spot skips 1 (parts_of 10 text) (has_part 10 text) in
-      let all = left_of skips text in
-      let lack : AllLack (s.prior ++ s.rest ∷ []) = subst AllLack s.parts_are (parts_lack text) in
       record {
         line = suc (length s.prior);
-        at = let is = s.last_is in subst (IsAt fault) (let same : all.last ≡ suc (length s.prior) = omega (arith, is) in same) a.at;
+        at = let is = s.last_is in subst (IsAt fault) (let same : (left_of skips text).last ≡ suc (length s.prior) = omega (arith, is) in same) a.at;
         first = record {
           before = before_next text (length s.prior) (begins text s.prior (s.rest ∷ []) front more s.parts_are (s.rest, [], refl) (subst (Front skips 1 s.prior) a.whole s.ahead) e);
-          bad = λ b.
-            let other = b.0 in
-            let whole : lines_of text ≡ map with_end s.prior ++ s.rest ∷ [] = ap with_ends s.parts_are ∙ ends_append s.prior s.rest [] in
-            let long : suc (length s.prior) ≡ length (map with_end s.prior ++ s.rest ∷ []) = let l = length-append (map with_end s.prior) (s.rest ∷ []) in let m = length-map s.prior with_end in omega (arith, l, m) in
-            let taken : take (suc (length s.prior)) (lines_of other) ≡ map with_end s.prior ++ s.rest ∷ [] =
-                b.2 ∙ ap (take (suc (length s.prior))) whole ∙ ap (λ (n : ℕ). take n (map with_end s.prior ++ s.rest ∷ [])) long ∙ take-length (map with_end s.prior ++ s.rest ∷ []) in
-            let same = same_end s.prior s.rest (parts_of 10 other) (last_lacks s.prior s.rest lack) (has_part 10 other) taken in
-            let value = only other b.1 in
-            not_both (read (left_of skips other)) value.0 fault value.1 (ap (λ (ps : List (List ℕ)). read (lines_from skips 1 ps)) (same ∙ sym s.parts_are) ∙ refused);
+          bad = end_fits_none text fault s.prior s.rest s.parts_are refused;
         };
       }
 
@@ -108,10 +126,10 @@ module _ {X E : Type 0} (IsAt : E → ℕ → Type 0) (is_calm : List ℕ → Bo
     first_bad text fault refused =
         let r : Refuses IsAt is_calm In read (Ends IsAt is_calm In read) (left_of skips text) fault = subst (OutcomeAtEnd IsAt is_calm In read (left_of skips text)) refused (closes.outcome (left_of skips text)) in
         elim r.place as (λ _. FirstBad text fault) [
-          inl a ↦ bad_at_line text fault r.front r.more r.goes a
-        | inr p ↦ elim p as (λ _. FirstBad text fault) [
-            inl a ↦ bad_at_end text fault r.front r.more r.goes a refused
-          | inr w ↦ absurd (never w.line (record (left_of skips text) { lines = w.lines }) fault w.refused)
+          | inl a ↦ bad_at_line text fault r.front r.more r.goes a
+          | inr p ↦ elim p as (λ _. FirstBad text fault) [
+            | inl a ↦ bad_at_end text fault r.front r.more r.goes a refused
+            | inr w ↦ absurd (never w.line (record (left_of skips text) { lines = w.lines }) fault w.refused)
           ]
         ]
 
@@ -124,6 +142,7 @@ module _ {X E : Type 0} (IsAt : E → ℕ → Type 0) (is_calm : List ℕ → Bo
     one_bad text m n a b = by_order (ltb m n) (ltb n m) refl refl where
       less : (i j : ℕ) → IsFirstBadLine IsText text i → IsFirstBadLine IsText text j → ltb i j ≡ true → ⊥
       less i j x y lt = let order : i < j = grind (arith, nat_tests, lt) in x.bad (begins_less text i (j - 1) (omega (arith, order)) y.before)
+
       by_order : (below above : Bool) → ltb m n ≡ below → ltb n m ≡ above → m ≡ n
       by_order true above h k = absurd (less m n a b h)
       by_order false true h k = absurd (less n m b a k)

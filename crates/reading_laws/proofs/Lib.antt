@@ -6,3 +6,5 @@ pub mod CertificateLaw
 pub mod LineSteps
 pub mod GameSteps
 pub mod GameLaw
+pub mod AccountSteps
+pub mod AccountLaw

@@ -1,14 +1,13 @@
 -- Where a line that is left stands in the text, and what another text with the same lines before it has there.
-use Rattle.std.proofs.Common.{◌≡◌, ℕ, zero, suc, ◌+◌, ◌<◌, ◌≤◌, Bool, true, false, cond, eqb, List, [], ◌∷◌, ◌++◌, length, map, take, refl, sym, ap, subst, ◌∙◌, arith, append_assoc, length-append}
-use Rattle.std.specs.Prelude.{◌==◌, ◌&&◌}
+use Rattle.std.proofs.Common.{◌≡◌, ℕ, zero, suc, ◌+◌, ◌≤◌, Bool, true, false, cond, eqb, List, [], ◌∷◌, ◌++◌, length, map, take, refl, sym, ap, subst, ◌∙◌, arith}
+use Rattle.std.specs.Prelude.{◌&&◌}
 use Rattle.std.specs.List.{AllByRecursion, onto_first}
-use Rattle.std.proofs.Math.Seq.{take-append_seam}
 use Rattle.tac_base.proofs.Signed.{Lacks}
 use Rattle.text_forms.specs.Words.{parts_of}
-use Rattle.text_forms.specs.Lines.{NumberedLine, Remaining, is_comment, lines_from, text_of}
-use Rattle.text_forms.proofs.Stepping.{HasPart, has_part, chosen}
+use Rattle.text_forms.specs.Lines.{NumberedLine, Remaining, is_comment, lines_from}
+use Rattle.text_forms.proofs.Stepping.{HasPart, chosen}
 use Rattle.reading_laws.specs.FirstBadLine.{with_ends}
-use Rattle.reading_laws.proofs.Steady.{IsPlain, ArePlain, onto, bytes_of, ending}
+use Rattle.reading_laws.proofs.Steady.{ArePlain, onto, bytes_of, ending}
 
 -- ---- parts that lack line ends
 
@@ -67,16 +66,16 @@ no_front skips number = record { again = λ part parts. ap (λ (n : ℕ). lines_
 front_skipped : (skips : Bool) (number : ℕ) (line : List ℕ) (prior : List (List ℕ)) (front : List NumberedLine) → skips && is_comment line ≡ true → Front skips (number + 1) prior front → Front skips number (line ∷ prior) front
 front_skipped skips number line prior front test f = record {
   again = λ part parts.
-    let count : number + 1 + length prior ≡ number + suc (length prior) = omega arith in
-    line_then skips number line (prior ++ part ∷ parts) (part_after prior part parts) ∙ rw test (f.again part parts ∙ ap (λ (n : ℕ). onto front (lines_from skips n (part ∷ parts))) count);
+      let count : number + 1 + length prior ≡ number + suc (length prior) = omega arith in
+      line_then skips number line (prior ++ part ∷ parts) (part_after prior part parts) ∙ rw test (f.again part parts ∙ ap (λ (n : ℕ). onto front (lines_from skips n (part ∷ parts))) count);
 }
 
 front_kept : (skips : Bool) (number : ℕ) (line : List ℕ) (prior : List (List ℕ)) (front : List NumberedLine) → skips && is_comment line ≡ false → Front skips (number + 1) prior front → Front skips number (line ∷ prior) (record { number = number; bytes = line } ∷ front)
 front_kept skips number line prior front test f = record {
   again = λ part parts.
-    let one : NumberedLine = record { number = number; bytes = line } in
-    let count : number + 1 + length prior ≡ number + suc (length prior) = omega arith in
-    line_then skips number line (prior ++ part ∷ parts) (part_after prior part parts) ∙ rw test (ap (λ (m : Remaining). onto (one ∷ []) m) (f.again part parts ∙ ap (λ (n : ℕ). onto front (lines_from skips n (part ∷ parts))) count));
+      let one : NumberedLine = record { number = number; bytes = line } in
+      let count : number + 1 + length prior ≡ number + suc (length prior) = omega arith in
+      line_then skips number line (prior ++ part ∷ parts) (part_after prior part parts) ∙ rw test (ap (λ (m : Remaining). onto (one ∷ []) m) (f.again part parts ∙ ap (λ (n : ℕ). onto front (lines_from skips n (part ∷ parts))) count));
 }
 
 -- a line that is left, and the parts of the text before and after it

@@ -1,5 +1,5 @@
 -- Readers that go from line to line: what they were given so far decides where they refuse, and wherever they refuse some lines would have been read.
-use Rattle.std.proofs.Common.{◌≡◌, ℕ, zero, suc, ◌+◌, ◌⊎◌, inl, inr, true, false, Bool, List, [], ◌∷◌, ◌++◌, Result, Ok, Err, length, map, refl, sym, ap, subst, ◌∙◌, append_assoc, append-nil}
+use Rattle.std.proofs.Common.{◌≡◌, ℕ, ◌⊎◌, inl, inr, true, false, Bool, List, [], ◌∷◌, ◌++◌, Result, Ok, Err, map, refl, sym, ap, subst, ◌∙◌, append_assoc, append-nil}
 use Rattle.std.specs.List.{AllByRecursion}
 use Rattle.tac_base.proofs.Signed.{Lacks}
 use Rattle.text_forms.specs.Lines.{NumberedLine, Remaining, is_comment}
@@ -147,10 +147,10 @@ module _ {E : Type 0} (IsAt : E → ℕ → Type 0) (is_calm : List ℕ → Bool
         more = r.more ++ l.0;
         goes = l.1;
         place = elim r.place as (λ _. AtLine both r.front left fault ⊎ AtEnd r.front left fault ⊎ Within r.front (r.more ++ l.0) left fault) [
-          inl a ↦ inl (record { line = a.line; lines = a.lines; split = a.split; at = a.at; again = λ other. rw (a.again other) refl })
-        | inr p ↦ elim p as (λ _. AtLine both r.front left fault ⊎ AtEnd r.front left fault ⊎ Within r.front (r.more ++ l.0) left fault) [
-            inl a ↦ inr (inl a)
-          | inr w ↦ inr (inr (record { lines = w.lines; split = w.split; line = w.line; others = w.others ++ l.0; first = ap (λ (ls : List (List ℕ)). ls ++ l.0) w.first; refused = w.refused }))
+          | inl a ↦ inl (record { line = a.line; lines = a.lines; split = a.split; at = a.at; again = λ other. rw (a.again other) refl })
+          | inr p ↦ elim p as (λ _. AtLine both r.front left fault ⊎ AtEnd r.front left fault ⊎ Within r.front (r.more ++ l.0) left fault) [
+            | inl a ↦ inr (inl a)
+            | inr w ↦ inr (inr (record { lines = w.lines; split = w.split; line = w.line; others = w.others ++ l.0; first = ap (λ (ls : List (List ℕ)). ls ++ l.0) w.first; refused = w.refused }))
           ]
         ];
       }
@@ -174,7 +174,7 @@ module _ {E : Type 0} (IsAt : E → ℕ → Type 0) (is_calm : List ℕ → Bool
       let both = λ (rest : Remaining). step rest >>= λ y. next y.0 y.1 in
       let front = r.used ++ l.front in
       elim l.place as (λ _. Refuses both Goes left fault) [
-        inl a ↦ record {
+        | inl a ↦ record {
           front = front;
           more = l.more;
           goes = later l.front (a.line ∷ a.lines) l.more a.split l.goes;
@@ -184,19 +184,19 @@ module _ {E : Type 0} (IsAt : E → ℕ → Type 0) (is_calm : List ℕ → Bool
             split = split_after step left x after r l.front (a.line ∷ a.lines) a.split;
             at = a.at;
             again = λ other.
-              let next_line = record other { lines = a.line ∷ other.lines } in
-              let follows = subst (λ (ls : List NumberedLine). Follows ls (l.front ++ a.line ∷ other.lines)) (sym a.split) (follows_same l.front a.line a.lines other.lines) in
-              ap both (onto_append r.used l.front next_line) ∙ goes_on step next left x after r (onto l.front next_line) follows ∙ a.again other;
+                let next_line = record other { lines = a.line ∷ other.lines } in
+                let follows = subst (λ (ls : List NumberedLine). Follows ls (l.front ++ a.line ∷ other.lines)) (sym a.split) (follows_same l.front a.line a.lines other.lines) in
+                ap both (onto_append r.used l.front next_line) ∙ goes_on step next left x after r (onto l.front next_line) follows ∙ a.again other;
           });
         }
-      | inr p ↦ elim p as (λ _. Refuses both Goes left fault) [
-          inl a ↦ record {
+        | inr p ↦ elim p as (λ _. Refuses both Goes left fault) [
+          | inl a ↦ record {
             front = front;
             more = l.more;
             goes = later l.front [] l.more (a.whole ∙ sym (append-nil l.front)) l.goes;
             place = inr (inl (record { whole = r.split ∙ ap (λ (ls : List NumberedLine). r.used ++ ls) a.whole; at = subst (λ (m : Remaining). IsAt fault m.last) r.rest a.at }));
           }
-        | inr w ↦ record {
+          | inr w ↦ record {
             front = front;
             more = l.more;
             goes = later l.front w.lines l.more w.split l.goes;
@@ -243,7 +243,6 @@ module _ {E : Type 0} (IsAt : E → ℕ → Type 0) (is_calm : List ℕ → Bool
   plain_append [] ys h k = k
   plain_append (x ∷ xs) ys h k = (h.0, plain_append xs ys h.1 k)
 
-
   -- what completes a step, and then what completes the next from its start
   pub completes_then : {A B : Type 0} (step : Step A E) (next : A → Step B E) (each : (a : A) → Steady (next a)) (front : List NumberedLine) (more : List (List ℕ)) (c : Completes step front more)
       → Completes (λ l. step l >>= λ x. next x.0 x.1) front (more ++ (each c.value).first)
@@ -255,11 +254,11 @@ module _ {E : Type 0} (IsAt : E → ℕ → Type 0) (is_calm : List ℕ → Bool
         plain = plain_append more first c.plain s.plain;
         calm = calm_append more first c.calm s.calm;
         reads = λ lines h other calm.
-          let hs = halves lines more first h in
-          let middle = onto hs.back other in
-          let calm' = calm_lines hs.back other.lines (subst IsCalm (sym hs.back_is) s.calm) calm in
-          let cut : onto (front ++ lines) other ≡ onto (front ++ hs.front) middle = ap (λ (ls : List NumberedLine). onto (front ++ ls) other) hs.split ∙ ap (λ (ls : List NumberedLine). onto ls other) (sym (append_assoc front hs.front hs.back)) ∙ onto_append (front ++ hs.front) hs.back other in
-          ap (λ (l : Remaining). step l >>= λ x. next x.0 x.1) cut ∙ rw (c.reads hs.front hs.front_is middle calm') (s.reads hs.back hs.back_is other calm);
+            let hs = halves lines more first h in
+            let middle = onto hs.back other in
+            let calm' = calm_lines hs.back other.lines (subst IsCalm (sym hs.back_is) s.calm) calm in
+            let cut : onto (front ++ lines) other ≡ onto (front ++ hs.front) middle = ap (λ (ls : List NumberedLine). onto (front ++ ls) other) hs.split ∙ ap (λ (ls : List NumberedLine). onto ls other) (sym (append_assoc front hs.front hs.back)) ∙ onto_append (front ++ hs.front) hs.back other in
+            ap (λ (l : Remaining). step l >>= λ x. next x.0 x.1) cut ∙ rw (c.reads hs.front hs.front_is middle calm') (s.reads hs.back hs.back_is other calm);
       }
 
   -- what completes a later step completes what begins with a step that read
@@ -270,10 +269,10 @@ module _ {E : Type 0} (IsAt : E → ℕ → Type 0) (is_calm : List ℕ → Bool
     plain = c.plain;
     calm = c.calm;
     reads = λ lines h other calm.
-      let calm' = calm_lines lines other.lines (subst IsCalm (sym h) c.calm) calm in
-      let follows = subst (λ (ls : List NumberedLine). Follows ls (front ++ (lines ++ other.lines))) (sym is) (follows_front front rest (lines ++ other.lines) calm') in
-      let cut : onto ((r.used ++ front) ++ lines) other ≡ onto r.used (onto front (onto lines other)) = onto_append (r.used ++ front) lines other ∙ onto_append r.used front (onto lines other) in
-      ap (λ (l : Remaining). step l >>= λ y. next y.0 y.1) cut ∙ goes_on step next left x after r (onto front (onto lines other)) follows ∙ ap (next x) (sym (onto_append front lines other)) ∙ c.reads lines h other calm;
+        let calm' = calm_lines lines other.lines (subst IsCalm (sym h) c.calm) calm in
+        let follows = subst (λ (ls : List NumberedLine). Follows ls (front ++ (lines ++ other.lines))) (sym is) (follows_front front rest (lines ++ other.lines) calm') in
+        let cut : onto ((r.used ++ front) ++ lines) other ≡ onto r.used (onto front (onto lines other)) = onto_append (r.used ++ front) lines other ∙ onto_append r.used front (onto lines other) in
+        ap (λ (l : Remaining). step l >>= λ y. next y.0 y.1) cut ∙ goes_on step next left x after r (onto front (onto lines other)) follows ∙ ap (next x) (sym (onto_append front lines other)) ∙ c.reads lines h other calm;
   }
 
   -- a step that read, and then one that did
@@ -283,8 +282,8 @@ module _ {E : Type 0} (IsAt : E → ℕ → Type 0) (is_calm : List ℕ → Bool
     split = split_after step left x middle r s.used after.lines s.split;
     rest = s.rest ∙ ap (λ (m : Remaining). record m { lines = after.lines }) r.rest;
     again = λ other follows.
-      let follows' = subst (λ (ls : List NumberedLine). Follows ls (s.used ++ other.lines)) (sym s.split) (follows_after s.used after.lines other.lines follows) in
-      ap (λ (l : Remaining). step l >>= λ z. next z.0 z.1) (onto_append r.used s.used other) ∙ goes_on step next left x middle r (onto s.used other) follows' ∙ s.again other follows;
+        let follows' = subst (λ (ls : List NumberedLine). Follows ls (s.used ++ other.lines)) (sym s.split) (follows_after s.used after.lines other.lines follows) in
+        ap (λ (l : Remaining). step l >>= λ z. next z.0 z.1) (onto_append r.used s.used other) ∙ goes_on step next left x middle r (onto s.used other) follows' ∙ s.again other follows;
   }
 
   outcome_later : {A B : Type 0} (step : Step A E) (next : A → Step B E) (left : Remaining) (x : A) (after : Remaining) → Reads step left x after → (r : Result (B × Remaining) E) → Outcome (next x) after r → Outcome (λ l. step l >>= λ y. next y.0 y.1) left r
@@ -335,8 +334,8 @@ module _ {E : Type 0} (IsAt : E → ℕ → Type 0) (is_calm : List ℕ → Bool
       plain = (r.plain, tt);
       calm = r.calm;
       reads = λ lines h other calm.
-        let one = as_one lines h in
-        ap (λ (ls : List NumberedLine). step (onto ls other)) one.1 ∙ r.example one.0 other;
+          let one = as_one lines h in
+          ap (λ (ls : List NumberedLine). step (onto ls other)) one.1 ∙ r.example one.0 other;
     } where
       as_one : (lines : List NumberedLine) → bytes_of lines ≡ r.text ∷ [] → (number : ℕ) × (lines ≡ record { number = number; bytes = r.text } ∷ [])
       as_one [] h = absurd cc
@@ -351,8 +350,8 @@ module _ {E : Type 0} (IsAt : E → ℕ → Type 0) (is_calm : List ℕ → Bool
         let left : Remaining = record { lines = line ∷ lines; last = last; ended = ended } in
         let after : Remaining = record { lines = lines; last = last; ended = ended } in
         elim (r.some line) as (λ _. Outcome step left (step left)) [
-          inl s ↦ subst (Outcome step left) (sym (s.1 after)) (record { used = line ∷ []; split = refl; rest = refl; again = λ other follows. s.1 other })
-        | inr s ↦ subst (Outcome step left) (sym (s.2 after)) (record { front = []; more = r.text ∷ []; goes = line_start; place = inl (record { line = line; lines = lines; split = refl; at = s.1; again = s.2 }) })
+          | inl s ↦ subst (Outcome step left) (sym (s.1 after)) (record { used = line ∷ []; split = refl; rest = refl; again = λ other follows. s.1 other })
+          | inr s ↦ subst (Outcome step left) (sym (s.2 after)) (record { front = []; more = r.text ∷ []; goes = line_start; place = inl (record { line = line; lines = lines; split = refl; at = s.1; again = s.2 }) })
         ]
 
     pub steady_line : Steady step
@@ -386,11 +385,11 @@ module _ {E : Type 0} (IsAt : E → ℕ → Type 0) (is_calm : List ℕ → Bool
         plain = plain_append more first c.plain s.plain;
         calm = calm_append more first c.calm s.calm;
         reads = λ lines h last.
-          let hs = halves lines more first h in
-          let middle = onto hs.back (ending last) in
-          let calm' = calm_lines hs.back [] (subst IsCalm (sym hs.back_is) s.calm) tt in
-          let cut : onto (front ++ lines) (ending last) ≡ onto (front ++ hs.front) middle = ap (λ (ls : List NumberedLine). onto (front ++ ls) (ending last)) hs.split ∙ ap (λ (ls : List NumberedLine). onto ls (ending last)) (sym (append_assoc front hs.front hs.back)) ∙ onto_append (front ++ hs.front) hs.back (ending last) in
-          ap (λ (l : Remaining). step l >>= λ x. next x.0 x.1) cut ∙ rw (c.reads hs.front hs.front_is middle calm') (s.reads hs.back hs.back_is last);
+            let hs = halves lines more first h in
+            let middle = onto hs.back (ending last) in
+            let calm' = calm_lines hs.back [] (subst IsCalm (sym hs.back_is) s.calm) tt in
+            let cut : onto (front ++ lines) (ending last) ≡ onto (front ++ hs.front) middle = ap (λ (ls : List NumberedLine). onto (front ++ ls) (ending last)) hs.split ∙ ap (λ (ls : List NumberedLine). onto ls (ending last)) (sym (append_assoc front hs.front hs.back)) ∙ onto_append (front ++ hs.front) hs.back (ending last) in
+            ap (λ (l : Remaining). step l >>= λ x. next x.0 x.1) cut ∙ rw (c.reads hs.front hs.front_is middle calm') (s.reads hs.back hs.back_is last);
       }
 
   ends_later : {A X : Type 0} (step : Step A E) (next : A → Reader X E) (left : Remaining) (x : A) (after : Remaining) (r : Reads step left x after) (front rest : List NumberedLine) (more : List (List ℕ)) → after.lines ≡ front ++ rest → Ends (next x) front more
@@ -400,10 +399,10 @@ module _ {E : Type 0} (IsAt : E → ℕ → Type 0) (is_calm : List ℕ → Bool
     plain = c.plain;
     calm = c.calm;
     reads = λ lines h last.
-      let calm' = calm_lines lines [] (subst IsCalm (sym h) c.calm) tt in
-      let follows = subst (λ (ls : List NumberedLine). Follows ls (front ++ (lines ++ []))) (sym is) (follows_front front rest (lines ++ []) calm') in
-      let cut : onto ((r.used ++ front) ++ lines) (ending last) ≡ onto r.used (onto front (onto lines (ending last))) = onto_append (r.used ++ front) lines (ending last) ∙ onto_append r.used front (onto lines (ending last)) in
-      ap (λ (l : Remaining). step l >>= λ y. next y.0 y.1) cut ∙ goes_on step next left x after r (onto front (onto lines (ending last))) follows ∙ ap (next x) (sym (onto_append front lines (ending last))) ∙ c.reads lines h last;
+        let calm' = calm_lines lines [] (subst IsCalm (sym h) c.calm) tt in
+        let follows = subst (λ (ls : List NumberedLine). Follows ls (front ++ (lines ++ []))) (sym is) (follows_front front rest (lines ++ []) calm') in
+        let cut : onto ((r.used ++ front) ++ lines) (ending last) ≡ onto r.used (onto front (onto lines (ending last))) = onto_append (r.used ++ front) lines (ending last) ∙ onto_append r.used front (onto lines (ending last)) in
+        ap (λ (l : Remaining). step l >>= λ y. next y.0 y.1) cut ∙ goes_on step next left x after r (onto front (onto lines (ending last))) follows ∙ ap (next x) (sym (onto_append front lines (ending last))) ∙ c.reads lines h last;
   }
 
   closing_later : {A X : Type 0} (step : Step A E) (next : A → Reader X E) (left : Remaining) (x : A) (after : Remaining) → Reads step left x after → (r : Result X E) → OutcomeAtEnd (next x) after r → OutcomeAtEnd (λ l. step l >>= λ y. next y.0 y.1) left r

@@ -7,5 +7,4 @@ ghost use Rattle.reading_laws.specs.Certificates.{IsCertificateText, IsRefusedAt
 /// exactly where the lines before it begin the text of some certificate, and with it they begin none.
 pub fn first_bad_line_of_certificates()
     ensures { (text : List ℕ) (line : ℕ) → length text ≤ TEXT_BYTES → IsRefusedAt text line ↔ IsFirstBadLine IsCertificateText text line }
-{
-}
+{}

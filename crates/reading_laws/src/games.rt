@@ -7,12 +7,10 @@ ghost use Rattle.reading_laws.specs.Games.{IsGameText, IsRefusedGameAt, IsTextOf
 /// where the lines before it begin a text of some game, and with it they begin none. Comments and empty lines belong to such texts.
 pub fn first_bad_line_of_games()
     ensures { (text : List ℕ) (line : ℕ) → length text ≤ GAME_BYTES → IsRefusedGameAt text line ↔ IsFirstBadLine IsGameText text line }
-{
-}
+{}
 
 /// The law of the first bad line of account files, as this call's contract: the same of texts of at most 67,108,864 bytes and of
 /// accounts.
 pub fn first_bad_line_of_accounts()
     ensures { (text : List ℕ) (line : ℕ) → length text ≤ TEXT_BYTES → IsRefusedAccountAt text line ↔ IsFirstBadLine IsTextOfAccount text line }
-{
-}
+{}

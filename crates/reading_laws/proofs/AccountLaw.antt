@@ -1,0 +1,33 @@
+-- The first bad line of account files.
+use Rattle.std.proofs.Common.{◌≡◌, ℕ, ◌≤◌, ◌↔◌, true, false, ltb, List, length, Ok, refl, sym, ap, ◌∙◌}
+use Rattle.std.proofs.lemmas.Bool.{le-ltb}
+use Rattle.text_forms.specs.Lines.{number_of}
+use Rattle.text_forms.proofs.PrintedLines.{left_ahead}
+use Rattle.game_text.specs.Faults.{refused}
+use Rattle.game_text.specs.Accounts.{AccountFile, account_lines, account_in, account_of}
+use Rattle.game_text.proofs.AccountLaws.{account_in_is, account_in_again}
+use Rattle.reading_laws.specs.FirstBadLine.{IsFirstBadLine}
+use Rattle.reading_laws.specs.Games.{IsTextOfAccount, IsRefusedAccountAt}
+use Rattle.reading_laws.proofs.Steady.{any_line, Never}
+use Rattle.reading_laws.proofs.Law.{left_of, is_first, is_refused}
+use Rattle.reading_laws.proofs.LineSteps.{IsBadAt}
+use Rattle.reading_laws.proofs.AccountSteps.{account_closes}
+use Rattle.reading_laws.proofs.GameLaw.{bad_line_of, shown, one_place, never}
+
+found : (text : List ℕ) (account : AccountFile) → account_in (left_of true text) ≡ Ok account → IsTextOfAccount text
+found text account e = let is = account_in_is (left_of true text) account e in (account, is.1, is.0)
+
+only : (text : List ℕ) → IsTextOfAccount text → (account : AccountFile) × (account_in (left_of true text) ≡ Ok account)
+only text is =
+    let ahead = left_ahead (account_lines is.0) (left_of true text) is.2 in
+    (is.0, ap account_in ahead.2 ∙ account_in_again is.0 ahead.1 ahead.0 is.1)
+
+short_account : (text : List ℕ) → length text ≤ 67108864 → account_of text ≡ refused (account_in (left_of true text))
+unfolding account_of
+short_account text short = let long : ltb 67108864 (length text) ≡ false = le-ltb _ _ short in rw long refl
+
+pub account_law : (text : List ℕ) (line : ℕ) → length text ≤ 67108864 → IsRefusedAccountAt text line ↔ IsFirstBadLine IsTextOfAccount text line
+account_law text line short = (
+  λ r. let bad = bad_line_of (account_in (left_of true text)) line r.0 (sym (short_account text short) ∙ r.1) in is_first IsBadAt any_line Never true account_in IsTextOfAccount found only account_closes never one_place text line bad.bad bad.is bad.at,
+  λ is. let r = is_refused IsBadAt any_line Never true account_in IsTextOfAccount found only account_closes never text line is in (number_of r.0.reason, short_account text short ∙ shown (account_in (left_of true text)) r.0 line r.1 r.2),
+)
