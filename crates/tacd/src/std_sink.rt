@@ -1,10 +1,14 @@
 // The standard output of the system.
-ghost use Rattle.std.specs.Prelude.{◌≡◌};
+ghost use Rattle.std.specs.Prelude.{◌≡◌, ◌<◌, None, length};
+ghost use Rattle.std.specs.Io.KnownBytes.{WriteAppends};
+ghost use Rattle.tac_io.specs.Counts.{HasCause};
+ghost use Rattle.tac_io.specs.Told.{Takes};
 
 use std::io::Write;
 use tac_io::{Failed, Sink};
 
-/// A writer of the system as a sink. It counts its faults, and tells nothing of what it took.
+/// A writer of the system as a sink. It counts its faults, and tells nothing of what it took; that the writer took just that, a clause of
+/// `write` says, of a writer whose content is known.
 #[derive(Drop)]
 pub(crate) struct StdSink<W> {
     writer: W,
@@ -27,7 +31,11 @@ impl<W: Write> Sink for StdSink<W> {
 
     ghost faults = { λ s. s.faults };
 
-    fn write(&mut self, piece: &[u8]) -> Result<usize, Failed> {
+    fn write(&mut self, piece: &[u8]) -> Result<usize, Failed>
+        ensures bytes { Takes None None result piece.now }
+        ensures cause { HasCause self.old.faults self.new.faults result }
+        ensures passed { WriteAppends (W.contents self.old.writer) (W.contents self.new.writer) result piece.now }
+    {
         match self.writer.write(piece) {
             Ok(count) if count > 0 => Ok(count),
             _ => {

@@ -1,7 +1,9 @@
 use Rattle.std.proofs.Common.{◌≡◌, ◌∷◌, ◌++◌, ◌∙◌, [], All, ap, sym, subst, arith, length, map, length-append}
 use Rattle.std.specs.Prelude.{option_to_list}
 use Rattle.std.specs.List.{filter_map}
+use Rattle.std.specs.List.Sorted.{IsPermutation}
 use Rattle.std.proofs.lemmas.List.{length-map}
+use Rattle.std.proofs.lemmas.List.Sorted.{IsPermutation-refl}
 use Rattle.floor.specs.Closing.{IsBorneOut}
 use Rattle.floor.specs.Desks.{desk_ids, desk_caller}
 use Rattle.floor.specs.Floors.{floor_ids}
@@ -47,7 +49,7 @@ close-requires g c =
     let desks_back : c.push_reserved.new.self.items ≡ map (λ q. q.desk) (eight_of p) ++ clock' ∷ [] =
     c.push_reserved.ensures.items ∙ ap (λ l. l ++ clock' ∷ []) (c.add_eight.ensures.gathers.desks ∙ ap (λ l. l ++ map (λ q. q.desk) (eight_of p)) c.requires.stage.ending.desks.0) in
     let back = all_back (λ l. record { taken = g.L.Link.taken l; left = g.L.Link.left l; sent = g.L.Link.sent l; reads = g.L.Link.faults l; writes = g.L.Link.write_faults l }) (g.D.Dialect.may_answer c.args.dialect.now) (g.D.Dialect.text c.args.dialect.now) c.args.game.now e p clock clock' ids fresh c.run_all-played.ensures.played c.run_all-played.ensures.same in
-    (ap (map (λ d. desk_ids d)) desks_back ∙ back.0, ap (map (λ d. desk_caller d)) desks_back ∙ back.1)
+    (ap (map (λ d. desk_ids d)) desks_back ∙ back.0, subst (IsPermutation _) (sym (ap (map (λ d. desk_caller d)) desks_back ∙ back.1)) (IsPermutation-refl _))
 
 pub returns-clause-through : goal.returns-clause-through
 unfolding AreTakenPlayed AreEightPlayed
