@@ -1,9 +1,11 @@
-"""What the scripts share: the file of tac, free ports, and processes that end with the script that started them, however it ends: by its last line, by ctrl-C, or killed."""
+"""What the scripts share: the file of tac, free ports, and processes that end with the script that started them, however it ends: by its last line, by
+ctrl-C, or killed."""
 
 import os
 import signal
 import socket
 import subprocess
+import tempfile
 from pathlib import Path
 
 PROGRAM = os.environ.get("TAC", str(Path(__file__).resolve().parent.parent / "crates/tacd/out/tacd"))
@@ -19,34 +21,31 @@ def free_port():
         return probe.getsockname()[1]
 
 
-# The guard is a shell at the other end of a pipe. It is told each group of processes that begins and ends, and when the pipe ends, since the
-# script has, it ends those that are left: it asks first, so that they can end what they started elsewhere, and a second later kills.
+# The guard is a shell at the other end of a pipe, which ends when the script has ended. Each process that is started leaves its number in a folder
+# before it becomes what it is to be. Then the guard takes the folder away, so that nothing more begins, and ends the group of each number in it: it
+# asks first, so that they can end what they started elsewhere, and a second later kills.
 GUARD = """
 trap '' INT TERM HUP
-groups=' '
-while read -r sign group; do
-    case $sign in
-        +) groups="$groups$group " ;;
-        -) groups="${groups%% "$group" *} ${groups#* "$group" }" ;;
-    esac
-done
+read -r end
+mv "$0" "$0.end" && cd "$0.end" || exit
 left=
-for group in $groups; do kill -s TERM -- "-$group" 2> /dev/null && left=yes; done
+for group in *; do kill -s TERM -- "-$group" 2> /dev/null && left=yes; done
 [ -z "$left" ] || sleep 1
-for group in $groups; do kill -s KILL -- "-$group" 2> /dev/null; done
+for group in *; do kill -s KILL -- "-$group" 2> /dev/null; done
+cd / && rm -r "$0.end"
 """
+START = ': > "$0/$$" && exec "$@"'
 
 
 class Children:
     """Starts processes, each the head of a process group of its own, so that what it starts ends with it."""
 
     def __init__(self):
-        self.guard = subprocess.Popen(["sh", "-c", GUARD], stdin=subprocess.PIPE, start_new_session=True)
+        self.place = Path(tempfile.mkdtemp(prefix="children"))
+        self.guard = subprocess.Popen(["sh", "-c", GUARD, self.place], stdin=subprocess.PIPE, start_new_session=True)
 
     def start(self, words, **how):
-        child = subprocess.Popen(words, start_new_session=True, **how)
-        self.tell(f"+ {child.pid}")
-        return child
+        return subprocess.Popen(["sh", "-c", START, self.place, *words], start_new_session=True, **how)
 
     def end(self, child):
         """Kills what is left of a child's group, and gives its exit status."""
@@ -54,12 +53,11 @@ class Children:
             os.killpg(child.pid, signal.SIGKILL)
         except (ProcessLookupError, PermissionError):
             pass  # it has ended already
-        status = child.wait()
-        self.tell(f"- {child.pid}")
-        return status
-
-    def tell(self, line):
-        os.write(self.guard.stdin.fileno(), f"{line}\n".encode())  # in one piece, whichever thread tells
+        try:
+            os.remove(self.place / str(child.pid))  # before its number may be another's
+        except FileNotFoundError:
+            pass  # it had not begun
+        return child.wait()
 
     def close(self):
         """Ends all that is left."""
