@@ -9,7 +9,7 @@ use Rattle.tac_base.specs.declared.calls.Call.{Call}
 use Rattle.auction_rules.specs.History.{Entry}
 use Rattle.floor.specs.declared.desk.Desk.{Desk}
 use Rattle.floor.specs.Desks.{calls_of, entries_of}
-use Rattle.floor.specs.Keeping.{calls_of_good}
+pub use Rattle.floor.specs.Keeping.{calls_of_good}
 use Rattle.floor.proofs.CallLists.{calls_of_good-append}
 use Rattle.clock_events.proofs.GoodCounts.{count-cons}
 

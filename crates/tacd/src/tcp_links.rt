@@ -1,19 +1,37 @@
 // The links of the system: TCP connections.
 ghost use Rattle.std.specs.Prelude.{◌≡◌, None};
+ghost use Rattle.std.specs.Io.KnownBytes.{ReadConsumes, WriteAppends};
+ghost use Rattle.tac_io.specs.Counts.{HasCause};
+ghost use Rattle.tac_io.specs.Told.{Reads, Takes};
 
 use std::io::{ErrorKind, Read, Write};
 use std::net::{Net, TcpListener, TcpStream};
 use tac_io::{Failed, Link, Links};
 
-/// A TCP connection. It counts its faults, and tells nothing of what goes over it.
+/// A stream as a link, as that of a TCP connection. It counts its faults, and tells nothing of what goes over it. That it passes on what the
+/// stream gave or took, as a fault where that failed, a clause of `read` and of `write` says, of a stream whose content is known.
 #[derive(Drop)]
-pub(crate) struct TcpLink {
-    stream: TcpStream,
+pub(crate) struct TcpLink<S> {
+    stream: S,
     faults: u64,
     write_faults: u64,
 }
 
-impl Link for TcpLink {
+impl<S> TcpLink<S> {
+    /// Nothing went over the stream yet.
+    pub(crate) fn new(stream: S) -> TcpLink<S>
+        ensures stream { result.stream ≡ stream }
+        ensures faults { (result.faults ≡ 0) × (result.write_faults ≡ 0) }
+    {
+        TcpLink {
+            stream,
+            faults: 0,
+            write_faults: 0,
+        }
+    }
+}
+
+impl<S: Read + Write> Link for TcpLink<S> {
     ghost use Rattle.std.specs.Prelude.{None};
 
     ghost taken = { λ _. None };
@@ -26,7 +44,12 @@ impl Link for TcpLink {
 
     ghost write_faults = { λ s. s.write_faults };
 
-    fn read(&mut self, into: &mut [u8]) -> Result<usize, Failed> {
+    fn read(&mut self, into: &mut [u8]) -> Result<usize, Failed>
+        ensures bytes { Reads None None result into.new }
+        ensures cause { HasCause self.old.faults self.new.faults result }
+        ensures write_faults { self.new.write_faults ≡ self.old.write_faults }
+        ensures passed { ReadConsumes (S.remaining self.old.stream) (S.remaining self.new.stream) result into.new }
+    {
         match self.stream.read(into) {
             Ok(count) => Ok(count),
             Err(_) => {
@@ -36,7 +59,12 @@ impl Link for TcpLink {
         }
     }
 
-    fn write(&mut self, piece: &[u8]) -> Result<usize, Failed> {
+    fn write(&mut self, piece: &[u8]) -> Result<usize, Failed>
+        ensures bytes { Takes None None result piece.now }
+        ensures cause { HasCause self.old.write_faults self.new.write_faults result }
+        ensures read_faults { self.new.faults ≡ self.old.faults }
+        ensures passed { WriteAppends (S.contents self.old.stream) (S.contents self.new.stream) result piece.now }
+    {
         match self.stream.write(piece) {
             Ok(count) if count > 0 => Ok(count),
             _ => {
@@ -80,7 +108,7 @@ impl<'a, R: Net<Listener = TcpListener, Stream = TcpStream>> TcpLinks<'a, R> {
 impl<'a, R: Net<Listener = TcpListener, Stream = TcpStream>> Links for TcpLinks<'a, R> {
     ghost use Rattle.std.specs.Prelude.{None, is_some};
 
-    type Link = TcpLink;
+    type Link = TcpLink<TcpStream>;
 
     ghost listens = { λ s. is_some s.listener };
 
@@ -108,18 +136,14 @@ impl<'a, R: Net<Listener = TcpListener, Stream = TcpStream>> Links for TcpLinks<
         }
     }
 
-    fn next(&mut self) -> Result<Option<TcpLink>, Failed> {
+    fn next(&mut self) -> Result<Option<TcpLink<TcpStream>>, Failed> {
         let listener = self.listener.as_ref().unwrap();
         for _ in 0..u64::MAX {
             match listener.accept() {
                 Ok((stream, _)) => {
                     // A reply is one short line: it is to be sent at once. Where that cannot be set, it is sent all the same.
                     let _ = stream.set_nodelay(true);
-                    return Ok(Some(TcpLink {
-                        stream,
-                        faults: 0,
-                        write_faults: 0,
-                    }));
+                    return Ok(Some(TcpLink::new(stream)));
                 }
                 // A peer that went away before it was taken ends no game.
                 Err(error) if error.kind() == ErrorKind::ConnectionAborted => {}

@@ -1,7 +1,9 @@
-use Rattle.std.proofs.Common.{rules, ◌≡◌, [], ◌∷◌, ◌++◌, sym, ap, ◌∙◌}
+use Rattle.std.proofs.Common.{rules, ◌≡◌, [], ◌∷◌, ◌++◌, sym, ap, ◌∙◌, subst}
 use Rattle.std.specs.Option.{option_to_list}
 use Rattle.std.specs.Vec.Iter.{into_iter_items}
+use Rattle.std.specs.List.Sorted.{IsPermutation}
 use Rattle.std.proofs.lemmas.List.{nil_from_length}
+use Rattle.std.proofs.lemmas.List.Sorted.{IsPermutation-refl}
 use Rattle.floor.specs.declared.desk.Desk.{Desk}
 use Rattle.floor.specs.Desks.{desk_ids, desk_caller}
 use Rattle.floor.proofs.FirstDesks.{put_back}
@@ -18,5 +20,7 @@ close-requires g c =
     let ids_a : desk_ids a' ≡ desk_ids a = search rules in let ids_b : desk_ids b' ≡ desk_ids b = search rules in
     let caller_a : desk_caller a' ≡ desk_caller a = search rules in let caller_b : desk_caller b' ≡ desk_caller b = search rules in (
       put_back (λ d. desk_ids d) _ _ _ _ _ _ _ _ a b a' b' v.ids left c.new-all.ensures.items c.in_ok-hand_back.ensures c.in_ok-hand_back-2.ensures rest whole ids_a ids_b ∙ told.0,
-      put_back (λ d. desk_caller d) _ _ _ _ _ _ _ _ a b a' b' v.callers left c.new-all.ensures.items c.in_ok-hand_back.ensures c.in_ok-hand_back-2.ensures rest whole caller_a caller_b ∙ told.1,
+      subst (IsPermutation _)
+          (sym (put_back (λ d. desk_caller d) _ _ _ _ _ _ _ _ a b a' b' v.callers left c.new-all.ensures.items c.in_ok-hand_back.ensures c.in_ok-hand_back-2.ensures rest whole caller_a caller_b ∙ told.1))
+          (IsPermutation-refl _),
     )
