@@ -100,10 +100,10 @@ cert_given agent tree low fits few short number rest =
 -- ---- scores
 
 -- a score of which the certificate's text is short enough to be read
-record IsScore (agent : ℕ) (scored : Scored) : Type 0 where
-  low : agent ≤ 7
-  range : IsLoggedScore scored
-  short : length (spelling scored.tree) ≤ 67108864
+pub record IsScore (agent : ℕ) (scored : Scored) : Type 0 where
+  pub low : agent ≤ 7
+  pub range : IsLoggedScore scored
+  pub short : length (spelling scored.tree) ≤ 67108864
 
 package_gives : (agent : ℕ) → agent ≤ 7 → GivesBytes (λ client. line_by (package_of agent client)) (λ client p. text_of (package_line agent client p ∷ [])) (λ client p. (client ≤ 7) × IsPackage p) Any
 unfolding GivesBytes
@@ -171,26 +171,20 @@ sheet_text scores =
 made_log : Head → List (List Entry) → List CashEntry → List Scored → LoggedGame
 made_log head histories cash scores = record { head = head; histories = histories; cash = cash; scores = scores }
 
-pub log_given : (log : LoggedGame) → IsLogged log → length (logged_text log) ≤ 67108864 → log_in (at 1 (logged_text log)) ≡ Ok log
+-- a log of which each certificate's text is short enough to be read
+pub log_given_by : (log : LoggedGame) → IsLogged log → AllFrom IsScore 0 log.scores → log_in (at 1 (logged_text log)) ≡ Ok log
 unfolding log_in made_log
-log_given log is short =
+log_given_by log is each =
     let scores_bytes = bytes_of_parts (λ agent s. text_of (agent_lines agent s)) 0 log.scores in
     let last = codes "end" ++ 10 ∷ [] in
     let after_sheet = scores_bytes ++ last in
     let sheet = sheet_text log.scores in
-    let one = length-append (first_lines log.head) (histories_text log.histories log.cash ++ sheet_part log.scores) in
-    let two = length-append (histories_text log.histories log.cash) (sheet_part log.scores) in
-    let three = ap length sheet in
-    let four = length-append (codes "sheet" ++ 10 ∷ []) after_sheet in
-    let five = length-append scores_bytes last in
-    let few : length scores_bytes ≤ length (logged_text log) = omega (arith, one, two, three, four, five) in
     let eight = is.agents in
     let head = head_given log.head is.head 1 (histories_text log.histories log.cash ++ sheet_part log.scores) in
     let histories = histories_given log.histories log.cash is.goods is.histories is.few_cash is.cash head.0 (sheet_part log.scores) in
     let title : line_by (is_text (codes "sheet")) (at histories.1 (sheet_part log.scores)) ≡ Ok (tt, at (histories.1 + 1) after_sheet) =
     ap (λ (t : List ℕ). line_by (is_text (codes "sheet")) (at histories.1 t)) sheet ∙ text_given (codes "sheet") histories.1 after_sheet (lacks 10 (codes "sheet") refl) in
-    let scores = repeat_given score_in (λ agent s. text_of (agent_lines agent s)) IsScore Any score_gives (any_kept (λ agent s. text_of (agent_lines agent s)) IsScore) log.scores 0
-    (short_scores 0 log.scores (length (logged_text log)) (omega (arith, eight)) is.scores few short) (histories.1 + 1) last tt in
+    let scores = repeat_given score_in (λ agent s. text_of (agent_lines agent s)) IsScore Any score_gives (any_kept (λ agent s. text_of (agent_lines agent s)) IsScore) log.scores 0 each (histories.1 + 1) last tt in
     let agents : repeat 8 0 score_in (at (histories.1 + 1) after_sheet) ≡ Ok (log.scores, at scores.0 last) = ap (λ (n : ℕ). repeat n 0 score_in (at (histories.1 + 1) after_sheet)) (sym eight) ∙ scores.1 in
     let end : line_by (is_text (codes "end")) (at scores.0 last) ≡ Ok (tt, at (scores.0 + 1) []) =
     ap (λ (t : List ℕ). line_by (is_text (codes "end")) (at scores.0 t)) (sym (append-nil last)) ∙ text_given (codes "end") scores.0 [] (lacks 10 (codes "end") refl) in
@@ -204,3 +198,16 @@ log_given log is short =
     ∙ and_then (line_by (is_text (codes "sheet")) after_cash) (λ sheet. repeat 8 0 score_in sheet.1 >>= λ scores. line_by (is_text (codes "end")) scores.1 >>= λ end. nothing_left end.1 >>= λ done. Ok (made_log log.head log.histories log.cash scores.0)) (tt, at (histories.1 + 1) after_sheet) title
     ∙ and_then (repeat 8 0 score_in (at (histories.1 + 1) after_sheet)) (λ scores. line_by (is_text (codes "end")) scores.1 >>= λ end. nothing_left end.1 >>= λ done. Ok (made_log log.head log.histories log.cash scores.0)) (log.scores, at scores.0 last) agents
     ∙ and_then (line_by (is_text (codes "end")) (at scores.0 last)) (λ end. nothing_left end.1 >>= λ done. Ok (made_log log.head log.histories log.cash log.scores)) (tt, at (scores.0 + 1) []) end
+
+pub log_given : (log : LoggedGame) → IsLogged log → length (logged_text log) ≤ 67108864 → log_in (at 1 (logged_text log)) ≡ Ok log
+log_given log is short =
+    let scores_bytes = bytes_of_parts (λ agent s. text_of (agent_lines agent s)) 0 log.scores in
+    let last = codes "end" ++ 10 ∷ [] in
+    let one = length-append (first_lines log.head) (histories_text log.histories log.cash ++ sheet_part log.scores) in
+    let two = length-append (histories_text log.histories log.cash) (sheet_part log.scores) in
+    let three = ap length (sheet_text log.scores) in
+    let four = length-append (codes "sheet" ++ 10 ∷ []) (scores_bytes ++ last) in
+    let five = length-append scores_bytes last in
+    let few : length scores_bytes ≤ length (logged_text log) = omega (arith, one, two, three, four, five) in
+    let eight = is.agents in
+    log_given_by log is (short_scores 0 log.scores (length (logged_text log)) (omega (arith, eight)) is.scores few short)

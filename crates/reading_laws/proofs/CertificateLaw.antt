@@ -1,6 +1,5 @@
 -- The first bad line of certificates.
 use Rattle.std.proofs.Common.{◌≡◌, ℕ, ◌≤◌, ◌↔◌, false, List, length, Ok, Err, refl, sym, ap, ◌∙◌}
-use Rattle.text_forms.specs.Lines.{Remaining}
 use Rattle.bound_cert.specs.declared.faults.CertFault.{CertFault}
 use Rattle.bound_cert.specs.declared.faults.CertFault.TheVariants.{Line, TooLong, Memory}
 use Rattle.bound_cert.specs.Reading.{root_in, cert_of}
@@ -11,7 +10,7 @@ use Rattle.bound_cert.proofs.TreesAgain.{spelling_again}
 use Rattle.reading_laws.specs.FirstBadLine.{IsFirstBadLine}
 use Rattle.reading_laws.specs.Certificates.{IsCertificateText, IsRefusedAt}
 use Rattle.reading_laws.proofs.Steady.{any_line, Never}
-use Rattle.reading_laws.proofs.Law.{left_of, is_first, is_refused}
+use Rattle.reading_laws.proofs.Law.{left_of, nothing_within, is_first, is_refused}
 use Rattle.reading_laws.proofs.CertificateSteps.{IsFaultAt, root_closes}
 
 found : (text : List ℕ) (tree : Tree) → root_in (left_of false text) ≡ Ok tree → IsCertificateText text
@@ -25,9 +24,6 @@ one_place (Line line reason) m n a b = sym a ∙ b
 one_place TooLong m n a b = absurd a
 one_place Memory m n a b = absurd a
 
-abbrev never : (line : List ℕ) (left : Remaining) (fault : CertFault) → Never line left fault → ⊥
-never line left fault h = h
-
 shown : (text : List ℕ) (line : ℕ) (fault : CertFault) → cert_of text ≡ Err fault → IsFaultAt fault line → IsRefusedAt text line
 shown text line (Line at reason) e is = (reason, e ∙ ap (λ (n : ℕ). Err (Line n reason)) is)
 shown text line TooLong e is = absurd is
@@ -35,6 +31,6 @@ shown text line Memory e is = absurd is
 
 pub certificate_law : (text : List ℕ) (line : ℕ) → length text ≤ 67108864 → IsRefusedAt text line ↔ IsFirstBadLine IsCertificateText text line
 certificate_law text line short = (
-  λ r. is_first IsFaultAt any_line Never false root_in IsCertificateText found only root_closes never one_place text line (Line line r.0) (sym (short_text text short) ∙ r.1) refl,
-  λ is. let r = is_refused IsFaultAt any_line Never false root_in IsCertificateText found only root_closes never text line is in shown text line r.0 (short_text text short ∙ r.1) r.2,
+  λ r. is_first IsFaultAt any_line Never false root_in IsCertificateText found only root_closes one_place text (nothing_within IsFaultAt any_line (left_of false text)) line (Line line r.0) (sym (short_text text short) ∙ r.1) refl,
+  λ is. let r = is_refused IsFaultAt any_line Never false root_in IsCertificateText found only root_closes text (nothing_within IsFaultAt any_line (left_of false text)) line is in shown text line r.0 (short_text text short ∙ r.1) r.2,
 )

@@ -2,7 +2,7 @@
 use Rattle.std.proofs.Common.{◌≡◌, ℕ, ◌≤◌, ◌↔◌, true, false, ltb, List, length, Result, Ok, Err, refl, sym, ap, ◌∙◌}
 use Rattle.std.proofs.lemmas.Bool.{le-ltb}
 use Rattle.text_forms.specs.declared.lines.BadLine.{BadLine}
-use Rattle.text_forms.specs.Lines.{Remaining, number_of}
+use Rattle.text_forms.specs.Lines.{number_of}
 use Rattle.text_forms.proofs.PrintedLines.{left_ahead}
 use Rattle.game_text.specs.declared.fault.GameFault.{GameFault}
 use Rattle.game_text.specs.declared.fault.GameFault.TheVariants.{Line}
@@ -12,7 +12,7 @@ use Rattle.game_text.proofs.GameLaws.{game_in_is, game_in_again}
 use Rattle.reading_laws.specs.FirstBadLine.{IsFirstBadLine}
 use Rattle.reading_laws.specs.Games.{IsGameText, IsRefusedGameAt}
 use Rattle.reading_laws.proofs.Steady.{any_line, Never}
-use Rattle.reading_laws.proofs.Law.{left_of, is_first, is_refused}
+use Rattle.reading_laws.proofs.Law.{left_of, nothing_within, is_first, is_refused}
 use Rattle.reading_laws.proofs.LineSteps.{IsBadAt}
 use Rattle.reading_laws.proofs.GameSteps.{game_closes}
 
@@ -48,15 +48,12 @@ only text is =
 pub one_place : (bad : BadLine) (m n : ℕ) → IsBadAt bad m → IsBadAt bad n → m ≡ n
 one_place bad m n a b = sym a ∙ b
 
-abbrev pub never : (line : List ℕ) (left : Remaining) (bad : BadLine) → Never line left bad → ⊥
-never line left bad h = h
-
 short_game : (text : List ℕ) → length text ≤ 1048576 → game_of text ≡ refused (game_in (left_of true text))
 unfolding game_of
 short_game text short = let long : ltb 1048576 (length text) ≡ false = le-ltb _ _ short in rw long refl
 
 pub game_law : (text : List ℕ) (line : ℕ) → length text ≤ 1048576 → IsRefusedGameAt text line ↔ IsFirstBadLine IsGameText text line
 game_law text line short = (
-  λ r. let bad = bad_line_of (game_in (left_of true text)) line r.0 (sym (short_game text short) ∙ r.1) in is_first IsBadAt any_line Never true game_in IsGameText found only game_closes never one_place text line bad.bad bad.is bad.at,
-  λ is. let r = is_refused IsBadAt any_line Never true game_in IsGameText found only game_closes never text line is in (number_of r.0.reason, short_game text short ∙ shown (game_in (left_of true text)) r.0 line r.1 r.2),
+  λ r. let bad = bad_line_of (game_in (left_of true text)) line r.0 (sym (short_game text short) ∙ r.1) in is_first IsBadAt any_line Never true game_in IsGameText found only game_closes one_place text (nothing_within IsBadAt any_line (left_of true text)) line bad.bad bad.is bad.at,
+  λ is. let r = is_refused IsBadAt any_line Never true game_in IsGameText found only game_closes text (nothing_within IsBadAt any_line (left_of true text)) line is in (number_of r.0.reason, short_game text short ∙ shown (game_in (left_of true text)) r.0 line r.1 r.2),
 )

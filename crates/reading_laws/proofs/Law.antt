@@ -8,14 +8,18 @@ use Rattle.text_forms.specs.Lines.{NumberedLine, Remaining, is_comment, lines_fr
 use Rattle.text_forms.proofs.Stepping.{HasPart, has_part, chosen}
 use Rattle.bound_cert.proofs.TreesAgain.{parts_again, lines_lack-append}
 use Rattle.reading_laws.specs.FirstBadLine.{lines_of, with_ends, Begins, IsFirstBadLine}
-use Rattle.reading_laws.proofs.Steady.{Reader, onto, ending, Ends, Closes, OutcomeAtEnd, Refuses, AtLine, AtEnd}
+use Rattle.reading_laws.proofs.Steady.{Reader, onto, ending, Ends, Closes, OutcomeAtEnd, Refuses, AtLine, AtEnd, Within, Never}
 use Rattle.reading_laws.proofs.Spots.{AllLack, Front, with_end, parts_lack, front_lacks, plain_lacks, spot, end_spot, numbered, part_after, front_again, last_lacks, take_before, agree_before, ends_append, same_front, same_end}
 
 -- the lines of a text
 abbrev pub left_of : Bool → List ℕ → Remaining
 left_of skips text = lines_from skips 1 (parts_of 10 text)
 
-module _ {X E : Type 0} (IsAt : E → ℕ → Type 0) (is_calm : List ℕ → Bool) (In : List ℕ → Remaining → E → Type 0) (skips : Bool) (read : Reader X E) (IsText : List ℕ → Type 0)
+-- where no reader refuses within what some lines begin with, this one doesn't
+pub nothing_within : {E : Type 0} (IsAt : E → ℕ → Type 0) (is_calm : List ℕ → Bool) (left : Remaining) (front : List NumberedLine) (fault : E) → Within IsAt is_calm Never front left fault → ⊥
+nothing_within IsAt is_calm left front fault w = w.refused
+
+module _ {X E : Type 0} (IsAt : E → ℕ → Type 0) (is_calm : List ℕ → Bool) (In : Remaining → E → Type 0) (skips : Bool) (read : Reader X E) (IsText : List ℕ → Type 0)
     (found : (text : List ℕ) (value : X) → read (left_of skips text) ≡ Ok value → IsText text) (only : (text : List ℕ) → IsText text → (value : X) × (read (left_of skips text) ≡ Ok value)) where
   -- where so many lines before a place would have been read with others after them, they begin a text of the kind
   begins : (text : List ℕ) (prior parts : List (List ℕ)) (front : List NumberedLine) (more : List (List ℕ)) → parts_of 10 text ≡ prior ++ parts → HasPart parts → Front skips 1 prior front → Ends IsAt is_calm In read front more
@@ -121,15 +125,19 @@ module _ {X E : Type 0} (IsAt : E → ℕ → Type 0) (is_calm : List ℕ → Bo
 
   -- ---- the law
 
-  module _ (closes : Closes IsAt is_calm In read) (never : (line : List ℕ) (left : Remaining) (fault : E) → In line left fault → ⊥) where
-    first_bad : (text : List ℕ) (fault : E) → read (left_of skips text) ≡ Err fault → FirstBad text fault
-    first_bad text fault refused =
+  -- nothing of a text is refused within
+  abbrev pub NotWithin : List ℕ → Type 0
+  NotWithin text = (front : List NumberedLine) (fault : E) → Within IsAt is_calm In front (left_of skips text) fault → ⊥
+
+  module _ (closes : Closes IsAt is_calm In read) where
+    first_bad : (text : List ℕ) → NotWithin text → (fault : E) → read (left_of skips text) ≡ Err fault → FirstBad text fault
+    first_bad text never fault refused =
         let r : Refuses IsAt is_calm In read (Ends IsAt is_calm In read) (left_of skips text) fault = subst (OutcomeAtEnd IsAt is_calm In read (left_of skips text)) refused (closes.outcome (left_of skips text)) in
         elim r.place as (λ _. FirstBad text fault) [
           | inl a ↦ bad_at_line text fault r.front r.more r.goes a
           | inr p ↦ elim p as (λ _. FirstBad text fault) [
             | inl a ↦ bad_at_end text fault r.front r.more r.goes a refused
-            | inr w ↦ absurd (never w.line (record (left_of skips text) { lines = w.lines }) fault w.refused)
+            | inr w ↦ absurd (never r.front fault w)
           ]
         ]
 
@@ -148,16 +156,16 @@ module _ {X E : Type 0} (IsAt : E → ℕ → Type 0) (is_calm : List ℕ → Bo
       by_order false true h k = absurd (less n m b a k)
       by_order false false h k = grind (arith, nat_tests, h, k)
 
-    pub is_first : (one_place : (fault : E) (m n : ℕ) → IsAt fault m → IsAt fault n → m ≡ n) (text : List ℕ) (line : ℕ) (fault : E) → read (left_of skips text) ≡ Err fault → IsAt fault line → IsFirstBadLine IsText text line
-    is_first one_place text line fault refused at =
-        let f = first_bad text fault refused in
+    pub is_first : (one_place : (fault : E) (m n : ℕ) → IsAt fault m → IsAt fault n → m ≡ n) (text : List ℕ) → NotWithin text → (line : ℕ) (fault : E) → read (left_of skips text) ≡ Err fault → IsAt fault line → IsFirstBadLine IsText text line
+    is_first one_place text never line fault refused at =
+        let f = first_bad text never fault refused in
         subst (IsFirstBadLine IsText text) (one_place fault f.line line f.at at) f.first
 
-    is_refused_by : (text : List ℕ) (line : ℕ) → IsFirstBadLine IsText text line → (r : Result X E) → read (left_of skips text) ≡ r → (fault : E) × (read (left_of skips text) ≡ Err fault) × IsAt fault line
-    is_refused_by text line is (Ok value) e = absurd (is.bad (text, found text value e, refl))
-    is_refused_by text line is (Err fault) e =
-        let f = first_bad text fault e in
+    is_refused_by : (text : List ℕ) → NotWithin text → (line : ℕ) → IsFirstBadLine IsText text line → (r : Result X E) → read (left_of skips text) ≡ r → (fault : E) × (read (left_of skips text) ≡ Err fault) × IsAt fault line
+    is_refused_by text never line is (Ok value) e = absurd (is.bad (text, found text value e, refl))
+    is_refused_by text never line is (Err fault) e =
+        let f = first_bad text never fault e in
         (fault, e, subst (IsAt fault) (one_bad text f.line line f.first is) f.at)
 
-    pub is_refused : (text : List ℕ) (line : ℕ) → IsFirstBadLine IsText text line → (fault : E) × (read (left_of skips text) ≡ Err fault) × IsAt fault line
-    is_refused text line is = is_refused_by text line is (read (left_of skips text)) refl
+    pub is_refused : (text : List ℕ) → NotWithin text → (line : ℕ) → IsFirstBadLine IsText text line → (fault : E) × (read (left_of skips text) ≡ Err fault) × IsAt fault line
+    is_refused text never line is = is_refused_by text never line is (read (left_of skips text)) refl

@@ -8,3 +8,7 @@ pub mod GameSteps
 pub mod GameLaw
 pub mod AccountSteps
 pub mod AccountLaw
+pub mod Runs
+pub mod Blocks
+pub mod LogSteps
+pub mod LogLaw

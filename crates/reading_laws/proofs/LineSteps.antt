@@ -6,7 +6,7 @@ use Rattle.text_forms.specs.declared.lines.BadLine.{BadLine}
 use Rattle.text_forms.specs.Lines.{NumberedLine, Remaining, nothing_left}
 use Rattle.text_forms.specs.Steps.{◌>>=◌, read_by, repeat}
 use Rattle.text_forms.proofs.PrintedLines.{IsLine}
-use Rattle.reading_laws.proofs.Steady.{Step, onto, IsPlain, Steady, steady_line, steady_then, steady_done, Closes, closes_end}
+use Rattle.reading_laws.proofs.Steady.{Step, onto, IsPlain, Steady, ReadsLine, steady_line, steady_then, steady_done, Closes, closes_end}
 
 -- a bad line is at its number
 abbrev pub IsBadAt : BadLine → ℕ → Type 0
@@ -16,13 +16,13 @@ IsBadAt bad n = bad.line ≡ n
 pub plain : (most : ℕ) (line : List ℕ) → IsLine most line → IsPlain line
 plain most line is = record { lacks = is.lacks; kept = is.kept }
 
-module _ (is_calm : List ℕ → Bool) (In : List ℕ → Remaining → BadLine → Type 0) where
+module _ (is_calm : List ℕ → Bool) (In : Remaining → BadLine → Type 0) where
   abbrev pub GoesOn : {A : Type 0} → Step A BadLine → Type 0
   GoesOn step = Steady IsBadAt is_calm In step
 
   -- a line by its form, of which one is known
-  pub line_goes_on : {A : Type 0} (form : List ℕ → Result A Reason) (text : List ℕ) (value : A) → IsPlain text → is_calm text ≡ true → form text ≡ Ok value → GoesOn (λ left. read_by form left)
-  line_goes_on {A} form text value plain calm read = steady_line IsBadAt is_calm In (λ left. read_by form left) (record {
+  pub line_reads : {A : Type 0} (form : List ℕ → Result A Reason) (text : List ℕ) (value : A) → IsPlain text → is_calm text ≡ true → form text ≡ Ok value → ReadsLine IsBadAt is_calm In (λ left. read_by form left)
+  line_reads {A} form text value plain calm read = record {
     none = λ last ended. (record { line = last; reason = TextEnd }, refl, refl);
     some = λ line. by_form line (form line.bytes) refl;
     text = text;
@@ -30,11 +30,14 @@ module _ (is_calm : List ℕ → Bool) (In : List ℕ → Remaining → BadLine 
     plain = plain;
     calm = calm;
     example = λ number other. rw read refl;
-  }) where
+  } where
     by_form : (line : NumberedLine) (r : Result A Reason) → form line.bytes ≡ r
         → ((value : A) × ((other : Remaining) → read_by form (onto (line ∷ []) other) ≡ Ok (value, other))) ⊎ ((fault : BadLine) × IsBadAt fault line.number × ((other : Remaining) → read_by form (onto (line ∷ []) other) ≡ Err fault))
     by_form line (Ok value) e = inl (value, λ other. rw e refl)
     by_form line (Err reason) e = inr (record { line = line.number; reason = reason }, refl, λ other. rw e refl)
+
+  pub line_goes_on : {A : Type 0} (form : List ℕ → Result A Reason) (text : List ℕ) (value : A) → IsPlain text → is_calm text ≡ true → form text ≡ Ok value → GoesOn (λ left. read_by form left)
+  line_goes_on form text value plain calm read = steady_line IsBadAt is_calm In (λ left. read_by form left) (line_reads form text value plain calm read)
 
   -- so many parts, of which each goes on
   pub parts_go_on : {A : Type 0} (step : ℕ → Step A BadLine) (most : ℕ) → ((i : ℕ) → i < most → GoesOn (step i)) → (count from : ℕ) → from + count ≤ most → GoesOn (repeat count from step)

@@ -35,6 +35,10 @@ pub last_lacks : (xs : List (List ℕ)) (part : List ℕ) → AllLack (xs ++ par
 last_lacks [] part h = h.0
 last_lacks (x ∷ xs) part h = last_lacks xs part h.1
 
+pub later_lack : (xs ys : List (List ℕ)) → AllLack (xs ++ ys) → AllLack ys
+later_lack [] ys h = h
+later_lack (x ∷ xs) ys h = later_lack xs ys h.1
+
 pub plain_lacks : (lines : List (List ℕ)) → ArePlain lines → AllLack lines
 plain_lacks [] h = tt
 plain_lacks (line ∷ lines) h = (h.0.lacks, plain_lacks lines h.1)

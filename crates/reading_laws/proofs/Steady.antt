@@ -30,20 +30,25 @@ Reader A E = Remaining → Result A E
 abbrev pub Step : Type 0 → Type 0 → Type 0
 Step A E = Reader (A × Remaining) E
 
--- where nothing is looked at before it is read, and nothing is refused within what begins with a line
+-- where nothing is looked at before it is read, and nothing is refused within what some lines begin with
 abbrev pub any_line : List ℕ → Bool
 any_line line = true
 
-abbrev pub Never : {E : Type 0} → List ℕ → Remaining → E → Type 0
-Never line left fault = ⊥
+abbrev pub Never : {E : Type 0} → Remaining → E → Type 0
+Never left fault = ⊥
 
 -- IsAt: a fault is at a line. is_calm: a line is none that a step looks at to see whether it is to go on. In: the lines that are left are
--- refused so within, where the lines that would do begin with a line
-module _ {E : Type 0} (IsAt : E → ℕ → Type 0) (is_calm : List ℕ → Bool) (In : List ℕ → Remaining → E → Type 0) where
+-- refused so within what they begin with
+module _ {E : Type 0} (IsAt : E → ℕ → Type 0) (is_calm : List ℕ → Bool) (In : Remaining → E → Type 0) where
   -- the first of these is calm
   abbrev pub IsCalm : List (List ℕ) → Type 0
   IsCalm [] = Unit {0}
   IsCalm (line ∷ lines) = is_calm line ≡ true
+
+  -- what follows some lines is calm where it stands first
+  abbrev pub IsCalmAfter : List NumberedLine → List (List ℕ) → Type 0
+  IsCalmAfter [] more = IsCalm more
+  IsCalmAfter (line ∷ front) more = Unit {0}
 
   -- the next line is the same, or calm
   abbrev pub Follows : List NumberedLine → List NumberedLine → Type 0
@@ -64,7 +69,7 @@ module _ {E : Type 0} (IsAt : E → ℕ → Type 0) (is_calm : List ℕ → Bool
   pub record Completes {A : Type 0} (step : Step A E) (front : List NumberedLine) (more : List (List ℕ)) : Type 0 where
     pub value : A
     pub plain : ArePlain more
-    pub calm : IsCalm more
+    pub calm : IsCalmAfter front more
     pub reads : (lines : List NumberedLine) → bytes_of lines ≡ more → (other : Remaining) → IsCalm (bytes_of other.lines) → step (onto (front ++ lines) other) ≡ Ok (value, other)
 
   -- ---- a reader that refuses
@@ -82,20 +87,17 @@ module _ {E : Type 0} (IsAt : E → ℕ → Type 0) (is_calm : List ℕ → Bool
     pub whole : left.lines ≡ front
     pub at : IsAt fault left.last
 
-  -- within what begins with a line
-  pub record Within (front : List NumberedLine) (more : List (List ℕ)) (left : Remaining) (fault : E) : Type 0 where
+  -- within what the lines after these begin with
+  pub record Within (front : List NumberedLine) (left : Remaining) (fault : E) : Type 0 where
     pub lines : List NumberedLine
     pub split : left.lines ≡ front ++ lines
-    pub line : List ℕ
-    pub others : List (List ℕ)
-    pub first : more ≡ line ∷ others
-    pub refused : In line (record left { lines = lines }) fault
+    pub refused : In (record left { lines = lines }) fault
 
   pub record Refuses {A : Type 0} (read : Reader A E) (Goes : List NumberedLine → List (List ℕ) → Type 0) (left : Remaining) (fault : E) : Type 0 where
     pub front : List NumberedLine
     pub more : List (List ℕ)
     pub goes : Goes front more
-    pub place : AtLine read front left fault ⊎ AtEnd front left fault ⊎ Within front more left fault
+    pub place : AtLine read front left fault ⊎ AtEnd front left fault ⊎ Within front left fault
 
   abbrev pub Outcome : {A : Type 0} → Step A E → Remaining → Result (A × Remaining) E → Type 0
   Outcome step left (Ok x) = Reads step left x.0 x.1
@@ -121,9 +123,17 @@ module _ {E : Type 0} (IsAt : E → ℕ → Type 0) (is_calm : List ℕ → Bool
   follows_calm [] (line ∷ lines) h = h
   follows_calm (other ∷ others) (line ∷ lines) h = inr h
 
-  follows_front : (front old new : List NumberedLine) → IsCalm (bytes_of new) → Follows (front ++ old) (front ++ new)
-  follows_front [] old new h = follows_calm old new h
-  follows_front (line ∷ front) old new h = inl refl
+  follows_front : (front old lines others : List NumberedLine) (more : List (List ℕ)) → bytes_of lines ≡ more → IsCalmAfter front more → IsCalm (bytes_of others) → Follows (front ++ old) (front ++ (lines ++ others))
+  follows_front [] old lines others more h calm k = follows_calm old (lines ++ others) (calm_lines lines others (subst IsCalm (sym h) calm) k)
+  follows_front (line ∷ front) old lines others more h calm k = inl refl
+
+  calm_after_append : (front : List NumberedLine) (xs ys : List (List ℕ)) → IsCalmAfter front xs → IsCalm ys → IsCalmAfter front (xs ++ ys)
+  calm_after_append [] xs ys h k = calm_append xs ys h k
+  calm_after_append (line ∷ front) xs ys h k = tt
+
+  calm_after_more : (used front : List NumberedLine) (more : List (List ℕ)) → IsCalmAfter front more → IsCalmAfter (used ++ front) more
+  calm_after_more [] front more h = h
+  calm_after_more (line ∷ used) front more h = tt
 
   follows_same : (front : List NumberedLine) (line : NumberedLine) (old new : List NumberedLine) → Follows (front ++ line ∷ old) (front ++ line ∷ new)
   follows_same [] line old new = inl refl
@@ -146,11 +156,11 @@ module _ {E : Type 0} (IsAt : E → ℕ → Type 0) (is_calm : List ℕ → Bool
         front = r.front;
         more = r.more ++ l.0;
         goes = l.1;
-        place = elim r.place as (λ _. AtLine both r.front left fault ⊎ AtEnd r.front left fault ⊎ Within r.front (r.more ++ l.0) left fault) [
+        place = elim r.place as (λ _. AtLine both r.front left fault ⊎ AtEnd r.front left fault ⊎ Within r.front left fault) [
           | inl a ↦ inl (record { line = a.line; lines = a.lines; split = a.split; at = a.at; again = λ other. rw (a.again other) refl })
-          | inr p ↦ elim p as (λ _. AtLine both r.front left fault ⊎ AtEnd r.front left fault ⊎ Within r.front (r.more ++ l.0) left fault) [
+          | inr p ↦ elim p as (λ _. AtLine both r.front left fault ⊎ AtEnd r.front left fault ⊎ Within r.front left fault) [
             | inl a ↦ inr (inl a)
-            | inr w ↦ inr (inr (record { lines = w.lines; split = w.split; line = w.line; others = w.others ++ l.0; first = ap (λ (ls : List (List ℕ)). ls ++ l.0) w.first; refused = w.refused }))
+            | inr w ↦ inr (inr w)
           ]
         ];
       }
@@ -203,10 +213,7 @@ module _ {E : Type 0} (IsAt : E → ℕ → Type 0) (is_calm : List ℕ → Bool
             place = inr (inr (record {
               lines = w.lines;
               split = split_after step left x after r l.front w.lines w.split;
-              line = w.line;
-              others = w.others;
-              first = w.first;
-              refused = subst (λ (m : Remaining). In w.line (record m { lines = w.lines }) fault) r.rest w.refused;
+              refused = subst (λ (m : Remaining). In (record m { lines = w.lines }) fault) r.rest w.refused;
             }));
           }
         ]
@@ -252,7 +259,7 @@ module _ {E : Type 0} (IsAt : E → ℕ → Type 0) (is_calm : List ℕ → Bool
       record {
         value = s.value;
         plain = plain_append more first c.plain s.plain;
-        calm = calm_append more first c.calm s.calm;
+        calm = calm_after_append front more first c.calm s.calm;
         reads = λ lines h other calm.
             let hs = halves lines more first h in
             let middle = onto hs.back other in
@@ -267,10 +274,9 @@ module _ {E : Type 0} (IsAt : E → ℕ → Type 0) (is_calm : List ℕ → Bool
   completes_later step next left x after r front rest more is c = record {
     value = c.value;
     plain = c.plain;
-    calm = c.calm;
+    calm = calm_after_more r.used front more c.calm;
     reads = λ lines h other calm.
-        let calm' = calm_lines lines other.lines (subst IsCalm (sym h) c.calm) calm in
-        let follows = subst (λ (ls : List NumberedLine). Follows ls (front ++ (lines ++ other.lines))) (sym is) (follows_front front rest (lines ++ other.lines) calm') in
+        let follows = subst (λ (ls : List NumberedLine). Follows ls (front ++ (lines ++ other.lines))) (sym is) (follows_front front rest lines other.lines more h c.calm calm) in
         let cut : onto ((r.used ++ front) ++ lines) other ≡ onto r.used (onto front (onto lines other)) = onto_append (r.used ++ front) lines other ∙ onto_append r.used front (onto lines other) in
         ap (λ (l : Remaining). step l >>= λ y. next y.0 y.1) cut ∙ goes_on step next left x after r (onto front (onto lines other)) follows ∙ ap (next x) (sym (onto_append front lines other)) ∙ c.reads lines h other calm;
   }
@@ -363,7 +369,7 @@ module _ {E : Type 0} (IsAt : E → ℕ → Type 0) (is_calm : List ℕ → Bool
   pub record Ends {X : Type 0} (read : Reader X E) (front : List NumberedLine) (more : List (List ℕ)) : Type 0 where
     pub value : X
     pub plain : ArePlain more
-    pub calm : IsCalm more
+    pub calm : IsCalmAfter front more
     pub reads : (lines : List NumberedLine) → bytes_of lines ≡ more → (last : ℕ) → read (onto (front ++ lines) (ending last)) ≡ Ok value
 
   abbrev pub OutcomeAtEnd : {X : Type 0} → Reader X E → Remaining → Result X E → Type 0
@@ -383,7 +389,7 @@ module _ {E : Type 0} (IsAt : E → ℕ → Type 0) (is_calm : List ℕ → Bool
       record {
         value = s.value;
         plain = plain_append more first c.plain s.plain;
-        calm = calm_append more first c.calm s.calm;
+        calm = calm_after_append front more first c.calm s.calm;
         reads = λ lines h last.
             let hs = halves lines more first h in
             let middle = onto hs.back (ending last) in
@@ -397,10 +403,9 @@ module _ {E : Type 0} (IsAt : E → ℕ → Type 0) (is_calm : List ℕ → Bool
   ends_later step next left x after r front rest more is c = record {
     value = c.value;
     plain = c.plain;
-    calm = c.calm;
+    calm = calm_after_more r.used front more c.calm;
     reads = λ lines h last.
-        let calm' = calm_lines lines [] (subst IsCalm (sym h) c.calm) tt in
-        let follows = subst (λ (ls : List NumberedLine). Follows ls (front ++ (lines ++ []))) (sym is) (follows_front front rest (lines ++ []) calm') in
+        let follows = subst (λ (ls : List NumberedLine). Follows ls (front ++ (lines ++ []))) (sym is) (follows_front front rest lines [] more h c.calm tt) in
         let cut : onto ((r.used ++ front) ++ lines) (ending last) ≡ onto r.used (onto front (onto lines (ending last))) = onto_append (r.used ++ front) lines (ending last) ∙ onto_append r.used front (onto lines (ending last)) in
         ap (λ (l : Remaining). step l >>= λ y. next y.0 y.1) cut ∙ goes_on step next left x after r (onto front (onto lines (ending last))) follows ∙ ap (next x) (sym (onto_append front lines (ending last))) ∙ c.reads lines h last;
   }

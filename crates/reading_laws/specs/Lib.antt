@@ -1,3 +1,4 @@
 pub mod FirstBadLine
 pub mod Certificates
 pub mod Games
+pub mod Logs
