@@ -1,23 +1,27 @@
--- What a run over files says of the code: each cause by one recursion over the files.
+-- What a run says of the code: each cause by one recursion over the steps.
 use Rattle.std.proofs.Common.{◌≡◌, ◌≢◌, ℕ, List, [], ◌∷◌, refl, sym, ap, ◌∙◌, subst, inl, inr, arith, Option, Some, None}
 use Rattle.std.specs.Prelude.{◌⊎◌, Ok, Err, IfSome}
 use Rattle.tac_io.specs.Counts.{Rose}
 use Rattle.tac_io.specs.Told.{and_then_told}
 use Rattle.game_text.specs.declared.fault.GameFault.{GameFault}
 use Rattle.game_text.specs.declared.fault.GameFault.TheVariants.{Line, TooLong}
+use Rattle.game_text.specs.Games.{GameFile}
+use Rattle.log_text.specs.LoggedGames.{LoggedGame}
+use Rattle.log_reader.specs.SoundLog.{IsSound}
 use Rattle.tac_commands.specs.declared.file_kinds.FileKind.{FileKind}
 use Rattle.tac_commands.specs.declared.file_kinds.FileKind.TheVariants.{Game, HotelScript, GameScript, Account, Log}
 use Rattle.tac_commands.specs.declared.refusals.Refusal.{Refusal}
+use Rattle.tac_commands.specs.declared.refusals.Refusal.TheVariants.{Memory}
 use Rattle.tac_commands.specs.Codes.{number_of}
-use Rattle.tac_commands.specs.Commands.{NamedFile}
 use Rattle.tac_commands.specs.FileKinds.{Value, read_as, refusal_of, refused_code}
 use Rattle.tac_commands.specs.Files.{Content, IsRead, IsNotRead, HasFault}
-use Rattle.tac_commands.specs.Outcomes.{Outcome, Refused, refusal_code, code_of}
-use Rattle.tac_commands.specs.Runs.{Values, Names, Runs}
-use Rattle.tac_commands.specs.Causes.{IsQuiet, HasGood, HasBad, HasRefused, AreGood}
-use Rattle.tac_commands.specs.Selected.{EndsAt, SelectsFiles}
-use Rattle.tac_commands.proofs.Unambiguous.{not_both, same_file}
-use Rattle.tac_commands.proofs.OwnCodes.{IsNoFileCode}
+use Rattle.tac_commands.specs.Outcomes.{Outcome, Unsound, Refused, refusal_code, code_of}
+use Rattle.tac_commands.specs.Runs.{Names, Runs, StopsAt}
+use Rattle.tac_commands.specs.Causes.{IsQuiet, Holds, HasBad, HasRefused, AreGood, HasUnsound}
+use Rattle.tac_commands.specs.Selected.{EndsAt, EndsAtAudit, SelectsFiles}
+use Rattle.tac_commands.specs.Steps.{NamedFile, Steps, Reads, Audits, EndsWith}
+use Rattle.tac_commands.proofs.Unambiguous.{not_both, same_file, same_value}
+use Rattle.tac_commands.proofs.OwnCodes.{EndsWithin, IsLastCode}
 
 -- ---- one file
 
@@ -70,8 +74,8 @@ pub quiet_did_not_rise : (before now : ℕ) → IsQuiet before now → Rose befo
 quiet_did_not_rise before now quiet rose = absurd (omega (arith, quiet.same, quiet.below, rose.rises))
 
 -- a file that was read is good, and one with a fault is bad
-good : (files : List ℕ → Option (List ℕ)) (file : NamedFile) (value : Value file.kind) → IsRead (Some files) file.kind file.name value → HasGood (Some files) file
-good files file value is = record { bytes = is.0; told = is.1; value = value; good = is.2 }
+good : (files : List ℕ → Option (List ℕ)) (file : NamedFile) (value : Value file.kind) → IsRead (Some files) file.kind file.name value → Holds (Some files) file value
+good files file value is = record { bytes = is.0; told = is.1; good = is.2 }
 
 bad : (files : List ℕ → Option (List ℕ)) (file : NamedFile) (fault : GameFault) → HasFault (Some files) file.kind file.name fault → HasBad (Some files) file
 bad files file fault is = record { bytes = is.0; told = is.1; fault = fault; bad = is.2 }
@@ -82,21 +86,33 @@ read_not_bad (Some files) file value is bad =
     not_both (read_as file.kind bad.bytes) value bad.fault
     (subst (λ (f : List ℕ). read_as file.kind f ≡ Ok value) (same_file (files file.name) is.0 bad.bytes is.1 bad.told) is.2) bad.bad
 
-good_no_fault : (content : Content) (file : NamedFile) (fault : GameFault) → HasGood content file → HasFault content file.kind file.name fault → ⊥
-good_no_fault None file fault good is = let told = good.told in absurd (cc)
-good_no_fault (Some files) file fault good is =
-    not_both (read_as file.kind good.bytes) good.value fault good.good
+good_no_fault : (content : Content) (file : NamedFile) (value : Value file.kind) (fault : GameFault) → Holds content file value → HasFault content file.kind file.name fault → ⊥
+good_no_fault None file value fault good is = let told = good.told in absurd (cc)
+good_no_fault (Some files) file value fault good is =
+    not_both (read_as file.kind good.bytes) value fault good.good
     (subst (λ (f : List ℕ). read_as file.kind f ≡ Err fault) (same_file (files file.name) is.0 good.bytes is.1 good.told) is.2)
 
--- all files were read, and the outcome is one that their values allow
-abbrev pub RanOver : Content → (files : List NamedFile) → (Values files → Outcome → Type 0) → Outcome → Type 0
-RanOver content [] allows outcome = allows tt outcome
-RanOver content (file ∷ files) allows outcome =
-    (value : Value file.kind) × IsRead content file.kind file.name value × RanOver content files (λ values. allows (value, values)) outcome
+-- what a file holds is what was read of it
+same_read : (content : Content) (file : NamedFile) (value read : Value file.kind) → Holds content file value → IsRead content file.kind file.name read → read ≡ value
+same_read None file value read good is = let told = good.told in absurd (cc)
+same_read (Some files) file value read good is =
+    same_value (read_as file.kind good.bytes) read value
+    (subst (λ (f : List ℕ). read_as file.kind f ≡ Ok read) (same_file (files file.name) is.0 good.bytes is.1 good.told) is.2) good.good
 
--- ---- all files
+-- ---- one audit
 
-module _ (content : Content) (before now : ℕ) (outcome : Outcome) (Own : ℕ → Type 0) (no_file : (code : ℕ) → Own code → IsNoFileCode code) where
+-- why the run stopped at an audit, with its code
+abbrev StoppedSo : GameFile → LoggedGame → ℕ → Type 0
+StoppedSo game log code = ((code ≡ 9) × (IsSound game log → ⊥)) ⊎ (code ≡ 7)
+
+audit_stopped : (game : GameFile) (log : LoggedGame) (IsDue : List ℕ → Type 0) (outcome : Outcome) → StopsAt game log IsDue outcome → StoppedSo game log (code_of outcome)
+audit_stopped game log IsDue (Unsound text) stop = inl (refl, stop.0)
+audit_stopped game log IsDue (Refused Memory) stop = inr refl
+audit_stopped game log IsDue outcome stop = absurd stop
+
+-- ---- all steps
+
+module _ (content : Content) (before now : ℕ) (outcome : Outcome) where
   -- 3 is the code of a read that failed
   abbrev pub IsTold : Type 0
   IsTold = ((code_of outcome ≡ 3) × Rose before now) ⊎ ((code_of outcome ≢ 3) × (now ≡ before))
@@ -106,48 +122,39 @@ module _ (content : Content) (before now : ℕ) (outcome : Outcome) (Own : ℕ �
   told_at kind name (inr (inl memory)) = let seven = memory.0 in inr (λ three. omega (arith, seven, three), memory.1)
   told_at kind name (inr (inr refused)) = let is = refused.0 in let either = kind_code kind in inr (λ three. grind (arith, is, either, three), refused.2)
 
-  pub read_told : (files : List NamedFile) (allows : Values files → Outcome → Type 0) → ((values : Values files) → allows values outcome → Own (code_of outcome)) → (names names' : Names) →
-      Runs content files allows names names' before now outcome → IsTold
-  read_told [] allows own names names' run = inr ((no_file (code_of outcome) (own tt run.0)).no_fault, run.2)
-  read_told (file ∷ files) allows own names names' (inl read) =
-      read_told files (λ values. allows (read.0, values)) (λ values. own (read.0, values)) (and_then_told names (file.name ∷ [])) names' read.2
-  read_told (file ∷ files) allows own names names' (inr stop) = told_at file.kind file.name (stopped content file.kind file.name before now stop.0 outcome stop.1 stop.2)
+  told_at_audit : (game : GameFile) (log : LoggedGame) → StoppedSo game log (code_of outcome) → now ≡ before → IsTold
+  told_at_audit game log (inl unsound) same = let nine = unsound.0 in inr (λ three. omega (arith, nine, three), same)
+  told_at_audit game log (inr seven) same = inr (λ three. omega (arith, seven, three), same)
 
-  -- ---- a refused file
-
-  -- 2 is the code of a game file, 8 of a text
+  -- a refused file's code
   abbrev pub IsRefusing : ℕ → Type 0
   IsRefusing code = (code ≡ 2) ⊎ (code ≡ 8)
 
-  own_refuses_none : (code : ℕ) → IsRefusing code → Own (code_of outcome) → code_of outcome ≡ code → ⊥
-  own_refuses_none code (inl two) own is = (no_file (code_of outcome) own).no_game (is ∙ two)
-  own_refuses_none code (inr eight) own is = (no_file (code_of outcome) own).no_text (is ∙ eight)
+  here_refused : (told : Content) (code : ℕ) (file : NamedFile) (next : Value file.kind → Steps) (fault : GameFault) → code_at file.kind ≡ code → HasFault told file.kind file.name fault →
+      IfSome told (λ _. HasRefused told code (Reads file next))
+  here_refused None code file next fault is has = tt
+  here_refused (Some given) code file next fault is has = inl (is, bad given file fault has)
 
-  later_refused : (told : Content) (code : ℕ) (file : NamedFile) (files : List NamedFile) (value : Value file.kind) → IsRead told file.kind file.name value → IfSome told (λ _. HasRefused told code files) →
-      IfSome told (λ _. HasRefused told code (file ∷ files))
-  later_refused None code file files value is refused = tt
-  later_refused (Some given) code file files value is refused = inr (good given file value is, refused)
+  refused_at : (code : ℕ) (file : NamedFile) (next : Value file.kind → Steps) → IsRefusing code → code_of outcome ≡ code → StopsSo content file.kind file.name before now (code_of outcome) →
+      IfSome content (λ _. HasRefused content code (Reads file next))
+  refused_at code file next refusing is (inl fault) = let three = fault.0 in absurd (grind (arith, refusing, is, three))
+  refused_at code file next refusing is (inr (inl memory)) = let seven = memory.0 in absurd (grind (arith, refusing, is, seven))
+  refused_at code file next refusing is (inr (inr refused)) = here_refused content code file next refused.1.0 (sym refused.0 ∙ is) refused.1.1
 
-  here_refused : (told : Content) (code : ℕ) (file : NamedFile) (files : List NamedFile) (fault : GameFault) → code_at file.kind ≡ code → HasFault told file.kind file.name fault →
-      IfSome told (λ _. HasRefused told code (file ∷ files))
-  here_refused None code file files fault is has = tt
-  here_refused (Some given) code file files fault is has = inl (is, bad given file fault has)
+  audit_refuses_none : (code : ℕ) (game : GameFile) (log : LoggedGame) → IsRefusing code → code_of outcome ≡ code → StoppedSo game log (code_of outcome) → ⊥
+  audit_refuses_none code game log refusing is (inl unsound) = let nine = unsound.0 in grind (arith, refusing, is, nine)
+  audit_refuses_none code game log refusing is (inr seven) = grind (arith, refusing, is, seven)
 
-  refused_at : (code : ℕ) (file : NamedFile) (files : List NamedFile) → IsRefusing code → code_of outcome ≡ code → StopsSo content file.kind file.name before now (code_of outcome) →
-      IfSome content (λ _. HasRefused content code (file ∷ files))
-  refused_at code file files refusing is (inl fault) = let three = fault.0 in absurd (grind (arith, refusing, is, three))
-  refused_at code file files refusing is (inr (inl memory)) = let seven = memory.0 in absurd (grind (arith, refusing, is, seven))
-  refused_at code file files refusing is (inr (inr refused)) = here_refused content code file files refused.1.0 (sym refused.0 ∙ is) refused.1.1
+  -- a later file is refused where one was read
+  later_refused : (told : Content) (code : ℕ) (file : NamedFile) (next : Value file.kind → Steps) (value : Value file.kind) → IsRead told file.kind file.name value →
+      IfSome told (λ _. HasRefused told code (next value)) → IfSome told (λ _. HasRefused told code (Reads file next))
+  later_refused None code file next value is refused = tt
+  later_refused (Some given) code file next value is refused = inr (value, good given file value is, refused)
 
-  -- its code comes only where it is refused, and those before it are good
-  pub refused_only : (code : ℕ) → IsRefusing code → (files : List NamedFile) (allows : Values files → Outcome → Type 0) → ((values : Values files) → allows values outcome → Own (code_of outcome)) →
-      (names names' : Names) → Runs content files allows names names' before now outcome → code_of outcome ≡ code → IfSome content (λ _. HasRefused content code files)
-  refused_only code refusing [] allows own names names' run is = absurd (own_refuses_none code refusing (own tt run.0) is)
-  refused_only code refusing (file ∷ files) allows own names names' (inl read) is =
-      later_refused content code file files read.0 read.1
-      (refused_only code refusing files (λ values. allows (read.0, values)) (λ values. own (read.0, values)) (and_then_told names (file.name ∷ [])) names' read.2 is)
-  refused_only code refusing (file ∷ files) allows own names names' (inr stop) is =
-      refused_at code file files refusing is (stopped content file.kind file.name before now stop.0 outcome stop.1 stop.2)
+  -- the same behind a log that is sound
+  behind_sound : (told : Content) (P Q : Type 0) → (P → Q) → IfSome told (λ _. P) → IfSome told (λ _. Q)
+  behind_sound None P Q f p = tt
+  behind_sound (Some given) P Q f p = f p
 
   -- it always comes there, or that of memory
   due_at : (code : ℕ) (file : NamedFile) → code_at file.kind ≡ code → IsQuiet before now → StopsSo content file.kind file.name before now (code_of outcome) → (code_of outcome ≡ code) ⊎ (code_of outcome ≡ 7)
@@ -156,99 +163,189 @@ module _ (content : Content) (before now : ℕ) (outcome : Outcome) (Own : ℕ �
   due_at code file is quiet (inr (inr refused)) = inl (refused.0 ∙ is)
 
   -- a file that is good is not refused, but there may be no memory for it
-  good_at : (file : NamedFile) → HasGood content file → IsQuiet before now → StopsSo content file.kind file.name before now (code_of outcome) → code_of outcome ≡ 7
-  good_at file good quiet (inl fault) = absurd (quiet_did_not_rise before now quiet fault.1)
-  good_at file good quiet (inr (inl memory)) = memory.0
-  good_at file good quiet (inr (inr refused)) = absurd (good_no_fault content file refused.1.0 good refused.1.1)
+  good_at : (file : NamedFile) (value : Value file.kind) → Holds content file value → IsQuiet before now → StopsSo content file.kind file.name before now (code_of outcome) → code_of outcome ≡ 7
+  good_at file value good quiet (inl fault) = absurd (quiet_did_not_rise before now quiet fault.1)
+  good_at file value good quiet (inr (inl memory)) = memory.0
+  good_at file value good quiet (inr (inr refused)) = absurd (good_no_fault content file value refused.1.0 good refused.1.1)
 
-  pub refused_due : (code : ℕ) (files : List NamedFile) (allows : Values files → Outcome → Type 0) (names names' : Names) → IsQuiet before now → HasRefused content code files →
-      Runs content files allows names names' before now outcome → (code_of outcome ≡ code) ⊎ (code_of outcome ≡ 7)
-  refused_due code [] allows names names' quiet refused run = absurd refused
-  refused_due code (file ∷ files) allows names names' quiet (inl here) (inl read) = absurd (read_not_bad content file read.0 read.1 here.1)
-  refused_due code (file ∷ files) allows names names' quiet (inl here) (inr stop) =
+  -- a log that is sound stops no run, but there may be no memory for the audit
+  sound_at : (game : GameFile) (log : LoggedGame) → IsSound game log → StoppedSo game log (code_of outcome) → code_of outcome ≡ 7
+  sound_at game log sound (inl unsound) = absurd (unsound.1 sound)
+  sound_at game log sound (inr seven) = seven
+
+  pub refused_due : (code : ℕ) (steps : Steps) (names names' : Names) → IsQuiet before now → HasRefused content code steps → Runs content steps names names' before now outcome →
+      (code_of outcome ≡ code) ⊎ (code_of outcome ≡ 7)
+  refused_due code (Reads file next) names names' quiet (inl here) (inl read) = absurd (read_not_bad content file read.0 read.1 here.1)
+  refused_due code (Reads file next) names names' quiet (inl here) (inr stop) =
       due_at code file here.0 quiet (stopped content file.kind file.name before now stop.0 outcome stop.1 stop.2)
-  refused_due code (file ∷ files) allows names names' quiet (inr later) (inl read) =
-      refused_due code files (λ values. allows (read.0, values)) (and_then_told names (file.name ∷ [])) names' quiet later.1 read.2
-  refused_due code (file ∷ files) allows names names' quiet (inr later) (inr stop) =
-      inr (good_at file later.0 quiet (stopped content file.kind file.name before now stop.0 outcome stop.1 stop.2))
+  refused_due code (Reads file next) names names' quiet (inr later) (inl read) =
+      refused_due code (next later.0) (and_then_told names (file.name ∷ [])) names' quiet later.2
+      (subst (λ (v : Value file.kind). Runs content (next v) (and_then_told names (file.name ∷ [])) names' before now outcome) (same_read content file later.0 read.0 later.1 read.1) read.2)
+  refused_due code (Reads file next) names names' quiet (inr later) (inr stop) =
+      inr (good_at file later.0 later.1 quiet (stopped content file.kind file.name before now stop.0 outcome stop.1 stop.2))
+  refused_due code (Audits game log IsDue next) names names' quiet refused (inl run) = refused_due code next names names' quiet refused.1 run.1
+  refused_due code (Audits game log IsDue next) names names' quiet refused (inr stop) = inr (sound_at game log refused.0 (audit_stopped game log IsDue outcome stop.0))
+  refused_due code (EndsWith allows) names names' quiet refused run = absurd refused
 
-  -- what is one of the command's own codes wherever the outcome is allowed is one where all files were read
-  own_of : (files : List NamedFile) (allows : Values files → Outcome → Type 0) → ((values : Values files) → allows values outcome → Own (code_of outcome)) → RanOver content files allows outcome → Own (code_of outcome)
-  own_of [] allows own over = own tt over
-  own_of (file ∷ files) allows own (value, is, over) = own_of files (λ values. allows (value, values)) (λ values. own (value, values)) over
+  -- ---- a log that is not sound
 
-  -- where all files are good they were read, or the code is that of memory
-  pub ready_ran : (files : List NamedFile) (allows : Values files → Outcome → Type 0) → (names names' : Names) → IsQuiet before now →
-      AreGood content files → Runs content files allows names names' before now outcome → RanOver content files allows outcome ⊎ (code_of outcome ≡ 7)
-  ready_ran [] allows names names' quiet are_good run = inl run.0
-  ready_ran (file ∷ files) allows names names' quiet are_good (inl (value, is, run)) = later (ready_ran files (λ values. allows (value, values)) (and_then_told names (file.name ∷ [])) names' quiet are_good.1 run)
-    where
-      later : RanOver content files (λ values. allows (value, values)) outcome ⊎ (code_of outcome ≡ 7) → RanOver content (file ∷ files) allows outcome ⊎ (code_of outcome ≡ 7)
-      later (inl over) = inl (value, is, over)
-      later (inr seven) = inr seven
-  ready_ran (file ∷ files) allows names names' quiet are_good (inr stop) =
-      inr (good_at file are_good.0 quiet (stopped content file.kind file.name before now stop.0 outcome stop.1 stop.2))
+  unsound_at : (game : GameFile) (log : LoggedGame) → StoppedSo game log (code_of outcome) → (code_of outcome ≡ 9) ⊎ (code_of outcome ≡ 7)
+  unsound_at game log (inl unsound) = inl unsound.0
+  unsound_at game log (inr seven) = inr seven
 
-  -- so the code is the command's own, or that of memory
-  pub ready_own : (files : List NamedFile) (allows : Values files → Outcome → Type 0) → ((values : Values files) → allows values outcome → Own (code_of outcome)) → (names names' : Names) → IsQuiet before now →
-      AreGood content files → Runs content files allows names names' before now outcome → Own (code_of outcome) ⊎ (code_of outcome ≡ 7)
-  ready_own files allows own names names' quiet are_good run = either (ready_ran files allows names names' quiet are_good run)
-    where
-      either : RanOver content files allows outcome ⊎ (code_of outcome ≡ 7) → Own (code_of outcome) ⊎ (code_of outcome ≡ 7)
-      either (inl over) = inl (own_of files allows own over)
-      either (inr seven) = inr seven
+  pub unsound_due : (steps : Steps) (names names' : Names) → IsQuiet before now → HasUnsound content steps → Runs content steps names names' before now outcome →
+      (code_of outcome ≡ 9) ⊎ (code_of outcome ≡ 7)
+  unsound_due (Reads file next) names names' quiet unsound (inl read) =
+      unsound_due (next unsound.0) (and_then_told names (file.name ∷ [])) names' quiet unsound.2
+      (subst (λ (v : Value file.kind). Runs content (next v) (and_then_told names (file.name ∷ [])) names' before now outcome) (same_read content file unsound.0 read.0 unsound.1 read.1) read.2)
+  unsound_due (Reads file next) names names' quiet unsound (inr stop) =
+      inr (good_at file unsound.0 unsound.1 quiet (stopped content file.kind file.name before now stop.0 outcome stop.1 stop.2))
+  unsound_due (Audits game log IsDue next) names names' quiet (inl not_sound) (inl run) = absurd (not_sound run.0)
+  unsound_due (Audits game log IsDue next) names names' quiet (inr later) (inl run) = unsound_due next names names' quiet later.1 run.1
+  unsound_due (Audits game log IsDue next) names names' quiet unsound (inr stop) = unsound_at game log (audit_stopped game log IsDue outcome stop.0)
+  unsound_due (EndsWith allows) names names' quiet unsound run = absurd unsound
 
-  -- all files were read, or the code is one of a file
-  abbrev pub IsFileCode : ℕ → Type 0
-  IsFileCode code = (code ≡ 2) ⊎ (code ≡ 3) ⊎ (code ≡ 7) ⊎ (code ≡ 8)
+  no_unsound_file : (file : NamedFile) → code_of outcome ≡ 9 → StopsSo content file.kind file.name before now (code_of outcome) → ⊥
+  no_unsound_file file is (inl fault) = let three = fault.0 in omega (arith, is, three)
+  no_unsound_file file is (inr (inl memory)) = let seven = memory.0 in omega (arith, is, seven)
+  no_unsound_file file is (inr (inr refused)) = let same = refused.0 in let either = kind_code file.kind in grind (arith, is, same, either)
 
-  file_code_at : (kind : FileKind) (name : List ℕ) → StopsSo content kind name before now (code_of outcome) → IsFileCode (code_of outcome)
-  file_code_at kind name (inl fault) = inr (inl fault.0)
-  file_code_at kind name (inr (inl memory)) = inr (inr (inl memory.0))
-  file_code_at kind name (inr (inr refused)) = by_kind (kind_code kind)
-    where
-      by_kind : (code_at kind ≡ 2) ⊎ (code_at kind ≡ 8) → IsFileCode (code_of outcome)
-      by_kind (inl two) = inl (refused.0 ∙ two)
-      by_kind (inr eight) = inr (inr (inr (refused.0 ∙ eight)))
+  unsound_here : (game : GameFile) (log : LoggedGame) → code_of outcome ≡ 9 → StoppedSo game log (code_of outcome) → IsSound game log → ⊥
+  unsound_here game log is (inl unsound) = unsound.1
+  unsound_here game log is (inr seven) = absurd (omega (arith, is, seven))
 
-  pub ran : (files : List NamedFile) (allows : Values files → Outcome → Type 0) → (names names' : Names) → Runs content files allows names names' before now outcome →
-      RanOver content files allows outcome ⊎ IsFileCode (code_of outcome)
-  ran [] allows names names' run = inl run.0
-  ran (file ∷ files) allows names names' (inl (value, is, run)) = later (ran files (λ values. allows (value, values)) (and_then_told names (file.name ∷ [])) names' run)
-    where
-      later : RanOver content files (λ values. allows (value, values)) outcome ⊎ IsFileCode (code_of outcome) → RanOver content (file ∷ files) allows outcome ⊎ IsFileCode (code_of outcome)
-      later (inl over) = inl (value, is, over)
-      later (inr code) = inr code
-  ran (file ∷ files) allows names names' (inr stop) = inr (file_code_at file.kind file.name (stopped content file.kind file.name before now stop.0 outcome stop.1 stop.2))
+  later_unsound : (told : Content) (file : NamedFile) (next : Value file.kind → Steps) (value : Value file.kind) → IsRead told file.kind file.name value →
+      IfSome told (λ _. HasUnsound told (next value)) → IfSome told (λ _. HasUnsound told (Reads file next))
+  later_unsound None file next value is unsound = tt
+  later_unsound (Some given) file next value is unsound = (value, good given file value is, unsound)
 
-  -- the code is the command's own, or one of a file
-  pub codes : (files : List NamedFile) (allows : Values files → Outcome → Type 0) → ((values : Values files) → allows values outcome → Own (code_of outcome)) → (names names' : Names) →
-      Runs content files allows names names' before now outcome → Own (code_of outcome) ⊎ IsFileCode (code_of outcome)
-  codes files allows own names names' run = either (ran files allows names names' run)
-    where
-      either : RanOver content files allows outcome ⊎ IsFileCode (code_of outcome) → Own (code_of outcome) ⊎ IsFileCode (code_of outcome)
-      either (inl over) = inl (own_of files allows own over)
-      either (inr code) = inr code
+  here_unsound : (told : Content) (game : GameFile) (log : LoggedGame) (IsDue : List ℕ → Type 0) (next : Steps) → (IsSound game log → ⊥) → IfSome told (λ _. HasUnsound told (Audits game log IsDue next))
+  here_unsound None game log IsDue next not_sound = tt
+  here_unsound (Some given) game log IsDue next not_sound = inl not_sound
 
-  -- ---- the files that were selected
+  -- ---- by the codes of the last step
 
-  module _ (code : ℕ) (told : (code ≡ 4) ⊎ (code ≡ code_of outcome)) where
-    ends_at : (kind : FileKind) (name : List ℕ) → StopsSo content kind name before now (code_of outcome) → (code ≡ 4) ⊎ (code ≡ code_of outcome) → EndsAt kind code
-    ends_at kind name stop (inl four) = inr (inl four)
-    ends_at kind name (inl fault) (inr same) = inl (same ∙ fault.0)
-    ends_at kind name (inr (inl memory)) (inr same) = inr (inr (inl (same ∙ memory.0)))
-    ends_at kind name (inr (inr refused)) (inr same) = inr (inr (inr (same ∙ refused.0)))
+  module _ (Own : ℕ → Type 0) (last : (code : ℕ) → Own code → IsLastCode code) where
+    pub read_told : (steps : Steps) → EndsWithin Own steps → (names names' : Names) → Runs content steps names names' before now outcome → IsTold
+    read_told (Reads file next) own names names' (inl read) = read_told (next read.0) (own read.0) (and_then_told names (file.name ∷ [])) names' read.2
+    read_told (Reads file next) own names names' (inr stop) = told_at file.kind file.name (stopped content file.kind file.name before now stop.0 outcome stop.1 stop.2)
+    read_told (Audits game log IsDue next) own names names' (inl run) = read_told next own names names' run.1
+    read_told (Audits game log IsDue next) own names names' (inr stop) = told_at_audit game log (audit_stopped game log IsDue outcome stop.0) stop.2
+    read_told (EndsWith allows) own names names' run = inr ((last (code_of outcome) (own outcome run.0)).no_fault, run.2)
 
-    not_code : (due : ℕ) → (code_of outcome ≡ due → ⊥) → 4 ≢ due → (code ≡ 4) ⊎ (code ≡ code_of outcome) → code ≢ due
-    not_code due not not_four (inl four) is = not_four (sym four ∙ is)
-    not_code due not not_four (inr same) is = not (sym same ∙ is)
+    own_refuses_none : (code : ℕ) → IsRefusing code → Own (code_of outcome) → code_of outcome ≡ code → ⊥
+    own_refuses_none code (inl two) own is = (last (code_of outcome) own).no_game (is ∙ two)
+    own_refuses_none code (inr eight) own is = (last (code_of outcome) own).no_text (is ∙ eight)
 
-    pub selects : (files : List NamedFile) (allows : Values files → Outcome → Type 0) → ((values : Values files) → allows values outcome → Own (code_of outcome)) → (names names' : Names) →
-        Runs content files allows names names' before now outcome → SelectsFiles content files names names' code
-    selects [] allows own names names' run =
-        let none = no_file (code_of outcome) (own tt run.0) in
-        (run.1, not_code 2 none.no_game (omega arith) told, not_code 3 none.no_fault (omega arith) told, not_code 8 none.no_text (omega arith) told)
-    selects (file ∷ files) allows own names names' (inl read) =
-        inr ((read.0, read.1), selects files (λ values. allows (read.0, values)) (λ values. own (read.0, values)) (and_then_told names (file.name ∷ [])) names' read.2)
-    selects (file ∷ files) allows own names names' (inr stop) =
-        inl (stop.3, ends_at file.kind file.name (stopped content file.kind file.name before now stop.0 outcome stop.1 stop.2) told)
+    -- the code of a refused file comes only where a file is refused that is read
+    pub refused_only : (code : ℕ) → IsRefusing code → (steps : Steps) → EndsWithin Own steps → (names names' : Names) → Runs content steps names names' before now outcome → code_of outcome ≡ code →
+        IfSome content (λ _. HasRefused content code steps)
+    refused_only code refusing (Reads file next) own names names' (inl read) is =
+        later_refused content code file next read.0 read.1 (refused_only code refusing (next read.0) (own read.0) (and_then_told names (file.name ∷ [])) names' read.2 is)
+    refused_only code refusing (Reads file next) own names names' (inr stop) is =
+        refused_at code file next refusing is (stopped content file.kind file.name before now stop.0 outcome stop.1 stop.2)
+    refused_only code refusing (Audits game log IsDue next) own names names' (inl run) is =
+        behind_sound content (HasRefused content code next) (IsSound game log × HasRefused content code next) (λ refused. (run.0, refused)) (refused_only code refusing next own names names' run.1 is)
+    refused_only code refusing (Audits game log IsDue next) own names names' (inr stop) is = absurd (audit_refuses_none code game log refusing is (audit_stopped game log IsDue outcome stop.0))
+    refused_only code refusing (EndsWith allows) own names names' run is = absurd (own_refuses_none code refusing (own outcome run.0) is)
+
+    -- that of a log that is not sound only where such a log is audited
+    pub unsound_only : (steps : Steps) → EndsWithin Own steps → (names names' : Names) → Runs content steps names names' before now outcome → code_of outcome ≡ 9 →
+        IfSome content (λ _. HasUnsound content steps)
+    unsound_only (Reads file next) own names names' (inl read) is =
+        later_unsound content file next read.0 read.1 (unsound_only (next read.0) (own read.0) (and_then_told names (file.name ∷ [])) names' read.2 is)
+    unsound_only (Reads file next) own names names' (inr stop) is = absurd (no_unsound_file file is (stopped content file.kind file.name before now stop.0 outcome stop.1 stop.2))
+    unsound_only (Audits game log IsDue next) own names names' (inl run) is =
+        behind_sound content (HasUnsound content next) (HasUnsound content (Audits game log IsDue next)) (λ unsound. inr (run.0, unsound)) (unsound_only next own names names' run.1 is)
+    unsound_only (Audits game log IsDue next) own names names' (inr stop) is =
+        here_unsound content game log IsDue next (unsound_here game log is (audit_stopped game log IsDue outcome stop.0))
+    unsound_only (EndsWith allows) own names names' run is = absurd ((last (code_of outcome) (own outcome run.0)).no_unsound is)
+
+    -- where all files are good that are read, the code is one of the last step, or that of memory, or a log is not sound
+    abbrev IsReadyEnd : Steps → Type 0
+    IsReadyEnd steps = Own (code_of outcome) ⊎ (code_of outcome ≡ 7) ⊎ ((code_of outcome ≡ 9) × HasUnsound content steps)
+
+    ready_later : (file : NamedFile) (next : Value file.kind → Steps) (value : Value file.kind) → Holds content file value → IsReadyEnd (next value) → IsReadyEnd (Reads file next)
+    ready_later file next value good (inl own) = inl own
+    ready_later file next value good (inr (inl seven)) = inr (inl seven)
+    ready_later file next value good (inr (inr unsound)) = inr (inr (unsound.0, (value, good, unsound.1)))
+
+    ready_behind : (game : GameFile) (log : LoggedGame) (IsDue : List ℕ → Type 0) (next : Steps) → IsSound game log → IsReadyEnd next → IsReadyEnd (Audits game log IsDue next)
+    ready_behind game log IsDue next sound (inl own) = inl own
+    ready_behind game log IsDue next sound (inr (inl seven)) = inr (inl seven)
+    ready_behind game log IsDue next sound (inr (inr unsound)) = inr (inr (unsound.0, inr (sound, unsound.1)))
+
+    ready_at_audit : (game : GameFile) (log : LoggedGame) (IsDue : List ℕ → Type 0) (next : Steps) → StoppedSo game log (code_of outcome) → IsReadyEnd (Audits game log IsDue next)
+    ready_at_audit game log IsDue next (inl unsound) = inr (inr (unsound.0, inl unsound.1))
+    ready_at_audit game log IsDue next (inr seven) = inr (inl seven)
+
+    pub ready : (steps : Steps) → EndsWithin Own steps → (names names' : Names) → IsQuiet before now → AreGood content steps → Runs content steps names names' before now outcome → IsReadyEnd steps
+    ready (Reads file next) own names names' quiet are_good (inl read) =
+        ready_later file next are_good.0 are_good.1 (ready (next are_good.0) (own are_good.0) (and_then_told names (file.name ∷ [])) names' quiet are_good.2
+        (subst (λ (v : Value file.kind). Runs content (next v) (and_then_told names (file.name ∷ [])) names' before now outcome) (same_read content file are_good.0 read.0 are_good.1 read.1) read.2))
+    ready (Reads file next) own names names' quiet are_good (inr stop) =
+        inr (inl (good_at file are_good.0 are_good.1 quiet (stopped content file.kind file.name before now stop.0 outcome stop.1 stop.2)))
+    ready (Audits game log IsDue next) own names names' quiet are_good (inl run) =
+        ready_behind game log IsDue next run.0 (ready next own names names' quiet (are_good run.0) run.1)
+    ready (Audits game log IsDue next) own names names' quiet are_good (inr stop) = ready_at_audit game log IsDue next (audit_stopped game log IsDue outcome stop.0)
+    ready (EndsWith allows) own names names' quiet are_good run = inl (own outcome run.0)
+
+    -- ---- all codes
+
+    -- the codes of files and audits
+    abbrev pub IsEarlyCode : ℕ → Type 0
+    IsEarlyCode code = (code ≡ 2) ⊎ (code ≡ 3) ⊎ (code ≡ 7) ⊎ (code ≡ 8) ⊎ (code ≡ 9)
+
+    file_code_at : (kind : FileKind) (name : List ℕ) → StopsSo content kind name before now (code_of outcome) → IsEarlyCode (code_of outcome)
+    file_code_at kind name (inl fault) = inr (inl fault.0)
+    file_code_at kind name (inr (inl memory)) = inr (inr (inl memory.0))
+    file_code_at kind name (inr (inr refused)) = by_kind (kind_code kind)
+      where
+        by_kind : (code_at kind ≡ 2) ⊎ (code_at kind ≡ 8) → IsEarlyCode (code_of outcome)
+        by_kind (inl two) = inl (refused.0 ∙ two)
+        by_kind (inr eight) = inr (inr (inr (inl (refused.0 ∙ eight))))
+
+    audit_code : (game : GameFile) (log : LoggedGame) → StoppedSo game log (code_of outcome) → IsEarlyCode (code_of outcome)
+    audit_code game log (inl unsound) = inr (inr (inr (inr unsound.0)))
+    audit_code game log (inr seven) = inr (inr (inl seven))
+
+    -- the code is one of the last step, or of a file or an audit
+    pub codes : (steps : Steps) → EndsWithin Own steps → (names names' : Names) → Runs content steps names names' before now outcome → Own (code_of outcome) ⊎ IsEarlyCode (code_of outcome)
+    codes (Reads file next) own names names' (inl read) = codes (next read.0) (own read.0) (and_then_told names (file.name ∷ [])) names' read.2
+    codes (Reads file next) own names names' (inr stop) = inr (file_code_at file.kind file.name (stopped content file.kind file.name before now stop.0 outcome stop.1 stop.2))
+    codes (Audits game log IsDue next) own names names' (inl run) = codes next own names names' run.1
+    codes (Audits game log IsDue next) own names names' (inr stop) = inr (audit_code game log (audit_stopped game log IsDue outcome stop.0))
+    codes (EndsWith allows) own names names' run = inl (own outcome run.0)
+
+    -- ---- the files that were selected
+
+    module _ (code : ℕ) (told : (code ≡ 4) ⊎ (code ≡ code_of outcome)) where
+      ends_at : (kind : FileKind) (name : List ℕ) → StopsSo content kind name before now (code_of outcome) → (code ≡ 4) ⊎ (code ≡ code_of outcome) → EndsAt kind code
+      ends_at kind name stop (inl four) = inr (inl four)
+      ends_at kind name (inl fault) (inr same) = inl (same ∙ fault.0)
+      ends_at kind name (inr (inl memory)) (inr same) = inr (inr (inl (same ∙ memory.0)))
+      ends_at kind name (inr (inr refused)) (inr same) = inr (inr (inr (same ∙ refused.0)))
+
+      ends_at_audit : (game : GameFile) (log : LoggedGame) → StoppedSo game log (code_of outcome) → (code ≡ 4) ⊎ (code ≡ code_of outcome) → EndsAtAudit code
+      ends_at_audit game log stop (inl four) = inl four
+      ends_at_audit game log (inl unsound) (inr same) = inr (inr (same ∙ unsound.0))
+      ends_at_audit game log (inr seven) (inr same) = inr (inl (same ∙ seven))
+
+      not_code : (due : ℕ) → (code_of outcome ≡ due → ⊥) → 4 ≢ due → (code ≡ 4) ⊎ (code ≡ code_of outcome) → code ≢ due
+      not_code due not not_four (inl four) is = not_four (sym four ∙ is)
+      not_code due not not_four (inr same) is = not (sym same ∙ is)
+
+      pub selects : (steps : Steps) → EndsWithin Own steps → (names names' : Names) → Runs content steps names names' before now outcome → SelectsFiles content steps names names' code
+      selects (Reads file next) own names names' (inl read) = inr (read.0, read.1, selects (next read.0) (own read.0) (and_then_told names (file.name ∷ [])) names' read.2)
+      selects (Reads file next) own names names' (inr stop) =
+          inl (stop.3, ends_at file.kind file.name (stopped content file.kind file.name before now stop.0 outcome stop.1 stop.2) told)
+      selects (Audits game log IsDue next) own names names' (inl run) = inr (run.0, selects next own names names' run.1)
+      selects (Audits game log IsDue next) own names names' (inr stop) = inl (stop.1, ends_at_audit game log (audit_stopped game log IsDue outcome stop.0) told)
+      selects (EndsWith allows) own names names' run =
+          let none = last (code_of outcome) (own outcome run.0) in (
+            run.1,
+            not_code 2 none.no_game (omega arith) told,
+            not_code 3 none.no_fault (omega arith) told,
+            not_code 8 none.no_text (omega arith) told,
+            not_code 9 none.no_unsound (omega arith) told,
+          )

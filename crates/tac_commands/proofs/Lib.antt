@@ -8,6 +8,7 @@ pub mod Endings
 pub mod ReadFiles
 pub mod RanScripts
 pub mod OwnCodes
+pub mod Pairs
+pub mod TableRuns
 pub mod FileCauses
-pub mod UnsoundLogs
 pub mod CommandCauses

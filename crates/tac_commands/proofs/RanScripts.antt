@@ -20,8 +20,8 @@ use Rattle.script_run.specs.OneThreadRun.{replies}
 use Rattle.tac_commands.specs.declared.file_kinds.FileKind.TheVariants.{HotelScript, GameScript}
 use Rattle.tac_commands.specs.declared.refusals.Refusal.TheVariants as refusals
 use Rattle.tac_commands.specs.declared.ends.End.TheVariants as ends
-use Rattle.tac_commands.specs.Allowed.{BatchAllows, PlayAllows}
-use Rattle.tac_commands.specs.Commands.{Hotel, batch_files, file}
+use Rattle.tac_commands.specs.Allowed.{batch_steps, play_steps}
+use Rattle.tac_commands.specs.Commands.{Hotel}
 use Rattle.tac_commands.specs.Files.{Content}
 use Rattle.tac_commands.specs.Outcomes.{Done, Cut}
 use Rattle.tac_commands.specs.Runs.{Names, Runs}
@@ -34,7 +34,7 @@ use Rattle.tac_commands.proofs.SoundLogs.{played_soundly}
 module _ (content : Content) (name bytes : List ℕ) (names names' : Names) (before now : ℕ) (taken taken' : Option (List ℕ)) (out_before out_now : ℕ)
     (is : IsFile content name bytes) (selected : names' ≡ and_then_told names (name ∷ [])) (quiet : now ≡ before) where
   -- the script of a hotel was run with this text
-  hotel_run : (text : List ℕ) → IsOut bytes text → Runs content (batch_files (Hotel name)) (BatchAllows (Hotel name)) names names' before now (Done text)
+  hotel_run : (text : List ℕ) → IsOut bytes text → Runs content (batch_steps (Hotel name)) names names' before now (Done text)
   hotel_run text out = inl (out.lines, (bytes, is, good_hotel bytes out.lines out.within out.good), (out.due, selected, quiet))
 
   pub hotel_ran : (result : Result (Unit {0}) ScriptFault) → RunsScript bytes taken taken' out_before out_now result →
@@ -49,14 +49,14 @@ module _ (content : Content) (name bytes : List ℕ) (names names' : Names) (bef
   -- ---- a game
 
   module _ (game : GameFile) (law : (script : List ℕ) (lines : List GameLine) → game_script script ≡ Ok lines → IsLawfulGame game (closed_game game lines)) where
-    play_run : (text : List ℕ) → IsPlayOut game bytes text → Runs content (file GameScript name ∷ []) (λ values. PlayAllows game values.0) names names' before now (Done text)
+    play_run : (text : List ℕ) → IsPlayOut game bytes text → Runs content (play_steps game name) names names' before now (Done text)
     play_run text out =
         inl (out.lines, (bytes, is, good_script bytes out.lines out.good.within out.good.good), (((out.sheet, out.scores, out.due, ends out), cash_of_script game out.lines), selected, quiet))
       where
         ends : (played : IsPlayOut game bytes text) → EndsInSoundLog game (replies game played.lines) text
         ends played = played_soundly game played.lines played.sheet text (law bytes played.lines played.good.good) played.scores played.due
 
-    first_run : (text : List ℕ) → IsFirstOut game bytes text → Runs content (file GameScript name ∷ []) (λ values. PlayAllows game values.0) names names' before now (Cut text)
+    first_run : (text : List ℕ) → IsFirstOut game bytes text → Runs content (play_steps game name) names names' before now (Cut text)
     first_run text out = inl (out.lines, (bytes, is, good_script bytes out.lines out.good.within out.good.good), ((out.due, cash_of_script game out.lines), selected, quiet))
 
     -- a write failed

@@ -1,5 +1,5 @@
--- What each command makes of the values of its files, and so which outcomes the words and the files allow.
-use Rattle.std.specs.Prelude.{◌≡◌, ℕ, ◌<◌, ⊤, codes, List, Option, Some, None, ◌≤ℤ◌, ◌<ℤ◌, pos}
+-- What each command does with its files and makes of their values, and so which outcomes the words and the files allow.
+use Rattle.std.specs.Prelude.{◌≡◌, ℕ, ◌<◌, ⊤, codes, List, [], ◌∷◌, ◌++◌, length, Option, Some, None, ◌≤ℤ◌, ◌<ℤ◌, pos}
 use Rattle.game_text.specs.Games.{GameFile, spelling, upgraded}
 use Rattle.game_text.specs.Accounts.{AccountFile}
 use Rattle.good_worth.specs.Worth.{IsUp, IsDown, held}
@@ -17,17 +17,19 @@ use Rattle.script_run.specs.GameOuts.{closed_game, first_out, play_out}
 use Rattle.script_run.specs.OneThreadRun.{replies}
 use Rattle.script_run.specs.QuietGames.{IsSummary}
 use Rattle.log_text.specs.LoggedGames.{LoggedGame}
-use Rattle.log_reader.specs.SoundLog.{IsSound}
 use Rattle.log_audit.specs.declared.findings.Flaw.{Flaw}
 use Rattle.log_audit.specs.Flaws.{IsFirstFlaw}
+use Rattle.tourney.specs.StandingsTexts.{IsPrinted}
+use Rattle.tac_commands.specs.declared.file_kinds.FileKind.TheVariants.{Game, HotelScript, GameScript, Account, Log}
 use Rattle.tac_commands.specs.declared.refusals.Refusal.TheVariants.{Usage, LinkFault, Memory}
 use Rattle.tac_commands.specs.Cash.{IsCashOfPosts}
-use Rattle.tac_commands.specs.Commands.{BatchCommand, Hotel, Show, Upgrade, Make, Solve, Worth, Play, Trial, Audit, Command, Batch, Serve, batch_files, files_of}
+use Rattle.tac_commands.specs.Commands.{BatchCommand, Hotel, Show, Upgrade, Make, Solve, Worth, Play, Trial, Audit, Table, Command, Batch, Serve}
 use Rattle.tac_commands.specs.Files.{Content}
-use Rattle.tac_commands.specs.FlawTexts.{flaw_text}
+use Rattle.tac_commands.specs.FlawTexts.{flaw_text, unsound_text}
 use Rattle.tac_commands.specs.Outcomes.{Outcome, Done, Lapsed, Unsound, Cut, Refused}
-use Rattle.tac_commands.specs.Runs.{Values, Names, Runs}
+use Rattle.tac_commands.specs.Runs.{Names, Runs}
 use Rattle.tac_commands.specs.SoundTexts.{EndsInSoundLog}
+use Rattle.tac_commands.specs.Steps.{Steps, Reads, Audits, EndsWith, file}
 use Rattle.tac_commands.specs.Trials.{trial_text}
 
 -- a text that is due is written, or memory was refused
@@ -71,40 +73,50 @@ IsValued account text =
 abbrev pub PlayAllows : GameFile → List ScriptLine → Outcome → Type 0
 PlayAllows game lines outcome = WritesInParts (IsPlayed game lines) (λ text. text ≡ first_out game lines) outcome × IsCashOfPosts (closed_game game lines)
 
--- a log that is not sound, with what is written of its first flaw
-pub record IsFlawed (game : GameFile) (log : LoggedGame) (text : List ℕ) : Type 0 where
-  pub not_sound : IsSound game log → ⊥
+-- the text of the first flaw of a log
+pub record IsFlawText (game : GameFile) (log : LoggedGame) (text : List ℕ) : Type 0 where
   pub flaw : Flaw
   pub first : IsFirstFlaw game log flaw
   pub due : text ≡ flaw_text flaw
 
--- a log is judged by its game: it is sound, or its first flaw is told
-abbrev pub Judges : GameFile → LoggedGame → Outcome → Type 0
-Judges game log (Done text) = IsSound game log × (text ≡ codes "sound\n")
-Judges game log (Unsound text) = IsFlawed game log text
-Judges game log (Refused Memory) = ⊤
-Judges game log outcome = ⊥
+-- a game is played by the script of that name
+abbrev pub play_steps : GameFile → List ℕ → Steps
+play_steps game script = Reads (file GameScript script) (λ lines. EndsWith (PlayAllows game lines))
 
--- What a command that needs no links makes of the values of its files.
-abbrev pub BatchAllows : (command : BatchCommand) → Values (batch_files command) → Outcome → Type 0
+-- a log is judged by its game: it is sound, or its first flaw is told
+abbrev pub audit_steps : GameFile → LoggedGame → Steps
+audit_steps game log = Audits game log (IsFlawText game log) (EndsWith (Writes (λ text. text ≡ codes "sound\n")))
+
+-- Pairs of a game and its log are read and audited in turn, after those of the games that were played before them, and then the standings of
+-- all are written. The first log that is not sound is told by how many pairs stand before it.
+abbrev pub table_steps : List (GameFile × LoggedGame) → List (List ℕ × List ℕ) → Steps
+table_steps played [] = EndsWith (Writes (IsPrinted played []))
+table_steps played (pair ∷ pairs) =
+    Reads (file Game pair.0) (λ game. Reads (file Log pair.1) (λ log.
+        Audits game log (λ text. text ≡ unsound_text (length played)) (table_steps (played ++ (game, log) ∷ []) pairs)))
+
+-- What a command that needs no links does.
+abbrev pub batch_steps : BatchCommand → Steps
 -- the replies and trades of one hotel, run by a script
-BatchAllows (Hotel script) values outcome = Writes (λ text. text ≡ hotel_out values.0) outcome
+batch_steps (Hotel script) = Reads (file HotelScript script) (λ lines. EndsWith (Writes (λ text. text ≡ hotel_out lines)))
 -- the canonical text of a game
-BatchAllows (Show game) values outcome = Writes (λ text. text ≡ spelling values.0) outcome
+batch_steps (Show name) = Reads (file Game name) (λ game. EndsWith (Writes (λ text. text ≡ spelling game)))
 -- the canonical text of the same game in version 2
-BatchAllows (Upgrade game) values outcome = Writes (λ text. text ≡ spelling (upgraded values.0)) outcome
+batch_steps (Upgrade name) = Reads (file Game name) (λ game. EndsWith (Writes (λ text. text ≡ spelling (upgraded game))))
 -- the canonical text of the made game
-BatchAllows (Make seed) values outcome = Writes (λ text. text ≡ spelling (made_game seed)) outcome
+batch_steps (Make seed) = EndsWith (Writes (λ text. text ≡ spelling (made_game seed)))
 -- a best allocation of an account, with a certificate
-BatchAllows (Solve account) values outcome = Writes (IsSolvedText values.0) outcome
+batch_steps (Solve name) = Reads (file Account name) (λ account. EndsWith (Writes (IsSolvedText account)))
 -- what one unit more and one unit less of each good of an account change
-BatchAllows (Worth account) values outcome = Writes (IsValued values.0) outcome
+batch_steps (Worth name) = Reads (file Account name) (λ account. EndsWith (Writes (IsValued account)))
 -- a game, played by a script
-BatchAllows (Play game script) values outcome = PlayAllows values.0 values.1.0 outcome
+batch_steps (Play name script) = Reads (file Game name) (λ game. play_steps game script)
 -- the summary of the made game by the made script
-BatchAllows (Trial seed count) values outcome = Writes (IsTrial seed count) outcome
+batch_steps (Trial seed count) = EndsWith (Writes (IsTrial seed count))
 -- whether the log of a game is sound
-BatchAllows (Audit game log) values outcome = Judges values.0 values.1.0 outcome
+batch_steps (Audit name other) = Reads (file Game name) (λ game. Reads (file Log other) (λ log. audit_steps game log))
+-- the standings of the teams of several games whose logs are sound
+batch_steps (Table pairs) = table_steps [] pairs
 
 -- How the service of a game may end whose file is good: its log is written, whole or without its sheet; or the links failed, or there was no
 -- memory for the game. What the log tells, and what became of the links, is said where the service is.
@@ -117,11 +129,12 @@ IsServiceEnd (Refused Memory) = ⊤
 IsServiceEnd (Refused refusal) = ⊥
 IsServiceEnd (Unsound text) = ⊥
 
-abbrev pub CommandAllows : (command : Command) → Values (files_of command) → Outcome → Type 0
-CommandAllows (Batch command) values outcome = BatchAllows command values outcome
-CommandAllows (Serve game port pace form) values outcome = IsServiceEnd outcome
+-- what a command does
+abbrev pub steps_of : Command → Steps
+steps_of (Batch command) = batch_steps command
+steps_of (Serve game port pace form) = Reads (file Game game) (λ _. EndsWith IsServiceEnd)
 
 -- The outcome, and the names that were selected, are those of the command, if there is one; without a command the usage is written.
 abbrev pub Allows : Content → Option Command → Names → Names → ℕ → ℕ → Outcome → Type 0
 Allows content None names names' before now outcome = (outcome ≡ Refused Usage) × (names' ≡ names) × (now ≡ before)
-Allows content (Some command) names names' before now outcome = Runs content (files_of command) (CommandAllows command) names names' before now outcome
+Allows content (Some command) names names' before now outcome = Runs content (steps_of command) names names' before now outcome

@@ -1,17 +1,15 @@
 -- When each code comes. A write that failed goes before every other cause, so code 4 may stand in the place of each other code;
 -- where memory is refused the code is 7.
-use Rattle.std.specs.Prelude.{◌≡◌, ℕ, ◌-◌, ◌^◌, ◌<◌, ◌⊎◌, ⊤, List, [], ◌∷◌, Option, Some, None, Ok, Err, IfSome}
+use Rattle.std.specs.Prelude.{◌≡◌, ℕ, ◌-◌, ◌^◌, ◌<◌, ◌⊎◌, ⊤, List, Option, Some, None, Ok, Err, IfSome}
 use Rattle.tac_io.specs.Counts.{Rose}
 use Rattle.game_text.specs.declared.fault.GameFault.{GameFault}
-use Rattle.game_text.specs.Games.{GameFile}
-use Rattle.log_text.specs.LoggedGames.{LoggedGame}
 use Rattle.log_reader.specs.SoundLog.{IsSound}
-use Rattle.tac_commands.specs.declared.file_kinds.FileKind.{FileKind}
-use Rattle.tac_commands.specs.declared.file_kinds.FileKind.TheVariants.{Game, Log}
+use Rattle.tac_commands.specs.Allowed.{steps_of}
 use Rattle.tac_commands.specs.Codes.{number_of}
-use Rattle.tac_commands.specs.Commands.{Command, NamedFile, files_of}
+use Rattle.tac_commands.specs.Commands.{Command}
 use Rattle.tac_commands.specs.FileKinds.{Value, read_as, refused_code}
 use Rattle.tac_commands.specs.Files.{Content}
+use Rattle.tac_commands.specs.Steps.{NamedFile, Steps, Reads, Audits, EndsWith}
 
 -- no call failed: the count is as before, and below its last value
 pub record IsQuiet (before now : ℕ) : Type 0 where
@@ -38,11 +36,10 @@ abbrev pub told_file : Content → List ℕ → Option (List ℕ)
 told_file None name = None
 told_file (Some files) name = files name
 
--- the file is there and good
-pub record HasGood (content : Content) (file : NamedFile) : Type 0 where
+-- the file is there and good, and holds this value
+pub record Holds (content : Content) (file : NamedFile) (value : Value file.kind) : Type 0 where
   pub bytes : List ℕ
   pub told : told_file content file.name ≡ Some bytes
-  pub value : Value file.kind
   pub good : read_as file.kind bytes ≡ Ok value
 
 -- the file is there and refused: it is too long, or has a bad line
@@ -52,26 +49,35 @@ pub record HasBad (content : Content) (file : NamedFile) : Type 0 where
   pub fault : GameFault
   pub bad : read_as file.kind bytes ≡ Err fault
 
--- one of the files is refused with this code, and those before it are good
-abbrev pub HasRefused : Content → ℕ → List NamedFile → Type 0
-HasRefused content code [] = ⊥
-HasRefused content code (file ∷ files) =
-    ((number_of (refused_code file.kind) ≡ code) × HasBad content file) ⊎ (HasGood content file × HasRefused content code files)
+-- a file that is read is refused with this code: those before it are good, and the logs that are audited before it are sound
+abbrev pub HasRefused : Content → ℕ → Steps → Type 0
+HasRefused content code (Reads file next) =
+    ((number_of (refused_code file.kind) ≡ code) × HasBad content file)
+    ⊎ ((value : Value file.kind) × Holds content file value × HasRefused content code (next value))
+HasRefused content code (Audits game log IsDue next) = IsSound game log × HasRefused content code next
+HasRefused content code (EndsWith allows) = ⊥
 
--- all files are there and good
-abbrev pub AreGood : Content → List NamedFile → Type 0
-AreGood content [] = ⊤
-AreGood content (file ∷ files) = HasGood content file × AreGood content files
+-- all files that are read are there and good; behind a log that is not sound none is read
+abbrev pub AreGood : Content → Steps → Type 0
+AreGood content (Reads file next) = (value : Value file.kind) × Holds content file value × AreGood content (next value)
+AreGood content (Audits game log IsDue next) = IsSound game log → AreGood content next
+AreGood content (EndsWith allows) = ⊤
+
+-- a log that is audited is not sound: the files read before it are good, and the logs audited before it are sound
+abbrev pub HasUnsound : Content → Steps → Type 0
+HasUnsound content (Reads file next) = (value : Value file.kind) × Holds content file value × HasUnsound content (next value)
+HasUnsound content (Audits game log IsDue next) = (IsSound game log → ⊥) ⊎ (IsSound game log × HasUnsound content next)
+HasUnsound content (EndsWith allows) = ⊥
 
 -- a game file of the command is refused
 abbrev pub HasRefusedGame : Content → Option Command → Type 0
 HasRefusedGame content None = ⊥
-HasRefusedGame content (Some command) = HasRefused content 2 (files_of command)
+HasRefusedGame content (Some command) = HasRefused content 2 (steps_of command)
 
--- a script, an account or a log of the command is refused; where it has a game file, that one is not refused
+-- a script, an account or a log of the command is refused; the files that it reads before that one are not
 abbrev pub HasRefusedText : Content → Option Command → Type 0
 HasRefusedText content None = ⊥
-HasRefusedText content (Some command) = HasRefused content 8 (files_of command)
+HasRefusedText content (Some command) = HasRefused content 8 (steps_of command)
 
 -- 2 comes exactly where a game file is read and refused
 pub record GameRefusedExactly (content : Content) (command : Option Command) (before now code : ℕ) : Type 0 where
@@ -83,40 +89,20 @@ pub record TextRefusedExactly (content : Content) (command : Option Command) (be
   pub only : code ≡ 8 → IfSome content (λ _. HasRefusedText content command)
   pub always : HasRefusedText content command → IsQuiet before now → (code ≡ 8) ⊎ (code ≡ 4) ⊎ (code ≡ 7)
 
--- the words are a command, and its files, if it names some, are there and good
+-- the words are a command, and the files that it reads, if it reads some, are there and good
 abbrev pub IsReady : Content → Option Command → Type 0
 IsReady content None = ⊥
-IsReady content (Some command) = AreGood content (files_of command)
+IsReady content (Some command) = AreGood content (steps_of command)
 
--- the file is of this kind, there and good, and holds this value
-pub record Holds (content : Content) (kind : FileKind) (file : NamedFile) (value : Value kind) : Type 0 where
-  pub is_kind : file.kind ≡ kind
-  pub bytes : List ℕ
-  pub told : told_file content file.name ≡ Some bytes
-  pub good : read_as kind bytes ≡ Ok value
-
--- a game, and the log of a game that is not sound by it
-pub record IsUnsoundPair (content : Content) (game_file log_file : NamedFile) : Type 0 where
-  pub game : GameFile
-  pub is_game : Holds content Game game_file game
-  pub log : LoggedGame
-  pub is_log : Holds content Log log_file log
-  pub not_sound : IsSound game log → ⊥
-
--- one of the files is a game, and the next one a log that is not sound by it
-abbrev pub HasUnsound : Content → List NamedFile → Type 0
-HasUnsound content (file ∷ next ∷ files) = IsUnsoundPair content file next ⊎ HasUnsound content (next ∷ files)
-HasUnsound content files = ⊥
-
--- a log that the command audits is not sound: a log of a command stands behind its game
+-- a log that the command audits is not sound
 abbrev pub HasUnsoundLog : Content → Option Command → Type 0
 HasUnsoundLog content None = ⊥
-HasUnsoundLog content (Some command) = HasUnsound content (files_of command)
+HasUnsoundLog content (Some command) = HasUnsound content (steps_of command)
 
--- 9 comes exactly where the files were read and accepted, memory sufficed and a log that the command audits is not sound
+-- 9 comes exactly where the files up to a log were read and accepted, memory sufficed and the log is not sound
 pub record UnsoundExactly (content : Content) (command : Option Command) (before now code : ℕ) : Type 0 where
   pub only : code ≡ 9 → IfSome content (λ _. HasUnsoundLog content command)
-  pub always : IsReady content command → HasUnsoundLog content command → IsQuiet before now → (code ≡ 9) ⊎ (code ≡ 4) ⊎ (code ≡ 7)
+  pub always : HasUnsoundLog content command → IsQuiet before now → (code ≡ 9) ⊎ (code ≡ 4) ⊎ (code ≡ 7)
 
 -- the code is 0, 7 or 9, and it is 9 exactly where a log that the command audits is not sound, unless memory was refused
 pub record IsGoodEnd (content : Content) (command : Option Command) (code : ℕ) : Type 0 where

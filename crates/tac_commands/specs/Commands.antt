@@ -1,10 +1,8 @@
 -- What the words of a command line ask for.
-use Rattle.std.specs.Prelude.{zero, suc, ⊤, ℕ, ◌+◌, ◌^◌, ◌&&◌, List, [], ◌∷◌, Option, Some, None, if◌then◌else◌, codes, option_map, option_and_then}
+use Rattle.std.specs.Prelude.{zero, suc, ⊤, ℕ, ◌+◌, ◌%◌, ◌^◌, ◌==◌, ◌&&◌, nat_lt, nat_le, List, [], ◌∷◌, length, map, string_bytes, Option, Some, None, if◌then◌else◌, codes, option_map, option_and_then}
 use Rattle.std.specs.Str.{bytes_eq}
-use Rattle.tac_base.specs.declared.limits.TheConstants.{MADE_REQUESTS}
+use Rattle.tac_base.specs.declared.limits.TheConstants.{FILE_NAMES, MADE_REQUESTS}
 use Rattle.tac_base.specs.Numerals.{below, numeral}
-use Rattle.tac_commands.specs.declared.file_kinds.FileKind.{FileKind}
-use Rattle.tac_commands.specs.declared.file_kinds.FileKind.TheVariants as kinds
 use Rattle.tac_commands.specs.declared.words.BatchCommand.{BatchCommand as BatchAsked}
 use Rattle.tac_commands.specs.declared.words.BatchCommand.TheVariants as batch
 use Rattle.tac_commands.specs.declared.words.Form.{Form}
@@ -23,6 +21,7 @@ pub data BatchCommand : Type 0 where
   Play : (game : List ℕ) → (script : List ℕ) → BatchCommand
   Trial : (seed : ℕ) → (count : ℕ) → BatchCommand
   Audit : (game : List ℕ) → (log : List ℕ) → BatchCommand
+  Table : (pairs : List (List ℕ × List ℕ)) → BatchCommand
 
 -- a command of the list
 pub data Command : Type 0 where
@@ -82,38 +81,26 @@ command_with_four word first second third fourth =
     if bytes_eq word (codes "serve") && bytes_eq fourth (codes "json") then service_of first (positive_below 65536 second) (positive_below 60001 third) Json
     else None
 
+-- a command by how many words come after its own
+abbrev pub command_by_count : List ℕ → List (List ℕ) → Option Command
+command_by_count word (argument ∷ []) = command_with word argument
+command_by_count word (first ∷ second ∷ []) = command_with_two word first second
+command_by_count word (first ∷ second ∷ third ∷ []) = command_with_three word first second third
+command_by_count word (first ∷ second ∷ third ∷ fourth ∷ []) = command_with_four word first second third fourth
+command_by_count word words = None
+
+-- words in pairs; one that is left over is in none
+abbrev pub paired : List (List ℕ) → List (List ℕ × List ℕ)
+paired (game ∷ log ∷ words) = (game, log) ∷ paired words
+paired words = []
+
+-- a table has a game and its log of each of 1 to 64 games
+abbrev pub table_of : List (List ℕ) → Option Command
+table_of words = if nat_lt 0 (length words) && nat_le (length words) FILE_NAMES && (length words % 2 == 0) then Some (Batch (Table (paired words))) else None
+
 abbrev pub command_of : List (List ℕ) → Option Command
-command_of (word ∷ argument ∷ []) = command_with word argument
-command_of (word ∷ first ∷ second ∷ []) = command_with_two word first second
-command_of (word ∷ first ∷ second ∷ third ∷ []) = command_with_three word first second third
-command_of (word ∷ first ∷ second ∷ third ∷ fourth ∷ []) = command_with_four word first second third fourth
-command_of words = None
-
--- ---- the files
-
--- a file that a command reads, with the word that names it
-pub record NamedFile : Type 0 where
-  pub kind : FileKind
-  pub name : List ℕ
-
-abbrev pub file : FileKind → List ℕ → NamedFile
-file kind name = record { kind = kind; name = name }
-
--- the files of a command, in the order in which it reads them
-abbrev pub batch_files : BatchCommand → List NamedFile
-batch_files (Hotel script) = file kinds.HotelScript script ∷ []
-batch_files (Show game) = file kinds.Game game ∷ []
-batch_files (Upgrade game) = file kinds.Game game ∷ []
-batch_files (Make seed) = []
-batch_files (Solve account) = file kinds.Account account ∷ []
-batch_files (Worth account) = file kinds.Account account ∷ []
-batch_files (Play game script) = file kinds.Game game ∷ file kinds.GameScript script ∷ []
-batch_files (Trial seed count) = []
-batch_files (Audit game log) = file kinds.Game game ∷ file kinds.Log log ∷ []
-
-abbrev pub files_of : Command → List NamedFile
-files_of (Batch command) = batch_files command
-files_of (Serve game port pace form) = file kinds.Game game ∷ []
+command_of [] = None
+command_of (word ∷ words) = if bytes_eq word (codes "table") then table_of words else command_by_count word words
 
 -- ---- the service of a game among the commands
 
@@ -140,6 +127,7 @@ seen_batch (batch.Worth account) = Worth account.now
 seen_batch (batch.Play game script) = Play game.now script.now
 seen_batch (batch.Trial seed count) = Trial seed count
 seen_batch (batch.Audit game log) = Audit game.now log.now
+seen_batch (batch.Table names) = Table (paired (map (λ name. string_bytes name) names.now))
 
 abbrev pub seen : Asked → Command
 seen (asked.Batch command) = Batch (seen_batch command)

@@ -8,13 +8,14 @@ use Rattle.script_run.specs.declared.fault.ScriptFault.TheVariants as faults
 use Rattle.tac_commands.specs.declared.refusals.Refusal.TheVariants.{Memory, TextLine, TextTooLong}
 use Rattle.tac_commands.specs.declared.ends.End.{End}
 use Rattle.tac_commands.specs.declared.ends.End.TheVariants as ends
-use Rattle.tac_commands.specs.declared.file_kinds.FileKind.TheVariants.{GameScript, Log}
+use Rattle.tac_commands.specs.declared.file_kinds.FileKind.TheVariants.{Log}
 use Rattle.game_text.specs.Games.{GameFile}
-use Rattle.tac_commands.specs.Allowed.{BatchAllows, PlayAllows, Judges}
-use Rattle.tac_commands.specs.Commands.{BatchCommand, batch_files, file}
+use Rattle.tac_commands.specs.Allowed.{audit_steps, batch_steps, play_steps}
+use Rattle.tac_commands.specs.Commands.{BatchCommand}
 use Rattle.tac_commands.specs.Files.{Content}
 use Rattle.tac_commands.specs.Outcomes.{Outcome, Done, Unsound, Cut, Refused, code_of, text_of}
 use Rattle.tac_commands.specs.Runs.{Names, Runs}
+use Rattle.tac_commands.specs.Steps.{Steps, Reads, file}
 
 -- The text that is due was written and the code that is due answered; or a write failed, the code is 4, and the first bytes of
 -- the text were written, but not all.
@@ -47,17 +48,22 @@ EndsOrIsCut allows taken taken' before now end =
 -- a command that needs no links ended so over its files, and left the names selected and the sink so
 abbrev pub EndsBatch : Content → BatchCommand → Names → Names → ℕ → ℕ → Option (List ℕ) → Option (List ℕ) → ℕ → ℕ → End → Type 0
 EndsBatch content command names names' before now taken taken' out_before out_now end =
-    EndsOrIsCut (Runs content (batch_files command) (BatchAllows command) names names' before now) taken taken' out_before out_now end
+    EndsOrIsCut (Runs content (batch_steps command) names names' before now) taken taken' out_before out_now end
+
+-- a command that selects no more files ended so, whatever the files are, and whichever names were selected before
+abbrev pub EndsUnread : Steps → Option (List ℕ) → Option (List ℕ) → ℕ → ℕ → End → Type 0
+EndsUnread steps taken taken' out_before out_now end =
+    (content : Content) (names : Names) (count : ℕ) → EndsOrIsCut (Runs content steps names names count count) taken taken' out_before out_now end
 
 -- so does playing a game by the script of that name
 abbrev pub PlaysNamed : Content → GameFile → List ℕ → Names → Names → ℕ → ℕ → Option (List ℕ) → Option (List ℕ) → ℕ → ℕ → End → Type 0
 PlaysNamed content game name names names' before now taken taken' out_before out_now end =
-    EndsOrIsCut (Runs content (file GameScript name ∷ []) (λ values. PlayAllows game values.0) names names' before now) taken taken' out_before out_now end
+    EndsOrIsCut (Runs content (play_steps game name) names names' before now) taken taken' out_before out_now end
 
 -- so does judging the log of that name by a game
 abbrev pub JudgesNamed : Content → GameFile → List ℕ → Names → Names → ℕ → ℕ → Option (List ℕ) → Option (List ℕ) → ℕ → ℕ → End → Type 0
 JudgesNamed content game name names names' before now taken taken' out_before out_now end =
-    EndsOrIsCut (Runs content (file Log name ∷ []) (λ values. Judges game values.0) names names' before now) taken taken' out_before out_now end
+    EndsOrIsCut (Runs content (Reads (file Log name) (audit_steps game)) names names' before now) taken taken' out_before out_now end
 
 -- how a command ends that runs a script
 abbrev pub script_end : {A : Type 0} → Result A ScriptFault → End

@@ -5,12 +5,14 @@ pub mod FileKinds
 pub mod Commands
 pub mod Words
 pub mod Outcomes
+pub mod Steps
 pub mod Files
 pub mod Runs
 pub mod Cash
 pub mod Trials
 pub mod SoundTexts
 pub mod Allowed
+pub mod TableRuns
 pub mod Ends
 pub mod Causes
 pub mod Selected

@@ -1,27 +1,25 @@
--- The names among the words of a command.
-use Rattle.std.specs.Prelude.{◌≤◌, ⊤, List, [], ◌∷◌, length}
-use Rattle.tac_base.specs.declared.limits.TheConstants.{MADE_REQUESTS}
+-- The words of a command within their limits.
+use Rattle.std.specs.Prelude.{◌≤◌, ⊤, length, string_len, All}
+use Rattle.tac_base.specs.declared.limits.TheConstants.{FILE_NAMES, MADE_REQUESTS, NAME_BYTES}
 use Rattle.tac_commands.specs.declared.words.BatchCommand.{BatchCommand as BatchAsked}
+use Rattle.tac_commands.specs.declared.words.BatchCommand.TheVariants as batch
 use Rattle.tac_commands.specs.declared.words.Asked.{Asked}
-use Rattle.tac_commands.specs.Commands.{BatchCommand, Trial, NamedFile, batch_files, files_of, seen_batch, seen, Command, Batch, Serve}
+use Rattle.tac_commands.specs.declared.words.Asked.TheVariants as asked
 
--- each name has at most 1024 bytes
-abbrev pub AreShort : List NamedFile → Type 0
-AreShort [] = ⊤
-AreShort (file ∷ files) = (length file.name ≤ 1024) × AreShort files
-
--- a script that is made has at most so many requests
-abbrev pub IsFew : BatchCommand → Type 0
-IsFew (Trial seed count) = count ≤ MADE_REQUESTS
-IsFew command = ⊤
-
+-- each name has at most 1024 bytes, a script that is made has at most so many requests, and a table at most so many names
 abbrev pub IsShortBatch : BatchAsked → Type 0
-IsShortBatch asked = AreShort (batch_files (seen_batch asked)) × IsFew (seen_batch asked)
+IsShortBatch (batch.Hotel script) = length script.now ≤ NAME_BYTES
+IsShortBatch (batch.Show game) = length game.now ≤ NAME_BYTES
+IsShortBatch (batch.Upgrade game) = length game.now ≤ NAME_BYTES
+IsShortBatch (batch.Make seed) = ⊤
+IsShortBatch (batch.Solve account) = length account.now ≤ NAME_BYTES
+IsShortBatch (batch.Worth account) = length account.now ≤ NAME_BYTES
+IsShortBatch (batch.Play game script) = (length game.now ≤ NAME_BYTES) × (length script.now ≤ NAME_BYTES)
+IsShortBatch (batch.Trial seed count) = count ≤ MADE_REQUESTS
+IsShortBatch (batch.Audit game log) = (length game.now ≤ NAME_BYTES) × (length log.now ≤ NAME_BYTES)
+IsShortBatch (batch.Table names) = All (λ name. string_len name ≤ NAME_BYTES) names.now × (length names.now ≤ FILE_NAMES)
 
 -- so it is in the commands that words ask for
-abbrev pub IsWithin : Command → Type 0
-IsWithin (Batch command) = AreShort (batch_files command) × IsFew command
-IsWithin (Serve game port pace form) = AreShort (files_of (Serve game port pace form))
-
 abbrev pub HasShortNames : Asked → Type 0
-HasShortNames asked = IsWithin (seen asked)
+HasShortNames (asked.Batch command) = IsShortBatch command
+HasShortNames (asked.Serve game port pace form) = length game.now ≤ NAME_BYTES

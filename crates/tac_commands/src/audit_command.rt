@@ -1,8 +1,9 @@
 // The command that judges the log of a game by the game.
 ghost use Rattle.std.specs.Prelude.{◌≡◌, ◌<◌, ◌≤◌, [], ◌∷◌, length, IfSome};
-ghost use Rattle.tac_commands.specs.Allowed.{Judges};
+ghost use Rattle.tac_base.specs.declared.limits.TheConstants.{FILE_NAMES, NAME_BYTES};
+ghost use Rattle.tac_commands.specs.Allowed.{audit_steps};
 ghost use Rattle.tac_commands.specs.Commands as commands;
-ghost use Rattle.tac_commands.specs.Ends.{Ends, EndsBatch, JudgesNamed};
+ghost use Rattle.tac_commands.specs.Ends.{EndsBatch, EndsUnread, JudgesNamed};
 ghost use Rattle.tac_commands.specs.FlawTexts as texts;
 
 use crate::ends::End;
@@ -37,7 +38,7 @@ fn flaw_text(flaw: Flaw) -> Text
 
 /// Judges a log by its game, and writes what was found.
 fn judge<K: Sink>(alloc: Global, game: &Game, log: &Log, out: &mut K) -> End
-    ensures { Ends (Judges game.now log.now) (K.taken out.old) (K.taken out.new) (K.faults out.old) (K.faults out.new) result }
+    ensures { EndsUnread (audit_steps game.now log.now) (K.taken out.old) (K.taken out.new) (K.faults out.old) (K.faults out.new) result }
 {
     let Ok(finding) = audit_log(alloc, game, log) else {
         return End::Refused(Refusal::Memory);
@@ -62,7 +63,7 @@ fn audit_by_file<F: Files, K: Sink>(
     files: &mut F,
     out: &mut K,
 ) -> End
-    requires { IfSome (F.names files.old) (λ names. (length names < 128) × (length name.now ≤ 1024)) }
+    requires { IfSome (F.names files.old) (λ names. (length names < FILE_NAMES) × (length name.now ≤ NAME_BYTES)) }
     ensures { JudgesNamed (F.content files.old) game.now name.now (F.names files.old) (F.names files.new) (F.faults files.old) (F.faults files.new)
         (K.taken out.old) (K.taken out.new) (K.faults out.old) (K.faults out.new) result }
 {
@@ -80,7 +81,7 @@ pub(crate) fn audit_files<F: Files, K: Sink>(
     files: &mut F,
     out: &mut K,
 ) -> End
-    requires { IfSome (F.names files.old) (λ names. (names ≡ []) × (length game.now ≤ 1024) × (length log.now ≤ 1024)) }
+    requires { IfSome (F.names files.old) (λ names. (names ≡ []) × (length game.now ≤ NAME_BYTES) × (length log.now ≤ NAME_BYTES)) }
     ensures { EndsBatch (F.content files.old) (commands.Audit game.now log.now) (F.names files.old) (F.names files.new) (F.faults files.old) (F.faults files.new)
         (K.taken out.old) (K.taken out.new) (K.faults out.old) (K.faults out.new) result }
 {

@@ -1,5 +1,6 @@
 // The commands that need no links.
 ghost use Rattle.std.specs.Prelude.{◌≡◌, ◌<◌, ◌≤◌, [], length, IfSome};
+ghost use Rattle.tac_base.specs.declared.limits.TheConstants.{FILE_NAMES, NAME_BYTES};
 ghost use Rattle.game_text.specs.Games.{spelling, upgraded};
 ghost use Rattle.draw_maker.specs.Games.{made_game};
 ghost use Rattle.allocator.specs.Solutions.{IsSolvedText};
@@ -14,6 +15,7 @@ use crate::ends::End;
 use crate::reading::{read_account_file, read_game_file};
 use crate::refusals::Refusal;
 use crate::script_commands::{hotel_by_file, play_files};
+use crate::table_command::table_files;
 use crate::trial_command::trial;
 use crate::words::BatchCommand;
 use crate::worth_command::worth_file;
@@ -69,7 +71,7 @@ fn write_solved<K: Sink>(alloc: Global, account: &Account, out: &mut K) -> End
 
 /// Shows the game of the file of that name in its canonical text.
 fn show<F: Files, K: Sink>(alloc: Global, name: &str, files: &mut F, out: &mut K) -> End
-    requires { IfSome (F.names files.old) (λ names. (length names < 128) × (length name.now ≤ 1024)) }
+    requires { IfSome (F.names files.old) (λ names. (length names < FILE_NAMES) × (length name.now ≤ NAME_BYTES)) }
     ensures { EndsBatch (F.content files.old) (commands.Show name.now) (F.names files.old) (F.names files.new) (F.faults files.old) (F.faults files.new)
         (K.taken out.old) (K.taken out.new) (K.faults out.old) (K.faults out.new) result }
 {
@@ -81,7 +83,7 @@ fn show<F: Files, K: Sink>(alloc: Global, name: &str, files: &mut F, out: &mut K
 
 /// Shows the game of the file of that name in the canonical text of its version 2.
 fn upgrade<F: Files, K: Sink>(alloc: Global, name: &str, files: &mut F, out: &mut K) -> End
-    requires { IfSome (F.names files.old) (λ names. (length names < 128) × (length name.now ≤ 1024)) }
+    requires { IfSome (F.names files.old) (λ names. (length names < FILE_NAMES) × (length name.now ≤ NAME_BYTES)) }
     ensures { EndsBatch (F.content files.old) (commands.Upgrade name.now) (F.names files.old) (F.names files.new) (F.faults files.old) (F.faults files.new)
         (K.taken out.old) (K.taken out.new) (K.faults out.old) (K.faults out.new) result }
 {
@@ -93,7 +95,7 @@ fn upgrade<F: Files, K: Sink>(alloc: Global, name: &str, files: &mut F, out: &mu
 
 /// Solves the account of the file of that name.
 fn solve_file<F: Files, K: Sink>(alloc: Global, name: &str, files: &mut F, out: &mut K) -> End
-    requires { IfSome (F.names files.old) (λ names. (length names < 128) × (length name.now ≤ 1024)) }
+    requires { IfSome (F.names files.old) (λ names. (length names < FILE_NAMES) × (length name.now ≤ NAME_BYTES)) }
     ensures { EndsBatch (F.content files.old) (commands.Solve name.now) (F.names files.old) (F.names files.new) (F.faults files.old) (F.faults files.new)
         (K.taken out.old) (K.taken out.new) (K.faults out.old) (K.faults out.new) result }
 {
@@ -103,8 +105,8 @@ fn solve_file<F: Files, K: Sink>(alloc: Global, name: &str, files: &mut F, out: 
     }
 }
 
-/// Runs a command that needs no links. It selects its files in order, once each, up to one that is not read; no name was selected before,
-/// each name has at most 1024 bytes, and the count of a trial is within its limit. A refusal is left for `finish` to write.
+/// Runs a command that needs no links. It selects its files in order, up to one that is not read or to a log that is not sound; no name was selected before,
+/// each name has at most 1024 bytes, and the counts of a trial and of a table are within their limits. A refusal is left for `finish` to write.
 pub fn run_batch<R: Threads + Sync, F: Files, K: Sink>(
     rt: &R,
     alloc: Global,
@@ -127,5 +129,6 @@ pub fn run_batch<R: Threads + Sync, F: Files, K: Sink>(
         BatchCommand::Play { game, script } => play_files(rt, alloc, game, script, files, out),
         BatchCommand::Trial { seed, count } => trial(rt, alloc, seed, count, out),
         BatchCommand::Audit { game, log } => audit_files(alloc, game, log, files, out),
+        BatchCommand::Table { names } => table_files(alloc, names, files, out),
     }
 }

@@ -11,6 +11,7 @@ mod numbered_lines;
 mod reading;
 mod refusals;
 mod script_commands;
+mod table_command;
 mod trial_command;
 mod words;
 mod worth_command;

@@ -1,5 +1,6 @@
 // The files that commands read.
 ghost use Rattle.std.specs.Prelude.{◌≡◌, ◌<◌, ◌≤◌, [], ◌∷◌, length, IfOk, IfErr, IfSome, OnOk};
+ghost use Rattle.tac_base.specs.declared.limits.TheConstants.{FILE_NAMES, NAME_BYTES};
 ghost use Rattle.tac_io.specs.Reading.{IsFile};
 ghost use Rattle.tac_io.specs.Told.{and_then_told};
 ghost use Rattle.tac_commands.specs.FileKinds.{most_bytes};
@@ -20,7 +21,7 @@ pub(crate) fn read_bytes<F: Files>(
     name: &str,
     kind: FileKind,
 ) -> Result<Vec<u8>, Refusal>
-    requires { IfSome (F.names files.old) (λ names. (length names < 128) × (length name.now ≤ 1024)) }
+    requires { IfSome (F.names files.old) (λ names. (length names < FILE_NAMES) × (length name.now ≤ NAME_BYTES)) }
     ensures whole { IfOk result (λ bytes. IsFile (F.content files.old) name.now bytes.items) }
     ensures within { IfOk result (λ bytes. length bytes.items ≤ most_bytes kind) }
     ensures quiet { OnOk result (F.faults files.new ≡ F.faults files.old) }
@@ -39,7 +40,7 @@ pub(crate) fn read_bytes<F: Files>(
 /// The game of the file of that name, or what is written in its place. The file is selected once. Fewer than 128 names were selected before,
 /// and the name has at most 1024 bytes.
 pub fn read_game_file<F: Files>(alloc: Global, files: &mut F, name: &str) -> Result<Game, Refusal>
-    requires { IfSome (F.names files.old) (λ names. (length names < 128) × (length name.now ≤ 1024)) }
+    requires { IfSome (F.names files.old) (λ names. (length names < FILE_NAMES) × (length name.now ≤ NAME_BYTES)) }
     ensures game { IfOk result (λ game. IsRead (F.content files.old) GameKind name.now game) }
     ensures quiet { OnOk result (F.faults files.new ≡ F.faults files.old) }
     ensures unread { IfErr result (IsNotRead (F.content files.old) GameKind name.now (F.faults files.old) (F.faults files.new)) }
@@ -62,7 +63,7 @@ pub(crate) fn read_account_file<F: Files>(
     files: &mut F,
     name: &str,
 ) -> Result<Account, Refusal>
-    requires { IfSome (F.names files.old) (λ names. (length names < 128) × (length name.now ≤ 1024)) }
+    requires { IfSome (F.names files.old) (λ names. (length names < FILE_NAMES) × (length name.now ≤ NAME_BYTES)) }
     ensures account { IfOk result (λ account. IsRead (F.content files.old) AccountKind name.now account) }
     ensures quiet { OnOk result (F.faults files.new ≡ F.faults files.old) }
     ensures unread { IfErr result (IsNotRead (F.content files.old) AccountKind name.now (F.faults files.old) (F.faults files.new)) }
@@ -85,7 +86,7 @@ pub(crate) fn read_log_file<F: Files>(
     files: &mut F,
     name: &str,
 ) -> Result<Log, Refusal>
-    requires { IfSome (F.names files.old) (λ names. (length names < 128) × (length name.now ≤ 1024)) }
+    requires { IfSome (F.names files.old) (λ names. (length names < FILE_NAMES) × (length name.now ≤ NAME_BYTES)) }
     ensures log { IfOk result (λ log. IsRead (F.content files.old) LogKind name.now log) }
     ensures quiet { OnOk result (F.faults files.new ≡ F.faults files.old) }
     ensures unread { IfErr result (IsNotRead (F.content files.old) LogKind name.now (F.faults files.old) (F.faults files.new)) }

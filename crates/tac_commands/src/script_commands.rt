@@ -1,5 +1,6 @@
 // The commands that run a script: of one hotel, and of a game.
 ghost use Rattle.std.specs.Prelude.{◌≡◌, ◌<◌, ◌≤◌, [], ◌∷◌, length, IfSome};
+ghost use Rattle.tac_base.specs.declared.limits.TheConstants.{FILE_NAMES, NAME_BYTES};
 ghost use Rattle.tac_commands.specs.Commands as commands;
 ghost use Rattle.tac_commands.specs.Ends.{EndsBatch, PlaysNamed};
 ghost use Rattle.tac_commands.specs.Ends as ends;
@@ -36,7 +37,7 @@ pub(crate) fn hotel_by_file<F: Files, K: Sink>(
     files: &mut F,
     out: &mut K,
 ) -> End
-    requires { IfSome (F.names files.old) (λ names. (length names < 128) × (length name.now ≤ 1024)) }
+    requires { IfSome (F.names files.old) (λ names. (length names < FILE_NAMES) × (length name.now ≤ NAME_BYTES)) }
     ensures { EndsBatch (F.content files.old) (commands.Hotel name.now) (F.names files.old) (F.names files.new) (F.faults files.old) (F.faults files.new)
         (K.taken out.old) (K.taken out.new) (K.faults out.old) (K.faults out.new) result }
 {
@@ -55,7 +56,7 @@ fn play_by_file<R: Threads + Sync, F: Files, K: Sink>(
     files: &mut F,
     out: &mut K,
 ) -> End
-    requires { IfSome (F.names files.old) (λ names. (length names < 128) × (length name.now ≤ 1024)) }
+    requires { IfSome (F.names files.old) (λ names. (length names < FILE_NAMES) × (length name.now ≤ NAME_BYTES)) }
     ensures { PlaysNamed (F.content files.old) game.now name.now (F.names files.old) (F.names files.new) (F.faults files.old) (F.faults files.new)
         (K.taken out.old) (K.taken out.new) (K.faults out.old) (K.faults out.new) result }
 {
@@ -75,7 +76,7 @@ pub(crate) fn play_files<R: Threads + Sync, F: Files, K: Sink>(
     files: &mut F,
     out: &mut K,
 ) -> End
-    requires { IfSome (F.names files.old) (λ names. (names ≡ []) × (length game.now ≤ 1024) × (length script.now ≤ 1024)) }
+    requires { IfSome (F.names files.old) (λ names. (names ≡ []) × (length game.now ≤ NAME_BYTES) × (length script.now ≤ NAME_BYTES)) }
     ensures { EndsBatch (F.content files.old) (commands.Play game.now script.now) (F.names files.old) (F.names files.new) (F.faults files.old) (F.faults files.new)
         (K.taken out.old) (K.taken out.new) (K.faults out.old) (K.faults out.new) result }
 {

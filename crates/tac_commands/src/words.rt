@@ -5,7 +5,7 @@ ghost use Rattle.tac_commands.specs.Commands as commands;
 ghost use Rattle.tac_commands.specs.Commands.{command_of, seen};
 ghost use Rattle.tac_commands.specs.Words.{HasShortNames};
 
-use tac_base::limits::MADE_REQUESTS;
+use tac_base::limits::{FILE_NAMES, MADE_REQUESTS, NAME_BYTES};
 use tac_base::read_numeral;
 
 /// A command that needs no links, with its words: the names of its files, or numbers.
@@ -29,6 +29,8 @@ pub enum BatchCommand<'a> {
     Trial { seed: u64, count: u32 },
     /// The log of a game, judged by the game.
     Audit { game: &'a str, log: &'a str },
+    /// The standings over several games: for each of 1 to 64 games its name and that of its log.
+    Table { names: &'a [String] },
 }
 
 /// The wire format of a served game.
@@ -56,7 +58,7 @@ pub enum Asked<'a> {
 
 /// The command of a word and one more.
 fn command_with<'a>(word: &str, argument: &'a str) -> Option<Asked<'a>>
-    requires { length argument.now ≤ 1024 }
+    requires { length argument.now ≤ NAME_BYTES }
     ensures command { MatchOption result (commands.command_with word.now argument.now ≡ None)
         (λ asked. commands.command_with word.now argument.now ≡ Some (seen asked)) }
     ensures short { IfSome result HasShortNames }
@@ -113,8 +115,8 @@ fn trial_of<'a>(seed: Option<u64>, count: Option<u32>) -> Option<Asked<'a>>
 
 /// The command of a word and two more.
 fn command_with_two<'a>(word: &str, first: &'a str, second: &'a str) -> Option<Asked<'a>>
-    requires first { length first.now ≤ 1024 }
-    requires second { length second.now ≤ 1024 }
+    requires first { length first.now ≤ NAME_BYTES }
+    requires second { length second.now ≤ NAME_BYTES }
     ensures command { MatchOption result (commands.command_with_two word.now first.now second.now ≡ None)
         (λ asked. commands.command_with_two word.now first.now second.now ≡ Some (seen asked)) }
     ensures short { IfSome result HasShortNames }
@@ -154,7 +156,7 @@ fn service_of<'a>(
     pace: Option<u16>,
     form: Form,
 ) -> Option<Asked<'a>>
-    requires { length game.now ≤ 1024 }
+    requires { length game.now ≤ NAME_BYTES }
     ensures command { MatchOption result (commands.service_of game.now port pace form ≡ None) (λ asked. commands.service_of game.now port pace form ≡ Some (seen asked)) }
     ensures short { IfSome result HasShortNames }
 {
@@ -179,7 +181,7 @@ fn command_with_three<'a>(
     second: &str,
     third: &str,
 ) -> Option<Asked<'a>>
-    requires { length first.now ≤ 1024 }
+    requires { length first.now ≤ NAME_BYTES }
     ensures command { MatchOption result (commands.command_with_three word.now first.now second.now third.now ≡ None)
         (λ asked. commands.command_with_three word.now first.now second.now third.now ≡ Some (seen asked)) }
     ensures short { IfSome result HasShortNames }
@@ -204,7 +206,7 @@ fn command_with_four<'a>(
     third: &str,
     fourth: &str,
 ) -> Option<Asked<'a>>
-    requires { length first.now ≤ 1024 }
+    requires { length first.now ≤ NAME_BYTES }
     ensures command { MatchOption result (commands.command_with_four word.now first.now second.now third.now fourth.now ≡ None)
         (λ asked. commands.command_with_four word.now first.now second.now third.now fourth.now ≡ Some (seen asked)) }
     ensures short { IfSome result HasShortNames }
@@ -221,29 +223,60 @@ fn command_with_four<'a>(
     }
 }
 
-/// The command of the words, if they are one of the list.
-pub fn command_asked(words: &[String]) -> Option<Asked<'_>>
-    requires { All (λ word. string_len word ≤ 1024) words.now }
-    ensures command { MatchOption result (command_of (map (λ word. string_bytes word) words.now) ≡ None)
-        (λ asked. command_of (map (λ word. string_bytes word) words.now) ≡ Some (seen asked)) }
+/// The table of the games and logs of these names, in turn.
+fn table_of(names: &[String]) -> Option<Asked<'_>>
+    requires { All (λ name. string_len name ≤ NAME_BYTES) names.now }
+    ensures command { MatchOption result (commands.table_of (map (λ name. string_bytes name) names.now) ≡ None)
+        (λ asked. commands.table_of (map (λ name. string_bytes name) names.now) ≡ Some (seen asked)) }
     ensures short { IfSome result HasShortNames }
 {
-    match words {
-        [word, argument] => command_with(word.as_str(), argument.as_str()),
-        [word, first, second] => command_with_two(word.as_str(), first.as_str(), second.as_str()),
-        [word, first, second, third] => command_with_three(
-            word.as_str(),
+    if 0 < names.len() && names.len() <= FILE_NAMES && names.len() % 2 == 0 {
+        Some(Asked::Batch(BatchCommand::Table { names }))
+    } else {
+        None
+    }
+}
+
+/// The command of a word and those after it, by their number.
+fn command_by_count<'a>(word: &str, others: &'a [String]) -> Option<Asked<'a>>
+    requires { All (λ other. string_len other ≤ NAME_BYTES) others.now }
+    ensures command { MatchOption result (commands.command_by_count word.now (map (λ other. string_bytes other) others.now) ≡ None)
+        (λ asked. commands.command_by_count word.now (map (λ other. string_bytes other) others.now) ≡ Some (seen asked)) }
+    ensures short { IfSome result HasShortNames }
+{
+    match others {
+        [argument] => command_with(word, argument.as_str()),
+        [first, second] => command_with_two(word, first.as_str(), second.as_str()),
+        [first, second, third] => command_with_three(
+            word,
             first.as_str(),
             second.as_str(),
             third.as_str(),
         ),
-        [word, first, second, third, fourth] => command_with_four(
-            word.as_str(),
+        [first, second, third, fourth] => command_with_four(
+            word,
             first.as_str(),
             second.as_str(),
             third.as_str(),
             fourth.as_str(),
         ),
         _ => None,
+    }
+}
+
+/// The command of the words, if they are one of the list.
+pub fn command_asked(words: &[String]) -> Option<Asked<'_>>
+    requires { All (λ word. string_len word ≤ NAME_BYTES) words.now }
+    ensures command { MatchOption result (command_of (map (λ word. string_bytes word) words.now) ≡ None)
+        (λ asked. command_of (map (λ word. string_bytes word) words.now) ≡ Some (seen asked)) }
+    ensures short { IfSome result HasShortNames }
+{
+    let [word, others @ ..] = words else {
+        return None;
+    };
+    if word.as_str() == "table" {
+        table_of(others)
+    } else {
+        command_by_count(word.as_str(), others)
     }
 }

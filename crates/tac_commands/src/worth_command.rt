@@ -1,5 +1,6 @@
 // The command that shows what one unit more and one unit less of each good would change.
 ghost use Rattle.std.specs.Prelude.{◌≡◌, ◌<◌, ◌≤◌, length, IfOk, IfSome};
+ghost use Rattle.tac_base.specs.declared.limits.TheConstants.{FILE_NAMES, NAME_BYTES};
 ghost use Rattle.tac_commands.specs.Allowed.{IsValued, Writes};
 ghost use Rattle.tac_commands.specs.Commands as commands;
 ghost use Rattle.tac_commands.specs.Ends.{Ends, EndsBatch};
@@ -46,7 +47,7 @@ pub(crate) fn worth_file<F: Files, K: Sink>(
     files: &mut F,
     out: &mut K,
 ) -> End
-    requires { IfSome (F.names files.old) (λ names. (length names < 128) × (length name.now ≤ 1024)) }
+    requires { IfSome (F.names files.old) (λ names. (length names < FILE_NAMES) × (length name.now ≤ NAME_BYTES)) }
     ensures { EndsBatch (F.content files.old) (commands.Worth name.now) (F.names files.old) (F.names files.new) (F.faults files.old) (F.faults files.new)
         (K.taken out.old) (K.taken out.new) (K.faults out.old) (K.faults out.new) result }
 {

@@ -1,0 +1,22 @@
+-- What a command does with its files, step by step.
+use Rattle.std.specs.Prelude.{ℕ, List}
+use Rattle.game_text.specs.Games.{GameFile}
+use Rattle.log_text.specs.LoggedGames.{LoggedGame}
+use Rattle.tac_commands.specs.declared.file_kinds.FileKind.{FileKind}
+use Rattle.tac_commands.specs.FileKinds.{Value}
+use Rattle.tac_commands.specs.Outcomes.{Outcome}
+
+-- a file that a command reads, with the word that names it
+pub record NamedFile : Type 0 where
+  pub kind : FileKind
+  pub name : List ℕ
+
+abbrev pub file : FileKind → List ℕ → NamedFile
+file kind name = record { kind = kind; name = name }
+
+-- A command reads a file, and goes on with its value; or it audits a log by its game, and goes on where the log is sound, while one that is not
+-- sound is told by a text of which this holds; or it ends with an outcome of which this holds.
+pub data Steps : Type 1 where
+  Reads : (file : NamedFile) → (Value file.kind → Steps) → Steps
+  Audits : (game : GameFile) → (log : LoggedGame) → (List ℕ → Type 0) → Steps → Steps
+  EndsWith : (Outcome → Type 0) → Steps

@@ -1,0 +1,46 @@
+-- What the calls that make a table say of the pairs that they read.
+use Rattle.std.specs.Prelude.{◌≡◌, ℕ, List, [], ◌∷◌, ◌++◌, length}
+use Rattle.game_text.specs.Games.{GameFile}
+use Rattle.log_text.specs.LoggedGames.{LoggedGame}
+use Rattle.log_reader.specs.SoundLog.{IsSound}
+use Rattle.tourney.specs.Tallies.{Kept, StandsFor}
+use Rattle.tac_commands.specs.declared.file_kinds.FileKind.TheVariants.{Game, Log}
+use Rattle.tac_commands.specs.declared.table_command.TableFault.{TableFault}
+use Rattle.tac_commands.specs.declared.table_command.TableFault.TheVariants as faults
+use Rattle.tac_commands.specs.Allowed.{table_steps}
+use Rattle.tac_commands.specs.Files.{Content, IsRead}
+use Rattle.tac_commands.specs.FlawTexts.{unsound_text}
+use Rattle.tac_commands.specs.Outcomes.{Outcome, Unsound, Refused}
+use Rattle.tac_commands.specs.Runs.{Names, Runs, StopsAt}
+
+-- the outcome of a table that is not written
+abbrev pub outcome_of : TableFault → Outcome
+outcome_of (faults.Refused refusal) = Refused refusal
+outcome_of (faults.Unsound pair) = Unsound (unsound_text pair)
+
+-- the standings have one more game
+abbrev pub HasAdded : Kept → Kept → GameFile → LoggedGame → Type 0
+HasAdded standings after game log = (played : List (GameFile × LoggedGame)) → StandsFor standings played → StandsFor after (played ++ (game, log) ∷ [])
+
+-- a pair was read, its log is sound, and the standings have its game
+pub record IsAdded (content : Content) (game_name log_name : List ℕ) (standings after : Kept) : Type 0 where
+  pub game : GameFile
+  pub log : LoggedGame
+  pub is_game : IsRead content Game game_name game
+  pub is_log : IsRead content Log log_name log
+  pub sound : IsSound game log
+  pub added : HasAdded standings after game log
+
+-- a table ends so at this pair, whichever games were played before and whatever comes after it
+abbrev pub EndsAtPair : Content → ℕ → List ℕ → List ℕ → Names → Names → ℕ → ℕ → TableFault → Type 0
+EndsAtPair content pair game_name log_name names names' before now fault =
+    (played : List (GameFile × LoggedGame)) (later : List (List ℕ × List ℕ)) → length played ≡ pair →
+    Runs content (table_steps played ((game_name, log_name) ∷ later)) names names' before now (outcome_of fault)
+
+-- The standings are those of so many games of the first pairs, and a table goes on from here: what comes of the pairs that are left is what
+-- comes of all.
+pub record GoesOn (content : Content) (all left : List (List ℕ × List ℕ)) (count : ℕ) (names names' : Names) (before now : ℕ) (standings : Kept) : Type 0 where
+  pub played : List (GameFile × LoggedGame)
+  pub count_is : length played ≡ count
+  pub stands : StandsFor standings played
+  pub goes_on : (names'' : Names) (after : ℕ) (outcome : Outcome) → Runs content (table_steps played left) names' names'' now after outcome → Runs content (table_steps [] all) names names'' before after outcome

@@ -1,0 +1,158 @@
+// The command that shows the standings of the teams of several games.
+ghost use Rattle.std.specs.Prelude.{◌≡◌, ◌+◌, ◌*◌, ◌/◌, ◌≤◌, ◌<◌, ℕ, List, [], ◌∷◌, length, map, string_bytes, string_len, All, IfErr, IfOk, IfSome, OnOk};
+ghost use Rattle.tac_base.specs.declared.limits.TheConstants.{FILE_NAMES, NAME_BYTES};
+ghost use Rattle.tac_io.specs.Told.{and_then_told};
+ghost use Rattle.game_text.specs.Games.{GameFile};
+ghost use Rattle.log_text.specs.LoggedGames.{LoggedGame};
+ghost use Rattle.log_reader.specs.SoundLog.{IsSound};
+ghost use Rattle.tourney.specs.StandingsTexts.{IsPrinted};
+ghost use Rattle.tourney.specs.Tallies.{StandsFor};
+ghost use Rattle.tac_commands.specs.Allowed.{Writes, table_steps};
+ghost use Rattle.tac_commands.specs.Commands as commands;
+ghost use Rattle.tac_commands.specs.Commands.{paired};
+ghost use Rattle.tac_commands.specs.Ends.{Ends, EndsBatch};
+ghost use Rattle.tac_commands.specs.FlawTexts as texts;
+ghost use Rattle.tac_commands.specs.Outcomes as outcomes;
+ghost use Rattle.tac_commands.specs.Runs.{Runs, StopsAt};
+ghost use Rattle.tac_commands.specs.TableRuns.{EndsAtPair, GoesOn, HasAdded, IsAdded, outcome_of};
+
+use crate::ends::End;
+use crate::numbered_lines::counted;
+use crate::reading::{read_game_file, read_log_file};
+use crate::refusals::Refusal;
+use game_text::Game;
+use log_audit::{Finding, audit_log};
+use log_reader::Log;
+use std::alloc::Global;
+use tac_io::{Files, Sink, write_all};
+use tourney::{Standings, print_standings};
+
+/// Why a table is not written.
+#[derive(Clone, Copy, Debug, PartialEq, Eq)]
+enum TableFault {
+    /// This is to be written in its place.
+    Refused(Refusal),
+    /// The log of this pair, counted from 0, is not sound.
+    Unsound(u8),
+}
+
+/// Adds the game of a pair to the standings, where its log is sound.
+fn add_sound(
+    alloc: Global,
+    standings: Standings,
+    game: &Game,
+    log: &Log,
+    pair: u8,
+) -> Result<Standings, TableFault>
+    requires { standings.games < 64 }
+    ensures sound { OnOk result (IsSound game.now log.now) }
+    ensures added { IfOk result (λ after. HasAdded standings after game.now log.now) }
+    ensures games { IfOk result (λ after. after.games ≡ standings.games + 1) }
+    ensures fault { IfErr result (λ fault. StopsAt game.now log.now (λ text. text ≡ texts.unsound_text pair) (outcome_of fault)) }
+{
+    match audit_log(alloc, game, log) {
+        Ok(Finding::Sound) => match standings.add(game, log) {
+            Ok(after) => Ok(after),
+            Err(_) => Err(TableFault::Refused(Refusal::Memory)),
+        },
+        Ok(Finding::Unsound(_)) => Err(TableFault::Unsound(pair)),
+        Err(_) => Err(TableFault::Refused(Refusal::Memory)),
+    }
+}
+
+/// Reads and judges the game and the log of a pair, in this order, and adds the game to the standings.
+fn add_pair<F: Files>(
+    alloc: Global,
+    standings: Standings,
+    game: &str,
+    log: &str,
+    pair: u8,
+    files: &mut F,
+) -> Result<Standings, TableFault>
+    requires names { IfSome (F.names files.old) (λ names. (length names + 1 < FILE_NAMES) × (length game.now ≤ NAME_BYTES) × (length log.now ≤ NAME_BYTES)) }
+    requires few { standings.games < 64 }
+    ensures added { IfOk result (λ after. IsAdded (F.content files.old) game.now log.now standings after) }
+    ensures games { IfOk result (λ after. after.games ≡ standings.games + 1) }
+    ensures names { OnOk result (F.names files.new ≡ and_then_told (and_then_told (F.names files.old) (game.now ∷ [])) (log.now ∷ [])) }
+    ensures quiet { OnOk result (F.faults files.new ≡ F.faults files.old) }
+    ensures content { F.content files.new ≡ F.content files.old }
+    ensures fault { IfErr result (EndsAtPair (F.content files.old) pair game.now log.now (F.names files.old) (F.names files.new) (F.faults files.old) (F.faults files.new)) }
+{
+    let game = match read_game_file(alloc, files, game) {
+        Ok(game) => game,
+        Err(refusal) => return Err(TableFault::Refused(refusal)),
+    };
+    let log = match read_log_file(alloc, files, log) {
+        Ok(log) => log,
+        Err(refusal) => return Err(TableFault::Refused(refusal)),
+    };
+    add_sound(alloc, standings, &game, &log, pair)
+}
+
+/// The standings of all pairs of a game and its log; or why there are none, of the first pair that has a fault. No later file is asked for.
+fn add_pairs<F: Files>(
+    alloc: Global,
+    names: &[String],
+    files: &mut F,
+) -> Result<Standings, TableFault>
+    requires none { IfSome (F.names files.old) (λ selected. selected ≡ []) }
+    requires short { All (λ name. string_len name ≤ NAME_BYTES) names.now }
+    requires few { length names.now ≤ FILE_NAMES }
+    ensures all { IfOk result (GoesOn (F.content files.old) (paired (map (λ name. string_bytes name) names.now)) [] (length names.now / 2)
+        (F.names files.old) (F.names files.new) (F.faults files.old) (F.faults files.new)) }
+    ensures fault { IfErr result (λ fault. Runs (F.content files.old) (table_steps [] (paired (map (λ name. string_bytes name) names.now)))
+        (F.names files.old) (F.names files.new) (F.faults files.old) (F.faults files.new) (outcome_of fault)) }
+{
+    let mut standings = Standings::begin(alloc);
+    for pair in 0..names.len() / 2 {
+        let game = names[2 * pair].as_str();
+        let log = names[2 * pair + 1].as_str();
+        standings = add_pair(alloc, standings, game, log, pair as u8, files)?;
+    }
+    Ok(standings)
+}
+
+/// Writes the standings.
+fn write_standings<K: Sink>(alloc: Global, standings: &Standings, out: &mut K) -> End
+    ensures { (played : List (GameFile × LoggedGame)) → StandsFor standings.now played
+        → Ends (Writes (IsPrinted played [])) (K.taken out.old) (K.taken out.new) (K.faults out.old) (K.faults out.new) result }
+{
+    let mut text = Vec::new(alloc);
+    let Ok(()) = print_standings(standings, &mut text) else {
+        return End::Refused(Refusal::Memory);
+    };
+    match write_all(out, text.as_slice()) {
+        Ok(()) => End::Done,
+        Err(_) => End::WriteFault,
+    }
+}
+
+/// Writes that the log of a pair is not sound.
+fn write_unsound<K: Sink>(pair: u8, out: &mut K) -> End
+    ensures { Ends (λ outcome. outcome ≡ outcomes.Unsound (texts.unsound_text pair)) (K.taken out.old) (K.taken out.new) (K.faults out.old) (K.faults out.new) result }
+{
+    match write_all(out, counted(b"unsound", u32::from(pair)).as_slice()) {
+        Ok(()) => End::Unsound,
+        Err(_) => End::WriteFault,
+    }
+}
+
+/// Writes the standings over the games and logs of these names, in turn. The text is written after all of them were read and judged.
+pub(crate) fn table_files<F: Files, K: Sink>(
+    alloc: Global,
+    names: &[String],
+    files: &mut F,
+    out: &mut K,
+) -> End
+    requires none { IfSome (F.names files.old) (λ selected. selected ≡ []) }
+    requires short { All (λ name. string_len name ≤ NAME_BYTES) names.now }
+    requires few { length names.now ≤ FILE_NAMES }
+    ensures { EndsBatch (F.content files.old) (commands.Table (paired (map (λ name. string_bytes name) names.now))) (F.names files.old) (F.names files.new) (F.faults files.old) (F.faults files.new)
+        (K.taken out.old) (K.taken out.new) (K.faults out.old) (K.faults out.new) result }
+{
+    match add_pairs(alloc, names, files) {
+        Ok(standings) => write_standings(alloc, &standings, out),
+        Err(TableFault::Unsound(pair)) => write_unsound(pair, out),
+        Err(TableFault::Refused(refusal)) => End::Refused(refusal),
+    }
+}
