@@ -11,6 +11,8 @@ mod sleep_ticker;
 mod std_sink;
 mod tcp_links;
 #[cfg(test)]
+mod table_tests;
+#[cfg(test)]
 mod tests;
 mod top;
 
@@ -23,6 +25,7 @@ use std::io::ErrorKind;
 use std::process::ExitCode;
 use std::{env, io};
 use std_sink::StdSink;
+use tac_base::limits::NAME_BYTES;
 use tac_commands::{End, Refusal, finish};
 use tcp_links::TcpLinks;
 use top::tac;
@@ -30,7 +33,7 @@ use top::tac;
 /// The words of the command line after the program's name. One that is no UTF-8, or longer than
 /// the name of a file may be, is in no command of the list.
 fn command_line<R: Env + AllocGlobal>(rt: &R) -> Result<Vec<String>, Refusal>
-    ensures { IfOk result (λ words. All (λ word. string_len word ≤ 1024) words.items) }
+    ensures { IfOk result (λ words. All (λ word. string_len word ≤ NAME_BYTES) words.items) }
 {
     match collected(rt) {
         Ok(words) if are_short(&words) => Ok(words),
@@ -50,9 +53,9 @@ fn collected<R: Env + AllocGlobal>(rt: &R) -> io::Result<Vec<String>> {
 
 /// Whether each word is short enough for the name of a file.
 fn are_short(words: &[String]) -> bool
-    ensures { IsTrue result ↔ All (λ word. string_len word ≤ 1024) words.now }
+    ensures { IsTrue result ↔ All (λ word. string_len word ≤ NAME_BYTES) words.now }
 {
-    words.iter().all(|word| word.len() <= 1024)
+    words.iter().all(|word| word.len() <= NAME_BYTES)
 }
 
 fn main(rt: HostRuntime) -> ExitCode {

@@ -1,5 +1,6 @@
 // The commands of the list, run.
 ghost use Rattle.std.specs.Prelude.{◌≡◌, None, Some, ◌≤◌, [], map, string_bytes, IfSome, All, string_len};
+ghost use Rattle.tac_base.specs.declared.limits.TheConstants.{NAME_BYTES};
 ghost use Rattle.game_run.specs.LinkStates.{link_state};
 ghost use Rattle.tac_commands.specs.Allowed.{Allows};
 ghost use Rattle.tac_commands.specs.Commands.{OffService, OnService, command_of, seen};
@@ -68,7 +69,7 @@ pub(crate) fn run<R: Threads + Sync + Wait + Clock, F: Files, K: Sink, N: Links,
     ticker: &mut T,
 ) -> Answer<N::Link>
     requires names { IfSome (F.names files.old) (λ names. names ≡ []) }
-    requires short { All (λ word. string_len word ≤ 1024) words.now }
+    requires short { All (λ word. string_len word ≤ NAME_BYTES) words.now }
     requires ports { IfSome (N.ports links.old) (λ ports. ports ≡ []) }
     requires ticks { IfSome (T.waited ticker.old) (λ ticks. ticks ≡ []) }
     ensures outcome { (outcome : Outcome)

@@ -1,5 +1,6 @@
 // The command that serves a game over links.
 ghost use Rattle.std.specs.Prelude.{◌≡◌, ◌<◌, ◌≤◌, ◌∷◌, [], length, IfSome};
+ghost use Rattle.tac_base.specs.declared.limits.TheConstants.{FILE_NAMES, NAME_BYTES};
 ghost use Rattle.tac_io.specs.Told.{and_then_told};
 ghost use Rattle.tac_commands.specs.Codes.{number_of};
 ghost use Rattle.tac_commands.specs.Ends.{EndsOrIsCut, Tells};
@@ -163,7 +164,7 @@ pub(crate) fn serve<
     links: &mut N,
     ticker: &mut T,
 ) -> Answer<N::Link>
-    requires names { IfSome (F.names files.old) (λ names. (length names < 128) × (length name.now ≤ 1024)) }
+    requires names { IfSome (F.names files.old) (λ names. (length names < FILE_NAMES) × (length name.now ≤ NAME_BYTES)) }
     requires ports { IfSome (N.ports links.old) (λ ports. ports ≡ []) }
     requires ticks { IfSome (T.waited ticker.old) (λ ticks. ticks ≡ []) }
     ensures outcome { (outcome : Outcome)

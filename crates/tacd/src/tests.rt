@@ -93,7 +93,7 @@ fn words_of(alloc: Global, line: &str) -> Result<Vec<String>, Fail> {
 }
 
 // Runs a line over files, without links.
-fn run<R: Threads + Sync + Wait + Clock>(
+pub(crate) fn run<R: Threads + Sync + Wait + Clock>(
     rt: &R,
     alloc: Global,
     line: &str,
@@ -195,7 +195,7 @@ const IDLE_TRIAL: &str =
     "trial 7 0\nentries 480\ntrades 0\nscore 0 0 0 0 0\nscore 1 0 0 0 0\nscore 2 0 0 0 0\nscore 3 0 0 0 0\nscore 4 0 0 0 0\nscore 5 0 0 0 0\nscore 6 0 0 0 0\nscore 7 0 0 0 0\nend\n";
 
 // The trades of a game in which agent 1 sells two tickets that it does not have, agent 0 travels and agent 2 keeps a ticket.
-const TRADES: &str =
+pub(crate) const TRADES: &str =
     "0 bid 0 ((1 300))\n0 bid 4 ((1 300))\n0 bid 8 ((1 50))\n1 bid 24 ((-2 60))\n0 bid 24 ((1 70))\n2 bid 24 ((1 70))\n1 own 24\n0 cash\n0 quote 8\n";
 
 // What the agents are told there.

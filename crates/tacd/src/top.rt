@@ -1,5 +1,6 @@
 // The top call.
 ghost use Rattle.std.specs.Prelude.{◌≡◌, ◌≤◌, [], None, map, string_bytes, string_len, All, IfSome};
+ghost use Rattle.tac_base.specs.declared.limits.TheConstants.{NAME_BYTES};
 ghost use Rattle.game_run.specs.LinkStates.{link_state};
 ghost use Rattle.tac_commands.specs.Causes.{ClockFaultExactly, GameRefusedExactly, IsComplete, LinkFaultExactly, ReadFaultExactly, TextRefusedExactly, UnsoundExactly, UsageExactly, WriteFaultExactly};
 ghost use Rattle.tac_commands.specs.Cash.{IsCashOfPosts};
@@ -30,7 +31,7 @@ pub fn tac<R: Threads + Sync + Wait + Clock, F: Files, K: Sink, N: Links, T: Tic
     ticker: &mut T,
 ) -> Answer<N::Link>
     requires names { IfSome (F.names files.old) (λ names. names ≡ []) }
-    requires short { All (λ word. string_len word ≤ 1024) words.now }
+    requires short { All (λ word. string_len word ≤ NAME_BYTES) words.now }
     requires ports { IfSome (N.ports links.old) (λ ports. ports ≡ []) }
     requires ticks { IfSome (T.waited ticker.old) (λ ticks. ticks ≡ []) }
     // The outcome is one that the words and the files allow, and the files that were selected are those that it tells of.
