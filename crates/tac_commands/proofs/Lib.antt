@@ -2,7 +2,11 @@ pub mod Unambiguous
 pub mod LongFiles
 pub mod MadeScripts
 pub mod OneThreadCash
+pub mod PostRanges
+pub mod RangedLogs
+pub mod LoggedNumbers
 pub mod SoundLogs
+pub mod WrittenLogs
 pub mod CodedOutcomes
 pub mod Endings
 pub mod ReadFiles

@@ -8,6 +8,7 @@ use Rattle.game_text.specs.declared.fault.GameFault.TheVariants as faults
 use Rattle.game_text.specs.Games.{GameFile}
 use Rattle.script_run.specs.declared.fault.ScriptFault.{ScriptFault}
 use Rattle.script_run.specs.declared.fault.ScriptFault.TheVariants.{Line, TooLong, Failed, Memory}
+use Rattle.line_protocol.specs.Heads.{Play}
 use Rattle.script_run.specs.declared.play_count.PlayCount.{PlayCount}
 use Rattle.game_log.specs.Written.{IsUntouched}
 use Rattle.script_run.specs.HotelOuts.{IsOut, RunsScript}
@@ -25,7 +26,7 @@ use Rattle.tac_commands.specs.Commands.{Hotel}
 use Rattle.tac_commands.specs.Files.{Content}
 use Rattle.tac_commands.specs.Outcomes.{Done, Cut}
 use Rattle.tac_commands.specs.Runs.{Names, Runs}
-use Rattle.tac_commands.specs.SoundTexts.{EndsInSoundLog}
+use Rattle.tac_commands.specs.SoundTexts.{told_of, EndsInSoundLog}
 use Rattle.tac_commands.specs.Ends.{EndsBatch, PlaysNamed, script_end}
 use Rattle.tac_commands.proofs.LongFiles.{long_file, good_hotel, bad_hotel, good_script, bad_script}
 use Rattle.tac_commands.proofs.OneThreadCash.{cash_of_script}
@@ -53,8 +54,8 @@ module _ (content : Content) (name bytes : List ℕ) (names names' : Names) (bef
     play_run text out =
         inl (out.lines, (bytes, is, good_script bytes out.lines out.good.within out.good.good), (((out.sheet, out.scores, out.due, ends out), cash_of_script game out.lines), selected, quiet))
       where
-        ends : (played : IsPlayOut game bytes text) → EndsInSoundLog game (replies game played.lines) text
-        ends played = played_soundly game played.lines played.sheet text (law bytes played.lines played.good.good) played.scores played.due
+        ends : (played : IsPlayOut game bytes text) → EndsInSoundLog game (told_of Play (closed_game game played.lines) played.sheet) (replies game played.lines) text
+        ends played = played_soundly game played.lines played.sheet text (law bytes played.lines played.good.good) played.scores played.shown played.due
 
     first_run : (text : List ℕ) → IsFirstOut game bytes text → Runs content (play_steps game name) names names' before now (Cut text)
     first_run text out = inl (out.lines, (bytes, is, good_script bytes out.lines out.good.within out.good.good), ((out.due, cash_of_script game out.lines), selected, quiet))

@@ -17,18 +17,17 @@ use Rattle.score_sheet.specs.Sheets.{Scored, IsSheet}
 use Rattle.line_protocol.specs.Heads.{Head, Play}
 use Rattle.log_text.specs.LogText.{first_lines, histories_of, histories_text, play_part}
 use Rattle.log_text.specs.SheetText.{sheet_part}
-use Rattle.log_text.specs.LoggedGames.{LoggedGame, logged_text}
+use Rattle.log_text.specs.LoggedGames.{logged_text}
 use Rattle.log_reader.specs.SoundLog.{auctions_in, IsSoundHead, IsSound}
+use Rattle.game_log.specs.LogRanges.{IsShowable}
+use Rattle.game_log.proofs.ShortLogs.{short_log}
 use Rattle.game_log.specs.ScoredGames.{IsSheetOf}
 use Rattle.script_run.specs.declared.game_lines.GameLine.{GameLine}
 use Rattle.script_run.specs.GameOuts.{closed_game, play_out}
 use Rattle.script_run.specs.LawfulGames.{IsLawfulGame}
 use Rattle.script_run.specs.OneThreadRun.{replies}
-use Rattle.tac_commands.specs.SoundTexts.{EndsInSoundLog}
-
--- what the log of a game tells
-abbrev pub told_of : Head → ClosedGame → List Scored → LoggedGame
-told_of head closed sheet = record { head = head; histories = histories_of closed; cash = closed.cash; scores = sheet }
+use Rattle.tac_commands.specs.SoundTexts.{told_of, EndsInSoundLog}
+use Rattle.tac_commands.proofs.RangedLogs.{ranged_log}
 
 -- its text is that of the two parts
 pub text_is : (head : Head) (closed : ClosedGame) (sheet : List Scored) → play_part head closed ++ sheet_part sheet ≡ logged_text (told_of head closed sheet)
@@ -73,12 +72,17 @@ sound_log game head closed sheet lawful scores sound = record {
   head = sound;
 }
 
+-- a text that ends in the log of a lawful game, with a sheet of it
+pub ends_soundly : (game : GameFile) (head : Head) (closed : ClosedGame) (sheet : List Scored) (before text : List ℕ) → IsLawfulGame game closed → IsSheetOf game closed sheet → IsSoundHead (told_of head closed sheet) head →
+    IsShowable game head closed → text ≡ before ++ logged_text (told_of head closed sheet) → EndsInSoundLog game (told_of head closed sheet) before text
+ends_soundly game head closed sheet before text lawful scores sound shown due =
+    let ranged = ranged_log game head closed sheet shown lawful scores sound in
+    record { due = due; sound = sound_log game head closed sheet lawful scores sound; ranged = ranged; logged = short_log (told_of head closed sheet) ranged }
+
 -- the text of a game by the lines of a script ends in such a log
-pub played_soundly : (game : GameFile) (lines : List GameLine) (sheet : List Scored) (text : List ℕ) → IsLawfulGame game (closed_game game lines) → IsSheetOf game (closed_game game lines) sheet → text ≡ play_out game lines sheet →
-    EndsInSoundLog game (replies game lines) text
-played_soundly game lines sheet text lawful scores due =
-    let closed : ClosedGame = closed_game game lines in (
-      told_of Play closed sheet,
-      sound_log game Play closed sheet lawful scores tt,
-      due ∙ (append_assoc (replies game lines) (play_part Play closed) (sheet_part sheet) ∙ ap (λ (t : List ℕ). replies game lines ++ t) (text_is Play closed sheet)),
-    )
+pub played_soundly : (game : GameFile) (lines : List GameLine) (sheet : List Scored) (text : List ℕ) → IsLawfulGame game (closed_game game lines) → IsSheetOf game (closed_game game lines) sheet →
+    IsShowable game Play (closed_game game lines) → text ≡ play_out game lines sheet → EndsInSoundLog game (told_of Play (closed_game game lines) sheet) (replies game lines) text
+played_soundly game lines sheet text lawful scores shown due =
+    let closed : ClosedGame = closed_game game lines in
+    ends_soundly game Play closed sheet (replies game lines) text lawful scores tt shown
+    (due ∙ (append_assoc (replies game lines) (play_part Play closed) (sheet_part sheet) ∙ ap (λ (t : List ℕ). replies game lines ++ t) (text_is Play closed sheet)))

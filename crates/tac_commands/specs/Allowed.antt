@@ -16,6 +16,7 @@ use Rattle.game_log.specs.ScoredGames.{IsSheetOf}
 use Rattle.script_run.specs.GameOuts.{closed_game, first_out, play_out}
 use Rattle.script_run.specs.OneThreadRun.{replies}
 use Rattle.script_run.specs.QuietGames.{IsSummary}
+use Rattle.line_protocol.specs.Heads as heads
 use Rattle.log_text.specs.LoggedGames.{LoggedGame}
 use Rattle.log_audit.specs.declared.findings.Flaw.{Flaw}
 use Rattle.log_audit.specs.Flaws.{IsFirstFlaw}
@@ -28,7 +29,7 @@ use Rattle.tac_commands.specs.Files.{Content}
 use Rattle.tac_commands.specs.FlawTexts.{flaw_text, unsound_text}
 use Rattle.tac_commands.specs.Outcomes.{Outcome, Done, Lapsed, Unsound, Cut, Refused}
 use Rattle.tac_commands.specs.Runs.{Names, Runs}
-use Rattle.tac_commands.specs.SoundTexts.{EndsInSoundLog}
+use Rattle.tac_commands.specs.SoundTexts.{told_of, EndsInSoundLog}
 use Rattle.tac_commands.specs.Steps.{Steps, Reads, Audits, EndsWith, file}
 use Rattle.tac_commands.specs.Trials.{trial_text}
 
@@ -45,10 +46,11 @@ WritesInParts IsDue IsFirst (Cut text) = IsFirst text
 WritesInParts IsDue IsFirst (Refused Memory) = ⊤
 WritesInParts IsDue IsFirst outcome = ⊥
 
--- the replies and the log of a game by the lines of a script, with some sheet of it; that log is sound
+-- the replies and the log of a game by the lines of a script, with some sheet of it; that log is sound, and in its ranges
 abbrev pub IsPlayed : GameFile → List ScriptLine → List ℕ → Type 0
 IsPlayed game lines text =
-    (sheet : List Scored) × IsSheetOf game (closed_game game lines) sheet × (text ≡ play_out game lines sheet) × EndsInSoundLog game (replies game lines) text
+    (sheet : List Scored) × IsSheetOf game (closed_game game lines) sheet × (text ≡ play_out game lines sheet)
+    × EndsInSoundLog game (told_of heads.Play (closed_game game lines) sheet) (replies game lines) text
 
 -- the summary of the made game by the made script, with some sheet of it
 abbrev pub IsTrial : ℕ → ℕ → List ℕ → Type 0

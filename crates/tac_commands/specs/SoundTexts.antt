@@ -1,9 +1,23 @@
 -- Texts that end in the log of a game.
-use Rattle.std.specs.Prelude.{◌≡◌, ℕ, List, ◌++◌}
+use Rattle.std.specs.Prelude.{◌≡◌, ℕ, ◌≤◌, List, ◌++◌, length}
+use Rattle.tac_base.specs.declared.limits.TheConstants.{TEXT_BYTES}
 use Rattle.game_text.specs.Games.{GameFile}
-use Rattle.log_text.specs.LoggedGames.{LoggedGame, logged_text}
+use Rattle.auction_core.specs.ClosedGame.{ClosedGame}
+use Rattle.score_sheet.specs.Sheets.{Scored}
+use Rattle.line_protocol.specs.Heads.{Head}
+use Rattle.log_text.specs.LogText.{histories_of}
+use Rattle.log_text.specs.LoggedGames.{LoggedGame, IsLogged, logged_text}
 use Rattle.log_reader.specs.SoundLog.{IsSound}
+use Rattle.game_log.specs.LogRanges.{IsRanged}
 
--- what follows in the text is a sound log of the game, and nothing else
-abbrev pub EndsInSoundLog : GameFile → List ℕ → List ℕ → Type 0
-EndsInSoundLog game before text = (log : LoggedGame) × IsSound game log × (text ≡ before ++ logged_text log)
+-- what the log of a game tells: how it was played, its histories, its cash history, and a sheet of it
+abbrev pub told_of : Head → ClosedGame → List Scored → LoggedGame
+told_of head closed sheet = record { head = head; histories = histories_of closed; cash = closed.cash; scores = sheet }
+
+-- What follows in the text is this log, and nothing else. It is sound by the game, and in the ranges of logs but for the lines of its
+-- certificates; in all of them where it has no more bytes than a log that is read.
+pub record EndsInSoundLog (game : GameFile) (log : LoggedGame) (before text : List ℕ) : Type 0 where
+  pub due : text ≡ before ++ logged_text log
+  pub sound : IsSound game log
+  pub ranged : IsRanged log
+  pub logged : length (logged_text log) ≤ TEXT_BYTES → IsLogged log

@@ -15,6 +15,7 @@ mod table_command;
 mod trial_command;
 mod words;
 mod worth_command;
+mod written_logs;
 
 pub use batch::run_batch;
 pub use code::Code;
@@ -23,3 +24,4 @@ pub use file_kinds::FileKind;
 pub use reading::read_game_file;
 pub use refusals::Refusal;
 pub use words::{Asked, BatchCommand, Form, command_asked};
+pub use written_logs::written_log_law;

@@ -1,0 +1,115 @@
+-- The log of a lawful game is in the ranges of logs, but for the lines of its certificates.
+use Rattle.std.proofs.Common.{◌≡◌, ℕ, ◌+◌, ◌<◌, ◌≤◌, ◌^◌, Bool, true, List, [], ◌∷◌, length, map, get_or, drop, refl, sym, ap, ◌∙◌, subst, arith, ℤ, unsigned_abs, Some, slice_get}
+use Rattle.std.specs.Prelude.{nat_lt}
+use Rattle.std.specs.List.{AllByRecursion, range_with_len}
+use Rattle.std.proofs.lemmas.Int.{ints}
+use Rattle.std.proofs.lemmas.List.{length-map}
+use Rattle.std.proofs.lemmas.List.Elements.{All-from_recursion, All-filter, recursion_from_All}
+use Rattle.std.proofs.lemmas.List.Sums.{length-filter, count_by-le-length}
+use Rattle.std.proofs.lemmas.Option.{slice_get-get_or}
+use Rattle.tac_base.specs.Goods.{agents}
+use Rattle.game_text.specs.Games.{GameFile}
+use Rattle.auction_rules.specs.Setup.{Setup}
+use Rattle.trade_ledger.specs.declared.cash_calls.CashCall.{CashCall}
+use Rattle.trade_ledger.specs.declared.cash_calls.CashCall.TheVariants.{Post, Read}
+use Rattle.trade_ledger.specs.declared.cash_calls.CashReply.{CashReply}
+use Rattle.trade_ledger.specs.declared.cash_calls.CashReply.TheVariants.{Done, Cash}
+use Rattle.trade_ledger.specs.declared.cash_calls.CashEntry.{CashEntry}
+use Rattle.trade_ledger.specs.CashHistory.{IsFit, reply_by}
+use Rattle.trade_ledger.specs.CashKeeping.{IsWithin, IsLoggableCash}
+use Rattle.trade_ledger.specs.Posts.{is_post}
+use Rattle.auction_core.specs.Auctions.{AuctionHistory}
+use Rattle.auction_core.specs.ClosedGame.{ClosedGame}
+use Rattle.auction_core.specs.Setups.{setup_of}
+use Rattle.score_sheet.specs.Sheets.{Scored}
+use Rattle.line_protocol.specs.declared.admission.Verdict.{Verdict}
+use Rattle.line_protocol.specs.declared.admission.Cause.{Cause}
+use Rattle.line_protocol.specs.Heads.{Head, Play, Serve}
+use Rattle.log_text.specs.LogText.{histories_of}
+use Rattle.log_text.specs.LoggedGames.{LoggedGame, IsLoggedEnd, IsLoggedHead, IsLoggedHistory, AreHistories, IsLoggedCash, IsLoggedCashEntry}
+use Rattle.log_reader.specs.SoundLog.{seated_agents, seatings, IsSoundHead}
+use Rattle.game_log.specs.LogRanges.{IsRanged, HasSeats, IsShowable}
+use Rattle.game_log.specs.ScoredGames.{IsSheetOf}
+use Rattle.script_run.specs.LawfulGames.{IsLawfulGame}
+use Rattle.tac_commands.specs.SoundTexts.{told_of}
+use Rattle.tac_commands.proofs.PostRanges.{post_ranged}
+
+-- ---- the head
+
+ends_low : (ends : List (ℕ × Cause)) → AllByRecursion (λ (agent : ℕ). agent ≤ 7) (map (λ (end : ℕ × Cause). end.0) ends) → AllByRecursion IsLoggedEnd ends
+ends_low [] all = tt
+ends_low (end ∷ ends) all = (all.0, ends_low ends all.1)
+
+agents_low : AllByRecursion (λ (agent : ℕ). agent ≤ 7) agents
+agents_low = (omega arith, (omega arith, (omega arith, (omega arith, (omega arith, (omega arith, (omega arith, (omega arith, tt))))))))
+
+-- whether an agent has a seat
+abbrev has_seat : List Verdict → ℕ → Bool
+has_seat verdicts agent = nat_lt 0 (seatings verdicts agent)
+
+seated_low : (verdicts : List Verdict) → AllByRecursion (λ (agent : ℕ). agent ≤ 7) (seated_agents verdicts)
+seated_low verdicts = recursion_from_All (λ (agent : ℕ). agent ≤ 7) (seated_agents verdicts) (All-filter (has_seat verdicts) (λ (agent : ℕ). agent ≤ 7) agents (All-from_recursion (λ (agent : ℕ). agent ≤ 7) agents agents_low))
+
+few_seated : (verdicts : List Verdict) → length (seated_agents verdicts) ≤ 8
+few_seated verdicts = let count = length-filter (has_seat verdicts) agents in let few = count_by-le-length (has_seat verdicts) agents in omega (arith, count, few)
+
+head_ranged : (log : LoggedGame) (head : Head) → HasSeats head → IsSoundHead log head → IsLoggedHead head
+head_ranged log Play seats sound = tt
+head_ranged log (Serve links ends missed) seats sound = record {
+  few_links = let few = sound.few_links in omega (arith, few);
+  links_are = seats;
+  few_ends = let count : length ends ≡ length (seated_agents links) = sym (length-map ends (λ (end : ℕ × Cause). end.0)) ∙ ap length sound.each_end in let few = few_seated links in omega (arith, count, few);
+  ends_are = All-from_recursion IsLoggedEnd ends (ends_low ends (subst (AllByRecursion (λ (agent : ℕ). agent ≤ 7)) (sym sound.each_end) (seated_low links)));
+  few_missed = let few = sound.few_missed in omega (arith, few);
+}
+
+-- ---- the histories
+
+histories_from : (game : GameFile) (n : ℕ) (auctions : List AuctionHistory) → map (λ (a : AuctionHistory). a.setup) auctions ≡ map (λ (good : ℕ). setup_of good game) (range_with_len n (length auctions)) →
+    AllByRecursion (λ (a : AuctionHistory). IsLoggedHistory a.setup.good a.history) auctions → AreHistories n (map (λ (a : AuctionHistory). a.history) auctions)
+histories_from game n [] is all = tt
+histories_from game n (a ∷ auctions) is all =
+    let first : a.setup ≡ setup_of n game = ap (λ (l : List Setup). get_or l 0 a.setup) is in
+    (subst (λ (s : Setup). IsLoggedHistory s.good a.history) first all.0, histories_from game (n + 1) auctions (ap (drop 1) is) all.1)
+
+-- ---- the cash history
+
+dollars_small : (dollars : ℤ) → IsWithin 600000000000000 dollars → unsigned_abs dollars < 10 ^ 18
+dollars_small dollars is = omega (arith, ints, is.0, is.1)
+
+entry_ranged : (e : CashEntry) (totals : ℕ → ℤ) → IsLoggableCash e → IsFit e.caller e.call → e.reply ≡ reply_by totals e.call → (is_post e.call ≡ true → IsLoggedCashEntry e) → IsLoggedCashEntry e
+entry_ranged e totals is fit replied posted = by_call e.caller e.call e.reply is fit replied posted
+  where
+    by_call : (caller : ℕ) (call : CashCall) (reply : CashReply) → IsLoggableCash (record { caller = caller; call = call; reply = reply }) → IsFit caller call → reply ≡ reply_by totals call → (is_post call ≡ true → IsLoggedCash caller call reply) →
+        IsLoggedCash caller call reply
+    by_call caller (Post good position nets) reply is' fit' replied' posted' = posted' refl
+    by_call caller (Read agent) Done is' fit' replied' posted' = absurd cc
+    by_call caller (Read agent) (Cash dollars) is' fit' replied' posted' =
+        let low : agent ≤ 7 = is'.reader in (subst (λ (n : ℕ). n ≤ 7) fit' low, fit', dollars_small dollars is'.told)
+
+-- ---- the log
+
+pub ranged_log : (game : GameFile) (head : Head) (closed : ClosedGame) (sheet : List Scored) → IsShowable game head closed → IsLawfulGame game closed → IsSheetOf game closed sheet → IsSoundHead (told_of head closed sheet) head →
+    IsRanged (told_of head closed sheet)
+ranged_log game head closed sheet shown lawful scores sound = record {
+  head = head_ranged (told_of head closed sheet) head shown.seats sound;
+  goods = goods;
+  histories = histories;
+  few_cash = shown.few_cash;
+  cash = λ k d inside.
+      let at : slice_get closed.cash k ≡ Some (get_or closed.cash k d) = slice_get-get_or closed.cash k d inside in
+      let legal = lawful.cash k (get_or closed.cash k d) at in
+      entry_ranged (get_or closed.cash k d) _ (shown.cash k d inside) legal.0 legal.1 (post_ranged (histories_of closed) closed.cash goods histories lawful.matched k d inside);
+  agents = scores.count;
+  scores = shown.scores sheet scores;
+}
+  where
+    many : length closed.auctions ≡ 28
+    many = sym (length-map closed.auctions (λ (a : AuctionHistory). a.setup)) ∙ ap length lawful.setups
+
+    goods : length (histories_of closed) ≡ 28
+    goods = length-map closed.auctions (λ (a : AuctionHistory). a.history) ∙ many
+
+    histories : AreHistories 0 (histories_of closed)
+    histories = histories_from game 0 closed.auctions (lawful.setups ∙ ap (λ (n : ℕ). map (λ (good : ℕ). setup_of good game) (range_with_len 0 n)) (sym many))
+        (recursion_from_All (λ (a : AuctionHistory). IsLoggedHistory a.setup.good a.history) closed.auctions shown.histories)

@@ -1,0 +1,55 @@
+-- What is read again of a log that was written, and what is found in it.
+use Rattle.std.proofs.Common.{◌≡◌, ℕ, ◌≤◌, List, ◌++◌, length, refl, sym, ap, ◌∙◌, subst, inl, inr, append_assoc}
+use Rattle.std.specs.Prelude.{◌⊎◌, codes, Ok}
+use Rattle.std.proofs.lemmas.List.{append_cancel_left}
+use Rattle.game_text.specs.Games.{GameFile}
+use Rattle.auction_rules.specs.History.{Entry}
+use Rattle.auction_core.specs.ClosedGame.{ClosedGame}
+use Rattle.line_protocol.specs.Heads.{Head}
+use Rattle.log_text.specs.LogText.{first_lines, histories_text, play_part}
+use Rattle.log_text.specs.SheetText.{sheet_part}
+use Rattle.log_text.specs.Logged.{IsHead, IsPlayed, HaveOneHistory}
+use Rattle.log_text.specs.LoggedGames.{LoggedGame, logged_text}
+use Rattle.log_reader.specs.SoundLog.{IsSound}
+use Rattle.log_reader.proofs.LogTexts.{only_log}
+use Rattle.tac_commands.specs.declared.file_kinds.FileKind.TheVariants.{Log}
+use Rattle.tac_commands.specs.declared.refusals.Refusal.TheVariants.{Memory}
+use Rattle.tac_commands.specs.Allowed.{Judges}
+use Rattle.tac_commands.specs.FileKinds.{read_as, logged_or_fault}
+use Rattle.tac_commands.specs.Outcomes.{Outcome, Done, Lapsed, Unsound, Cut, Refused}
+use Rattle.tac_commands.specs.SoundTexts.{EndsInSoundLog}
+use Rattle.tac_commands.proofs.LoggedNumbers.{head_is, game_in, game_is, same_histories}
+
+-- the text that follows is that of the log
+text_of : (game : GameFile) (log : LoggedGame) (before text : List ℕ) → EndsInSoundLog game log before (before ++ text) → text ≡ logged_text log
+text_of game log before text ends = append_cancel_left before text (logged_text log) ends.due
+
+pub read_again : (game : GameFile) (log : LoggedGame) (before text : List ℕ) → EndsInSoundLog game log before (before ++ text) → length text ≤ 67108864 → read_as Log text ≡ Ok log
+read_again game log before text ends short =
+    let same = text_of game log before text ends in
+    ap logged_or_fault (only_log text log (ends.logged (subst (λ (t : List ℕ). length t ≤ 67108864) same short)) short same)
+
+-- a text that begins with the part of the game of a log
+begins : (game : GameFile) (log : LoggedGame) → logged_text log ≡ play_part log.head (game_in game log) ++ sheet_part log.scores
+begins game log =
+    sym (append_assoc (first_lines log.head) (histories_text log.histories log.cash) (sheet_part log.scores))
+    ∙ ap (λ (histories : List (List Entry)). (first_lines log.head ++ histories_text histories log.cash) ++ sheet_part log.scores) (sym (same_histories game log))
+
+pub one_log : ((head other_head : Head) (closed other : ClosedGame) (rest other_rest : List ℕ) → IsHead head → IsHead other_head → IsPlayed closed → IsPlayed other →
+    play_part head closed ++ rest ≡ play_part other_head other ++ other_rest → (head ≡ other_head) × HaveOneHistory closed other × (rest ≡ other_rest)) →
+    (game other_game : GameFile) (log other : LoggedGame) (before other_before text : List ℕ) → EndsInSoundLog game log before (before ++ text) → EndsInSoundLog other_game other other_before (other_before ++ text) →
+    (log.head ≡ other.head) × (log.histories ≡ other.histories) × (log.cash ≡ other.cash)
+one_log law game other_game log other before other_before text ends other_ends =
+    let one = law log.head other.head (game_in game log) (game_in other_game other) (sheet_part log.scores) (sheet_part other.scores)
+    (head_is log.head ends.ranged.head) (head_is other.head other_ends.ranged.head) (game_is game log ends.ranged) (game_is other_game other other_ends.ranged)
+    (sym (begins game log) ∙ (sym (text_of game log before text ends) ∙ (text_of other_game other other_before text other_ends ∙ begins other_game other))) in
+    (one.0, sym (same_histories game log) ∙ (one.1.histories ∙ same_histories other_game other), one.1.cash)
+
+-- what an audit may write of a sound log
+pub says_sound : (game : GameFile) (log : LoggedGame) (outcome : Outcome) → IsSound game log → Judges game log outcome → (outcome ≡ Done (codes "sound\n")) ⊎ (outcome ≡ Refused Memory)
+says_sound game log (Done text) sound judged = inl (ap Done judged.1)
+says_sound game log (Lapsed text) sound judged = absurd judged
+says_sound game log (Unsound text) sound judged = absurd (judged.not_sound sound)
+says_sound game log (Cut text) sound judged = absurd judged
+says_sound game log (Refused Memory) sound judged = inr refl
+says_sound game log (Refused refusal) sound judged = absurd judged

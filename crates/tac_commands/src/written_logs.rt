@@ -1,0 +1,28 @@
+// The law of the logs that commands write.
+ghost use Rattle.std.specs.Prelude.{◌≡◌, ◌≤◌, ◌⊎◌, ◌++◌, ℕ, List, codes, length, Ok};
+ghost use Rattle.tac_base.specs.declared.limits.TheConstants.{TEXT_BYTES};
+ghost use Rattle.game_text.specs.Games.{GameFile};
+ghost use Rattle.log_text.specs.LoggedGames.{LoggedGame};
+ghost use Rattle.tac_commands.specs.Allowed.{Judges};
+ghost use Rattle.tac_commands.specs.declared.file_kinds.FileKind.TheVariants.{Log};
+ghost use Rattle.tac_commands.specs.declared.refusals.Refusal.TheVariants.{Memory};
+ghost use Rattle.tac_commands.specs.FileKinds.{read_as};
+ghost use Rattle.tac_commands.specs.Outcomes.{Outcome, Done, Refused};
+ghost use Rattle.tac_commands.specs.SoundTexts.{EndsInSoundLog};
+
+use game_log::one_game;
+
+/// The law of written logs, as this call's contract, where a text ends in the sound log of a game, as those of `serve` and `play` do.
+pub fn written_log_law()
+    // As a file of its own, the log is read as that very log, where it has at most 67,108,864 bytes.
+    ensures read { (game : GameFile) (log : LoggedGame) (before text : List ℕ) → EndsInSoundLog game log before (before ++ text) → length text ≤ TEXT_BYTES → read_as Log text ≡ Ok log }
+    // An audit by the game then says that it is sound, unless memory was refused.
+    ensures audited { (game : GameFile) (log : LoggedGame) (before text : List ℕ) (outcome : Outcome) → EndsInSoundLog game log before text → Judges game log outcome →
+        (outcome ≡ Done (codes "sound\n")) ⊎ (outcome ≡ Refused Memory) }
+    // Whatever stands before them, and however long they are: the same bytes tell of one head, the same histories and one cash history.
+    ensures one { (game other_game : GameFile) (log other : LoggedGame) (before other_before text : List ℕ) →
+        EndsInSoundLog game log before (before ++ text) → EndsInSoundLog other_game other other_before (other_before ++ text) →
+        (log.head ≡ other.head) × (log.histories ≡ other.histories) × (log.cash ≡ other.cash) }
+{
+    one_game();
+}
