@@ -22,6 +22,9 @@ fn numbered(number: usize) -> Package
 /// At most so many members are replaced to see what a part of a split is worth.
 const MOST_TRIED: u32 = 8;
 
+/// What a split counts more that gives the prices no room, more than there are parts of any.
+const CLOSE: f64 = 100.0;
+
 /// What packages cost at whole prices, and what these prices bound, both in dollars, as far as floating point tells.
 #[derive(Clone, Copy)]
 pub struct Priced {
@@ -128,16 +131,37 @@ impl Relaxation {
         found
     }
 
-    /// Fixes the feature by which a split is called for most to the value with the greatest share, and solves what is left as far as
-    /// that tells whether it is worth more than a total in dollars. Says whether a split is called for.
+    /// Fixes the feature by which a split is called for most to that of its values with a share whose part is worth most, and solves
+    /// what is left as far as that tells whether it is worth more than a total in dollars. Says whether a split is called for.
     pub fn decide(&mut self, total: u32) -> bool {
         let Some(place) = self.most_called_for() else {
             return false;
         };
-        let value = greatest_at(&self.shares(place / 4, place % 4));
-        self.worths.narrow(place / 4, place % 4, value as u8);
+        let value = self.best_value(place / 4, place % 4, f64::from(total));
+        self.worths.narrow(place / 4, place % 4, value);
         self.repair(total);
         true
+    }
+
+    /// The value of a client's feature, 0..3, whose part is worth most, among those with a share. Values with half a share each are
+    /// common, and only what is left after them tells which one to keep.
+    fn best_value(&self, client: usize, feature: usize, total: f64) -> u8
+        requires client { client < 8 }
+        requires feature { feature < 4 }
+    {
+        let shares = self.shares(client, feature);
+        let mut found = 0;
+        let mut most = -1.0;
+        for value in 0..21 {
+            if shares[usize::from(value)] > SMALL {
+                let worth = self.value_of_part(client, feature, value, total);
+                if worth > most {
+                    most = worth;
+                    found = value;
+                }
+            }
+        }
+        found
     }
 
     /// How much a split by a client's feature leaves to search: for each part of it that whole prices do not bound by a total in
@@ -167,7 +191,8 @@ impl Relaxation {
         sum
     }
 
-    /// In how many parts of a split by a client's feature whole prices leave more than a total in dollars.
+    /// In how many parts of a split by a client's feature whole prices leave more than a total in dollars. A split that leaves the
+    /// prices as little room as they have counts more than any that gives them some.
     pub fn open_parts(&self, client: usize, feature: usize, priced: &Priced, total: f64) -> f64
         requires client { client < 8 }
         requires feature { feature < 4 }
@@ -178,7 +203,29 @@ impl Relaxation {
                 count += 1.0;
             }
         }
-        count
+        if self.gives_room(client, feature) {
+            count
+        } else {
+            count + CLOSE
+        }
+    }
+
+    /// Whether packages with several values of a client's feature gain as much for it, at the prices of the relaxation, as it gains. Each
+    /// such package keeps the prices from moving, and each part of a split is rid of those with another value.
+    fn gives_room(&self, client: usize, feature: usize) -> bool
+        requires client { client < 8 }
+        requires feature { feature < 4 }
+    {
+        let prices = &self.tableau.rows[36];
+        let charges = charges(&self.worths.features, prices);
+        let margins = self.best_margins(client, feature, &charges);
+        let mut count = 0.0;
+        for value in 0..21 {
+            if margins[value] > prices[28 + client] - SMALL {
+                count += 1.0;
+            }
+        }
+        count > 1.5
     }
 
     /// What the relaxation of one part of a split is worth in dollars, as far as it is more than a total in dollars.
@@ -206,16 +253,25 @@ impl Relaxation {
         requires client { client < 8 }
         requires feature { feature < 4 }
     {
-        let mut margins = [-1000000.0; 21];
-        let worths = self.worths.row(client);
-        for number in 0..393 {
-            let margin = f64::from(worths[number]) - priced.charges[number];
-            let value = self.worths.features.value_of(number, feature);
-            raise(&mut margins, usize::from(value), margin);
-        }
+        let mut margins = self.best_margins(client, feature, &priced.charges);
         let others = priced.bound - greatest(&margins);
         for value in 0..21 {
             margins[value] += others;
+        }
+        margins
+    }
+
+    /// The most that a client's packages with each value of a feature are worth beyond their charges.
+    fn best_margins(&self, client: usize, feature: usize, charges: &[f64; 393]) -> [f64; 21]
+        requires client { client < 8 }
+        requires feature { feature < 4 }
+    {
+        let mut margins = [-1000000.0; 21];
+        let worths = self.worths.row(client);
+        for number in 0..393 {
+            let margin = f64::from(worths[number]) - charges[number];
+            let value = self.worths.features.value_of(number, feature);
+            raise(&mut margins, usize::from(value), margin);
         }
         margins
     }
@@ -244,17 +300,4 @@ fn greatest(row: &[f64; 21]) -> f64 {
         most = most.max(row[place]);
     }
     most
-}
-
-/// The first place of the greatest number.
-fn greatest_at(row: &[f64; 21]) -> usize
-    ensures { result < 21 }
-{
-    let mut found = 0;
-    for place in 1..21 {
-        if row[place] > row[found] {
-            found = place;
-        }
-    }
-    found
 }
