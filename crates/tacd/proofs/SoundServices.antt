@@ -28,9 +28,11 @@ use Rattle.line_protocol.specs.declared.saying.Said.{Said}
 use Rattle.line_protocol.specs.declared.admission.Cause.{Cause}
 use Rattle.line_protocol.specs.declared.admission.Verdict.{Verdict}
 use Rattle.line_protocol.specs.Heads.{Head, Serve, head_of}
+use Rattle.log_text.specs.LoggedGames.{logged_text}
 use Rattle.log_reader.specs.SoundLog as sound
-use Rattle.log_reader.specs.SoundLog.{seatings, IsService, IsSound}
+use Rattle.log_reader.specs.SoundLog.{seatings, IsService, IsSoundHead}
 use Rattle.clock_events.specs.Clocking.{WaitsForAll}
+use Rattle.game_log.specs.LogRanges.{IsShowable}
 use Rattle.game_log.specs.ScoredGames.{IsSheetOf}
 use Rattle.game_run.specs.Admission.{free_seats, seats_given}
 use Rattle.game_run.specs.LinkRuns.{RunsLink}
@@ -41,10 +43,10 @@ use Rattle.game_run.proofs.SeatPlaces.{seat_was_free}
 use Rattle.game_run.specs.declared.run.GameEnd.{GameEnd}
 use Rattle.script_run.specs.LawfulGames.{history_at, calls_by, IsLawfulGame}
 use Rattle.tac_commands.specs.Outcomes.{Outcome, Done, Lapsed, Unsound, Cut, Refused}
-use Rattle.tac_commands.specs.SoundTexts.{EndsInSoundLog}
-use Rattle.tac_commands.proofs.SoundLogs.{told_of, text_is, sound_log}
+use Rattle.tac_commands.specs.SoundTexts.{told_of, EndsInSoundLog}
+use Rattle.tac_commands.proofs.SoundLogs.{text_is, ends_soundly}
 use Rattle.tacd.specs.declared.answer.Played.{Played}
-use Rattle.tacd.specs.Service.{IsLogOf, PlayedAllows, TellsSoundly}
+use Rattle.tacd.specs.Service.{IsLogOf, PlayedAllows, IsSoundLogOf, TellsSoundly}
 use Rattle.tacd.proofs.SeatedOnce.{is_taken, taken_after, given_once, same_kept}
 
 -- ---- who has no part has no entry
@@ -162,27 +164,28 @@ module _ {L : Type 0} (state : L → LinkState) (may_answer : List ℕ → Resul
   }
 
 -- a game that was played over links, with a sheet of it
-pub served_soundly : {L : Type 0} (state : L → LinkState) (may_answer : List ℕ → Result Request RequestFault → Type 0) (text : Said → List ℕ) (game : GameFile) (pending pending' : Option (List L))
-    (waited waited' : Option (List (ℕ × Bool))) (lapses lapses' : ℕ) (end : GameEnd L) (sheet : List Scored) →
-    IsEnd state may_answer text game pending pending' waited waited' lapses lapses' end → IsSheetOf game end.closed sheet → IsSound game (told_of (head_of end.head) end.closed sheet)
-served_soundly state may_answer text game pending pending' waited waited' lapses lapses' end sheet is scores =
-    let head : Head = Serve is.verdicts is.ends is.missed in
-    subst (λ (h : Head). IsSound game (told_of h end.closed sheet)) (sym is.head)
-    (sound_log game head end.closed sheet (lawful game is.verdicts is.ends end.closed is.played.played) scores
+served_soundly : {L : Type 0} (state : L → LinkState) (may_answer : List ℕ → Result Request RequestFault → Type 0) (text : Said → List ℕ) (game : GameFile) (pending pending' : Option (List L))
+    (waited waited' : Option (List (ℕ × Bool))) (lapses lapses' : ℕ) (end : GameEnd L) (sheet : List Scored) (told : List ℕ) → IsEnd state may_answer text game pending pending' waited waited' lapses lapses' end →
+    IsShowable game (head_of end.head) end.closed → IsSheetOf game end.closed sheet → told ≡ logged_text (told_of (head_of end.head) end.closed sheet) → EndsInSoundLog game (told_of (head_of end.head) end.closed sheet) [] told
+served_soundly state may_answer text game pending pending' waited waited' lapses lapses' end sheet told is shown scores due =
+    ends_soundly game (head_of end.head) end.closed sheet [] told (lawful game is.verdicts is.ends end.closed is.played.played) scores
+    (subst (λ (h : Head). IsSoundHead (told_of h end.closed sheet) h) (sym is.head)
     (service state may_answer text game pending pending' is.verdicts is.ends end.closed end.links.items is.played is.missed sheet (few_missed waited waited' is.missed is.waits)))
+    shown due
 
 module _ {L : Type 0} (state : L → LinkState) (may_answer : List ℕ → Result Request RequestFault → Type 0) (text : Said → List ℕ) (game : GameFile) (pending pending' : Option (List L))
     (waited waited' : Option (List (ℕ × Bool))) (lapses lapses' : ℕ) (played : Played) (ended : Vec L)
-    (is : IsEnd state may_answer text game pending pending' waited waited' lapses lapses' (record { closed = played.closed; head = played.head; links = ended })) where
-  log_soundly : (told : List ℕ) → IsLogOf game played told → EndsInSoundLog game [] told
+    (is : IsEnd state may_answer text game pending pending' waited waited' lapses lapses' (record { closed = played.closed; head = played.head; links = ended }))
+    (shown : IsShowable game (head_of played.head) played.closed) where
+  log_soundly : (told : List ℕ) → IsLogOf game played told → IsSoundLogOf game played told
   log_soundly told log = (
-    told_of (head_of played.head) played.closed log.sheet,
-    served_soundly state may_answer text game pending pending' waited waited' lapses lapses' (record { closed = played.closed; head = played.head; links = ended }) log.sheet is log.scores,
-    log.due ∙ text_is (head_of played.head) played.closed log.sheet,
+    log.sheet,
+    served_soundly state may_answer text game pending pending' waited waited' lapses lapses' (record { closed = played.closed; head = played.head; links = ended }) log.sheet told is shown log.scores
+        (log.due ∙ text_is (head_of played.head) played.closed log.sheet),
   )
 
   -- the log of that game that is told is sound
-  pub tells_soundly : (outcome : Outcome) → PlayedAllows game played outcome → TellsSoundly game outcome
+  pub tells_soundly : (outcome : Outcome) → PlayedAllows game played outcome → TellsSoundly game played outcome
   tells_soundly (Done told) allows = log_soundly told allows.0
   tells_soundly (Lapsed told) allows = log_soundly told allows.0
   tells_soundly (Unsound told) allows = tt

@@ -30,7 +30,7 @@ use Rattle.tac_commands.specs.declared.words.Form.{Form}
 use Rattle.tac_commands.specs.declared.words.Form.TheVariants.{Lines, Json}
 use Rattle.tac_commands.specs.Files.{Content, IsRead, IsNotRead}
 use Rattle.tac_commands.specs.Outcomes.{Outcome, Done, Lapsed, Unsound, Cut, Refused}
-use Rattle.tac_commands.specs.SoundTexts.{EndsInSoundLog}
+use Rattle.tac_commands.specs.SoundTexts.{told_of, EndsInSoundLog}
 
 -- ---- the text
 
@@ -65,11 +65,15 @@ PlayedAllows game played (Cut text) = text ≡ first_part played
 PlayedAllows game played (Unsound text) = ⊥
 PlayedAllows game played (Refused refusal) = ⊥
 
--- the log that is written is sound, and nothing else is written
-abbrev pub TellsSoundly : GameFile → Outcome → Type 0
-TellsSoundly game (Done text) = EndsInSoundLog game [] text
-TellsSoundly game (Lapsed text) = EndsInSoundLog game [] text
-TellsSoundly game outcome = ⊤
+-- the text is the log of the game that was played, with some sheet of it, and nothing else; that log is sound, and in its ranges
+abbrev pub IsSoundLogOf : GameFile → Played → List ℕ → Type 0
+IsSoundLogOf game played text = (sheet : List Scored) × EndsInSoundLog game (told_of (head_of played.head) played.closed sheet) [] text
+
+-- so is the log that is written
+abbrev pub TellsSoundly : GameFile → Played → Outcome → Type 0
+TellsSoundly game played (Done text) = IsSoundLogOf game played text
+TellsSoundly game played (Lapsed text) = IsSoundLogOf game played text
+TellsSoundly game played outcome = ⊤
 
 -- the code of a game that was played is that of a lapsed tick where no other applies
 abbrev pub lapsed_code : Code → ℕ → Code
@@ -140,7 +144,7 @@ module _ {L : Type 0} (state : L → LinkState) where
   abbrev pub ServesGame : (List ℕ → Result Request RequestFault → Type 0) → (Said → List ℕ) → GameFile → ℕ → ℕ → LinksState L → LinksState L
       → TickerState → TickerState → Option Played → Vec L → Outcome → Type 0
   ServesGame may_answer text game port pace links links' ticker ticker' (Some played) ended outcome =
-      IsPlayedOver may_answer text game port pace links links' ticker ticker' played ended × PlayedAllows game played outcome × TellsSoundly game outcome
+      IsPlayedOver may_answer text game port pace links links' ticker ticker' played ended × PlayedAllows game played outcome × TellsSoundly game played outcome
   ServesGame may_answer text game port pace links links' ticker ticker' None ended (Refused LinkFault) = HasLinkFault game port pace links links' ticker ticker' ended
   ServesGame may_answer text game port pace links links' ticker ticker' None ended (Refused Memory) =
       IsUnasked links links' ticker ticker' ended × (ticker'.paced ≡ option_map (λ _. Some pace) ticker.paced)

@@ -14,7 +14,7 @@ ghost use Rattle.game_log.specs.Written.{Writes};
 use crate::answer::{Answer, Played, coded};
 use agent_gate::{Dialect, LineDialect};
 use auction_core::Closed;
-use game_log::{LogHead, LogWriteFault, write_play_part, write_scores};
+use game_log::{LogHead, LogWriteFault, log_ranges, write_play_part, write_scores};
 use game_run::{GameEnd, RunFault, run_game};
 use game_text::Game;
 use json_dialect::JsonDialect;
@@ -122,6 +122,7 @@ fn serve_game<
                 links: ended,
             },
         ) => {
+            log_ranges(game, &head, &closed);
             let played = Played { head, closed };
             let code = finish_played(rt, alloc, game, &played, out);
             Answer {

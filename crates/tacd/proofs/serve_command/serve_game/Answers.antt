@@ -10,7 +10,7 @@ returns-in-Ok g c =
       (
         record { end = end; ports = c.in-Ok.ensures.cause.0; no_fault = c.in-Ok.ensures.cause.1; paced = c.in-Ok.ensures.paced ∙ c.pace.ensures.paced },
         told.1,
-        tells_soundly _ _ _ c.args.game.now _ _ _ _ _ _ (record { head = c.in-Ok.field-0.head; closed = c.in-Ok.field-0.closed }) c.in-Ok.field-0.links end told.0 told.1,
+        tells_soundly _ _ _ c.args.game.now _ _ _ _ _ _ (record { head = c.in-Ok.field-0.head; closed = c.in-Ok.field-0.closed }) c.in-Ok.field-0.links end c.log_ranges.ensures told.0 told.1,
       ),
       rw c.number.ensures told.2,
     )
