@@ -36,15 +36,15 @@ module _ (content content' : Content) (game_name log_name : List ℕ) (names bet
   -- a log was not read
   pub no_log : (refusal : Refusal) → IsNotRead content' Log log_name between now refusal → EndsAtPair content pair game_name log_name names names' before now (faults.Refused refusal)
   no_log refusal unread = λ played later is.
-    runs_on content content' (file Game game_name) (after_game played later log_name) names between_names names' before between now game is_game same selected quiet (Refused refusal)
-    (inr (refusal, refl, unread, also_selected))
+      runs_on content content' (file Game game_name) (after_game played later log_name) names between_names names' before between now game is_game same selected quiet (Refused refusal)
+      (inr (refusal, refl, unread, also_selected))
 
   -- the audit of a log ended the table
   pub not_added : (log : LoggedGame) (fault : TableFault) → IsRead content' Log log_name log → now ≡ between → StopsAt game log (λ text. text ≡ unsound_text pair) (outcome_of fault) →
       EndsAtPair content pair game_name log_name names names' before now fault
   not_added log fault is_log also_quiet stops = λ played later is.
-    runs_on content content' (file Game game_name) (after_game played later log_name) names between_names names' before between now game is_game same selected quiet (outcome_of fault)
-    (inl (log, is_log, inr (subst (λ (n : ℕ). StopsAt game log (λ text. text ≡ unsound_text n) (outcome_of fault)) (sym is) stops, also_selected, also_quiet)))
+      runs_on content content' (file Game game_name) (after_game played later log_name) names between_names names' before between now game is_game same selected quiet (outcome_of fault)
+      (inl (log, is_log, inr (subst (λ (n : ℕ). StopsAt game log (λ text. text ≡ unsound_text n) (outcome_of fault)) (sym is) stops, also_selected, also_quiet)))
 
   pub fault_of : {A : Type 0} (log : LoggedGame) (result : Result A TableFault) → IsRead content' Log log_name log → now ≡ between →
       IfErr result (λ fault. StopsAt game log (λ text. text ≡ unsound_text pair) (outcome_of fault)) → IfErr result (EndsAtPair content pair game_name log_name names names' before now)

@@ -95,7 +95,7 @@ abbrev pub table_steps : List (GameFile × LoggedGame) → List (List ℕ × Lis
 table_steps played [] = EndsWith (Writes (IsPrinted played []))
 table_steps played (pair ∷ pairs) =
     Reads (file Game pair.0) (λ game. Reads (file Log pair.1) (λ log.
-        Audits game log (λ text. text ≡ unsound_text (length played)) (table_steps (played ++ (game, log) ∷ []) pairs)))
+    Audits game log (λ text. text ≡ unsound_text (length played)) (table_steps (played ++ (game, log) ∷ []) pairs)))
 
 -- What a command that needs no links does.
 abbrev pub batch_steps : BatchCommand → Steps

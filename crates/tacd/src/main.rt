@@ -9,9 +9,9 @@ mod serve_command;
 mod serve_tests;
 mod sleep_ticker;
 mod std_sink;
-mod tcp_links;
 #[cfg(test)]
 mod table_tests;
+mod tcp_links;
 #[cfg(test)]
 mod tests;
 mod top;

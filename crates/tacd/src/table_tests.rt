@@ -48,9 +48,11 @@ fn standings_are_of_games_whose_logs_are_sound(rt: HostRuntime) -> Result<(), Fa
     let bad_game = plain_game(alloc, "client 0 0 2 2 100 0 0 100\n")?;
     let idle = log_of(&rt, alloc, "")?;
     let traded = log_of(&rt, alloc, TRADES)?;
-    let unsound = traded
-        .as_str()
-        .replace(alloc, "score 0 1100 -660 0 440\n", "score 0 1100 -660 0 441\n")?;
+    let unsound = traded.as_str().replace(
+        alloc,
+        "score 0 1100 -660 0 440\n",
+        "score 0 1100 -660 0 441\n",
+    )?;
     let files = [
         ("game", game.as_bytes()),
         ("bad_game", bad_game.as_bytes()),
@@ -101,4 +103,3 @@ fn standings_are_of_games_whose_logs_are_sound(rt: HostRuntime) -> Result<(), Fa
     }
     Ok(())
 }
-
