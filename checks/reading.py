@@ -21,7 +21,7 @@ WORDS = r"(?:(?:pub|abbrev|unfoldable) )*"
 # What only one part of the promise needs, by crate or module, with its heading.
 PARTS = [
     ("For `serve .. json` alone", ["json_dialect"]),
-    ("That the log is sound, as `audit` has it", ["log_reader", "log_text.LoggedGames", "tac_commands.SoundTexts"]),
+    ("That the log is sound, as `audit` has it", ["log_reader", "log_text.LoggedGames", "line_protocol.Ranges", "game_log.LogRanges", "tac_commands.SoundTexts"]),
 ]
 
 

@@ -6,3 +6,4 @@ pub mod Written
 pub mod SheetWritten
 pub mod ScoredGames
 pub mod LogRanges
+pub mod ShownGames

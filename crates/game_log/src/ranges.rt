@@ -6,7 +6,8 @@ ghost use Rattle.trade_ledger.specs.CashKeeping.{IsLoggableCash};
 ghost use Rattle.score_sheet.specs.Sheets.{Scored};
 ghost use Rattle.line_protocol.specs.Heads.{head_of};
 ghost use Rattle.log_text.specs.LoggedGames.{IsLoggedVerdict, IsLoggedHistory};
-ghost use Rattle.game_log.specs.LogRanges.{IsRangedScore, HasSeats, IsShowable};
+ghost use Rattle.game_log.specs.LogRanges.{IsRangedScore};
+ghost use Rattle.game_log.specs.ShownGames.{HasSeats, IsShowable};
 ghost use Rattle.game_log.specs.ScoredGames.{IsSheetOf};
 
 use crate::LogHead;

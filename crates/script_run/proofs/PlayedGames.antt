@@ -10,7 +10,7 @@ use Rattle.game_log.specs.LogText.{play_part}
 use Rattle.game_log.specs.SheetText.{sheet_part}
 use Rattle.game_log.specs.ScoredGames.{IsSheetOf}
 use Rattle.game_log.specs.SheetWritten.{WritesSheet}
-use Rattle.game_log.specs.LogRanges.{IsShowable}
+use Rattle.game_log.specs.ShownGames.{IsShowable}
 use Rattle.line_protocol.specs.Heads.{Play}
 use Rattle.game_log.specs.declared.fault.LogWriteFault.TheVariants as log
 use Rattle.game_log.proofs.Writing.{some_after}

@@ -6,7 +6,7 @@ use Rattle.game_text.specs.Games.{GameFile}
 use Rattle.tac_base.specs.declared.limits.TheConstants.{TEXT_BYTES}
 use Rattle.score_sheet.specs.Sheets.{Scored}
 use Rattle.game_log.specs.ScoredGames.{IsSheetOf}
-use Rattle.game_log.specs.LogRanges.{IsShowable}
+use Rattle.game_log.specs.ShownGames.{IsShowable}
 use Rattle.game_log.specs.Written.{IsUntouched}
 use Rattle.line_protocol.specs.Heads.{Play}
 use Rattle.script_run.specs.declared.game_lines.GameLine.{GameLine}

@@ -8,7 +8,7 @@ use Rattle.score_sheet.specs.Sheets.{Scored}
 use Rattle.game_log.specs.LogText.{play_part}
 use Rattle.game_log.specs.SheetText.{sheet_part}
 use Rattle.game_log.specs.ScoredGames.{IsSheetOf}
-use Rattle.game_log.specs.LogRanges.{IsShowable}
+use Rattle.game_log.specs.ShownGames.{IsShowable}
 use Rattle.line_protocol.specs.Heads.{Play}
 use Rattle.script_run.specs.declared.game_lines.GameLine.{GameLine}
 use Rattle.script_run.specs.declared.fault.ScriptFault.{ScriptFault}

@@ -4,7 +4,7 @@ use Rattle.std.specs.Prelude.{◌==◌, ◌⊎◌, MatchBool}
 use Rattle.std.proofs.lemmas.Bool.{eqb-true}
 use Rattle.tac_io.specs.Counts.{Rose}
 use Rattle.tac_commands.specs.Outcomes.{Outcome, code_of}
-use Rattle.tac_commands.specs.Ends.{Tells}
+use Rattle.tac_commands.specs.Telling.{Tells}
 
 coded_by : (b : Bool) (before now code due : ℕ) (P Q R : Type 0) → (code == 4) ≡ b → MatchBool b (P × Rose before now) ((code ≡ due) × Q × R) → ((code ≡ 4) × Rose before now) ⊎ (code ≡ due)
 coded_by true before now code due P Q R e told = inl (eqb-true code 4 e, told.1)

@@ -8,7 +8,7 @@ use Rattle.tac_commands.specs.Outcomes.{Outcome, Refused, code_of}
 use Rattle.tac_commands.specs.Runs.{Names}
 use Rattle.tac_commands.specs.Files.{Content}
 use Rattle.tac_commands.specs.Allowed.{Allows, steps_of}
-use Rattle.tac_commands.specs.Ends.{Tells}
+use Rattle.tac_commands.specs.Telling.{Tells}
 use Rattle.tac_commands.specs.Selected.{Selects}
 use Rattle.tac_commands.specs.Causes.{IsQuiet, UsageExactly, ReadFaultExactly, GameRefusedExactly, TextRefusedExactly, HasRefusedGame, HasRefusedText, IsReady, HasUnsoundLog, UnsoundExactly, IsGoodEnd, IsComplete, LinkFaultExactly, ClockFaultExactly}
 use Rattle.tac_commands.proofs.CodedOutcomes.{coded, told_only, told_always}

@@ -9,7 +9,8 @@ use Rattle.tac_commands.specs.declared.refusals.Refusal.TheVariants.{Memory}
 use Rattle.tac_commands.specs.declared.ends.End.{End}
 use Rattle.tac_commands.specs.declared.ends.End.TheVariants as ends
 use Rattle.tac_commands.specs.Outcomes.{Outcome, Done, Unsound, Cut, Refused, refusal_text}
-use Rattle.tac_commands.specs.Ends.{Ends, EndsOrIsCut, IsCut, Finishes, Tells}
+use Rattle.tac_commands.specs.Ends.{Ends, EndsOrIsCut, IsCut, Finishes}
+use Rattle.tac_commands.specs.Telling.{Tells}
 
 -- telling an outcome on a sink that a command left as it was
 after_untouched : (outcome : Outcome) (taken taken' taken'' : Option (List ℕ)) (a b c code : ℕ) → IsUntouched taken taken' a b →

@@ -28,7 +28,8 @@ use Rattle.line_protocol.specs.Heads.{Head, Play, Serve}
 use Rattle.log_text.specs.LogText.{histories_of}
 use Rattle.log_text.specs.LoggedGames.{LoggedGame, IsLoggedEnd, IsLoggedHead, IsLoggedHistory, AreHistories, IsLoggedCash, IsLoggedCashEntry}
 use Rattle.log_reader.specs.SoundLog.{seated_agents, seatings, IsSoundHead}
-use Rattle.game_log.specs.LogRanges.{IsRanged, HasSeats, IsShowable}
+use Rattle.game_log.specs.LogRanges.{IsRanged}
+use Rattle.game_log.specs.ShownGames.{HasSeats, IsShowable}
 use Rattle.game_log.specs.ScoredGames.{IsSheetOf}
 use Rattle.script_run.specs.LawfulGames.{IsLawfulGame}
 use Rattle.tac_commands.specs.SoundTexts.{told_of}

@@ -1,5 +1,5 @@
--- What is written of an outcome, by a command and by what finishes it.
-use Rattle.std.specs.Prelude.{◌≡◌, ℕ, ◌==◌, ◌⊎◌, List, [], ◌∷◌, Option, MatchBool, Result, Ok, Err}
+-- What commands write and how they end, before and after they are finished.
+use Rattle.std.specs.Prelude.{◌≡◌, ℕ, ◌⊎◌, List, Option, Result, Ok, Err}
 use Rattle.tac_io.specs.Counts.{Rose}
 use Rattle.tac_io.specs.Told.{and_then_told, TakesSome}
 use Rattle.game_log.specs.Written.{IsUntouched}
@@ -13,16 +13,10 @@ use Rattle.game_text.specs.Games.{GameFile}
 use Rattle.tac_commands.specs.Allowed.{audit_steps, batch_steps, play_steps}
 use Rattle.tac_commands.specs.Commands.{BatchCommand}
 use Rattle.tac_commands.specs.Files.{Content}
-use Rattle.tac_commands.specs.Outcomes.{Outcome, Done, Unsound, Cut, Refused, code_of, text_of}
+use Rattle.tac_commands.specs.Outcomes.{Outcome, Done, Unsound, Cut, Refused}
 use Rattle.tac_commands.specs.Runs.{Names, Runs}
 use Rattle.tac_commands.specs.Steps.{Steps, Reads, file}
-
--- The text that is due was written and the code that is due answered; or a write failed, the code is 4, and the first bytes of
--- the text were written, but not all.
-abbrev pub Tells : Outcome → Option (List ℕ) → Option (List ℕ) → ℕ → ℕ → ℕ → Type 0
-Tells outcome taken taken' before now code = MatchBool (code == 4)
-    (TakesSome taken taken' (text_of outcome) × Rose before now)
-    ((code ≡ code_of outcome) × (taken' ≡ and_then_told taken (text_of outcome)) × (now ≡ before))
+use Rattle.tac_commands.specs.Telling.{Tells}
 
 -- a command that allows these outcomes ended so, and left the sink so: its text was written, or one that tells that a log is not sound, or the
 -- first bytes of either, or nothing

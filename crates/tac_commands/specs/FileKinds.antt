@@ -64,18 +64,23 @@ read_as GameScript bytes = script_in bytes (game_script bytes)
 read_as Account bytes = account_of bytes
 read_as Log bytes = logged_or_fault (log_of bytes)
 
--- what is written where such a file has this fault
+-- what is written where a game file has this fault
+abbrev pub game_refusal : GameFault → Refusal
+game_refusal (Line line reason) = GameLine line reason
+game_refusal TooLong = GameTooLong
+
+-- what is written where any other file has it
+abbrev pub text_refusal : GameFault → Refusal
+text_refusal (Line line reason) = TextLine line reason
+text_refusal TooLong = TextTooLong
+
+-- what is written where a file of this kind has it
 abbrev pub refusal_of : FileKind → GameFault → Refusal
-refusal_of Game (Line line reason) = GameLine line reason
-refusal_of Game TooLong = GameTooLong
-refusal_of HotelScript (Line line reason) = TextLine line reason
-refusal_of HotelScript TooLong = TextTooLong
-refusal_of GameScript (Line line reason) = TextLine line reason
-refusal_of GameScript TooLong = TextTooLong
-refusal_of Account (Line line reason) = TextLine line reason
-refusal_of Account TooLong = TextTooLong
-refusal_of Log (Line line reason) = TextLine line reason
-refusal_of Log TooLong = TextTooLong
+refusal_of Game fault = game_refusal fault
+refusal_of HotelScript fault = text_refusal fault
+refusal_of GameScript fault = text_refusal fault
+refusal_of Account fault = text_refusal fault
+refusal_of Log fault = text_refusal fault
 
 -- the code of that
 abbrev pub refused_code : FileKind → Code

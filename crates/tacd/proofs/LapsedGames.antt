@@ -11,7 +11,7 @@ use Rattle.tac_commands.specs.declared.code.Code.{Code}
 use Rattle.tac_commands.specs.declared.code.Code.TheVariants.{Success}
 use Rattle.tac_commands.specs.Codes.{number_of}
 use Rattle.tac_commands.specs.Outcomes.{Outcome, Done, Lapsed, Unsound, Cut, Refused}
-use Rattle.tac_commands.specs.Ends.{Tells}
+use Rattle.tac_commands.specs.Telling.{Tells}
 use Rattle.tacd.specs.Service.{IsLogOf, LogAllows, PlayedAllows, lapsed_code, missed_of}
 
 abbrev missed : Played → ℕ

@@ -25,7 +25,7 @@ use Rattle.tac_commands.specs.Outcomes.{Outcome}
 use Rattle.tac_commands.specs.Commands.{Command, Serve, OffService, OnService}
 use Rattle.tac_commands.specs.Files.{Content}
 use Rattle.tac_commands.specs.Cash.{IsCashOfPosts}
-use Rattle.tac_commands.specs.Ends.{Tells}
+use Rattle.tac_commands.specs.Telling.{Tells}
 use Rattle.tacd.specs.Service.{LinksState, TickerState, ServesGame, ServeAllows, answers_by, texts_by}
 
 -- the order of the entries does not matter

@@ -17,7 +17,7 @@ use Rattle.tac_commands.specs.Outcomes.{Outcome, Done, Lapsed, Unsound, Cut, Ref
 use Rattle.tac_commands.specs.Commands.{Command, Serve, OffService, OnService}
 use Rattle.tac_commands.specs.Allowed.{Allows, IsServiceEnd}
 use Rattle.tac_commands.specs.Causes.{LinkFaultExactly, ClockFaultExactly}
-use Rattle.tac_commands.specs.Ends.{Tells}
+use Rattle.tac_commands.specs.Telling.{Tells}
 use Rattle.tac_commands.specs.Files.{Content}
 use Rattle.tac_commands.specs.Runs.{Names}
 use Rattle.tacd.specs.Service.{LinksState, TickerState, ServesGame, ServeAllows, answers_by, missed_of, texts_by}

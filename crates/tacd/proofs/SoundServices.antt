@@ -32,7 +32,7 @@ use Rattle.log_text.specs.LoggedGames.{logged_text}
 use Rattle.log_reader.specs.SoundLog as sound
 use Rattle.log_reader.specs.SoundLog.{seatings, IsService, IsSoundHead}
 use Rattle.clock_events.specs.Clocking.{WaitsForAll}
-use Rattle.game_log.specs.LogRanges.{IsShowable}
+use Rattle.game_log.specs.ShownGames.{IsShowable}
 use Rattle.game_log.specs.ScoredGames.{IsSheetOf}
 use Rattle.game_run.specs.Admission.{free_seats, seats_given}
 use Rattle.game_run.specs.LinkRuns.{RunsLink}

@@ -1,10 +1,12 @@
 -- What `serve` leaves: the game that was played, its log, the links and the ticker.
-use Rattle.std.specs.Prelude.{◌≡◌, ℕ, ◌<◌, ◌⊎◌, ⊤, List, [], ◌∷◌, Bool, nat_lt, if◌then◌else◌, Result, Err, Option, Some, None}
+use Rattle.std.specs.Prelude.{◌≡◌, ℕ, ◌<◌, ◌⊎◌, ⊤, List, [], ◌∷◌, Bool, nat_lt, if◌then◌else◌, Result, Ok, Err, Option, Some, None}
 use Rattle.std.specs.Global.{Vec}
 use Rattle.std.specs.Option.{option_map}
 use Rattle.tac_io.specs.Counts.{Rose}
 use Rattle.tac_io.specs.Told.{and_then_told}
-use Rattle.game_text.specs.Games.{GameFile}
+use Rattle.tac_io.specs.Reading.{IsFile}
+use Rattle.game_text.specs.declared.fault.GameFault.{GameFault}
+use Rattle.game_text.specs.Games.{GameFile, game_of}
 use Rattle.line_protocol.specs.declared.asking.Request.{Request}
 use Rattle.line_protocol.specs.declared.asking.RequestFault.{RequestFault}
 use Rattle.line_protocol.specs.declared.asking.RequestFault.TheVariants as request_faults
@@ -23,14 +25,27 @@ use Rattle.game_run.specs.Outcomes.{IsEnd, IsNotPlayed}
 use Rattle.tacd.specs.declared.answer.Played.{Played}
 use Rattle.tac_commands.specs.declared.code.Code.{Code}
 use Rattle.tac_commands.specs.declared.code.Code.TheVariants.{Success, ClockFault}
-use Rattle.tac_commands.specs.declared.file_kinds.FileKind.TheVariants.{Game}
 use Rattle.tac_commands.specs.declared.refusals.Refusal.{Refusal}
-use Rattle.tac_commands.specs.declared.refusals.Refusal.TheVariants.{LinkFault, Memory}
+use Rattle.tac_commands.specs.declared.refusals.Refusal.TheVariants.{ReadFault, LinkFault, Memory}
 use Rattle.tac_commands.specs.declared.words.Form.{Form}
 use Rattle.tac_commands.specs.declared.words.Form.TheVariants.{Lines, Json}
-use Rattle.tac_commands.specs.Files.{Content, IsRead, IsNotRead}
+use Rattle.tac_commands.specs.FileKinds.{game_refusal}
+use Rattle.tac_commands.specs.Files.{Content}
 use Rattle.tac_commands.specs.Outcomes.{Outcome, Done, Lapsed, Unsound, Cut, Refused}
 use Rattle.tac_commands.specs.SoundTexts.{told_of, EndsInSoundLog}
+
+-- ---- the game file
+
+-- the file of that name holds the game
+abbrev pub IsGameFile : Content → List ℕ → GameFile → Type 0
+IsGameFile content name game = (bytes : List ℕ) × IsFile content name bytes × (game_of bytes ≡ Ok game)
+
+-- what is written where that file could not be read: a read failed, memory was refused, or the file is refused
+abbrev pub IsNoGameFile : Content → List ℕ → ℕ → ℕ → Refusal → Type 0
+IsNoGameFile content name before now refusal =
+    ((refusal ≡ ReadFault) × Rose before now)
+    ⊎ ((refusal ≡ Memory) × (now ≡ before))
+    ⊎ ((fault : GameFault) × (refusal ≡ game_refusal fault) × ((bytes : List ℕ) × IsFile content name bytes × (game_of bytes ≡ Err fault)) × (now ≡ before))
 
 -- ---- the text
 
@@ -154,5 +169,5 @@ module _ {L : Type 0} (state : L → LinkState) where
   abbrev pub ServeAllows : (List ℕ → Result Request RequestFault → Type 0) → (Said → List ℕ) → Content → List ℕ → ℕ → ℕ → ℕ → ℕ
       → LinksState L → LinksState L → TickerState → TickerState → Option Played → Vec L → Outcome → Type 0
   ServeAllows may_answer text content name port pace before now links links' ticker ticker' played ended outcome =
-      ((game : GameFile) × IsRead content Game name game × ServesGame may_answer text game port pace links links' ticker ticker' played ended outcome × (now ≡ before))
-      ⊎ ((refusal : Refusal) × (outcome ≡ Refused refusal) × IsNotRead content Game name before now refusal × IsUnasked links links' ticker ticker' ended × (ticker'.paced ≡ ticker.paced) × (played ≡ None))
+      ((game : GameFile) × IsGameFile content name game × ServesGame may_answer text game port pace links links' ticker ticker' played ended outcome × (now ≡ before))
+      ⊎ ((refusal : Refusal) × (outcome ≡ Refused refusal) × IsNoGameFile content name before now refusal × IsUnasked links links' ticker ticker' ended × (ticker'.paced ≡ ticker.paced) × (played ≡ None))

@@ -4,7 +4,7 @@ ghost use Rattle.tac_base.specs.declared.limits.TheConstants.{NAME_BYTES};
 ghost use Rattle.game_run.specs.LinkStates.{link_state};
 ghost use Rattle.tac_commands.specs.Allowed.{Allows};
 ghost use Rattle.tac_commands.specs.Commands.{OffService, OnService, command_of, seen};
-ghost use Rattle.tac_commands.specs.Ends.{Tells};
+ghost use Rattle.tac_commands.specs.Telling.{Tells};
 ghost use Rattle.tac_commands.specs.Outcomes.{Outcome};
 ghost use Rattle.tac_commands.specs.Words.{HasShortNames};
 ghost use Rattle.tacd.specs.Service.{ServeAllows, answers_by, links_state, texts_by, ticker_state};

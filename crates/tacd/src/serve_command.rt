@@ -3,7 +3,8 @@ ghost use Rattle.std.specs.Prelude.{◌≡◌, ◌<◌, ◌≤◌, ◌∷◌, []
 ghost use Rattle.tac_base.specs.declared.limits.TheConstants.{FILE_NAMES, NAME_BYTES};
 ghost use Rattle.tac_io.specs.Told.{and_then_told};
 ghost use Rattle.tac_commands.specs.Codes.{number_of};
-ghost use Rattle.tac_commands.specs.Ends.{EndsOrIsCut, Tells};
+ghost use Rattle.tac_commands.specs.Ends.{EndsOrIsCut};
+ghost use Rattle.tac_commands.specs.Telling.{Tells};
 ghost use Rattle.tac_commands.specs.Outcomes.{Outcome};
 ghost use Rattle.tacd.specs.Service as service;
 ghost use Rattle.tacd.specs.Service.{LogAllows, first_part, PlayedAllows, ServeAllows, ServesGame, answers_by, links_state, missed_of, texts_by, ticker_state};

@@ -6,7 +6,7 @@ ghost use Rattle.tac_commands.specs.Causes.{ClockFaultExactly, GameRefusedExactl
 ghost use Rattle.tac_commands.specs.Cash.{IsCashOfPosts};
 ghost use Rattle.tac_commands.specs.Commands.{OffService, OnService, command_of};
 ghost use Rattle.tac_commands.specs.Allowed.{Allows};
-ghost use Rattle.tac_commands.specs.Ends.{Tells};
+ghost use Rattle.tac_commands.specs.Telling.{Tells};
 ghost use Rattle.tac_commands.specs.Outcomes.{Outcome};
 ghost use Rattle.tac_commands.specs.Selected.{Selects};
 ghost use Rattle.tacd.specs.Service.{ServeAllows, answers_by, links_state, texts_by, ticker_state};
