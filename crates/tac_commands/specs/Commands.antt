@@ -1,7 +1,7 @@
 -- What the words of a command line ask for.
 use Rattle.std.specs.Prelude.{zero, suc, ⊤, ℕ, ◌+◌, ◌%◌, ◌^◌, ◌==◌, ◌&&◌, nat_lt, nat_le, List, [], ◌∷◌, length, map, string_bytes, Option, Some, None, if◌then◌else◌, codes, option_map, option_and_then}
 use Rattle.std.specs.Str.{bytes_eq}
-use Rattle.tac_base.specs.declared.limits.TheConstants.{FILE_NAMES, MADE_REQUESTS}
+use Rattle.tac_base.specs.declared.limits.TheConstants.{FILE_NAMES, MADE_REQUESTS, PACE, PORT}
 use Rattle.tac_base.specs.Numerals.{below, numeral}
 use Rattle.tac_commands.specs.declared.words.BatchCommand.{BatchCommand as BatchAsked}
 use Rattle.tac_commands.specs.declared.words.BatchCommand.TheVariants as batch
@@ -59,9 +59,9 @@ abbrev pub at_least_one : ℕ → Option ℕ
 at_least_one zero = None
 at_least_one (suc n) = Some (suc n)
 
--- a number, at least 1 and below a limit, of a numeral
-abbrev pub positive_below : ℕ → List ℕ → Option ℕ
-positive_below limit word = option_and_then at_least_one (below limit (numeral 10 word))
+-- a number, at least 1 and at most a limit, of a numeral
+abbrev pub positive_to : ℕ → List ℕ → Option ℕ
+positive_to most word = option_and_then at_least_one (below (most + 1) (numeral 10 word))
 
 -- a service has a port, 1 to 65535, a pace, 1 to 60000 milliseconds, and a form of lines
 abbrev pub service_of : List ℕ → Option ℕ → Option ℕ → Form → Option Command
@@ -72,13 +72,13 @@ service_of game (Some port) (Some pace) form = Some (Serve game port pace form)
 -- a command of three words after its own
 abbrev pub command_with_three : List ℕ → List ℕ → List ℕ → List ℕ → Option Command
 command_with_three word first second third =
-    if bytes_eq word (codes "serve") then service_of first (positive_below 65536 second) (positive_below 60001 third) Lines
+    if bytes_eq word (codes "serve") then service_of first (positive_to PORT second) (positive_to PACE third) Lines
     else None
 
 -- a command of four words after its own
 abbrev pub command_with_four : List ℕ → List ℕ → List ℕ → List ℕ → List ℕ → Option Command
 command_with_four word first second third fourth =
-    if bytes_eq word (codes "serve") && bytes_eq fourth (codes "json") then service_of first (positive_below 65536 second) (positive_below 60001 third) Json
+    if bytes_eq word (codes "serve") && bytes_eq fourth (codes "json") then service_of first (positive_to PORT second) (positive_to PACE third) Json
     else None
 
 -- a command by how many words come after its own

@@ -5,7 +5,7 @@ ghost use Rattle.tac_commands.specs.Commands as commands;
 ghost use Rattle.tac_commands.specs.Commands.{command_of, seen};
 ghost use Rattle.tac_commands.specs.Words.{HasShortNames};
 
-use tac_base::limits::{FILE_NAMES, MADE_REQUESTS, NAME_BYTES};
+use tac_base::limits::{FILE_NAMES, MADE_REQUESTS, NAME_BYTES, PACE, PORT};
 use tac_base::read_numeral;
 
 /// A command that needs no links, with its words: the names of its files, or numbers.
@@ -138,13 +138,12 @@ fn command_with_two<'a>(word: &str, first: &'a str, second: &'a str) -> Option<A
     }
 }
 
-/// The number of a word, at least 1 and below a limit.
-fn number_of(word: &str, limit: u64) -> Option<u16>
-    requires { limit ≤ 65536 }
-    ensures { result ≡ commands.positive_below limit word.now }
+/// The number of a word, at least 1 and at most a limit.
+fn number_of(word: &str, most: u16) -> Option<u16>
+    ensures { result ≡ commands.positive_to most word.now }
 {
     match read_numeral(word.as_bytes(), 10) {
-        Some(number) if 1 <= number && number < limit => Some(number as u16),
+        Some(number) if 1 <= number && number <= u64::from(most) => Some(number as u16),
         _ => None,
     }
 }
@@ -189,8 +188,8 @@ fn command_with_three<'a>(
     if word == "serve" {
         service_of(
             first,
-            number_of(second, 65536),
-            number_of(third, 60001),
+            number_of(second, PORT),
+            number_of(third, PACE),
             Form::Lines,
         )
     } else {
@@ -214,8 +213,8 @@ fn command_with_four<'a>(
     if word == "serve" && fourth == "json" {
         service_of(
             first,
-            number_of(second, 65536),
-            number_of(third, 60001),
+            number_of(second, PORT),
+            number_of(third, PACE),
             Form::Json,
         )
     } else {
