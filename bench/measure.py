@@ -19,7 +19,7 @@ import tempfile
 import time
 from pathlib import Path
 
-sys.path.insert(0, str(Path(__file__).resolve().parent.parent / "docs" / "measure"))
+sys.path.insert(0, str(Path(__file__).resolve().parent))
 from worth_beside_glpk import PACKAGES, program, read, worth  # noqa: E402
 
 EMPTY = "Maximize\nx\nSubject To\nc: x <= 1\nBinary\nx\nEnd\n"

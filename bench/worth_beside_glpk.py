@@ -1,19 +1,19 @@
 #!/usr/bin/env python3
 """Takes the time of `tac worth` on accounts, beside 57 runs of GLPK's `glpsol` on each: the account, and one unit more and less of each good.
 
-    taskset -c 0 docs/measure/worth_beside_glpk.py crates/tacd/out/tacd ACCOUNT ..
+    taskset -c 0 bench/worth_beside_glpk.py crates/tacd/out/tacd ACCOUNT ..
 
 GLPK gets a program with a variable for each client and each of its packages whose goods are there, a row for each good and one for each client.
 Times are processor time, user and system, in milliseconds: of `tac worth` the least of three runs, start included; of the 57 runs of glpsol the sum,
 less 57 times its own start. Each total is compared with GLPK's. The last lines have the medians and the worst.
 """
 
+import argparse
 import itertools
 import os
 import resource
 import statistics
 import subprocess
-import sys
 import tempfile
 from pathlib import Path
 
@@ -120,4 +120,8 @@ def main(tac, *files):
 
 
 if __name__ == "__main__":
-    main(*sys.argv[1:])
+    words = argparse.ArgumentParser(description=__doc__, formatter_class=argparse.RawDescriptionHelpFormatter)
+    words.add_argument("tac", help="the program")
+    words.add_argument("accounts", nargs="+", help="files of accounts")
+    given = words.parse_args()
+    main(given.tac, *given.accounts)
