@@ -7,7 +7,7 @@ use Rattle.tac_commands.specs.declared.refusals.Refusal.TheVariants.{LinkFault, 
 use Rattle.tac_commands.specs.Allowed.{Writes, WritesInParts, IsServiceEnd, table_steps, batch_steps, steps_of}
 use Rattle.tac_commands.specs.Commands.{BatchCommand, Hotel, Show, Upgrade, Make, Solve, Worth, Play, Trial, Audit, Table, Command, Batch, Serve}
 use Rattle.tac_commands.specs.FileKinds.{Value}
-use Rattle.tac_commands.specs.Outcomes.{Outcome, Done, Lapsed, Unsound, Cut, Refused, code_of}
+use Rattle.tac_commands.specs.Outcomes.{Outcome, Done, Lapsed, Cut, Refused, code_of}
 use Rattle.tac_commands.specs.Steps.{Steps, Reads, Audits, EndsWith}
 
 -- the codes of what the last step allows, whatever the files hold

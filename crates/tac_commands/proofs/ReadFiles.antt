@@ -1,5 +1,5 @@
 -- How a command ends whose files were read, or not.
-use Rattle.std.proofs.Common.{◌≡◌, ℕ, List, [], ◌∷◌, refl, subst, inl, inr, Option}
+use Rattle.std.proofs.Common.{◌≡◌, ℕ, List, [], ◌∷◌, refl, subst, inl, Option}
 use Rattle.tac_io.specs.Told.{and_then_told}
 use Rattle.tac_commands.specs.declared.ends.End.{End}
 use Rattle.tac_commands.specs.FileKinds.{Value}

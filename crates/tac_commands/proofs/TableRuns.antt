@@ -5,7 +5,6 @@ use Rattle.std.proofs.lemmas.List.{length-append}
 use Rattle.tac_io.specs.Told.{and_then_told}
 use Rattle.game_text.specs.Games.{GameFile}
 use Rattle.log_text.specs.LoggedGames.{LoggedGame}
-use Rattle.log_reader.specs.SoundLog.{IsSound}
 use Rattle.tourney.specs.StandingsTexts.{IsPrinted}
 use Rattle.tourney.specs.Tallies.{Kept, StandsFor}
 use Rattle.tac_commands.specs.declared.file_kinds.FileKind.TheVariants.{Game, Log}

@@ -11,7 +11,7 @@ use Rattle.tac_commands.specs.Allowed.{table_steps}
 use Rattle.tac_commands.specs.Files.{Content, IsRead}
 use Rattle.tac_commands.specs.FlawTexts.{unsound_text}
 use Rattle.tac_commands.specs.Outcomes.{Outcome, Unsound, Refused}
-use Rattle.tac_commands.specs.Runs.{Names, Runs, StopsAt}
+use Rattle.tac_commands.specs.Runs.{Names, Runs}
 
 -- the outcome of a table that is not written
 abbrev pub outcome_of : TableFault → Outcome

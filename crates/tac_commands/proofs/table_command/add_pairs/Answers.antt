@@ -1,5 +1,5 @@
 use Rattle.std.proofs.Common.{◌≡◌, ◌<◌, ◌≤◌, ◌+◌, ◌*◌, ◌/◌, ◌∙◌, ℕ, length, string_bytes, ap, arith}
-use Rattle.tac_commands.proofs.TableRuns.{all_done, ends_all, goes_all, none_yet, two_more}
+use Rattle.tac_commands.proofs.TableRuns.{all_done, ends_all, goes_all, two_more}
 use Rattle.tac_commands.proofs.table_command.add_pairs.Goals as goal
 
 pub returns-in_err-standings-clause-fault : goal.returns-in_err-standings-clause-fault
