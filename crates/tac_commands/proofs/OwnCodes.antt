@@ -45,7 +45,7 @@ batch_code (Solve name) = λ account outcome allowed. writes _ outcome allowed
 batch_code (Worth name) = λ account outcome allowed. writes _ outcome allowed
 batch_code (Play name script) = λ game lines outcome allowed. in_parts _ _ outcome allowed.0
 batch_code (Trial seed count) = λ outcome allowed. writes _ outcome allowed
-batch_code (Audit name other) = λ game log outcome allowed. writes _ outcome allowed
+batch_code (Audit name log_name) = λ game log outcome allowed. writes _ outcome allowed
 batch_code (Table pairs) = table_code pairs []
 
 -- of any command

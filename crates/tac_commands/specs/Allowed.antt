@@ -116,7 +116,7 @@ batch_steps (Play name script) = Reads (file Game name) (λ game. play_steps gam
 -- the summary of the made game by the made script
 batch_steps (Trial seed count) = EndsWith (Writes (IsTrial seed count))
 -- whether the log of a game is sound
-batch_steps (Audit name other) = Reads (file Game name) (λ game. Reads (file Log other) (λ log. audit_steps game log))
+batch_steps (Audit name log_name) = Reads (file Game name) (λ game. Reads (file Log log_name) (audit_steps game))
 -- the standings of the teams of several games whose logs are sound
 batch_steps (Table pairs) = table_steps [] pairs
 
