@@ -18,7 +18,8 @@ use Rattle.packages.specs.BestTotal.{total_of}
 use Rattle.trade_ledger.specs.CashKeeping.{IsWithin}
 use Rattle.auction_core.specs.ClosedGame.{ClosedGame}
 use Rattle.score_sheet.specs.Score.{lacking, short_of}
-use Rattle.score_sheet.specs.Settlement.{AreHoldings, IsSettlement, settlement_of}
+use Rattle.score_sheet.specs.Settlement.{settlement_of}
+use Rattle.score_sheet.specs.SettledRanges.{AreHoldings, IsSettlement}
 use Rattle.score_sheet.specs.Sheets.{Scored, IsScored}
 use Rattle.game_log.specs.LogRanges.{IsRangedScore}
 use Rattle.game_log.specs.ScoredGames.{IsSheetOf}

@@ -14,9 +14,11 @@ use Rattle.log_reader.specs.SoundLog.{IsSound}
 use Rattle.log_reader.proofs.LogTexts.{only_log}
 use Rattle.tac_commands.specs.declared.file_kinds.FileKind.TheVariants.{Log}
 use Rattle.tac_commands.specs.declared.refusals.Refusal.TheVariants.{Memory}
-use Rattle.tac_commands.specs.Allowed.{Judges}
+use Rattle.tac_commands.specs.Allowed.{Writes, IsFlawText, audit_steps}
 use Rattle.tac_commands.specs.FileKinds.{read_as, logged_or_fault}
+use Rattle.tac_commands.specs.Files.{Content}
 use Rattle.tac_commands.specs.Outcomes.{Outcome, Done, Lapsed, Unsound, Cut, Refused}
+use Rattle.tac_commands.specs.Runs.{Names, StopsAt, Runs}
 use Rattle.tac_commands.specs.SoundTexts.{EndsInSoundLog}
 use Rattle.tac_commands.proofs.LoggedNumbers.{head_is, game_in, game_is, same_histories}
 
@@ -45,11 +47,28 @@ one_log law game other_game log other before other_before text ends other_ends =
     (sym (begins game log) ∙ (sym (text_of game log before text ends) ∙ (text_of other_game other other_before text other_ends ∙ begins other_game other))) in
     (one.0, sym (same_histories game log) ∙ (one.1.histories ∙ same_histories other_game other), one.1.cash)
 
--- what an audit may write of a sound log
-pub says_sound : (game : GameFile) (log : LoggedGame) (outcome : Outcome) → IsSound game log → Judges game log outcome → (outcome ≡ Done (codes "sound\n")) ⊎ (outcome ≡ Refused Memory)
-says_sound game log (Done text) sound judged = inl (ap Done judged.1)
-says_sound game log (Lapsed text) sound judged = absurd judged
-says_sound game log (Unsound text) sound judged = absurd (judged.not_sound sound)
-says_sound game log (Cut text) sound judged = absurd judged
-says_sound game log (Refused Memory) sound judged = inr refl
-says_sound game log (Refused refusal) sound judged = absurd judged
+-- ---- what an audit may write of a sound log
+
+abbrev SaysSound : Outcome → Type 0
+SaysSound outcome = (outcome ≡ Done (codes "sound\n")) ⊎ (outcome ≡ Refused Memory)
+
+written : (outcome : Outcome) → Writes (λ (text : List ℕ). text ≡ codes "sound\n") outcome → SaysSound outcome
+written (Done text) due = inl (ap Done due)
+written (Lapsed text) due = absurd due
+written (Unsound text) due = absurd due
+written (Cut text) due = absurd due
+written (Refused Memory) due = inr refl
+written (Refused refusal) due = absurd due
+
+stopped : (game : GameFile) (log : LoggedGame) (outcome : Outcome) → IsSound game log → StopsAt game log (IsFlawText game log) outcome → SaysSound outcome
+stopped game log (Done text) sound stops = absurd stops
+stopped game log (Lapsed text) sound stops = absurd stops
+stopped game log (Unsound text) sound stops = absurd (stops.0 sound)
+stopped game log (Cut text) sound stops = absurd stops
+stopped game log (Refused Memory) sound stops = inr refl
+stopped game log (Refused refusal) sound stops = absurd stops
+
+pub says_sound : (game : GameFile) (log : LoggedGame) (content : Content) (names names' : Names) (first last : ℕ) (outcome : Outcome) → IsSound game log →
+    Runs content (audit_steps game log) names names' first last outcome → (outcome ≡ Done (codes "sound\n")) ⊎ (outcome ≡ Refused Memory)
+says_sound game log content names names' first last outcome sound (inl run) = written outcome run.1.0
+says_sound game log content names names' first last outcome sound (inr run) = stopped game log outcome sound run.0

@@ -1,6 +1,6 @@
 use Rattle.std.proofs.Common.{subst, ◌∙◌}
 use Rattle.game_text.specs.Games.{IsGame}
-use Rattle.score_sheet.specs.Settlement.{IsSettlement}
+use Rattle.score_sheet.specs.SettledRanges.{IsSettlement}
 use Rattle.game_log.proofs.RangedSheets.{sheet_is_ranged}
 use Rattle.game_log.proofs.ranges.sheets_ranged.Goals as goal
 
