@@ -63,10 +63,10 @@ def connect(host, port):
     while True:
         try:
             return socket.create_connection((host, port))
-        except ConnectionRefusedError:
-            if time.monotonic() > deadline:
-                raise
-            time.sleep(0.2)
+        except OSError as fault:
+            if not isinstance(fault, ConnectionRefusedError) or time.monotonic() > deadline:
+                sys.exit(f"no link to {host} at port {port}: {fault.strerror or fault}")
+        time.sleep(0.2)
 
 
 @dataclass
