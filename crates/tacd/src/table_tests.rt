@@ -15,6 +15,7 @@ fn log_of<R: Threads + Sync + Wait + Clock>(
     script: &str,
 ) -> Result<String, Fail> {
     let game = plain_game(alloc, FIRST_CLIENT)?;
+    let script = String::from_str(alloc, script)?;
     let files = [("game", game.as_bytes()), ("script", script.as_bytes())];
     let played = run(rt, alloc, "play game script", &files, NO_FAULT)?;
     let text = str::from_utf8(played.text.as_slice())?;
