@@ -13,7 +13,8 @@ then a tick comes. An observation has the tick, the quotes of all goods after it
 At reset `infos` has what each agent is told at first: its tickets and its clients. After the 54th step the game is over: the rewards are the scores,
 and all others are 0. `game.log` is then the log.
 
-Each step plays the script so far again, which takes some milliseconds. The file of tac is crates/tacd/out/tacd, or what the variable TAC says.
+Each step plays the script so far again: 5 milliseconds of a processor, and some 2 more for each 1000 requests so far, so half a second to a second where
+eight agents have asked all that a script may have. The file of tac is crates/tacd/out/tacd, or what the variable TAC says.
 """
 
 import subprocess
