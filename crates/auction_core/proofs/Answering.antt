@@ -1,5 +1,6 @@
--- What an agent is told of its own state.
-use Rattle.std.proofs.Common.{◌≡◌, ℕ, ◌≤◌, List, [], ◌∷◌, ap, ◌∙◌, arith, ℤ, pos, get_or}
+-- Who calls, and what an agent is told of its own state.
+use Rattle.std.proofs.Common.{◌≡◌, ℕ, ◌≤◌, ◌==◌, Bool, true, false, cond, List, [], ◌∷◌, ap, ◌∙◌, arith, ℤ, pos, get_or, Some, None}
+use Rattle.std.proofs.lemmas.Bool.Decides.{nat_tests}
 use Rattle.tac_base.specs.declared.bids.Point.{Point}
 use Rattle.tac_base.specs.declared.calls.Reply.{Reply}
 use Rattle.tac_base.specs.declared.calls.Trade.{Trade}
@@ -14,6 +15,18 @@ use Rattle.auction_rules.specs.Follows.{Follows}
 use Rattle.auction_rules.proofs.Idle.{own_follows}
 use Rattle.trade_ledger.proofs.Trading.{get_or-nine}
 use Rattle.auction_core.specs.Books.{held_by}
+
+-- a caller that is no agent is the clock
+pub is_clock : (caller : ℕ) → None ≡ cond (caller == 8) None (Some caller) → caller ≡ 8
+is_clock caller is = grind (arith, nat_tests)
+
+-- and one that is an agent is that agent
+pub is_agent : (caller agent : ℕ) → Some agent ≡ cond (caller == 8) None (Some caller) → caller ≡ agent
+is_agent caller agent is = by_test (caller == 8) is
+  where
+    by_test : (b : Bool) → Some agent ≡ cond b None (Some caller) → caller ≡ agent
+    by_test true is = absurd cc
+    by_test false is = cc
 
 -- what a book of holdings tells of an agent is the agent's holding
 pub held_is : (setup : Setup) (past : List Entry) (held : List ℤ) (party : ℕ) → party ≤ 8 → held ≡ held_by setup past → get_or held party (pos 0) ≡ holding setup past party

@@ -12,6 +12,7 @@ use crate::book::Book;
 use crate::copies::{same_call, same_reply};
 use crate::effects::{apply_all, nets};
 use crate::entries::{Happened, Struck};
+use crate::order_book::OrderBook;
 use crate::storing::{entry_at, part_of, store};
 use crate::terms::Terms;
 use game_text::Game;

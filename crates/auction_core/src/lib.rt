@@ -9,6 +9,7 @@ mod effects;
 mod entries;
 mod flight_calls;
 mod hotel_calls;
+mod order_book;
 mod storing;
 mod terms;
 mod ticket_calls;

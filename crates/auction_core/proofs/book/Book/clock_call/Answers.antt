@@ -1,8 +1,0 @@
-use Rattle.std.proofs.Common.{subst}
-use Rattle.auction_core.specs.declared.book.Book.{Book}
-use Rattle.auction_core.specs.Books.{Stands}
-use Rattle.auction_core.proofs.book.Book.clock_call.Goals as goal
-
-pub returns-in-Hotel-clause-follows : goal.returns-in-Hotel-clause-follows
-returns-in-Hotel-clause-follows c = λ setup past stands at.
-    c.clock_call-in-Hotel.ensures.follows setup past (subst (λ (book : Book). Stands book setup past) c.in-Hotel.is stands) at

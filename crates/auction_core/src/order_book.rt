@@ -1,0 +1,53 @@
+ghost use Rattle.std.specs.Prelude.{All, ◌≡◌, ◌+◌, ◌==◌, if◌then◌else◌, [], ℕ, length, List, pos, slice_index_or, Some, None};
+ghost use Rattle.auction_rules.specs.Setup.{Setup};
+ghost use Rattle.auction_rules.specs.History.{Entry};
+ghost use Rattle.auction_rules.specs.Follows.{Follows};
+ghost use Rattle.auction_rules.specs.Traded.{Spends, IsShort};
+ghost use Rattle.auction_core.specs.Books.{held_by};
+ghost use Rattle.auction_core.specs.Calls.{IsFit};
+
+use tac_base::limits::BID_UNITS;
+use tac_base::{Agent, Call, Caller, Fills, Left, Reply};
+use trade_ledger::GoodBook;
+
+/// A book that answers calls by the rules, whatever the kind of its good.
+pub(crate) trait OrderBook {
+    // the book stands for this past of an auction with this setup
+    ghost stands: { Self → Setup → List Entry → Type 0 };
+
+    // how many units may still be traded by the calls of the clock alone
+    ghost units_left: { Self → ℕ };
+
+    /// Answers a call by the rules, where these are the holdings of all parties. `fills` then holds its trades.
+    fn act(
+        &mut self,
+        held: &GoodBook,
+        at: u32,
+        caller: Caller,
+        call: &Call,
+        fills: &mut Fills,
+    ) -> Reply
+        requires empty { fills.old ≡ [] }
+        requires fit { IsFit call.now }
+        ensures follows { (setup : Setup) (past : List Entry) → stands self.old setup past → held.now ≡ held_by setup past → at ≡ length past →
+            Follows setup past caller call.now result fills.new (stands self.new setup) }
+        ensures units { Spends (units_left self.old + BID_UNITS) (units_left self.new) fills.new }
+        ensures short { All IsShort fills.new };
+}
+
+/// The agent that a caller is, and none for the clock.
+pub(crate) fn agent_of(caller: Caller) -> Option<Agent>
+    ensures { result ≡ (if caller == 8 then None else Some caller) }
+{
+    Agent::new(caller.get()).ok()
+}
+
+/// What an agent is told of its own state: how many units it holds, and its standing points.
+pub(crate) fn owned(held: &GoodBook, agent: Agent, left: Left) -> Reply
+    ensures { result ≡ Reply.Own (slice_index_or held.now agent (pos 0)) left }
+{
+    Reply::Own {
+        holding: held.holding(agent.party()),
+        left,
+    }
+}
