@@ -1,3 +1,3 @@
 mod Filling
 mod Dollars
-mod EightScores
+mod AllDue

@@ -3,4 +3,3 @@ pub mod Settlement
 pub mod SettledRanges
 pub mod Score
 pub mod Sheets
-pub mod Joined
