@@ -1,7 +1,8 @@
 // Prices of whole accounts.
-use dual_bound::{Choice, Relaxation, dual_prices};
+use dual_bound::{Choice, dual_prices};
 use game_text::{Account, read_account};
 use packages::{Package, leaf_bound};
+use relaxation::Relaxation;
 use std::test::Fail;
 
 /// Clients that want days 1 to 2, and two of them the ticket for alligator wrestling; one seat in, two out, two rooms and one
@@ -41,7 +42,7 @@ fn relaxation_gives_whole_packages_and_prices(rt: HostRuntime) -> Result<(), Fai
         nights: [1, 0, 0],
     };
     assert_eq!(rt; relaxation.packages(), due);
-    assert!(rt; relaxation.call_for(1, 0) <= 0.0);
+    assert!(rt; relaxation.branching_priority(1, 0) <= 0.0);
     assert!(rt; !relaxation.decide(0));
     // All parts are worth at most 1150, and only the part where client 1 takes the trip is worth more than 1100.
     let priced = relaxation.priced(&relaxation.prices_for(1150));

@@ -6,9 +6,10 @@ ghost use Rattle.dual_bound.specs.Choices.{chosen};
 ghost use Rattle.allocator.specs.Searching.{IsOut, AreLeft};
 
 use crate::scarcity::scarcity_prices;
-use dual_bound::{Choice, Relaxation};
+use dual_bound::Choice;
 use game_text::Account;
 use packages::{Narrowing, Package, package};
+use relaxation::Relaxation;
 
 /// The first package that is left to a client, 0..7: the only one where all its features are fixed.
 fn first_left(choice: &Choice, client: usize) -> Option<Package>

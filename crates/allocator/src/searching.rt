@@ -11,7 +11,7 @@ ghost use Rattle.bound_cert.specs.Trees as trees;
 ghost use Rattle.bound_cert.specs.Trees.{is_tree};
 ghost use Rattle.bound_cert.specs.Views.{tree_of};
 ghost use Rattle.dual_bound.specs.Choices.{chosen, fixed_count};
-ghost use Rattle.dual_bound.specs.Tables.{IsCeiling};
+ghost use Rattle.dual_bound.specs.Ceilings.{IsCeiling};
 ghost use Rattle.bound_cert.specs.Certificate.{holds, is_within};
 ghost use Rattle.allocator.specs.Searching.{IsFull, IsReached};
 
@@ -19,9 +19,10 @@ use crate::candidates::{better_choice, first_choice};
 use crate::scarcity::scarcity_prices;
 use crate::splits::{Split, next_split};
 use bound_cert::CertNode;
-use dual_bound::{Choice, Quote, Relaxation, is_enough, worth};
+use dual_bound::{Choice, Quote, is_enough, worth};
 use game_text::Account;
 use packages::{Package, Prices, value_count};
+use relaxation::Relaxation;
 use std::alloc::{AllocError, Global};
 
 /// At most so many features are decided in one dive.
@@ -58,8 +59,8 @@ fn offer(account: &Account, chosen: &[Package; 8], best: &mut Found)
     }
 }
 
-/// Offers the packages that the relaxation gives whole, and where it leaves some out, what the clients take better in turn. Says whether
-/// the relaxation is still worth more than the best.
+/// Offers the packages that the relaxation gives whole, and where it leaves some out, a greedy improvement of them. Says whether the
+/// relaxation is still worth more than the best.
 pub(crate) fn offer_left(account: &Account, relaxation: &Relaxation, best: &mut Found) -> bool
     requires reached { IsReached account.now best.old.allocation best.old.total }
     ensures reached { IsReached account.now best.new.allocation best.new.total }

@@ -5,14 +5,15 @@ ghost use Rattle.packages.specs.BestTotal.{IsBest, IsFeasible, total_of};
 ghost use Rattle.bound_cert.specs.Trees.{is_tree};
 ghost use Rattle.bound_cert.specs.Views.{tree_of};
 ghost use Rattle.bound_cert.specs.Certificate.{holds, all_left};
-ghost use Rattle.dual_bound.specs.Tables.{IsCeiling};
+ghost use Rattle.dual_bound.specs.Ceilings.{IsCeiling};
 ghost use Rattle.allocator.specs.Searching.{IsReached};
 
 use crate::searching::{Found, explore, leaf, offer_near};
 use bound_cert::{Cert, CertNode};
-use dual_bound::{Choice, Relaxation};
+use dual_bound::{Choice, settled_quote};
 use game_text::Account;
 use packages::Package;
+use relaxation::Relaxation;
 use std::alloc::{AllocError, Global};
 use tac_base::Memory;
 
@@ -43,7 +44,7 @@ fn explore_all(
     let _holdings = &account.holdings;
     let all = Choice::none();
     if !relaxation.is_worth_more(best.total) {
-        let quote = relaxation.settled(account, &all);
+        let quote = settled_quote(account, &all, relaxation);
         if quote.holds(&relaxation.worths, best.total) {
             return Ok(leaf(&quote.prices));
         }

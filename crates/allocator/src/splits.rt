@@ -3,11 +3,12 @@ ghost use Rattle.std.specs.Prelude.{◌≡◌, ◌<◌, IfSome, IfNone, None};
 ghost use Rattle.dual_bound.specs.Choices.{fixed_at, fixed_count};
 ghost use Rattle.allocator.specs.Searching.{IsFull};
 
-use dual_bound::{Choice, Priced, Relaxation};
+use dual_bound::Choice;
 use packages::Prices;
+use relaxation::{OpenParts, Priced, Relaxation};
 
-/// What a split counts that tells nothing, more than any other.
-const LAST: f64 = 1.0e30;
+/// More than any split leaves to search.
+const MOST_LEFT: f64 = 1.0e30;
 
 /// A client, 0..7, and a feature of its package, 0..3.
 #[derive(Clone, Copy)]
@@ -16,33 +17,33 @@ pub(crate) struct Split {
     pub(crate) feature: u8,
 }
 
-/// How much a split is called for by the client's feature at each place 0..31, four features for each client.
-fn calls(relaxation: &Relaxation) -> [f64; 32] {
-    let mut calls = [0.0; 32];
+/// The branching priority of the client's feature at each place 0..31, four features for each client.
+fn priorities(relaxation: &Relaxation) -> [f64; 32] {
+    let mut priorities = [0.0; 32];
     for place in 0..32 {
-        calls[place] = relaxation.call_for(place / 4, place % 4);
+        priorities[place] = relaxation.branching_priority(place / 4, place % 4);
     }
-    calls
+    priorities
 }
 
-/// The place where a split is called for most, if one is.
-fn most_called(calls: &[f64; 32]) -> Option<u8>
+/// The place of the greatest branching priority, if one is above 0.
+fn first_place(priorities: &[f64; 32]) -> Option<u8>
     ensures { IfSome result (λ place. place < 32) }
 {
     let mut found = None;
     let mut most = 0.0;
     for place in 0..32 {
-        if calls[usize::from(place)] > most {
+        if priorities[usize::from(place)] > most {
             found = Some(place);
-            most = calls[usize::from(place)];
+            most = priorities[usize::from(place)];
         }
     }
     found
 }
 
-/// The split that leaves least to search of those that the relaxation calls for, where it is worth more than a total. What is called for
-/// most is looked at first, so that the others need not be looked at for long.
-fn called_split(
+/// The split that leaves least to search of those with a branching priority, where the relaxation is worth more than a total. Those of the
+/// greatest priority are looked at first, so that the others need not be looked at for long.
+fn least_split(
     choice: &Choice,
     relaxation: &Relaxation,
     priced: &Priced,
@@ -57,13 +58,13 @@ fn called_split(
     if !relaxation.is_worth_more(total) {
         return best;
     }
-    let mut least = LAST;
-    let mut calls = calls(relaxation);
+    let mut least = MOST_LEFT;
+    let mut priorities = priorities(relaxation);
     for _ in 0..32 {
-        let Some(place) = most_called(&calls) else {
+        let Some(place) = first_place(&priorities) else {
             return best;
         };
-        calls[usize::from(place)] = 0.0;
+        priorities[usize::from(place)] = 0.0;
         let split = Split {
             client: place / 4,
             feature: place % 4,
@@ -82,8 +83,8 @@ fn called_split(
     best
 }
 
-/// The next feature to split by, which is not fixed yet: the one that leaves least to search, or the fewest parts open where the
-/// relaxation calls for none. None where all are fixed.
+/// The next feature to split by, which is not fixed yet: the one that leaves least to search, or the fewest parts open where no feature
+/// has a branching priority. None where all are fixed.
 pub(crate) fn next_split(
     choice: &Choice,
     relaxation: &Relaxation,
@@ -97,12 +98,15 @@ pub(crate) fn next_split(
     ensures full { IfNone result (IsFull choice.now) }
 {
     let priced = relaxation.priced(prices);
-    let called = called_split(choice, relaxation, &priced, total);
-    if called.is_some() {
-        return called;
+    let found = least_split(choice, relaxation, &priced, total);
+    if found.is_some() {
+        return found;
     }
     let mut best = None;
-    let mut least = LAST;
+    let mut least = OpenParts {
+        is_tight: true,
+        count: 21,
+    };
     for place in 0..32 {
         let split = Split {
             client: place / 4,

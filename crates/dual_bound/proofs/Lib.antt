@@ -1,5 +1,6 @@
 pub mod Ranks
 pub mod ChoiceLaws
 pub mod Greatest
-pub mod TableLaws
+pub mod CeilingLaws
+pub mod RestrictionLaws
 pub mod Reaching

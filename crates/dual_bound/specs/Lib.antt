@@ -1,3 +1,4 @@
 pub mod Choices
 pub mod Settled
-pub mod Tables
+pub mod Ceilings
+pub mod Restrictions

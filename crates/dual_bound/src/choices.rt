@@ -63,7 +63,7 @@ impl Choice {
     }
 
     /// The fixed value of a client's feature, if there is one.
-    fn at(&self, client: u8, feature: u8) -> Option<u8>
+    pub(crate) fn at(&self, client: u8, feature: u8) -> Option<u8>
         requires client { client < 8 }
         requires feature { feature < 4 }
         ensures { result ≡ choices.fixed_at self.now client feature }

@@ -1,13 +1,14 @@
 // Prices with what they say of all packages.
-ghost use Rattle.std.specs.Prelude.{◌≡◌, ◌+◌, ◌*◌, ◌<◌, ◌≤◌, ◌^◌, pos, negsuc, ◌+ℤ◌, ◌≤ℤ◌, true, false};
+ghost use Rattle.std.specs.Prelude.{◌≡◌, ℕ, ◌+◌, ◌*◌, ◌<◌, ◌≤◌, ◌^◌, ◌⊎◌, pos, negsuc, ◌+ℤ◌, ◌-ℤ◌, ◌≤ℤ◌, true, false, slice_index};
 ghost use Rattle.game_text.specs.Accounts.{AccountFile, IsAccount};
 ghost use Rattle.packages.specs.Bounds as bounds;
 ghost use Rattle.bound_cert.specs.Certificate.{is_within};
-ghost use Rattle.dual_bound.specs.Tables.{AreCosts, HasMore, IsCeiling};
+ghost use Rattle.relaxation.specs.Tables.{dollars_at};
+ghost use Rattle.dual_bound.specs.Ceilings.{AreCosts, HasMore, IsCeiling};
 
-use crate::worths::Worths;
 use game_text::Account;
 use packages::{Prices, cost, package, stock_value};
+use relaxation::Worths;
 
 /// Prices, what each package costs at them, and what all goods cost that there are.
 #[derive(Drop)]
@@ -33,8 +34,7 @@ impl Quote {
         }
     }
 
-    /// Whether the prices bound by a claim in dollars what is left of an account's packages, as far as a table tells that is a
-    /// ceiling of it.
+    /// Whether the prices bound by a claim in dollars what is left of an account's packages, by a table of upper bounds of their worths.
     pub fn holds(&self, left: &Worths, claim: u32) -> bool
         ensures bounds { (account : AccountFile) (narrowing : bounds.Narrowing) → IsAccount account
             → self.now.stock_value ≡ bounds.stock_value account.holdings self.now.prices
@@ -44,7 +44,7 @@ impl Quote {
     {
         let mut bound = self.stock_value as i64;
         for client in 0..8 {
-            bound = added(bound, left.most(client, &self.costs), client);
+            bound = added(bound, most(left, client, &self.costs), client);
         }
         bound <= i64::from(claim)
     }
@@ -75,4 +75,38 @@ fn costs(prices: &Prices) -> [u32; 393]
         }
     }
     costs
+}
+
+/// The most that any package is worth to a client, 0..7, beyond its cost, as the table has it.
+fn most(left: &Worths, client: usize, costs: &[u32; 393]) -> i64
+    requires { client < 8 }
+    ensures bound { (n : ℕ) → n < 393 → (dollars_at left.now.dollars client n -ℤ pos (slice_index costs.now n)) ≤ℤ result }
+    ensures reached { (n : ℕ) × (n < 393) × (result ≡ dollars_at left.now.dollars client n -ℤ pos (slice_index costs.now n)) }
+    ensures low { negsuc (2 ^ 33) ≤ℤ result }
+    ensures high { result ≤ℤ pos (2 ^ 33) }
+{
+    let mut most = margin(left.dollars[393 * client], costs[0]);
+    for number in 1..393 {
+        let other = margin(left.dollars[393 * client + number], costs[number]);
+        most = greater(most, other);
+    }
+    most
+}
+
+/// What dollars are beyond a cost.
+fn margin(dollars: i32, cost: u32) -> i64
+    ensures value { result ≡ dollars -ℤ pos cost }
+    ensures low { negsuc (2 ^ 33) ≤ℤ result }
+    ensures high { result ≤ℤ pos (2 ^ 33) }
+{
+    i64::from(dollars) - i64::from(cost)
+}
+
+/// The greater of two margins.
+fn greater(one: i64, other: i64) -> i64
+    ensures value { (result ≡ one) ⊎ (result ≡ other) }
+    ensures one { one ≤ℤ result }
+    ensures other { other ≤ℤ result }
+{
+    if other > one { other } else { one }
 }

@@ -1,21 +1,21 @@
 // Prices of which none is worth moving by 50.
-ghost use Rattle.std.specs.Prelude.{◌≡◌, ℕ, ◌<◌, ◌≤◌, true, false, set, length, IfSome, IfNone};
+ghost use Rattle.std.specs.Prelude.{◌≡◌, ℕ, ◌/◌, ◌%◌, ◌<◌, ◌≤◌, true, false, set, length, IfSome, IfNone};
 ghost use Rattle.std.specs.List.{All};
 ghost use Rattle.bound_cert.specs.Certificate.{IsLeft};
 ghost use Rattle.packages.specs.Packages.{IsPackage};
 ghost use Rattle.packages.specs.Bounds.{leaf_bound, stock_value};
 ghost use Rattle.packages.specs.Prices.{ArePrices};
-ghost use Rattle.dual_bound.specs.Choices.{chosen};
+ghost use Rattle.dual_bound.specs.Choices.{chosen, fixed_at};
 ghost use Rattle.dual_bound.specs.Settled as settled;
-ghost use Rattle.dual_bound.specs.Tables.{IsCeiling};
+ghost use Rattle.dual_bound.specs.Ceilings.{IsCeiling};
+ghost use Rattle.dual_bound.specs.Restrictions.{IsNarrowedBy, IsRestricted};
 
 use crate::allocations::{is_enough, worth};
 use crate::choices::Choice;
 use crate::quotes::Quote;
-use crate::relaxing::Relaxation;
-use crate::worths::Worths;
 use game_text::Account;
 use packages::{Narrowing, Package, Prices, leaf_bound};
+use relaxation::{Relaxation, Worths};
 use tac_base::limits::DUAL_PRICE;
 
 /// Whether a bound is lower than another, where both are there.
@@ -134,8 +134,8 @@ fn are_left(choice: &Choice, allocation: &[Package; 8]) -> bool
     true
 }
 
-/// Whether packages that are left reach what a quote's prices bound, as far as a table tells that is a ceiling of what is left, so that
-/// no prices bound it lower.
+/// Whether packages that are left reach what a quote's prices bound, by a table of upper bounds of what is left, so that no prices bound it
+/// lower.
 fn is_reached(
     account: &Account,
     choice: &Choice,
@@ -156,6 +156,26 @@ fn is_reached(
         && quote.holds(left, worth(account, allocation))
 }
 
+/// The clients keep what a choice leaves; it is not solved yet.
+fn choose(relaxation: &mut Relaxation, choice: &Choice)
+    ensures { IsRestricted (chosen choice.now) relaxation.old.worths.dollars relaxation.new.worths.dollars }
+{
+    for place in 0..32 {
+        narrow_at(relaxation, choice, place);
+    }
+}
+
+/// Narrows by what a choice fixes at a place 0..31, four features for each client.
+fn narrow_at(relaxation: &mut Relaxation, choice: &Choice, place: u8)
+    requires { place < 32 }
+    ensures { IsNarrowedBy (fixed_at choice.now (place / 4) (place % 4)) (place / 4) (place % 4) relaxation.old.worths.dollars relaxation.new.worths.dollars }
+{
+    let (client, feature) = (place / 4, place % 4);
+    if let Some(value) = choice.at(client, feature) {
+        relaxation.narrow(client, feature, value);
+    }
+}
+
 /// Whole prices for what a choice leaves of an account's packages, by which the leaf bound is low. No single price is worth
 /// moving by 50. That prices are found so is our own rule; any prices bound what is left.
 pub fn dual_prices(account: &Account, choice: &Choice) -> Prices
@@ -165,26 +185,23 @@ pub fn dual_prices(account: &Account, choice: &Choice) -> Prices
     // The proof rests on the account's ranges, which are known where it is read.
     let _holdings = &account.holdings;
     let mut left = Relaxation::new(account);
-    left.choose(choice);
+    choose(&mut left, choice);
     left.repair(0);
-    let quote = left.settled(account, choice);
+    let quote = settled_quote(account, choice, &left);
     // The range of the prices is known where they are read.
     let _dollars = &quote.prices.dollars;
     quote.prices
 }
 
-impl Relaxation {
-    /// Whole prices for what the choice leaves, of which no single one is worth moving by 50. The relaxation is of what the choice
-    /// leaves.
-    pub fn settled(&self, account: &Account, choice: &Choice) -> Quote
-        requires { IsCeiling account.now (chosen choice.now) self.now.worths.dollars }
-        ensures settled { settled.IsSettled account.now (chosen choice.now) result.prices }
-        ensures stock { result.stock_value ≡ stock_value account.now.holdings result.prices }
-    {
-        let quote = Quote::new(account, &self.prices());
-        if is_reached(account, choice, &self.worths, &quote, &self.packages()) {
-            return quote;
-        }
-        Quote::new(account, &settle(account, choice, quote.prices))
+/// Whole prices for what a choice leaves, of which no single one is worth moving by 50. The relaxation is of what the choice leaves.
+pub fn settled_quote(account: &Account, choice: &Choice, left: &Relaxation) -> Quote
+    requires { IsCeiling account.now (chosen choice.now) left.now.worths.dollars }
+    ensures settled { settled.IsSettled account.now (chosen choice.now) result.prices }
+    ensures stock { result.stock_value ≡ stock_value account.now.holdings result.prices }
+{
+    let quote = Quote::new(account, &left.prices());
+    if is_reached(account, choice, &left.worths, &quote, &left.packages()) {
+        return quote;
     }
+    Quote::new(account, &settle(account, choice, quote.prices))
 }

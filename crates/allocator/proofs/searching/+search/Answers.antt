@@ -6,8 +6,8 @@ use Rattle.bound_cert.specs.Views.{tree_of, forest_of}
 use Rattle.bound_cert.specs.Certificate.{holds}
 use Rattle.packages.specs.Features.{narrowed}
 use Rattle.dual_bound.specs.Choices.{chosen, fixed_count}
-use Rattle.dual_bound.specs.Tables.{IsCeiling}
-use Rattle.dual_bound.proofs.TableLaws.{ceiling_narrowed}
+use Rattle.dual_bound.specs.Ceilings.{IsCeiling}
+use Rattle.dual_bound.proofs.CeilingLaws.{ceiling_narrowed}
 use Rattle.allocator.proofs.Claims.{all_hold_more}
 use Rattle.allocator.proofs.Growing.{all_hold-push, are_trees-push, holds-split, is_tree-split, leaf_fits}
 use Rattle.allocator.proofs.searching.+search.Goals as goal

@@ -8,7 +8,7 @@ use Rattle.allocator.proofs.Growing.{leaf_fits}
 use Rattle.allocator.proofs.solving.explore_all.Goals as goal
 
 pub returns-then-holds-clause-fits : goal.returns-then-holds-clause-fits
-returns-then-holds-clause-fits c = leaf_fits 32 c.leaf.result c.settled-quote.result.prices c.leaf.ensures.view (c.leaf.ensures.fits 32)
+returns-then-holds-clause-fits c = leaf_fits 32 c.leaf.result c.settled_quote-quote.result.prices c.leaf.ensures.view (c.leaf.ensures.fits 32)
 
 pub returns-clause-holds : goal.returns-clause-holds
 returns-clause-holds c =

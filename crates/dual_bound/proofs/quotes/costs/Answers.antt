@@ -4,7 +4,7 @@ use Rattle.std.proofs.lemmas.Option.{slice_get_within}
 use Rattle.packages.specs.Listing.{packages}
 use Rattle.packages.specs.Bounds.{cost_of}
 use Rattle.packages.proofs.Decoded.{length-packages}
-use Rattle.dual_bound.proofs.TableLaws.{entries_more}
+use Rattle.relaxation.proofs.TableLaws.{entries_more}
 use Rattle.dual_bound.proofs.quotes.costs.Goals as goal
 use Rattle.dual_bound.proofs.quotes.costs.Goals.{in-Some, in_default}
 

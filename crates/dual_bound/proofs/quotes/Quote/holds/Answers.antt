@@ -1,7 +1,7 @@
 use Rattle.std.proofs.Common.{false, int_le, ◌≡◌, ◌<◌, ◌≤ℤ◌, to_z, of_z, ◌∙◌, w64, arith, subst, sym, pos, ◌-ℤ◌, get_or, ℕ}
 use Rattle.std.proofs.lemmas.Int.{ints}
-use Rattle.dual_bound.specs.Tables.{dollars_at}
-use Rattle.dual_bound.proofs.TableLaws.{IsChosen, chosen_all, chosen_more, under_more}
+use Rattle.relaxation.specs.Tables.{dollars_at}
+use Rattle.dual_bound.proofs.CeilingLaws.{IsChosen, chosen_all, chosen_more, under_more}
 use Rattle.dual_bound.proofs.quotes.Quote.holds.Goals as goal
 
 pub loop-client-preserved : goal.loop-client-preserved

@@ -1,0 +1,21 @@
+-- Tables of worths that are restricted to the packages that a choice leaves.
+use Rattle.std.specs.Prelude.{◌≡◌, ℕ, ◌<◌, ◌<ℤ◌, ℤ, pos, true, false, List, Option, Some, None, slice_get}
+use Rattle.packages.specs.declared.travel_packages.Package.{Package}
+use Rattle.packages.specs.Listing.{packages}
+use Rattle.packages.specs.Bounds.{Narrowing}
+use Rattle.packages.specs.Features.{feature_of}
+use Rattle.relaxation.specs.Tables.{IsNarrowed, dollars_at}
+
+-- a table keeps the dollars of all packages that are left
+abbrev pub KeepsLeft : Narrowing → List ℤ → List ℤ → Type 0
+KeepsLeft left old new = (k n : ℕ) (p : Package) → k < 8 → slice_get packages n ≡ Some p → left k p ≡ true → dollars_at new k n ≡ dollars_at old k n
+
+-- a table keeps the dollars of the packages that are left, and has less than nothing for the others
+pub record IsRestricted (left : Narrowing) (old new : List ℤ) : Type 0 where
+  pub keeps : KeepsLeft left old new
+  pub takes : (k n : ℕ) (p : Package) → k < 8 → slice_get packages n ≡ Some p → left k p ≡ false → dollars_at new k n <ℤ pos 0
+
+-- a table is narrowed by the fixed value of a client's feature, and stays the same where none is fixed
+abbrev pub IsNarrowedBy : Option ℕ → ℕ → ℕ → List ℤ → List ℤ → Type 0
+IsNarrowedBy None client feature old new = new ≡ old
+IsNarrowedBy (Some value) client feature old new = IsNarrowed (feature_of feature) client value old new

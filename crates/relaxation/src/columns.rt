@@ -1,0 +1,75 @@
+// The columns of the linear program.
+ghost use Rattle.std.specs.Prelude.{◌≡◌, ◌<◌};
+ghost use Rattle.packages.specs.Packages.{IsPackage};
+
+use packages::{Package, package};
+use tac_base::Good;
+
+/// The first rows of the linear program: one for each good, of which no more is used than there is.
+pub(crate) const GOODS: usize = 28;
+
+/// All rows: those of the goods, and then one for each of 8 clients, whose shares of packages add up to one.
+pub(crate) const ROWS: usize = GOODS + 8;
+
+/// A good, by the number of its row.
+#[derive(Clone, Copy)]
+pub(crate) struct GoodRow {
+    pub(crate) good: usize,
+    ghost is_good: { good < 28 },
+}
+
+/// A package of a client, both by number.
+#[derive(Clone, Copy)]
+pub(crate) struct ClientPackage {
+    pub(crate) client: usize,
+    pub(crate) number: usize,
+    ghost is_client: { client < 8 },
+    ghost is_package: { number < 393 },
+}
+
+/// A column, whose amount is a variable of the linear program.
+#[derive(Clone, Copy)]
+pub(crate) enum Column {
+    /// The slack of a good: what is left over of it.
+    Slack(GoodRow),
+    /// The surplus of a good: what is got of it beyond what there is.
+    Surplus(GoodRow),
+    /// The share that a client has of a package.
+    Share(ClientPackage),
+}
+
+/// A nonbasic column that enters the basis.
+#[derive(Clone, Copy)]
+pub(crate) struct Entering {
+    pub(crate) column: Column,
+    /// What one more of the column adds to the value; below 0 in a dual step.
+    pub(crate) reduced_cost: f64,
+}
+
+impl ClientPackage {
+    /// The package.
+    pub(crate) fn package(&self) -> Package
+        ensures { IsPackage result }
+    {
+        package(self.number as u16).unwrap()
+    }
+}
+
+impl Column {
+    /// The place of a column in the order that breaks ties, so that the simplex cannot cycle: slack and surplus of each good, and then the
+    /// shares of each client.
+    pub(crate) fn order(&self) -> usize {
+        match self {
+            Column::Slack(row) => 2 * row.good,
+            Column::Surplus(row) => 2 * row.good + 1,
+            Column::Share(share) => 2 * GOODS + 393 * share.client + share.number,
+        }
+    }
+}
+
+/// The row of a good.
+pub(crate) fn row_of_good(good: Good) -> usize
+    ensures { result < 28 }
+{
+    usize::from(good.get())
+}

@@ -1,0 +1,210 @@
+// The dual simplex: pivots out the basic variables that may not keep their amounts.
+ghost use Rattle.std.specs.Prelude.{◌<◌};
+ghost use Rattle.relaxation.specs.declared.columns.TheConstants.{ROWS};
+
+use crate::charges::charges;
+use crate::columns::{ClientPackage, Column, Entering, GOODS, GoodRow, ROWS};
+use crate::rounding::best_margin;
+use crate::tableau::{AMOUNT, Row, TOLERANCE, Tableau, WIDTH};
+use crate::worths::Worths;
+
+/// Dual steps stop at this margin below a total, in dollars, so that the prices mostly bound what is left by the total too when they are
+/// cut to whole dollars.
+const MARGIN: f64 = 4.0;
+
+/// A row whose basic variable may not keep its amount: it is below 0 (sign -1), or that of an excluded package above 0 (sign 1).
+#[derive(Clone, Copy)]
+pub(crate) struct Infeasible {
+    row: usize,
+    sign: f64,
+    ghost is_row: { row < ROWS },
+}
+
+/// The direction in which a dual step moves the prices.
+#[derive(Clone, Copy)]
+struct Direction {
+    /// The infeasible row, by its sign.
+    row: Row,
+    /// What packages cost before the step.
+    charges: [f64; 393],
+    /// What a step of one takes from these charges.
+    falls: [f64; 393],
+}
+
+impl Tableau {
+    /// Pivots out excluded packages by at most so many dual simplex steps, as long as more may be left than a total. The prices bound what is
+    /// left after each step, but for errors of rounding.
+    pub(crate) fn repair(&mut self, worths: &Worths, total: f64, steps: u32) {
+        let mut charges = charges(&worths.features, &self.prices);
+        for _ in 0..steps {
+            let Some(infeasible) = self.infeasible(worths) else {
+                return;
+            };
+            let dollars = self.value() - total + MARGIN;
+            if !self.dual_step(worths, &infeasible, dollars, &mut charges) {
+                return;
+            }
+        }
+    }
+
+    /// The row whose basic variable is furthest from an amount that it may keep, if there is one.
+    pub(crate) fn infeasible(&self, worths: &Worths) -> Option<Infeasible> {
+        let mut found = None;
+        let mut most = TOLERANCE;
+        for row in 0..ROWS {
+            let amount = self.rows[row][AMOUNT];
+            if -amount > most {
+                most = -amount;
+                found = Some(Infeasible { row, sign: -1.0 });
+            } else if amount > most && self.is_excluded(worths, row) {
+                most = amount;
+                found = Some(Infeasible { row, sign: 1.0 });
+            }
+        }
+        found
+    }
+
+    /// Whether the basic variable of a row is the share of an excluded package.
+    fn is_excluded(&self, worths: &Worths, row: usize) -> bool
+        requires { row < ROWS }
+    {
+        match &self.basis[row] {
+            Column::Share(of) => worths.is_excluded(of),
+            _ => false,
+        }
+    }
+
+    /// A dual simplex step: replaces the basic variable of an infeasible row by the column that costs least for it, and says whether that was
+    /// done. Where none costs less than so many dollars together, the prices alone move, by these dollars. The charges of packages go
+    /// with the prices.
+    fn dual_step(
+        &mut self,
+        worths: &Worths,
+        infeasible: &Infeasible,
+        dollars: f64,
+        charges: &mut [f64; 393],
+    ) -> bool {
+        let direction = self.direction(worths, infeasible, charges);
+        let most = dollars / direction.row[AMOUNT];
+        if !(most > 0.0) {
+            return false;
+        }
+        let Some(entering) = self.dual_entering(worths, &direction, most) else {
+            add(&mut self.prices, &direction.row, -most);
+            return false;
+        };
+        let pivot_column = self.pivot_column(&entering.column);
+        let pivot = pivot_column[infeasible.row];
+        if pivot.abs() < TOLERANCE {
+            return false;
+        }
+        *charges = charges_after(&direction, -entering.reduced_cost * infeasible.sign / pivot);
+        self.pivot(&entering, &pivot_column, infeasible.row);
+        true
+    }
+
+    /// The direction of the prices as the basic variable of an infeasible row is pivoted out, where packages have these charges.
+    fn direction(
+        &self,
+        worths: &Worths,
+        infeasible: &Infeasible,
+        before: &[f64; 393],
+    ) -> Direction {
+        let mut row = [0.0; WIDTH];
+        add(&mut row, &self.rows[infeasible.row], infeasible.sign);
+        Direction {
+            row,
+            charges: *before,
+            falls: charges(&worths.features, &row),
+        }
+    }
+
+    /// The ratio test of the dual simplex: the nonbasic column whose reduced cost comes to 0 first as the prices move, if one does before they
+    /// have moved so far.
+    fn dual_entering(&self, worths: &Worths, direction: &Direction, most: f64) -> Option<Entering> {
+        let (mut found, far) = entering_slack(&self.prices, direction, most);
+        let charges = charges_after(direction, far);
+        let mut least = far;
+        for client in 0..8 {
+            let gained = self.prices[GOODS + client] - far * direction.row[GOODS + client];
+            if best_margin(worths.row(client), &charges) > gained + TOLERANCE {
+                let (entering, far) = self.entering_share(worths, direction, client, least);
+                if far < least {
+                    least = far;
+                    found = Some(entering);
+                }
+            }
+        }
+        found
+    }
+
+    /// The share of a client, 0..7, whose reduced cost comes to 0 first as the prices move so far at most, and how far that is.
+    fn entering_share(
+        &self,
+        worths: &Worths,
+        direction: &Direction,
+        client: usize,
+        most: f64,
+    ) -> (Entering, f64)
+        requires { client < 8 }
+    {
+        let worths = worths.row(client);
+        let gained = self.prices[GOODS + client];
+        let taken = direction.row[GOODS + client];
+        let mut first = 0;
+        let mut reduced_cost = 0.0;
+        let mut least = most;
+        for number in 0..393 {
+            let entry = direction.falls[number] + taken;
+            let other = f64::from(worths[number]) - direction.charges[number] - gained;
+            if entry > TOLERANCE && -other < least * entry {
+                first = number;
+                reduced_cost = other;
+                least = -other / entry;
+            }
+        }
+        (
+            Entering {
+                column: Column::Share(ClientPackage {
+                    client,
+                    number: first,
+                }),
+                reduced_cost,
+            },
+            least,
+        )
+    }
+}
+
+/// What each package costs once the prices have moved so far.
+fn charges_after(direction: &Direction, far: f64) -> [f64; 393] {
+    let mut charges = direction.charges;
+    for number in 0..393 {
+        charges[number] -= far * direction.falls[number];
+    }
+    charges
+}
+
+/// The slack whose reduced cost comes to 0 first as the prices move, if one does before they have moved so far, and how far that is.
+fn entering_slack(prices: &Row, direction: &Direction, most: f64) -> (Option<Entering>, f64) {
+    let mut found = None;
+    let mut least = most;
+    for good in 0..GOODS {
+        let entry = direction.row[good];
+        if entry > TOLERANCE && prices[good] < least * entry {
+            least = prices[good] / entry;
+            found = Some(Entering {
+                column: Column::Slack(GoodRow { good }),
+                reduced_cost: -prices[good],
+            });
+        }
+    }
+    (found, least)
+}
+
+/// Adds so many times a row to another one.
+fn add(row: &mut Row, other: &Row, times: f64) {
+    for place in 0..WIDTH {
+        row[place] += times * other[place];
+    }
+}

@@ -1,0 +1,85 @@
+// The features of all packages.
+ghost use Rattle.std.specs.Prelude.{◌≡◌, ◌+◌, ◌<◌, [], Some, slice_get};
+ghost use Rattle.packages.specs.declared.travel_packages.Package.{Package};
+ghost use Rattle.packages.specs.Packages.{IsPackage};
+ghost use Rattle.packages.specs.Listing.{packages};
+ghost use Rattle.packages.specs.Features.{feature_of};
+ghost use Rattle.relaxation.specs.Tables.{AreEntries, features_of};
+
+use packages::{Package, feature_value, package};
+
+/// The features of all packages.
+#[derive(Clone, Copy)]
+pub(crate) struct Features {
+    /// By the package's number 0..392 and the feature 0..3.
+    values: [[u8; 4]; 393],
+    ghost are: { AreEntries features_of [] values },
+}
+
+impl Features {
+    pub(crate) fn new() -> Features {
+        Features { values: table() }
+    }
+
+    /// The features of the package of a number, 0..392.
+    fn of(&self, number: usize) -> &[u8; 4]
+        requires { number < 393 }
+        ensures { (p : Package) → slice_get packages number ≡ Some p → result.now ≡ features_of p }
+    {
+        &self.values[number]
+    }
+
+    /// The value of a feature, 0..3, of the package of a number, 0..392.
+    pub(crate) fn value_of(&self, number: usize, feature: usize) -> u8
+        requires number { number < 393 }
+        requires feature { feature < 4 }
+        ensures value { (p : Package) → slice_get packages number ≡ Some p → result ≡ feature_of feature p }
+        ensures range { result < 21 }
+    {
+        let values = self.of(number);
+        values[feature]
+    }
+
+    /// The trip's value of the package of a number, 0..392.
+    pub(crate) fn trip_of(&self, number: usize) -> usize
+        requires { number < 393 }
+        ensures { result < 21 }
+    {
+        usize::from(self.value_of(number, 0))
+    }
+
+    /// The night of a ticket type, 0..2, of the package of a number, 0..392.
+    pub(crate) fn night_of(&self, number: usize, kind: usize) -> usize
+        requires number { number < 393 }
+        requires kind { kind < 3 }
+        ensures { result < 5 }
+    {
+        usize::from(self.value_of(number, kind + 1))
+    }
+}
+
+/// The features of all packages, by number.
+fn table() -> [[u8; 4]; 393]
+    ensures { AreEntries features_of [] result }
+{
+    let mut values = [[0; 4]; 393];
+    for number in 0..393 {
+        if let Some(choice) = package(number) {
+            values[usize::from(number)] = features_of(&choice);
+        }
+    }
+    values
+}
+
+/// The four features of a package.
+fn features_of(package: &Package) -> [u8; 4]
+    requires { IsPackage «package».now }
+    ensures { result ≡ features_of «package».now }
+{
+    [
+        feature_value(package, 0),
+        feature_value(package, 1),
+        feature_value(package, 2),
+        feature_value(package, 3),
+    ]
+}

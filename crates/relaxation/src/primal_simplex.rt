@@ -1,0 +1,185 @@
+// The primal simplex, with columns of packages made on demand.
+ghost use Rattle.std.specs.Prelude.{◌≡◌, ◌<◌, length};
+
+use crate::charges::charges;
+use crate::columns::{ClientPackage, Column, Entering, GOODS, GoodRow};
+use crate::tableau::{Row, TOLERANCE, Tableau};
+use crate::worths::Worths;
+use tac_base::limits::DUAL_PRICE;
+
+/// At most so many columns enter.
+const MOST_STEPS: u32 = 2000;
+
+/// After so many steps in a row that gain nothing, the first column that gains enters.
+const MOST_IDLE: u32 = 100;
+
+/// What the price of each good may be at least and at most, in dollars.
+#[derive(Clone, Copy)]
+pub(crate) struct Limits {
+    pub(crate) low: [f64; 28],
+    pub(crate) high: [f64; 28],
+}
+
+impl Limits {
+    /// The limits of all prices.
+    pub(crate) fn none() -> Limits {
+        Limits {
+            low: [0.0; 28],
+            high: [f64::from(DUAL_PRICE); 28],
+        }
+    }
+}
+
+impl Tableau {
+    /// Finds the shares that are worth most together, as far as a bounded number of steps leads. Slack at the lower limit of a price and
+    /// surplus at the upper one keep the price between them. After many steps that gain nothing the first column that gains enters, so that
+    /// the simplex cannot cycle.
+    pub(crate) fn solve(&mut self, worths: &Worths, limits: &Limits) {
+        let mut turn = 0;
+        let mut idle = 0;
+        for _step in 0..MOST_STEPS {
+            let is_idle = idle >= MOST_IDLE;
+            let found = if is_idle {
+                self.first_entering(worths, limits)
+            } else {
+                self.entering(worths, limits, turn)
+            };
+            let Some(entering) = found else {
+                return;
+            };
+            let pivot_column = self.pivot_column(&entering.column);
+            let Some(leaving) = self.leaving(&pivot_column, is_idle) else {
+                return;
+            };
+            let before = self.value();
+            self.pivot(&entering, &pivot_column, leaving);
+            turn = after(turn, &entering.column);
+            idle = if self.value() > before + TOLERANCE {
+                0
+            } else {
+                idle + 1
+            };
+        }
+    }
+
+    /// The first column with a reduced cost above 0: of a good whose price is beyond its limits, or of a client's package.
+    fn first_entering(&self, worths: &Worths, limits: &Limits) -> Option<Entering> {
+        for good in 0..GOODS {
+            let entering = beyond(&self.prices, limits, good);
+            if entering.reduced_cost > TOLERANCE {
+                return Some(entering);
+            }
+        }
+        let charges = charges(&worths.features, &self.prices);
+        for client in 0..8 {
+            let gained = self.prices[GOODS + client];
+            let worths = worths.row(client);
+            for number in 0..393 {
+                let reduced_cost = f64::from(worths[number]) - charges[number] - gained;
+                if reduced_cost > TOLERANCE {
+                    return Some(Entering {
+                        column: Column::Share(ClientPackage { client, number }),
+                        reduced_cost,
+                    });
+                }
+            }
+        }
+        None
+    }
+
+    /// A column with a reduced cost above 0: of the good whose price is furthest beyond its limits, or of the best package of the next client
+    /// from a turn on that has a better one.
+    fn entering(&self, worths: &Worths, limits: &Limits, turn: usize) -> Option<Entering>
+        requires { turn < 8 }
+    {
+        let good = furthest_beyond(&self.prices, limits);
+        if good.reduced_cost > TOLERANCE {
+            return Some(good);
+        }
+        let charges = charges(&worths.features, &self.prices);
+        for step in 0..8 {
+            let client = (turn + step) % 8;
+            let found = self.entering_of(worths, client, &charges);
+            if found.is_some() {
+                return found;
+            }
+        }
+        None
+    }
+
+    /// The package of a client, 0..7, with the greatest reduced cost, if that is above 0.
+    fn entering_of(&self, worths: &Worths, client: usize, charges: &[f64; 393]) -> Option<Entering>
+        requires { client < 8 }
+    {
+        let gained = self.prices[GOODS + client];
+        let (number, most) = best_package(worths.row(client), charges);
+        if most - gained > TOLERANCE {
+            Some(Entering {
+                column: Column::Share(ClientPackage { client, number }),
+                reduced_cost: most - gained,
+            })
+        } else {
+            None
+        }
+    }
+}
+
+/// The client that is asked next once a column has entered: the one after its own.
+fn after(turn: usize, column: &Column) -> usize
+    requires { turn < 8 }
+    ensures { result < 8 }
+{
+    match column {
+        Column::Share(of) => (of.client + 1) % 8,
+        _ => turn,
+    }
+}
+
+/// The slack or the surplus of a good, 0..27, whichever keeps its price to the nearer limit; the reduced cost is below 0 where the price is
+/// within the limits.
+fn beyond(prices: &Row, limits: &Limits, good: usize) -> Entering
+    requires { good < 28 }
+{
+    let below = limits.low[good] - prices[good];
+    let above = prices[good] - limits.high[good];
+    if below >= above {
+        Entering {
+            column: Column::Slack(GoodRow { good }),
+            reduced_cost: below,
+        }
+    } else {
+        Entering {
+            column: Column::Surplus(GoodRow { good }),
+            reduced_cost: above,
+        }
+    }
+}
+
+/// The slack or the surplus of the good whose price is furthest beyond its limits, or least within them.
+fn furthest_beyond(prices: &Row, limits: &Limits) -> Entering {
+    let mut most = beyond(prices, limits, 0);
+    for good in 1..GOODS {
+        let other = beyond(prices, limits, good);
+        if other.reduced_cost > most.reduced_cost {
+            most = other;
+        }
+    }
+    most
+}
+
+/// The package that is worth most beyond its charge, and how much that is.
+pub(crate) fn best_package(worths: &[i32], charges: &[f64; 393]) -> (usize, f64)
+    requires { length worths.now ≡ 393 }
+    ensures { result.0 < 393 }
+{
+    let mut best = 0;
+    let mut most = f64::from(worths[0]) - charges[0];
+    for number in 1..393 {
+        let margin = f64::from(worths[number]) - charges[number];
+        if margin > most {
+            most = margin;
+            best = number;
+        }
+    }
+    (best, most)
+}

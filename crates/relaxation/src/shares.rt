@@ -1,0 +1,74 @@
+// The shares that clients have of packages, and the packages that they have whole.
+ghost use Rattle.std.specs.Prelude.{◌≡◌, ◌<◌, length};
+ghost use Rattle.std.specs.List.{All};
+ghost use Rattle.packages.specs.Packages.{IsPackage};
+
+use crate::charges::charges;
+use crate::columns::{ClientPackage, Column, ROWS};
+use crate::primal_simplex::best_package;
+use crate::relaxing::Relaxation;
+use crate::rounding::row_of;
+use crate::tableau::{AMOUNT, TOLERANCE};
+use packages::{Package, Prices};
+
+impl Relaxation {
+    /// The packages that the clients have whole; a client that has none whole stays at home.
+    pub fn packages(&self) -> [Package; 8]
+        ensures eight { length result ≡ 8 }
+        ensures lawful { All IsPackage result }
+    {
+        let mut packages = [Package::None; 8];
+        for client in 0..8 {
+            packages[client] = self.package_of(client);
+        }
+        packages
+    }
+
+    /// The package that a client, 0..7, has whole, if it has one.
+    fn package_of(&self, client: usize) -> Package
+        requires { client < 8 }
+        ensures { IsPackage result }
+    {
+        let mut number = 0;
+        for row in 0..ROWS {
+            if let Column::Share(of) = &self.tableau.basis[row] {
+                if of.client == client && self.tableau.rows[row][AMOUNT] > 1.0 - TOLERANCE {
+                    number = of.number;
+                }
+            }
+        }
+        ClientPackage { client, number }.package()
+    }
+
+    /// The package that is worth most to a client, 0..7, beyond its cost at the prices: one that is left to it, or the one that
+    /// it has.
+    pub fn best_left(&self, client: usize, prices: &Prices, has: &Package) -> Package
+        requires client { client < 8 }
+        requires lawful { IsPackage has.now }
+        ensures { IsPackage result }
+    {
+        let charges = charges(&self.worths.features, &row_of(prices));
+        let (number, most) = best_package(self.worths.row(client), &charges);
+        if most < 0.0 {
+            *has
+        } else {
+            ClientPackage { client, number }.package()
+        }
+    }
+
+    /// How much of a client's packages have each value of a feature, 0..3.
+    pub(crate) fn shares(&self, client: usize, feature: usize) -> [f64; 21]
+        requires { feature < 4 }
+    {
+        let mut shares = [0.0; 21];
+        for row in 0..ROWS {
+            if let Column::Share(of) = &self.tableau.basis[row] {
+                if of.client == client {
+                    let value = self.worths.features.value_of(of.number, feature);
+                    shares[usize::from(value)] += self.tableau.rows[row][AMOUNT];
+                }
+            }
+        }
+        shares
+    }
+}
