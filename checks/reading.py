@@ -20,8 +20,9 @@ NAME = re.compile(r"[A-Za-z_][A-Za-z0-9_']*(?:\.[A-Za-z_][A-Za-z0-9_']*)*")
 WORDS = r"(?:(?:pub|abbrev|unfoldable) )*"
 # What only one part of the promise needs, by crate or module, with its heading.
 PARTS = [
+    ("The certificates of the scores: their lines in the log, and when they hold", ["bound_cert", "packages.Bounds", "packages.Features", "packages.Listing"]),
     ("For `serve .. json` alone", ["json_dialect"]),
-    ("That the log is sound, as `audit` has it", ["log_reader", "log_text.LoggedGames", "line_protocol.Ranges", "game_log.LogRanges", "tac_commands.SoundTexts"]),
+    ("That the log is sound, as `audit` has it", ["log_reader", "log_text.LoggedGames", "line_protocol.Ranges", "game_log.LogRanges", "tac_commands.SoundTexts", "tacd.SoundLogs"]),
 ]
 
 
@@ -229,7 +230,7 @@ def page(modules, given, clauses):
         "## A game over links, in lines of words",
         "",
         "The clause `service`: which game was played, that its 28 auctions and its cash went by the rules, that each agent's calls are those that its link asked,",
-        "that each score is the greatest utility there is, and which bytes were written. %d lines in %d modules." % (line_count(modules, core), len(core)),
+        "that each score is the greatest utility there is, and which bytes were written, but for the lines of certificates. %d lines in %d modules." % (line_count(modules, core), len(core)),
         "",
     ]
     text += table(modules, core, order)

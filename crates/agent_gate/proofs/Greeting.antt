@@ -1,12 +1,15 @@
 -- The welcome, piece by piece.
-use Rattle.std.proofs.Common.{◌≡◌, ℕ, ◌+◌, ◌<◌, List, [], ◌∷◌, ◌++◌, length, take, drop, get_or, sym, ap, ◌∙◌, arith, length-append}
-use Rattle.std.specs.Prelude.{Option}
+use Rattle.std.proofs.Common.{◌≡◌, ℕ, ◌+◌, ◌<◌, List, [], ◌∷◌, ◌++◌, length, take, drop, get_or, sym, ap, ◌∙◌, arith, length-append, subst, Ok, Err}
+use Rattle.std.specs.Prelude.{Option, Result}
 use Rattle.std.proofs.Math.Seq.{take-append-add, take-length}
 use Rattle.std.proofs.lemmas.List.{append_assoc, append-nil, take-append-le, take-append-drop, take_more}
 use Rattle.std.proofs.lemmas.Grind.{flat_map-append}
 use Rattle.text_forms.specs.Lines.{text_of}
+use Rattle.tac_io.specs.Counts.{Rose}
+use Rattle.tac_io.specs.LinkCalls.{OnlySends, ReadsNothing}
+use Rattle.tac_io.specs.States.{LinkState}
 use Rattle.tac_io.specs.Told.{and_then_told, TakesSome}
-use Rattle.tac_io.proofs.Tellings.{and_then_told-twice}
+use Rattle.tac_io.proofs.Tellings.{and_then_told-twice, read_nothing_twice}
 use Rattle.agent_gate.specs.Welcome.{MovesOn}
 
 -- what was sent of a part, after all that stands before it, was sent of the whole
@@ -25,9 +28,9 @@ takes_within told₀ told₁ told₂ done part after whole before is some =
 
 module _ (first : List ℕ) (lines : List (List ℕ)) where
   -- a text has what was not sent yet of the first line and n more
-  pub record IsGreeting (n : ℕ) (text : List ℕ) (sent sent' : Option (List ℕ)) : Type 0 where
+  pub record IsGreeting (n : ℕ) (text : List ℕ) (link link' : LinkState) : Type 0 where
     pub done : List ℕ
-    pub told : sent' ≡ and_then_told sent done
+    pub told : link'.sent ≡ and_then_told link.sent done
     pub so_far : done ++ text ≡ (first ++ 10 ∷ []) ++ text_of (take n lines)
 
   one_more : (n : ℕ) → n < length lines → text_of (take (n + 1) lines) ≡ text_of (take n lines) ++ (get_or lines n [] ++ 10 ∷ [])
@@ -36,11 +39,11 @@ module _ (first : List ℕ) (lines : List (List ℕ)) where
       ∙ flat_map-append (λ line. line ++ 10 ∷ []) (take n lines) (get_or lines n [] ∷ [])
       ∙ ap (λ l. text_of (take n lines) ++ l) (append-nil (get_or lines n [] ++ 10 ∷ []))
 
-  pub greeting_more : (n : ℕ) (text text₂ text₃ text₄ : List ℕ) (sent sent' sent₂ : Option (List ℕ)) → IsGreeting n text sent sent' → MovesOn sent' sent₂ text text₂
-      → text₃ ≡ text₂ ++ get_or lines n [] → text₄ ≡ text₃ ++ 10 ∷ [] → n < length lines → IsGreeting (n + 1) text₄ sent sent₂
-  greeting_more n text text₂ text₃ text₄ sent sent' sent₂ going moves line end lt = let row = get_or lines n [] in record {
+  pub greeting_more : (n : ℕ) (text text₂ text₃ text₄ : List ℕ) (link link' link₂ : LinkState) → IsGreeting n text link link' → MovesOn link' link₂ text text₂
+      → text₃ ≡ text₂ ++ get_or lines n [] → text₄ ≡ text₃ ++ 10 ∷ [] → n < length lines → IsGreeting (n + 1) text₄ link link₂
+  greeting_more n text text₂ text₃ text₄ link link' link₂ going moves line end lt = let row = get_or lines n [] in record {
     done = going.done ++ moves.first;
-    told = moves.told ∙ ap (λ t. and_then_told t moves.first) going.told ∙ and_then_told-twice sent going.done moves.first;
+    told = moves.told ∙ ap (λ t. and_then_told t moves.first) going.told ∙ and_then_told-twice link.sent going.done moves.first;
     so_far =
         ap (λ l. (going.done ++ moves.first) ++ l) (end ∙ ap (λ l. l ++ 10 ∷ []) line ∙ append_assoc text₂ row (10 ∷ []))
         ∙ sym (append_assoc (going.done ++ moves.first) text₂ (row ++ 10 ∷ []))
@@ -50,17 +53,29 @@ module _ (first : List ℕ) (lines : List (List ℕ)) where
   }
 
   -- the text of all lines, after those so far
-  rest_of : (n : ℕ) (text : List ℕ) (sent sent' : Option (List ℕ)) (going : IsGreeting n text sent sent') → text_of (first ∷ lines) ≡ (going.done ++ text) ++ text_of (drop n lines)
-  rest_of n text sent sent' going =
+  rest_of : (n : ℕ) (text : List ℕ) (link link' : LinkState) (going : IsGreeting n text link link') → text_of (first ∷ lines) ≡ (going.done ++ text) ++ text_of (drop n lines)
+  rest_of n text link link' going =
       ap (λ l. (first ++ 10 ∷ []) ++ text_of l) (sym (take-append-drop n lines))
       ∙ ap (λ l. (first ++ 10 ∷ []) ++ l) (flat_map-append (λ line. line ++ 10 ∷ []) (take n lines) (drop n lines))
       ∙ sym (append_assoc (first ++ 10 ∷ []) (text_of (take n lines)) (text_of (drop n lines)))
       ∙ ap (λ l. l ++ text_of (drop n lines)) (sym going.so_far)
 
-  pub greeting_cut_off : (n : ℕ) (text : List ℕ) (sent sent' sent₂ : Option (List ℕ)) → IsGreeting n text sent sent' → TakesSome sent' sent₂ text → TakesSome sent sent₂ (text_of (first ∷ lines))
-  greeting_cut_off n text sent sent' sent₂ going some = takes_within sent sent' sent₂ going.done text (text_of (drop n lines)) (text_of (first ∷ lines)) going.told (rest_of n text sent sent' going) some
+  greeting_cut_off : (n : ℕ) (text : List ℕ) (link link' link₂ : LinkState) → IsGreeting n text link link' → TakesSome link'.sent link₂.sent text → TakesSome link.sent link₂.sent (text_of (first ∷ lines))
+  greeting_cut_off n text link link' link₂ going some = takes_within link.sent link'.sent link₂.sent going.done text (text_of (drop n lines)) (text_of (first ∷ lines)) going.told (rest_of n text link link' going) some
 
-  pub greeting_whole : (n : ℕ) (text : List ℕ) (sent sent' sent₂ : Option (List ℕ)) → IsGreeting n text sent sent' → n ≡ length lines → sent₂ ≡ and_then_told sent' text → sent₂ ≡ and_then_told sent (text_of (first ∷ lines))
-  greeting_whole n text sent sent' sent₂ going all is =
-      is ∙ ap (λ t. and_then_told t text) going.told ∙ and_then_told-twice sent going.done text
-      ∙ ap (and_then_told sent) (going.so_far ∙ ap (λ l. (first ++ 10 ∷ []) ++ text_of l) (ap (λ m. take m lines) all ∙ take-length lines))
+  greeting_whole : (n : ℕ) (text : List ℕ) (link link' link₂ : LinkState) → IsGreeting n text link link' → n ≡ length lines → link₂.sent ≡ and_then_told link'.sent text → link₂.sent ≡ and_then_told link.sent (text_of (first ∷ lines))
+  greeting_whole n text link link' link₂ going all is =
+      is ∙ ap (λ t. and_then_told t text) going.told ∙ and_then_told-twice link.sent going.done text
+      ∙ ap (and_then_told link.sent) (going.so_far ∙ ap (λ l. (first ++ 10 ∷ []) ++ text_of l) (ap (λ m. take m lines) all ∙ take-length lines))
+
+  -- an earlier piece was not sent whole
+  pub greeting_stopped : (T : Type 0) {E : Type 0} (n : ℕ) (text : List ℕ) (link link' link₂ : LinkState) (e : E) → IsGreeting n text link link' → link'.writes ≡ link.writes → ReadsNothing link link'
+      → TakesSome link'.sent link₂.sent text → Rose link'.writes link₂.writes → ReadsNothing link' link₂ → OnlySends {T = T} link link₂ (text_of (first ∷ lines)) (Err e)
+  greeting_stopped T n text link link' link₂ e going quiet read some rose still =
+      (greeting_cut_off n text link link' link₂ going some, subst (λ writes. Rose writes link₂.writes) quiet rose, read_nothing_twice link link' link₂ read still)
+
+  -- the last piece was sent, whole or not
+  pub greeting_sent : {T E : Type 0} (n : ℕ) (text : List ℕ) (link link' link₂ : LinkState) (result : Result T E) → IsGreeting n text link link' → n ≡ length lines → link'.writes ≡ link.writes → ReadsNothing link link'
+      → OnlySends link' link₂ text result → OnlySends link link₂ (text_of (first ∷ lines)) result
+  greeting_sent n text link link' link₂ (Ok x) going all quiet read sends = (greeting_whole n text link link' link₂ going all sends.0, sends.1 ∙ quiet, read_nothing_twice link link' link₂ read sends.2)
+  greeting_sent {T} n text link link' link₂ (Err e) going all quiet read sends = greeting_stopped T n text link link' link₂ e going quiet read sends.0 sends.1 sends.2

@@ -7,11 +7,13 @@ use Rattle.std.proofs.lemmas.Grind.{flat_map-append}
 use Rattle.tac_io.specs.AnswersInTurn.{answers_left}
 use Rattle.tac_io.specs.HeldBytes.{Held}
 use Rattle.tac_io.specs.LineAnswers.{Answers}
-use Rattle.tac_io.specs.Told.{and_then_told, before_told, IsAtEnd, TakesSome}
+use Rattle.tac_io.specs.LinkCalls.{GaveBytes}
+use Rattle.tac_io.specs.States.{LinkState}
+use Rattle.tac_io.specs.Told.{and_then_told, IsAtEnd, TakesSome}
 use Rattle.tac_io.specs.declared.line_got.LineGot.{LineGot}
 use Rattle.tac_io.specs.declared.line_got.LineGot.TheVariants as gots
 use Rattle.tac_io.proofs.ByBytes.{in_turn}
-use Rattle.tac_io.proofs.Tellings.{and_then_told-nothing, and_then_told-twice, before_told-nothing, before_told-twice}
+use Rattle.tac_io.proofs.Tellings.{and_then_told-twice, gave_twice}
 use Rattle.line_protocol.specs.declared.asking.Request.{Request}
 use Rattle.line_protocol.specs.declared.asking.RequestFault.{RequestFault}
 use Rattle.line_protocol.specs.declared.saying.Said.{Said}
@@ -33,19 +35,23 @@ use Rattle.agent_gate.proofs.DeskTurns.{HasMade, due_lawful, made_more, all_made
 
 -- ---- the next answer, whatever comes after the bytes that were taken
 
-module _ (old new : Held) (taken taken' left left' : Option (List ℕ)) (count count' : ℕ) where
+-- a link that tells what it has left, and nothing else
+abbrev leaving : List ℕ → LinkState
+leaving left = record { taken = None; left = Some left; sent = None; reads = 0; writes = 0 }
+
+module _ (old new : Held) (link link' : LinkState) (count count' : ℕ) where
   -- an item comes of a line, or of one that is too long
-  pub item_first : (may_answer : List ℕ → Result Request RequestFault → Type 0) (item : Item) (got : LineGot) (a : Answers old new taken taken' left left' count count' got) → count' ≤ 2 ^ 26 → IsItem may_answer (got, new.line) item
+  pub item_first : (may_answer : List ℕ → Result Request RequestFault → Type 0) (item : Item) (got : LineGot) (a : Answers old new link link' count count' got) → count' ≤ 2 ^ 26 → IsItem may_answer (got, new.line) item
       → (first : LineGot × List ℕ) × IsItem may_answer first item × ((after : List ℕ) → answers_left old (a.more ++ after) count ≡ first ∷ answers_left new after count')
   item_first may_answer item gots.Line a le is = (
     (gots.Line, new.line),
     is,
-    λ after. in_turn old new None None (Some (a.more ++ after)) (Some after) count count' gots.Line (record { more = a.more; told = refl; gave = refl; counted = a.counted; next = a.next }) le,
+    λ after. in_turn old new (leaving (a.more ++ after)) (leaving after) count count' gots.Line (record { more = a.more; gave = (refl, refl); counted = a.counted; next = a.next }) le,
   )
   item_first may_answer Overlong gots.TooLong a le is = (
     (gots.TooLong, []),
     tt,
-    λ after. in_turn old new None None (Some (a.more ++ after)) (Some after) count count' gots.TooLong (record { more = a.more; told = refl; gave = refl; counted = a.counted; next = a.next }) le,
+    λ after. in_turn old new (leaving (a.more ++ after)) (leaving after) count count' gots.TooLong (record { more = a.more; gave = (refl, refl); counted = a.counted; next = a.next }) le,
   )
   item_first may_answer (Asks asked) gots.TooLong a le is = absurd is
   item_first may_answer (Asks asked) gots.End a le is = absurd is
@@ -56,11 +62,11 @@ module _ (old new : Held) (taken taken' left left' : Option (List ℕ)) (count c
   item_first may_answer Overlong gots.Budget a le is = absurd is
 
   -- the link's bytes end without one more line
-  pub end_comes : (got : LineGot) (a : Answers old new taken taken' left left' count count' got) → count' ≤ 2 ^ 26 → cause_of got ≡ Some causes.End
-      → (answers_left old a.more count ≡ (gots.End, []) ∷ []) × IsAtEnd left'
+  pub end_comes : (got : LineGot) (a : Answers old new link link' count count' got) → count' ≤ 2 ^ 26 → cause_of got ≡ Some causes.End
+      → (answers_left old a.more count ≡ (gots.End, []) ∷ []) × IsAtEnd link'.left
   end_comes gots.End a le is = (
-    in_turn old new None None (Some a.more) (Some []) count count' gots.End
-        (record { more = a.more; told = refl; gave = ap (λ l. Some l) (sym (append-nil a.more)); counted = a.counted; next = (a.next.0, a.next.1, refl) }) le,
+    in_turn old new (leaving a.more) (leaving []) count count' gots.End
+        (record { more = a.more; gave = (refl, ap (λ l. Some l) (sym (append-nil a.more))); counted = a.counted; next = (a.next.0, a.next.1, refl) }) le,
     a.next.2,
   )
   end_comes gots.Line a le is = absurd (cc)
@@ -69,20 +75,20 @@ module _ (old new : Held) (taken taken' left left' : Option (List ℕ)) (count c
   end_comes gots.Budget a le is = absurd (cc)
 
   -- the bytes that came before a read failed end without one more line
-  pub fault_comes : (got : LineGot) (a : Answers old new taken taken' left left' count count' got) → count' ≤ 2 ^ 26 → cause_of got ≡ Some causes.ReadFault → answers_left old a.more count ≡ (gots.End, []) ∷ []
+  pub fault_comes : (got : LineGot) (a : Answers old new link link' count count' got) → count' ≤ 2 ^ 26 → cause_of got ≡ Some causes.ReadFault → answers_left old a.more count ≡ (gots.End, []) ∷ []
   fault_comes gots.Failed a le is =
-      in_turn old new None None (Some a.more) (Some []) count count' gots.End
-      (record { more = a.more; told = refl; gave = ap (λ l. Some l) (sym (append-nil a.more)); counted = a.counted; next = (a.next.0, a.next.1, refl) }) le
+      in_turn old new (leaving a.more) (leaving []) count count' gots.End
+      (record { more = a.more; gave = (refl, ap (λ l. Some l) (sym (append-nil a.more))); counted = a.counted; next = (a.next.0, a.next.1, refl) }) le
   fault_comes gots.Line a le is = absurd (cc)
   fault_comes gots.TooLong a le is = absurd (cc)
   fault_comes gots.End a le is = absurd (cc)
   fault_comes gots.Budget a le is = absurd (cc)
 
   -- all bytes were taken that a link may give
-  pub budget_comes : (got : LineGot) (a : Answers old new taken taken' left left' count count' got) → count' ≤ 2 ^ 26 → cause_of got ≡ Some causes.Budget → answers_left old a.more count ≡ (gots.Budget, []) ∷ []
+  pub budget_comes : (got : LineGot) (a : Answers old new link link' count count' got) → count' ≤ 2 ^ 26 → cause_of got ≡ Some causes.Budget → answers_left old a.more count ≡ (gots.Budget, []) ∷ []
   budget_comes gots.Budget a le is =
-      in_turn old new None None (Some a.more) (Some []) count count' gots.Budget
-      (record { more = a.more; told = refl; gave = ap (λ l. Some l) (sym (append-nil a.more)); counted = a.counted; next = a.next }) le
+      in_turn old new (leaving a.more) (leaving []) count count' gots.Budget
+      (record { more = a.more; gave = (refl, ap (λ l. Some l) (sym (append-nil a.more))); counted = a.counted; next = a.next }) le
   budget_comes gots.Line a le is = absurd (cc)
   budget_comes gots.TooLong a le is = absurd (cc)
   budget_comes gots.End a le is = absurd (cc)
@@ -116,54 +122,48 @@ text_more text welcome turns turn =
     ∙ ap (λ l. welcome ++ (flat_map (reply_line text) turns ++ l)) (sym (append-nil (reply_line text turn)))
     ∙ ap (λ l. welcome ++ l) (sym (flat_map-append (reply_line text) turns (turn ∷ [])))
 
-module _ (may_answer : List ℕ → Result Request RequestFault → Type 0) (text : Said → List ℕ) (game : GameFile) (old : Held) (count : ℕ) (taken left sent : Option (List ℕ)) (before : Desk) where
+module _ (may_answer : List ℕ → Result Request RequestFault → Type 0) (text : Said → List ℕ) (game : GameFile) (old : Held) (count : ℕ) (link : LinkState) (before : Desk) where
   -- what is sent first
   abbrev welcome : List ℕ
   welcome = welcome_text game (desk_caller before)
 
   -- the session, by what it left
-  abbrev HasSession : Option (List ℕ) → Option (List ℕ) → Option (List ℕ) → Desk → ℕ → Cause → Type 0
-  HasSession left' taken' sent' after lines cause = IsSession may_answer text game old count taken taken' left left' sent sent' before after lines cause
+  abbrev HasSession : LinkState → Desk → ℕ → Cause → Type 0
+  HasSession link' after lines cause = IsSession may_answer text game old count link link' before after lines cause
 
   -- turns were taken, each with a line, and their replies were sent; the agent has not left
-  pub record IsUnderWay (now : Held) (count' : ℕ) (taken' left' sent' : Option (List ℕ)) (after : Desk) (answered : ℕ) : Type 0 where
+  pub record IsUnderWay (now : Held) (count' : ℕ) (link' : LinkState) (after : Desk) (answered : ℕ) : Type 0 where
     pub more : List ℕ
     pub read : List (LineGot × List ℕ)
     pub turns : List Turn
-    pub told : taken' ≡ and_then_told taken more
-    pub gave : left ≡ before_told more left'
+    pub gave : GaveBytes more link link'
     pub from : (next : List ℕ) → answers_left old (more ++ next) count ≡ read ++ answers_left now next count'
     pub items : AreItems may_answer read (map item_of turns)
     pub many : length turns ≡ answered
     pub lawful : AreLawful turns
     pub here : has_left turns ≡ false
     pub made : HasMade turns before after
-    pub sent_is : sent' ≡ and_then_told sent (session_text text welcome turns)
+    pub sent_is : link'.sent ≡ and_then_told link.sent (session_text text welcome turns)
 
   -- the same with one more turn, of which nothing is said of what was sent or whether the agent left
-  record IsTurnOn (now : Held) (count' : ℕ) (taken' left' : Option (List ℕ)) (after : Desk) (turns : List Turn) (turn : Turn) : Type 0 where
+  record IsTurnOn (now : Held) (count' : ℕ) (link' : LinkState) (after : Desk) (turns : List Turn) (turn : Turn) : Type 0 where
     pub more : List ℕ
     pub read : List (LineGot × List ℕ)
-    pub told : taken' ≡ and_then_told taken more
-    pub gave : left ≡ before_told more left'
+    pub gave : GaveBytes more link link'
     pub from : (next : List ℕ) → answers_left old (more ++ next) count ≡ read ++ answers_left now next count'
     pub items : AreItems may_answer read (map item_of (turns ++ turn ∷ []))
     pub lawful : AreLawful (turns ++ turn ∷ [])
     pub made : HasMade (turns ++ turn ∷ []) before after
 
-  module _ (now : Held) (count' : ℕ) (taken' left' sent' : Option (List ℕ)) (after : Desk) (answered : ℕ) (u : IsUnderWay now count' taken' left' sent' after answered)
-      (new : Held) (count₂ : ℕ) (taken₂ left₂ sent₂ : Option (List ℕ)) (desk : Desk) where
-    told_on : (more : List ℕ) → taken₂ ≡ and_then_told taken' more → taken₂ ≡ and_then_told taken (u.more ++ more)
-    told_on more told = told ∙ ap (λ t. and_then_told t more) u.told ∙ and_then_told-twice taken u.more more
+  module _ (now : Held) (count' : ℕ) (link' : LinkState) (after : Desk) (answered : ℕ) (u : IsUnderWay now count' link' after answered)
+      (new : Held) (count₂ : ℕ) (link₂ : LinkState) (desk : Desk) where
+    gave_on : (more : List ℕ) → GaveBytes more link' link₂ → GaveBytes (u.more ++ more) link link₂
+    gave_on more gave = gave_twice link link' link₂ u.more more u.gave gave
 
-    gave_on : (more : List ℕ) → left' ≡ before_told more left₂ → left ≡ before_told (u.more ++ more) left₂
-    gave_on more gave = u.gave ∙ ap (before_told u.more) gave ∙ before_told-twice left₂ u.more more
-
-    on : (got : LineGot) (said : Said) (a : Answers now new taken' taken₂ left' left₂ count' count₂ got) → count₂ ≤ 2 ^ 26 → (s : Says may_answer got new.line after desk said) → IsSameDesk after desk → IsTurnOn new count₂ taken₂ left₂ desk u.turns s.turn
-    on got said a le s same = let first = item_first now new taken' taken₂ left' left₂ count' count₂ may_answer (item_of s.turn) got a le s.asked in record {
+    on : (got : LineGot) (said : Said) (a : Answers now new link' link₂ count' count₂ got) → count₂ ≤ 2 ^ 26 → (s : Says may_answer got new.line after desk said) → IsSameDesk after desk → IsTurnOn new count₂ link₂ desk u.turns s.turn
+    on got said a le s same = let first = item_first now new link' link₂ count' count₂ may_answer (item_of s.turn) got a le s.asked in record {
       more = u.more ++ a.more;
       read = u.read ++ first.0 ∷ [];
-      told = told_on a.more a.told;
       gave = gave_on a.more a.gave;
       from = λ next.
           ap (λ l. answers_left old l count) (append_assoc u.more a.more next)
@@ -175,20 +175,19 @@ module _ (may_answer : List ℕ → Result Request RequestFault → Type 0) (tex
       made = made_more u.turns s.turn before after desk u.made s.made same;
     }
 
-    sent_on : (said : Said) (turn : Turn) → said_of turn ≡ said → sent₂ ≡ and_then_told sent' (text said ++ 10 ∷ []) → sent₂ ≡ and_then_told sent (session_text text welcome (u.turns ++ turn ∷ []))
+    sent_on : (said : Said) (turn : Turn) → said_of turn ≡ said → link₂.sent ≡ and_then_told link'.sent (text said ++ 10 ∷ []) → link₂.sent ≡ and_then_told link.sent (session_text text welcome (u.turns ++ turn ∷ []))
     sent_on said turn is whole =
         whole
         ∙ ap (λ w. and_then_told w (text said ++ 10 ∷ [])) u.sent_is
-        ∙ ap (λ w. and_then_told (and_then_told sent (session_text text welcome u.turns)) (text w ++ 10 ∷ [])) (sym is)
-        ∙ and_then_told-twice sent (session_text text welcome u.turns) (reply_line text turn)
-        ∙ ap (and_then_told sent) (text_more text welcome u.turns turn)
+        ∙ ap (λ w. and_then_told (and_then_told link.sent (session_text text welcome u.turns)) (text w ++ 10 ∷ [])) (sym is)
+        ∙ and_then_told-twice link.sent (session_text text welcome u.turns) (reply_line text turn)
+        ∙ ap (and_then_told link.sent) (text_more text welcome u.turns turn)
 
-    pub goes_on : {T : Type 0} (value : T) (t : HasTurn may_answer text now new taken' taken₂ left' left₂ sent' sent₂ count' count₂ after desk (Ok value)) → IsSameDesk after desk → IsUnderWay new count₂ taken₂ left₂ sent₂ desk (answered + 1)
+    pub goes_on : {T : Type 0} (value : T) (t : HasTurn may_answer text now new link' link₂ count' count₂ after desk (Ok value)) → IsSameDesk after desk → IsUnderWay new count₂ link₂ desk (answered + 1)
     goes_on value t same = let s = t.turned.1 in let o = on t.got t.turned.0 t.answer t.within s same in record {
       more = o.more;
       read = o.read;
       turns = u.turns ++ s.turn ∷ [];
-      told = o.told;
       gave = o.gave;
       from = o.from;
       items = o.items;
@@ -202,14 +201,14 @@ module _ (may_answer : List ℕ → Result Request RequestFault → Type 0) (tex
     few_on : (turn : Turn) → answered < 65536 → length (u.turns ++ turn ∷ []) ≤ 65536
     few_on turn lt = omega (arith, length-append u.turns (turn ∷ []), u.many)
 
-    session_of : (more : List ℕ) → taken₂ ≡ and_then_told taken more → left ≡ before_told more left₂ → (turns : List Turn) (lines : ℕ) (cause : Cause)
-        → IsServed may_answer text welcome (answers_left old more count) (IsAtEnd left₂) sent sent₂ turns lines cause → HasMade turns before desk → HasSession left₂ taken₂ sent₂ desk lines cause
-    session_of more told gave turns lines cause served made = record { more = more; told = told; gave = gave; turns = turns; served = served; desk = all_made turns before desk made }
+    session_of : (more : List ℕ) → GaveBytes more link link₂ → (turns : List Turn) (lines : ℕ) (cause : Cause)
+        → IsServed may_answer text welcome (answers_left old more count) link link₂ turns lines cause → HasMade turns before desk → HasSession link₂ desk lines cause
+    session_of more gave turns lines cause served made = record { more = more; gave = gave; turns = turns; served = served; desk = all_made turns before desk made }
 
-    with_turn : (got : LineGot) (said : Said) (a : Answers now new taken' taken₂ left' left₂ count' count₂ got) → count₂ ≤ 2 ^ 26 → (s : Says may_answer got new.line after desk said) → IsSameDesk after desk → answered < 65536
-        → (lines : ℕ) (cause : Cause) → ((rest : List (LineGot × List ℕ)) → EndsBy cause text welcome (u.turns ++ s.turn ∷ []) rest (IsAtEnd left₂) sent sent₂ lines) → HasSession left₂ taken₂ sent₂ desk lines cause
+    with_turn : (got : LineGot) (said : Said) (a : Answers now new link' link₂ count' count₂ got) → count₂ ≤ 2 ^ 26 → (s : Says may_answer got new.line after desk said) → IsSameDesk after desk → answered < 65536
+        → (lines : ℕ) (cause : Cause) → ((rest : List (LineGot × List ℕ)) → EndsBy cause text welcome (u.turns ++ s.turn ∷ []) rest link link₂ lines) → HasSession link₂ desk lines cause
     with_turn got said a le s same lt lines cause end = let o = on got said a le s same in
-        session_of o.more o.told o.gave (u.turns ++ s.turn ∷ []) lines cause (record {
+        session_of o.more o.gave (u.turns ++ s.turn ∷ []) lines cause (record {
           read = o.read;
           rest = answers_left new [] count₂;
           from = ap (λ l. answers_left old l count) (sym (append-nil o.more)) ∙ o.from [];
@@ -219,10 +218,10 @@ module _ (may_answer : List ℕ → Result Request RequestFault → Type 0) (tex
           end = end (answers_left new [] count₂);
         }) o.made
 
-    without_turn : (got : LineGot) (a : Answers now new taken' taken₂ left' left₂ count' count₂ got) → desk ≡ after → answered < 65536 → (rest : List (LineGot × List ℕ)) → answers_left now a.more count' ≡ rest
-        → (cause : Cause) → EndsBy cause text welcome u.turns rest (IsAtEnd left₂) sent sent₂ answered → HasSession left₂ taken₂ sent₂ desk answered cause
+    without_turn : (got : LineGot) (a : Answers now new link' link₂ count' count₂ got) → desk ≡ after → answered < 65536 → (rest : List (LineGot × List ℕ)) → answers_left now a.more count' ≡ rest
+        → (cause : Cause) → EndsBy cause text welcome u.turns rest link link₂ answered → HasSession link₂ desk answered cause
     without_turn got a same lt rest is cause end =
-        session_of (u.more ++ a.more) (told_on a.more a.told) (gave_on a.more a.gave) u.turns answered cause (record {
+        session_of (u.more ++ a.more) (gave_on a.more a.gave) u.turns answered cause (record {
           read = u.read;
           rest = rest;
           from = u.from a.more ∙ ap (λ l. u.read ++ l) is;
@@ -232,34 +231,33 @@ module _ (may_answer : List ℕ → Result Request RequestFault → Type 0) (tex
           end = end;
         }) (subst (HasMade u.turns before) (sym same) u.made)
 
-    still_whole : sent₂ ≡ sent' → (sent₂ ≡ and_then_told sent (session_text text welcome u.turns)) × (answered ≡ length u.turns)
+    still_whole : link₂.sent ≡ link'.sent → (link₂.sent ≡ and_then_told link.sent (session_text text welcome u.turns)) × (answered ≡ length u.turns)
     still_whole quiet = (quiet ∙ u.sent_is, sym u.many)
 
     few_turns : answered < 65536 → length u.turns < 65536
     few_turns lt = omega (arith, u.many, lt)
 
-    pub ends : {T : Type 0} (cause : Cause) (t : HasTurn {T = T} may_answer text now new taken' taken₂ left' left₂ sent' sent₂ count' count₂ after desk (Err cause)) → IsSameDesk after desk → answered < 65536
-        → HasSession left₂ taken₂ sent₂ desk (count_whole answered cause) cause
+    pub ends : {T : Type 0} (cause : Cause) (t : HasTurn {T = T} may_answer text now new link' link₂ count' count₂ after desk (Err cause)) → IsSameDesk after desk → answered < 65536
+        → HasSession link₂ desk (count_whole answered cause) cause
     ends causes.Quit t same lt = let s = t.turned.0 in
         with_turn t.got Bye t.answer t.within s same lt (answered + 1) causes.Quit
         (λ rest. (has_left-more u.turns s.turn true u.here (leaves s.turn s.told), (sent_on Bye s.turn s.told t.turned.1, omega (arith, length-append u.turns (s.turn ∷ []), u.many))))
-    ends causes.End t same lt = let e = end_comes now new taken' taken₂ left' left₂ count' count₂ t.got t.answer t.within t.turned.0 in
+    ends causes.End t same lt = let e = end_comes now new link' link₂ count' count₂ t.got t.answer t.within t.turned.0 in
         without_turn t.got t.answer t.turned.1 lt ((gots.End, []) ∷ []) e.0 causes.End (u.here, few_turns lt, refl, e.1, still_whole t.turned.2)
     ends causes.ReadFault t same lt =
-        without_turn t.got t.answer t.turned.1 lt ((gots.End, []) ∷ []) (fault_comes now new taken' taken₂ left' left₂ count' count₂ t.got t.answer t.within t.turned.0) causes.ReadFault (u.here, few_turns lt, refl, still_whole t.turned.2)
+        without_turn t.got t.answer t.turned.1 lt ((gots.End, []) ∷ []) (fault_comes now new link' link₂ count' count₂ t.got t.answer t.within t.turned.0) causes.ReadFault (u.here, few_turns lt, refl, still_whole t.turned.2)
     ends causes.WriteFault t same lt = let s = t.turned.1 in
         with_turn t.got t.turned.0 t.answer t.within s same lt answered causes.WriteFault
-        (λ rest. inr (u.turns, s.turn, refl, subst (λ (w : Option (List ℕ) × Said). TakesSome w.0 sent₂ (text w.1 ++ 10 ∷ [])) (λ i. (u.sent_is i, sym s.told i)) t.turned.2, sym u.many))
+        (λ rest. inr (u.turns, s.turn, refl, subst (λ (w : Option (List ℕ) × Said). TakesSome w.0 link₂.sent (text w.1 ++ 10 ∷ [])) (λ i. (u.sent_is i, sym s.told i)) t.turned.2, sym u.many))
     ends causes.Budget t same lt =
-        without_turn t.got t.answer t.turned.1 lt ((gots.Budget, []) ∷ []) (budget_comes now new taken' taken₂ left' left₂ count' count₂ t.got t.answer t.within t.turned.0) causes.Budget
+        without_turn t.got t.answer t.turned.1 lt ((gots.Budget, []) ∷ []) (budget_comes now new link' link₂ count' count₂ t.got t.answer t.within t.turned.0) causes.Budget
         (u.here, inr (few_turns lt, refl), still_whole t.turned.2)
 
   -- all the lines of a session were answered
-  pub ends_full : (now : Held) (count' : ℕ) (taken' left' sent' : Option (List ℕ)) (after : Desk) (answered : ℕ) (u : IsUnderWay now count' taken' left' sent' after answered) → answered ≡ 65536
-      → HasSession left' taken' sent' after answered causes.Budget
-  ends_full now count' taken' left' sent' after answered u full = record {
+  pub ends_full : (now : Held) (count' : ℕ) (link' : LinkState) (after : Desk) (answered : ℕ) (u : IsUnderWay now count' link' after answered) → answered ≡ 65536
+      → HasSession link' after answered causes.Budget
+  ends_full now count' link' after answered u full = record {
     more = u.more;
-    told = u.told;
     gave = u.gave;
     turns = u.turns;
     served = record {
@@ -275,11 +273,10 @@ module _ (may_answer : List ℕ → Result Request RequestFault → Type 0) (tex
   }
 
   -- the welcome was not sent whole, so nothing was asked
-  pub ends_at_once : (sent' : Option (List ℕ)) → HasMade [] before before → TakesSome sent sent' welcome → HasSession left taken sent' before 0 causes.WriteFault
-  ends_at_once sent' made some = record {
+  pub ends_at_once : (link' : LinkState) → GaveBytes [] link link' → HasMade [] before before → TakesSome link.sent link'.sent welcome → HasSession link' before 0 causes.WriteFault
+  ends_at_once link' gave made some = record {
     more = [];
-    told = sym (and_then_told-nothing taken);
-    gave = sym (before_told-nothing left);
+    gave = gave;
     turns = [];
     served = record {
       read = [];
@@ -293,26 +290,22 @@ module _ (may_answer : List ℕ → Result Request RequestFault → Type 0) (tex
     desk = all_made [] before before made;
   }
 
-  pub under_way_at_first : (now : Held) (count' : ℕ) (taken' left' sent' : Option (List ℕ)) → now ≡ old → count' ≡ count → taken' ≡ taken → left' ≡ left → HasMade [] before before → sent' ≡ and_then_told sent welcome
-      → IsUnderWay now count' taken' left' sent' before 0
-  under_way_at_first now count' taken' left' sent' e₁ e₂ e₃ e₄ made whole =
-      subst (λ (w : Held × ℕ × Option (List ℕ) × Option (List ℕ)). IsUnderWay w.0 w.1 w.2 w.3 sent' before 0) (λ i. (sym e₁ i, sym e₂ i, sym e₃ i, sym e₄ i)) (record {
-        more = [];
-        read = [];
-        turns = [];
-        told = sym (and_then_told-nothing taken);
-        gave = sym (before_told-nothing left);
-        from = λ next. refl;
-        items = tt;
-        many = refl;
-        lawful = none_lawful;
-        here = refl;
-        made = made;
-        sent_is = whole ∙ ap (and_then_told sent) (sym (append-nil welcome));
-      })
+  pub under_way_at_first : (now : Held) (count' : ℕ) (link' : LinkState) → now ≡ old → count' ≡ count → GaveBytes [] link link' → HasMade [] before before → link'.sent ≡ and_then_told link.sent welcome
+      → IsUnderWay now count' link' before 0
+  under_way_at_first now count' link' e₁ e₂ gave made whole = record {
+    more = [];
+    read = [];
+    turns = [];
+    gave = gave;
+    from = λ next i. answers_left (sym e₁ i) next (sym e₂ i);
+    items = tt;
+    many = refl;
+    lawful = none_lawful;
+    here = refl;
+    made = made;
+    sent_is = whole ∙ ap (and_then_told link.sent) (sym (append-nil welcome));
+  }
 
   -- the same session, where its values are known by other names
-  pub session_as : (left' taken' sent' left₂ taken₂ sent₂ : Option (List ℕ)) (after : Desk) (lines lines₂ : ℕ) (cause : Cause) → left₂ ≡ left' → taken₂ ≡ taken' → sent₂ ≡ sent' → lines₂ ≡ lines
-      → HasSession left' taken' sent' after lines cause → HasSession left₂ taken₂ sent₂ after lines₂ cause
-  session_as left' taken' sent' left₂ taken₂ sent₂ after lines lines₂ cause e₁ e₂ e₃ e₄ s =
-      subst (λ (w : Option (List ℕ) × Option (List ℕ) × Option (List ℕ) × ℕ). HasSession w.0 w.1 w.2 after w.3 cause) (λ i. (sym e₁ i, sym e₂ i, sym e₃ i, sym e₄ i)) s
+  pub session_as : (link' link₂ : LinkState) (after : Desk) (lines lines₂ : ℕ) (cause : Cause) → link₂ ≡ link' → lines₂ ≡ lines → HasSession link' after lines cause → HasSession link₂ after lines₂ cause
+  session_as link' link₂ after lines lines₂ cause e₁ e₂ s = subst (λ (w : LinkState × ℕ). HasSession w.0 after w.1 cause) (λ i. (sym e₁ i, sym e₂ i)) s

@@ -1,10 +1,11 @@
 -- What a session leaves of a link and of a desk.
-use Rattle.std.specs.Prelude.{◌≡◌, ℕ, ◌<◌, List, ◌++◌, Result, Option, map}
+use Rattle.std.specs.Prelude.{◌≡◌, ℕ, ◌<◌, List, ◌++◌, Result, map}
 use Rattle.game_text.specs.Games.{GameFile}
 use Rattle.auction_core.specs.ClosedGame.{all_goods}
 use Rattle.tac_io.specs.AnswersInTurn.{answers_left}
 use Rattle.tac_io.specs.HeldBytes.{Held}
-use Rattle.tac_io.specs.Told.{and_then_told, before_told, IsAtEnd}
+use Rattle.tac_io.specs.LinkCalls.{GaveBytes}
+use Rattle.tac_io.specs.States.{LinkState}
 use Rattle.line_protocol.specs.declared.asking.Request.{Request}
 use Rattle.line_protocol.specs.declared.asking.RequestFault.{RequestFault}
 use Rattle.line_protocol.specs.declared.saying.Said.{Said}
@@ -26,11 +27,9 @@ pub record AreMadeBy (turns : List Turn) (before after : Desk) : Type 0 where
 -- A session, from the lines' state: what they held, and how many bytes of their link were taken. `more` are the bytes that were taken
 -- in the session.
 pub record IsSession (may_answer : List ℕ → Result Request RequestFault → Type 0) (text : Said → List ℕ) (game : GameFile)
-    (held : Held) (count : ℕ) (taken taken' left left' sent sent' : Option (List ℕ)) (before after : Desk) (lines : ℕ) (cause : Cause) : Type 0 where
+    (held : Held) (count : ℕ) (link link' : LinkState) (before after : Desk) (lines : ℕ) (cause : Cause) : Type 0 where
   pub more : List ℕ
-  pub told : taken' ≡ and_then_told taken more
-  pub gave : left ≡ before_told more left'
+  pub gave : GaveBytes more link link'
   pub turns : List Turn
-  pub served : IsServed may_answer text (welcome_text game (desk_caller before))
-      (answers_left held more count) (IsAtEnd left') sent sent' turns lines cause
+  pub served : IsServed may_answer text (welcome_text game (desk_caller before)) (answers_left held more count) link link' turns lines cause
   pub desk : AreMadeBy turns before after

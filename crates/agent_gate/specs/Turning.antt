@@ -3,6 +3,7 @@ use Rattle.std.specs.Prelude.{◌≡◌, ◌≢◌, ℕ, ◌+◌, ◌≤◌, Lis
 use Rattle.tac_base.specs.declared.limits.TheConstants.{LINK_BYTES}
 use Rattle.tac_io.specs.HeldBytes.{Held}
 use Rattle.tac_io.specs.LineAnswers.{Answers}
+use Rattle.tac_io.specs.States.{LinkState}
 use Rattle.tac_io.specs.Told.{and_then_told, TakesSome}
 use Rattle.tac_io.specs.declared.line_got.LineGot.{LineGot}
 use Rattle.tac_io.specs.declared.line_got.LineGot.TheVariants as gots
@@ -36,35 +37,35 @@ IsAsked may_answer got line before after (Err cause) = (cause_of got ≡ Some ca
 
 -- The next of the lines' answers was taken, and a line was answered.
 pub record TakesNext (may_answer : List ℕ → Result Request RequestFault → Type 0) (old new : Held)
-    (taken taken' left left' : Option (List ℕ)) (count count' : ℕ) (before after : Desk) (result : Result Said Cause) : Type 0 where
+    (link link' : LinkState) (count count' : ℕ) (before after : Desk) (result : Result Said Cause) : Type 0 where
   pub got : LineGot
-  pub answer : Answers old new taken taken' left left' count count' got
+  pub answer : Answers old new link link' count count' got
   pub within : count' ≤ LINK_BYTES
   pub asked : IsAsked may_answer got new.line before after result
 
 -- What came of a turn: its reply was sent whole, and it was `bye` where the agent left; or it was not sent whole; or no line came.
 abbrev pub IsTurned : {T : Type 0} → (List ℕ → Result Request RequestFault → Type 0) → (Said → List ℕ) → LineGot → List ℕ → Desk → Desk
-    → Option (List ℕ) → Option (List ℕ) → Result T Cause → Type 0
-IsTurned may_answer text got line before after sent sent' (Ok _) =
-    (said : Said) × Says may_answer got line before after said × (said ≢ Bye) × (sent' ≡ and_then_told sent (text said ++ 10 ∷ []))
-IsTurned may_answer text got line before after sent sent' (Err causes.Quit) =
-    Says may_answer got line before after Bye × (sent' ≡ and_then_told sent (text Bye ++ 10 ∷ []))
-IsTurned may_answer text got line before after sent sent' (Err causes.WriteFault) =
-    (said : Said) × Says may_answer got line before after said × TakesSome sent sent' (text said ++ 10 ∷ [])
-IsTurned may_answer text got line before after sent sent' (Err cause) = (cause_of got ≡ Some cause) × (after ≡ before) × (sent' ≡ sent)
+    → LinkState → LinkState → Result T Cause → Type 0
+IsTurned may_answer text got line before after link link' (Ok _) =
+    (said : Said) × Says may_answer got line before after said × (said ≢ Bye) × (link'.sent ≡ and_then_told link.sent (text said ++ 10 ∷ []))
+IsTurned may_answer text got line before after link link' (Err causes.Quit) =
+    Says may_answer got line before after Bye × (link'.sent ≡ and_then_told link.sent (text Bye ++ 10 ∷ []))
+IsTurned may_answer text got line before after link link' (Err causes.WriteFault) =
+    (said : Said) × Says may_answer got line before after said × TakesSome link.sent link'.sent (text said ++ 10 ∷ [])
+IsTurned may_answer text got line before after link link' (Err cause) = (cause_of got ≡ Some cause) × (after ≡ before) × (link'.sent ≡ link.sent)
 
 -- A turn was taken, from the next of the lines' answers to the sending of the reply.
 pub record HasTurn {T : Type 0} (may_answer : List ℕ → Result Request RequestFault → Type 0) (text : Said → List ℕ) (old new : Held)
-    (taken taken' left left' sent sent' : Option (List ℕ)) (count count' : ℕ) (before after : Desk) (result : Result T Cause) : Type 0 where
+    (link link' : LinkState) (count count' : ℕ) (before after : Desk) (result : Result T Cause) : Type 0 where
   pub got : LineGot
-  pub answer : Answers old new taken taken' left left' count count' got
+  pub answer : Answers old new link link' count count' got
   pub within : count' ≤ LINK_BYTES
-  pub turned : IsTurned may_answer text got new.line before after sent sent' result
+  pub turned : IsTurned may_answer text got new.line before after link link' result
 
 -- a turn changes a count of faults only where it ends the session for it
-abbrev pub HasTurnCause : {T : Type 0} → ℕ → ℕ → ℕ → ℕ → Result T Cause → Type 0
-HasTurnCause reads reads' writes writes' (Ok _) = (reads' ≡ reads) × (writes' ≡ writes)
-HasTurnCause reads reads' writes writes' (Err cause) = HasSessionCause reads reads' writes writes' cause
+abbrev pub HasTurnCause : {T : Type 0} → LinkState → LinkState → Result T Cause → Type 0
+HasTurnCause link link' (Ok _) = (link'.reads ≡ link.reads) × (link'.writes ≡ link.writes)
+HasTurnCause link link' (Err cause) = HasSessionCause link link' cause
 
 -- how many replies were sent whole where a session ends so in the turn after so many
 abbrev pub count_whole : ℕ → Cause → ℕ

@@ -37,25 +37,22 @@ pub data Turn : Type 0 where
 
 -- ---- what is asked and said
 
+-- what a turn is asked, and what is said to it
+abbrev pub asked_and_said : Turn → Item × Said
+asked_and_said (Called request good position entry posted) = (Asks (Ok request), said.At position entry.reply)
+asked_and_said (CallDenied request good) = (Asks (Ok request), said.Spent)
+asked_and_said (CashRead position dollars) = (Asks (Ok requests.Cash), said.Cash position dollars)
+asked_and_said CashDenied = (Asks (Ok requests.Cash), said.Spent)
+asked_and_said (Quoted good board) = (Asks (Ok (requests.Quote good)), said.Quote board)
+asked_and_said (Refused fault) = (Asks (Err fault), said.Fault fault)
+asked_and_said Skipped = (Overlong, said.TooLong)
+asked_and_said Left = (Asks (Ok requests.Quit), said.Bye)
+
 abbrev pub item_of : Turn → Item
-item_of (Called request good position entry posted) = Asks (Ok request)
-item_of (CallDenied request good) = Asks (Ok request)
-item_of (CashRead position dollars) = Asks (Ok requests.Cash)
-item_of CashDenied = Asks (Ok requests.Cash)
-item_of (Quoted good board) = Asks (Ok (requests.Quote good))
-item_of (Refused fault) = Asks (Err fault)
-item_of Skipped = Overlong
-item_of Left = Asks (Ok requests.Quit)
+item_of turn = (asked_and_said turn).0
 
 abbrev pub said_of : Turn → Said
-said_of (Called request good position entry posted) = said.At position entry.reply
-said_of (CallDenied request good) = said.Spent
-said_of (CashRead position dollars) = said.Cash position dollars
-said_of CashDenied = said.Spent
-said_of (Quoted good board) = said.Quote board
-said_of (Refused fault) = said.Fault fault
-said_of Skipped = said.TooLong
-said_of Left = said.Bye
+said_of turn = (asked_and_said turn).1
 
 -- the good and the call that a request makes, if it makes one
 abbrev pub call_of : Request → Option (ℕ × Call)
@@ -132,9 +129,7 @@ IsLawful past (CallDenied request good) = ((call : Call) × (call_of request ≡
 IsLawful past (CashRead position dollars) = count_by is_reading past < CASH_READINGS
 IsLawful past CashDenied = count_by is_reading past ≡ CASH_READINGS
 IsLawful past (Quoted good board) = (good < 28) × GoesOn good board.count past
-IsLawful past (Refused fault) = ⊤
-IsLawful past Skipped = ⊤
-IsLawful past Left = ⊤
+IsLawful past turn = ⊤
 
 -- each turn is lawful after those before it, and after the agent left there is none
 abbrev pub AreLawful : List Turn → Type 0

@@ -1,6 +1,7 @@
 -- What a seated link is sent first.
-use Rattle.std.specs.Prelude.{◌≡◌, ℕ, ◌++◌, List, ◌∷◌, Option, codes, decimal}
+use Rattle.std.specs.Prelude.{◌≡◌, ℕ, ◌++◌, List, ◌∷◌, codes, decimal}
 use Rattle.text_forms.specs.Lines.{text_of}
+use Rattle.tac_io.specs.States.{LinkState}
 use Rattle.tac_io.specs.Told.{and_then_told}
 use Rattle.game_text.specs.Games.{GameFile}
 use Rattle.game_text.specs.OneAgent.{lines_of_agent}
@@ -13,7 +14,7 @@ abbrev pub welcome_text : GameFile → ℕ → List ℕ
 welcome_text game agent = text_of (welcome_lines game agent)
 
 -- the first bytes of a text were sent, and the text has those after them
-pub record MovesOn (sent sent' : Option (List ℕ)) (text text' : List ℕ) : Type 0 where
+pub record MovesOn (before after : LinkState) (text text' : List ℕ) : Type 0 where
   pub first : List ℕ
   pub whole : text ≡ first ++ text'
-  pub told : sent' ≡ and_then_told sent first
+  pub told : after.sent ≡ and_then_told before.sent first

@@ -56,9 +56,8 @@ pub fn run_session<R: Wait + Clock, L: Link, D: Dialect>(
     requires no_calls { (entries_of desk ≡ replicate 28 []) × (cash_of desk ≡ []) }
     requires goes_on { goes_on (last_of lines) ≡ true }
     ensures session { IsSession (D.may_answer dialect.now) (D.text dialect.now) game.now (held_of lines) (count_of lines)
-        (L.taken (link_of lines)) (L.taken result.link) (L.left (link_of lines)) (L.left result.link) (L.sent (link_of lines)) (L.sent result.link)
-        desk result.desk result.lines result.cause }
-    ensures cause { HasSessionCause (L.faults (link_of lines)) (L.faults result.link) (L.write_faults (link_of lines)) (L.write_faults result.link) result.cause }
+        (L.state (link_of lines)) (L.state result.link) desk result.desk result.lines result.cause }
+    ensures cause { HasSessionCause (L.state (link_of lines)) (L.state result.link) result.cause }
 {
     let agent = Agent::new(desk.caller().get()).unwrap();
     let Ok(()) = welcome(&mut lines, game, agent) else {

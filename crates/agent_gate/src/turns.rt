@@ -1,12 +1,11 @@
 // One turn of a session.
-ghost use Rattle.std.specs.Prelude.{◌≡◌, ◌<◌, ◌∷◌, [], ◌++◌, true, OnOk, OnErr};
+ghost use Rattle.std.specs.Prelude.{◌≡◌, ◌<◌, ◌∷◌, [], ◌++◌, true, OnOk};
 ghost use Rattle.floor.specs.Answers.{IsSameDesk};
 ghost use Rattle.floor.specs.Desks.{desk_ids, desk_caller};
 ghost use Rattle.floor.specs.Floors.{floor_ids};
-ghost use Rattle.tac_io.specs.Counts.{HasCause};
 ghost use Rattle.tac_io.specs.LineAnswers.{goes_on};
-ghost use Rattle.tac_io.specs.Lines.{count_of, held_of, last_of, link_of};
-ghost use Rattle.tac_io.specs.Told.{TakesSome, and_then_told};
+ghost use Rattle.tac_io.specs.Lines.{KeepsPlace, count_of, held_of, last_of, link_of};
+ghost use Rattle.tac_io.specs.LinkCalls.{OnlySends};
 ghost use Rattle.agent_gate.specs.Turning.{TakesNext, HasTurn, HasTurnCause};
 
 use crate::answering::answer_line;
@@ -30,13 +29,11 @@ fn answer_next<R: Wait + Clock, L: Link, D: Dialect>(
     requires agent { desk_caller desk.old < 8 }
     requires goes_on { goes_on (last_of lines.old) ≡ true }
     ensures next { TakesNext (D.may_answer dialect.now) (held_of lines.old) (held_of lines.new)
-        (L.taken (link_of lines.old)) (L.taken (link_of lines.new)) (L.left (link_of lines.old)) (L.left (link_of lines.new))
-        (count_of lines.old) (count_of lines.new) desk.old desk.new result }
+        (L.state (link_of lines.old)) (L.state (link_of lines.new)) (count_of lines.old) (count_of lines.new) desk.old desk.new result }
     ensures same { IsSameDesk desk.old desk.new }
     ensures goes_on { OnOk result (goes_on (last_of lines.new) ≡ true) }
-    ensures sent { L.sent (link_of lines.new) ≡ L.sent (link_of lines.old) }
-    ensures cause { HasTurnCause (L.faults (link_of lines.old)) (L.faults (link_of lines.new))
-        (L.write_faults (link_of lines.old)) (L.write_faults (link_of lines.new)) result }
+    ensures sent { (L.state (link_of lines.new)).sent ≡ (L.state (link_of lines.old)).sent }
+    ensures cause { HasTurnCause (L.state (link_of lines.old)) (L.state (link_of lines.new)) result }
 {
     match lines.next() {
         LineGot::Line => Ok(answer_line(rt, floor, dialect, desk, lines.line())),
@@ -49,15 +46,8 @@ fn answer_next<R: Wait + Clock, L: Link, D: Dialect>(
 
 /// Sends the line that tells something, with its end, in one piece.
 fn tell<L: Link, D: Dialect>(dialect: &D, said: &Said, lines: &mut Lines<L>) -> Result<(), Failed>
-    ensures whole { OnOk result (L.sent (link_of lines.new) ≡ and_then_told (L.sent (link_of lines.old)) (D.text dialect.now said.now ++ 10 ∷ [])) }
-    ensures failed { OnErr result (TakesSome (L.sent (link_of lines.old)) (L.sent (link_of lines.new)) (D.text dialect.now said.now ++ 10 ∷ [])) }
-    ensures cause { HasCause (L.write_faults (link_of lines.old)) (L.write_faults (link_of lines.new)) result }
-    ensures taken { L.taken (link_of lines.new) ≡ L.taken (link_of lines.old) }
-    ensures left { L.left (link_of lines.new) ≡ L.left (link_of lines.old) }
-    ensures read_faults { L.faults (link_of lines.new) ≡ L.faults (link_of lines.old) }
-    ensures held { held_of lines.new ≡ held_of lines.old }
-    ensures count { count_of lines.new ≡ count_of lines.old }
-    ensures last { last_of lines.new ≡ last_of lines.old }
+    ensures sends { OnlySends (L.state (link_of lines.old)) (L.state (link_of lines.new)) (D.text dialect.now said.now ++ 10 ∷ []) result }
+    ensures place { KeepsPlace lines.old lines.new }
 {
     let mut reply = Text::new();
     dialect.print(said, &mut reply);
@@ -77,12 +67,10 @@ pub(crate) fn turn<R: Wait + Clock, L: Link, D: Dialect>(
     requires agent { desk_caller desk.old < 8 }
     requires goes_on { goes_on (last_of lines.old) ≡ true }
     ensures turn { HasTurn (D.may_answer dialect.now) (D.text dialect.now) (held_of lines.old) (held_of lines.new)
-        (L.taken (link_of lines.old)) (L.taken (link_of lines.new)) (L.left (link_of lines.old)) (L.left (link_of lines.new))
-        (L.sent (link_of lines.old)) (L.sent (link_of lines.new)) (count_of lines.old) (count_of lines.new) desk.old desk.new result }
+        (L.state (link_of lines.old)) (L.state (link_of lines.new)) (count_of lines.old) (count_of lines.new) desk.old desk.new result }
     ensures same { IsSameDesk desk.old desk.new }
     ensures goes_on { OnOk result (goes_on (last_of lines.new) ≡ true) }
-    ensures cause { HasTurnCause (L.faults (link_of lines.old)) (L.faults (link_of lines.new))
-        (L.write_faults (link_of lines.old)) (L.write_faults (link_of lines.new)) result }
+    ensures cause { HasTurnCause (L.state (link_of lines.old)) (L.state (link_of lines.new)) result }
 {
     let said = answer_next(rt, floor, dialect, desk, lines)?;
     let Ok(()) = tell(dialect, &said, lines) else {

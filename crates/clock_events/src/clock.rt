@@ -5,7 +5,7 @@ ghost use Rattle.floor.specs.Desks.{boards_of, calls_of, cash_of, desk_caller, d
 ghost use Rattle.floor.specs.Floors.{floor_ids};
 ghost use Rattle.tac_io.specs.Counts.{Rose};
 ghost use Rattle.tac_io.specs.Told.{and_then_told};
-ghost use Rattle.clock_events.specs.Clocking.{HasMissedCause, WaitsForAll};
+ghost use Rattle.clock_events.specs.Clocking.{WaitsForAll};
 ghost use Rattle.clock_events.specs.MadeCalls.{HasMade};
 ghost use Rattle.game_text.specs.Schedule as spec;
 ghost use Rattle.game_text.specs.Schedule.{clock_calls};
@@ -59,11 +59,11 @@ pub fn clock_tick<R: Wait + Clock, T: Ticker>(
 
 /// Waits for a tick, and says whether it lapsed. A lapse is taken as due.
 fn wait_for<R: Wait + Clock, T: Ticker>(rt: &R, ticker: &mut T, tick: Tick) -> (T::Due, bool)
-    requires { IfSome (T.waited ticker.old) (λ ticks. length ticks < TICKS) }
+    requires { IfSome (T.state ticker.old).waited (λ ticks. length ticks < TICKS) }
     ensures due { T.due_tick result.0 ≡ tick }
-    ensures waited { T.waited ticker.new ≡ and_then_told (T.waited ticker.old) ((tick, result.1) ∷ []) }
-    ensures paced { T.paced ticker.new ≡ T.paced ticker.old }
-    ensures cause { MatchBool result.1 (Rose (T.faults ticker.old) (T.faults ticker.new)) (T.faults ticker.new ≡ T.faults ticker.old) }
+    ensures waited { (T.state ticker.new).waited ≡ and_then_told (T.state ticker.old).waited ((tick, result.1) ∷ []) }
+    ensures paced { (T.state ticker.new).paced ≡ (T.state ticker.old).paced }
+    ensures cause { MatchBool result.1 (Rose (T.state ticker.old).faults (T.state ticker.new).faults) ((T.state ticker.new).faults ≡ (T.state ticker.old).faults) }
 {
     match ticker.wait(rt, tick) {
         Ok(due) => (due, false),
@@ -84,15 +84,13 @@ pub fn run_clock<R: Wait + Clock, T: Ticker>(
     requires own { desk_ids desk ≡ floor_ids floor.now }
     requires clock { desk_caller desk ≡ 8 }
     requires no_calls { (entries_of desk ≡ replicate 28 []) × (cash_of desk ≡ []) }
-    requires ticks { IfSome (T.waited ticker.old) (λ ticks. ticks ≡ []) }
+    requires ticks { IfSome (T.state ticker.old).waited (λ ticks. ticks ≡ []) }
     ensures calls { calls_of result.desk ≡ spec.schedule game.now }
     ensures made { HasMade game.now TICKS result.desk }
     ensures whole { (good : ℕ) → good < 28 → map (λ p. p.1.call) (entries_at result.desk good) ≡ clock_calls game.now good }
     ensures boards { boards_of result.desk ≡ boards_of desk }
     ensures same { IsSameDesk desk result.desk }
-    ensures waited { WaitsForAll (T.waited ticker.old) (T.waited ticker.new) result.missed }
-    ensures paced { T.paced ticker.new ≡ T.paced ticker.old }
-    ensures cause { HasMissedCause (T.faults ticker.old) (T.faults ticker.new) result.missed }
+    ensures waits { WaitsForAll (T.state ticker.old) (T.state ticker.new) result.missed }
 {
     let mut missed = 0;
     for number in 1..TICKS + 1 {

@@ -5,13 +5,15 @@ use Rattle.std.proofs.lemmas.List.{length-append, take-append-le, take_more, tak
 use Rattle.std.proofs.lemmas.List.Concat.{flat_map-cons}
 use Rattle.std.proofs.lemmas.Grind.{flat_map-append}
 use Rattle.std.proofs.lemmas.Option.{slice_get_cases}
-use Rattle.std.specs.Prelude.{Some, slice_get, IsErr, OnOk, OnErr}
+use Rattle.std.specs.Prelude.{Some, slice_get, IsErr, OnOk}
 use Rattle.std.specs.List.{flat_map}
 use Rattle.std.specs.declared.option.Option.{Option}
 use Rattle.tac_io.specs.Counts.{Rose}
+use Rattle.tac_io.specs.States.{SinkState}
 use Rattle.tac_io.specs.Told.{and_then_told, TakesSome}
 use Rattle.tac_io.specs.declared.failed.Failed.{Failed}
 use Rattle.tac_io.proofs.Tellings.{and_then_told-twice}
+use Rattle.game_log.specs.Taken.{TookWhole, TookPart}
 use Rattle.game_log.specs.Written.{Writes}
 use Rattle.log_text.proofs.Items.{take_whole}
 
@@ -43,28 +45,26 @@ rose_from : (f0 f1 f2 : ℕ) → f1 ≡ f0 → Rose f1 f2 → Rose f0 f2
 rose_from f0 f1 f2 e r = rw e at r
 
 -- two pieces, of which the first was written whole
-pub writes_both : (a b p q : List ℕ) (t0 t1 t2 : Option (List ℕ)) (f0 f1 f2 : ℕ) (r : Result (Unit {0}) Failed) → a ≡ p → b ≡ q → (t1 ≡ and_then_told t0 a) × (f1 ≡ f0) → Writes b t1 t2 f1 f2 r → Writes (p ++ q) t0 t2 f0 f2 r
-writes_both a b p q t0 t1 t2 f0 f1 f2 (Ok done) pa qb v w = (wrote_both t0 t1 t2 p q (v.0 ∙ ap (and_then_told t0) pa) (w.0 ∙ ap (and_then_told t1) qb), w.1 ∙ v.1)
-writes_both a b p q t0 t1 t2 f0 f1 f2 (Err failed) pa qb v w = (some_after t0 t1 t2 p q (v.0 ∙ ap (and_then_told t0) pa) (subst (TakesSome t1 t2) qb w.0), rose_from f0 f1 f2 v.1 w.1)
+pub writes_both : (a b p q : List ℕ) (s0 s1 s2 : SinkState) (r : Result (Unit {0}) Failed) → a ≡ p → b ≡ q → TookWhole s0 s1 a → Writes b s1 s2 r → Writes (p ++ q) s0 s2 r
+writes_both a b p q s0 s1 s2 (Ok done) pa qb v w =
+    (wrote_both s0.taken s1.taken s2.taken p q (v.0 ∙ ap (and_then_told s0.taken) pa) (w.0 ∙ ap (and_then_told s1.taken) qb), w.1 ∙ v.1)
+writes_both a b p q s0 s1 s2 (Err failed) pa qb v w =
+    (some_after s0.taken s1.taken s2.taken p q (v.0 ∙ ap (and_then_told s0.taken) pa) (subst (TakesSome s1.taken s2.taken) qb w.0), rose_from s0.faults s1.faults s2.faults v.1 w.1)
 
 -- two pieces, of which the first was not written whole
-pub fails_both : (a p q : List ℕ) (t0 t1 : Option (List ℕ)) (f0 f1 : ℕ) → a ≡ p → TakesSome t0 t1 a × Rose f0 f1 → TakesSome t0 t1 (p ++ q) × Rose f0 f1
-fails_both a p q t0 t1 f0 f1 pa w = (some_before t0 t1 p q (subst (TakesSome t0 t1) pa w.0), w.1)
+pub fails_both : (a p q : List ℕ) (s0 s1 : SinkState) → a ≡ p → TookPart s0 s1 a → TookPart s0 s1 (p ++ q)
+fails_both a p q s0 s1 pa w = (some_before s0.taken s1.taken p q (subst (TakesSome s0.taken s1.taken) pa w.0), w.1)
 
-pub then_whole : (p q : List ℕ) (t0 t1 t2 : Option (List ℕ)) (f0 f1 f2 : ℕ) → (t1 ≡ and_then_told t0 p) × (f1 ≡ f0) → (t2 ≡ and_then_told t1 q) × (f2 ≡ f1) → (t2 ≡ and_then_told t0 (p ++ q)) × (f2 ≡ f0)
-then_whole p q t0 t1 t2 f0 f1 f2 v w = (wrote_both t0 t1 t2 p q v.0 w.0, w.1 ∙ v.1)
+pub then_whole : (p q : List ℕ) (s0 s1 s2 : SinkState) → TookWhole s0 s1 p → TookWhole s1 s2 q → TookWhole s0 s2 (p ++ q)
+then_whole p q s0 s1 s2 v w = (wrote_both s0.taken s1.taken s2.taken p q v.0 w.0, w.1 ∙ v.1)
 
-pub then_some : (p q : List ℕ) (t0 t1 t2 : Option (List ℕ)) (f0 f1 f2 : ℕ) → (t1 ≡ and_then_told t0 p) × (f1 ≡ f0) → TakesSome t1 t2 q × Rose f1 f2 → TakesSome t0 t2 (p ++ q) × Rose f0 f2
-then_some p q t0 t1 t2 f0 f1 f2 v w = (some_after t0 t1 t2 p q v.0 w.0, rose_from f0 f1 f2 v.1 w.1)
+pub then_some : (p q : List ℕ) (s0 s1 s2 : SinkState) → TookWhole s0 s1 p → TookPart s1 s2 q → TookPart s0 s2 (p ++ q)
+then_some p q s0 s1 s2 v w = (some_after s0.taken s1.taken s2.taken p q v.0 w.0, rose_from s0.faults s1.faults s2.faults v.1 w.1)
 
 -- an answer that is no success
-pub refused : (p : List ℕ) (t0 t1 : Option (List ℕ)) (f0 f1 : ℕ) (r : Result (Unit {0}) Failed) → TakesSome t0 t1 p × Rose f0 f1 → IsErr r → Writes p t0 t1 f0 f1 r
-refused p t0 t1 f0 f1 (Ok done) w h = absurd cc
-refused p t0 t1 f0 f1 (Err failed) w h = w
-
-pub failed_of : (p : List ℕ) (t0 t1 : Option (List ℕ)) (f0 f1 : ℕ) (r : Result (Unit {0}) Failed) → Writes p t0 t1 f0 f1 r → OnErr r (TakesSome t0 t1 p)
-failed_of p t0 t1 f0 f1 (Ok done) w = tt
-failed_of p t0 t1 f0 f1 (Err failed) w = w.0
+pub refused : (p : List ℕ) (s0 s1 : SinkState) (r : Result (Unit {0}) Failed) → TookPart s0 s1 p → IsErr r → Writes p s0 s1 r
+refused p s0 s1 (Ok done) w h = absurd cc
+refused p s0 s1 (Err failed) w h = w
 
 pub ok_weaker : (r : Result (Unit {0}) Failed) (P Q : Type 0) → (P → Q) → OnOk r P → OnOk r Q
 ok_weaker (Ok done) P Q make h = make h
@@ -90,33 +90,34 @@ pieces_all piece xs i d lt =
 -- ---- loops that write a piece for each item
 
 -- the pieces of the items before one were written whole
-pub record WroteUpTo {A : Type 0} (piece : A → List ℕ) (xs : List A) (i : ℕ) (t0 t1 : Option (List ℕ)) (f0 f1 : ℕ) : Type 0 where
-  pub taken : t1 ≡ and_then_told t0 (flat_map piece (take i xs))
-  pub quiet : f1 ≡ f0
+pub record WroteUpTo {A : Type 0} (piece : A → List ℕ) (xs : List A) (i : ℕ) (s0 s1 : SinkState) : Type 0 where
+  pub taken : s1.taken ≡ and_then_told s0.taken (flat_map piece (take i xs))
+  pub quiet : s1.faults ≡ s0.faults
 
 -- one more piece was written
-pub wrote_next : {A : Type 0} (piece : A → List ℕ) (xs : List A) (i : ℕ) (x : A) (a : List ℕ) (t0 t1 t2 : Option (List ℕ)) (f0 f1 f2 : ℕ) → i < length xs → get_or xs i x ≡ x → a ≡ piece x → WroteUpTo piece xs i t0 t1 f0 f1 → (t2 ≡ and_then_told t1 a) × (f2 ≡ f1) → WroteUpTo piece xs (i + 1) t0 t2 f0 f2
-wrote_next {A = A} piece xs i x a t0 t1 t2 f0 f1 f2 lt is e before w = record {
-  taken = wrote_both t0 t1 t2 (flat_map piece (take i xs)) (piece x) before.taken (w.0 ∙ ap (and_then_told t1) e)
-      ∙ ap (and_then_told t0) (sym (pieces_more piece xs i x lt ∙ ap (λ (y : A). flat_map piece (take i xs) ++ piece y) is));
+pub wrote_next : {A : Type 0} (piece : A → List ℕ) (xs : List A) (i : ℕ) (x : A) (a : List ℕ) (s0 s1 s2 : SinkState) → i < length xs → get_or xs i x ≡ x → a ≡ piece x → WroteUpTo piece xs i s0 s1 → TookWhole s1 s2 a → WroteUpTo piece xs (i + 1) s0 s2
+wrote_next {A = A} piece xs i x a s0 s1 s2 lt is e before w = record {
+  taken = wrote_both s0.taken s1.taken s2.taken (flat_map piece (take i xs)) (piece x) before.taken (w.0 ∙ ap (and_then_told s1.taken) e)
+      ∙ ap (and_then_told s0.taken) (sym (pieces_more piece xs i x lt ∙ ap (λ (y : A). flat_map piece (take i xs) ++ piece y) is));
   quiet = w.1 ∙ before.quiet;
 }
 
-some_next : {A : Type 0} (piece : A → List ℕ) (xs : List A) (i : ℕ) (x : A) (t0 t1 t2 : Option (List ℕ)) (f0 f1 : ℕ) → i < length xs → get_or xs i x ≡ x → WroteUpTo piece xs i t0 t1 f0 f1 → TakesSome t1 t2 (piece x) → TakesSome t0 t2 (flat_map piece xs)
-some_next {A = A} piece xs i x t0 t1 t2 f0 f1 lt is before some =
+some_next : {A : Type 0} (piece : A → List ℕ) (xs : List A) (i : ℕ) (x : A) (s0 s1 s2 : SinkState) → i < length xs → get_or xs i x ≡ x → WroteUpTo piece xs i s0 s1 → TakesSome s1.taken s2.taken (piece x) → TakesSome s0.taken s2.taken (flat_map piece xs)
+some_next {A = A} piece xs i x s0 s1 s2 lt is before some =
     let after = flat_map piece (drop (i + 1) xs) in
     let all : flat_map piece xs ≡ flat_map piece (take i xs) ++ (piece x ++ after) = pieces_all piece xs i x lt ∙ ap (λ (y : A). flat_map piece (take i xs) ++ (piece y ++ after)) is in
-    subst (TakesSome t0 t2) (sym all) (some_after t0 t1 t2 (flat_map piece (take i xs)) (piece x ++ after) before.taken (some_before t1 t2 (piece x) after some))
+    subst (TakesSome s0.taken s2.taken) (sym all)
+    (some_after s0.taken s1.taken s2.taken (flat_map piece (take i xs)) (piece x ++ after) before.taken (some_before s1.taken s2.taken (piece x) after some))
 
 -- a piece was not written whole, which is the loop's answer
-pub failed_next : {A : Type 0} (piece : A → List ℕ) (xs : List A) (i : ℕ) (x : A) (a : List ℕ) (t0 t1 t2 : Option (List ℕ)) (f0 f1 f2 : ℕ) (r : Result (Unit {0}) Failed) → i < length xs → get_or xs i x ≡ x → a ≡ piece x → WroteUpTo piece xs i t0 t1 f0 f1 → TakesSome t1 t2 a × Rose f1 f2 → IsErr r → Writes (flat_map piece xs) t0 t2 f0 f2 r
-failed_next piece xs i x a t0 t1 t2 f0 f1 f2 (Ok done) lt is e before w h = absurd cc
-failed_next piece xs i x a t0 t1 t2 f0 f1 f2 (Err failed) lt is e before w h =
-    (some_next piece xs i x t0 t1 t2 f0 f1 lt is before (subst (TakesSome t1 t2) e w.0), rose_from f0 f1 f2 before.quiet w.1)
+pub failed_next : {A : Type 0} (piece : A → List ℕ) (xs : List A) (i : ℕ) (x : A) (a : List ℕ) (s0 s1 s2 : SinkState) (r : Result (Unit {0}) Failed) → i < length xs → get_or xs i x ≡ x → a ≡ piece x → WroteUpTo piece xs i s0 s1 → TookPart s1 s2 a → IsErr r → Writes (flat_map piece xs) s0 s2 r
+failed_next piece xs i x a s0 s1 s2 (Ok done) lt is e before w h = absurd cc
+failed_next piece xs i x a s0 s1 s2 (Err failed) lt is e before w h =
+    (some_next piece xs i x s0 s1 s2 lt is before (subst (TakesSome s1.taken s2.taken) e w.0), rose_from s0.faults s1.faults s2.faults before.quiet w.1)
 
 -- the pieces of all items were written whole
-pub wrote_all : {A : Type 0} (piece : A → List ℕ) (xs : List A) (i : ℕ) (t0 t1 : Option (List ℕ)) (f0 f1 : ℕ) → length xs ≤ i → WroteUpTo piece xs i t0 t1 f0 f1 → (t1 ≡ and_then_told t0 (flat_map piece xs)) × (f1 ≡ f0)
-wrote_all {A = A} piece xs i t0 t1 f0 f1 past w = (w.taken ∙ ap (λ (ys : List A). and_then_told t0 (flat_map piece ys)) (take_whole xs i past), w.quiet)
+pub wrote_all : {A : Type 0} (piece : A → List ℕ) (xs : List A) (i : ℕ) (s0 s1 : SinkState) → length xs ≤ i → WroteUpTo piece xs i s0 s1 → TookWhole s0 s1 (flat_map piece xs)
+wrote_all {A = A} piece xs i s0 s1 past w = (w.taken ∙ ap (λ (ys : List A). and_then_told s0.taken (flat_map piece ys)) (take_whole xs i past), w.quiet)
 
 -- the item of a list at a place
 pub item_at : {A : Type 0} (xs : List A) (i : ℕ) → i < length xs → (x : A) × (slice_get xs i ≡ Some x) × (get_or xs i x ≡ x)

@@ -14,7 +14,7 @@ use tac_io::{Failed, Sink};
 
 /// Writes the line of each link, in order of arrival.
 fn write_links<K: Sink>(sink: &mut K, verdicts: &[Verdict]) -> Result<(), Failed>
-    ensures { Writes (flat_map log.link_line (enumerate_from 0 verdicts.now)) (K.taken sink.old) (K.taken sink.new) (K.faults sink.old) (K.faults sink.new) result }
+    ensures { Writes (flat_map log.link_line (enumerate_from 0 verdicts.now)) (K.state sink.old) (K.state sink.new) result }
 {
     for (place, verdict) in verdicts.iter().enumerate() {
         write_piece(sink, link_line(place as u64, *verdict).as_slice())?;
@@ -24,7 +24,7 @@ fn write_links<K: Sink>(sink: &mut K, verdicts: &[Verdict]) -> Result<(), Failed
 
 /// Writes the line of each session's end.
 fn write_ends<K: Sink>(sink: &mut K, ends: &[(Agent, Cause)]) -> Result<(), Failed>
-    ensures { Writes (flat_map log.end_line ends.now) (K.taken sink.old) (K.taken sink.new) (K.faults sink.old) (K.faults sink.new) result }
+    ensures { Writes (flat_map log.end_line ends.now) (K.state sink.old) (K.state sink.new) result }
 {
     for end in ends {
         write_piece(sink, end_line(end).as_slice())?;
@@ -39,7 +39,7 @@ fn write_served<K: Sink>(
     ends: &[(Agent, Cause)],
     missed: u8,
 ) -> Result<(), Failed>
-    ensures { Writes (log.head_text (Serve verdicts.now ends.now missed)) (K.taken sink.old) (K.taken sink.new) (K.faults sink.old) (K.faults sink.new) result }
+    ensures { Writes (log.head_text (Serve verdicts.now ends.now missed)) (K.state sink.old) (K.state sink.new) result }
 {
     write_piece(sink, b"serve\n")?;
     write_links(sink, verdicts)?;
@@ -49,7 +49,7 @@ fn write_served<K: Sink>(
 
 /// Writes how a game was played.
 fn write_kind<K: Sink>(sink: &mut K, head: &LogHead) -> Result<(), Failed>
-    ensures { Writes (log.head_text (head_of head.now)) (K.taken sink.old) (K.taken sink.new) (K.faults sink.old) (K.faults sink.new) result }
+    ensures { Writes (log.head_text (head_of head.now)) (K.state sink.old) (K.state sink.new) result }
 {
     match head {
         LogHead::Play => write_piece(sink, b"play\n"),
@@ -63,7 +63,7 @@ fn write_kind<K: Sink>(sink: &mut K, head: &LogHead) -> Result<(), Failed>
 
 /// Writes the head of a log.
 pub(crate) fn write_head<K: Sink>(sink: &mut K, head: &LogHead) -> Result<(), Failed>
-    ensures { Writes (log.first_lines (head_of head.now)) (K.taken sink.old) (K.taken sink.new) (K.faults sink.old) (K.faults sink.new) result }
+    ensures { Writes (log.first_lines (head_of head.now)) (K.state sink.old) (K.state sink.new) result }
 {
     match write_piece(sink, b"taclog 1\n") {
         Ok(()) => write_kind(sink, head),

@@ -5,7 +5,7 @@ use tac_io::{Failed, Sink, write_all};
 
 /// Writes a piece of the part.
 pub(crate) fn write_piece<K: Sink>(sink: &mut K, piece: &[u8]) -> Result<(), Failed>
-    ensures { Writes piece.now (K.taken sink.old) (K.taken sink.new) (K.faults sink.old) (K.faults sink.new) result }
+    ensures { Writes piece.now (K.state sink.old) (K.state sink.new) result }
 {
     write_all(sink, piece)
 }

@@ -1,8 +1,6 @@
 // The first part of a log, piece by piece.
-ghost use Rattle.std.specs.Prelude.{◌≡◌, ◌<◌, length, Some, OnOk, OnErr, slice_get};
+ghost use Rattle.std.specs.Prelude.{◌≡◌, ◌<◌, length, Some, OnOk, slice_get};
 ghost use Rattle.std.specs.List.{AllByRecursion, flat_map};
-ghost use Rattle.tac_io.specs.Counts.{HasCause};
-ghost use Rattle.tac_io.specs.Told.{TakesSome, and_then_told};
 ghost use Rattle.auction_rules.specs.History.{Entry};
 ghost use Rattle.trade_ledger.specs.declared.cash_calls.CashEntry.{CashEntry};
 ghost use Rattle.line_protocol.specs.Heads.{head_of};
@@ -23,7 +21,7 @@ use turn_lock::Kept;
 
 /// Writes the lines of trades.
 fn write_trades<K: Sink>(sink: &mut K, trades: &[Trade]) -> Result<(), Failed>
-    ensures text { Writes (flat_map log.trade_line trades.now) (K.taken sink.old) (K.taken sink.new) (K.faults sink.old) (K.faults sink.new) result }
+    ensures text { Writes (flat_map log.trade_line trades.now) (K.state sink.old) (K.state sink.new) result }
     ensures known { OnOk result (AllByRecursion AreTradeNumbers trades.now) }
 {
     trades_known(trades);
@@ -37,7 +35,7 @@ fn write_trades<K: Sink>(sink: &mut K, trades: &[Trade]) -> Result<(), Failed>
 fn write_entry<K: Sink>(sink: &mut K, auction: &Auction, position: u32) -> Result<(), Failed>
     requires { position < length auction.now.history }
     ensures text { (e : Entry) → slice_get auction.now.history position ≡ Some e →
-        Writes (log.entry_text e) (K.taken sink.old) (K.taken sink.new) (K.faults sink.old) (K.faults sink.new) result }
+        Writes (log.entry_text e) (K.state sink.old) (K.state sink.new) result }
     ensures known { (e : Entry) → slice_get auction.now.history position ≡ Some e → OnOk result (AreNumbers e) }
 {
     let Some(entry) = auction.entry(position) else {
@@ -53,7 +51,7 @@ fn write_entry<K: Sink>(sink: &mut K, auction: &Auction, position: u32) -> Resul
 
 /// Writes the entries of an auction.
 fn write_entries<K: Sink>(sink: &mut K, auction: &Auction) -> Result<(), Failed>
-    ensures text { Writes (flat_map log.entry_text auction.now.history) (K.taken sink.old) (K.taken sink.new) (K.faults sink.old) (K.faults sink.new) result }
+    ensures text { Writes (flat_map log.entry_text auction.now.history) (K.state sink.old) (K.state sink.new) result }
     ensures known { OnOk result (AllByRecursion (IsEntry auction.now.setup.good) auction.now.history) }
 {
     for position in 0..auction.len() {
@@ -64,7 +62,7 @@ fn write_entries<K: Sink>(sink: &mut K, auction: &Auction) -> Result<(), Failed>
 
 /// Writes an auction.
 fn write_auction<K: Sink>(sink: &mut K, auction: &Auction) -> Result<(), Failed>
-    ensures text { Writes (log.auction_text auction.now.setup.good auction.now.history) (K.taken sink.old) (K.taken sink.new) (K.faults sink.old) (K.faults sink.new) result }
+    ensures text { Writes (log.auction_text auction.now.setup.good auction.now.history) (K.state sink.old) (K.state sink.new) result }
     ensures known { OnOk result (IsAuction auction.now) }
 {
     let line = auction_line(auction.good(), auction.len());
@@ -76,7 +74,7 @@ fn write_auction<K: Sink>(sink: &mut K, auction: &Auction) -> Result<(), Failed>
 
 /// Writes auctions in order.
 fn write_auctions<K: Sink>(sink: &mut K, auctions: &[Auction]) -> Result<(), Failed>
-    ensures text { Writes (flat_map (λ a. log.auction_text a.setup.good a.history) auctions.now) (K.taken sink.old) (K.taken sink.new) (K.faults sink.old) (K.faults sink.new) result }
+    ensures text { Writes (flat_map (λ a. log.auction_text a.setup.good a.history) auctions.now) (K.state sink.old) (K.state sink.new) result }
     ensures known { OnOk result (AllByRecursion IsAuction auctions.now) }
 {
     for auction in auctions {
@@ -89,7 +87,7 @@ fn write_auctions<K: Sink>(sink: &mut K, auctions: &[Auction]) -> Result<(), Fai
 fn write_cash_entry<K: Sink>(sink: &mut K, cash: &CashBook, position: u32) -> Result<(), Failed>
     requires { position < length cash.now }
     ensures text { (e : CashEntry) → slice_get cash.now position ≡ Some e →
-        Writes (log.cash_entry_line e) (K.taken sink.old) (K.taken sink.new) (K.faults sink.old) (K.faults sink.new) result }
+        Writes (log.cash_entry_line e) (K.state sink.old) (K.state sink.new) result }
     ensures known { (e : CashEntry) → slice_get cash.now position ≡ Some e → OnOk result (AreEntryNumbers e) }
 {
     let Some(entry) = cash.entry(position) else {
@@ -102,7 +100,7 @@ fn write_cash_entry<K: Sink>(sink: &mut K, cash: &CashBook, position: u32) -> Re
 /// Writes the entries of the cash history.
 fn write_cash_entries<K: Sink>(sink: &mut K, cash: &CashBook, count: u32) -> Result<(), Failed>
     requires { count ≡ length cash.now }
-    ensures text { Writes (flat_map log.cash_entry_line cash.now) (K.taken sink.old) (K.taken sink.new) (K.faults sink.old) (K.faults sink.new) result }
+    ensures text { Writes (flat_map log.cash_entry_line cash.now) (K.state sink.old) (K.state sink.new) result }
     ensures known { OnOk result (AllByRecursion AreEntryNumbers cash.now) }
 {
     for position in 0..count {
@@ -113,7 +111,7 @@ fn write_cash_entries<K: Sink>(sink: &mut K, cash: &CashBook, count: u32) -> Res
 
 /// Writes the cash history.
 fn write_cash<K: Sink>(sink: &mut K, cash: &CashBook) -> Result<(), Failed>
-    ensures text { Writes (log.cash_text cash.now) (K.taken sink.old) (K.taken sink.new) (K.faults sink.old) (K.faults sink.new) result }
+    ensures text { Writes (log.cash_text cash.now) (K.state sink.old) (K.state sink.new) result }
     ensures known { OnOk result (IsCash cash.now) }
 {
     let count = cash.board().count;
@@ -125,7 +123,7 @@ fn write_cash<K: Sink>(sink: &mut K, cash: &CashBook) -> Result<(), Failed>
 
 /// Writes all histories.
 fn write_histories<K: Sink>(sink: &mut K, closed: &Closed) -> Result<(), Failed>
-    ensures text { Writes (log.histories_text (log.histories_of closed.now) closed.now.cash) (K.taken sink.old) (K.taken sink.new) (K.faults sink.old) (K.faults sink.new) result }
+    ensures text { Writes (log.histories_text (log.histories_of closed.now) closed.now.cash) (K.state sink.old) (K.state sink.new) result }
     ensures known { OnOk result (IsPlayed closed.now) }
 {
     match write_auctions(sink, closed.auctions.as_slice()) {
@@ -138,9 +136,7 @@ fn write_histories<K: Sink>(sink: &mut K, closed: &Closed) -> Result<(), Failed>
 /// memory. `Failed` comes exactly where the sink counted a fault in this call. Then some of the first bytes of the part were written, or
 /// none, but not all. The form of the log is our own.
 pub fn write_play_part<K: Sink>(sink: &mut K, head: &LogHead, closed: &Closed) -> Result<(), Failed>
-    ensures whole { OnOk result (K.taken sink.new ≡ and_then_told (K.taken sink.old) (log.play_part (head_of head.now) closed.now)) }
-    ensures failed { OnErr result (TakesSome (K.taken sink.old) (K.taken sink.new) (log.play_part (head_of head.now) closed.now)) }
-    ensures cause { HasCause (K.faults sink.old) (K.faults sink.new) result }
+    ensures text { Writes (log.play_part (head_of head.now) closed.now) (K.state sink.old) (K.state sink.new) result }
     // A head and a game are written that the law of logs speaks of.
     ensures known_head { IsHead (head_of head.now) }
     ensures known { OnOk result (IsPlayed closed.now) }

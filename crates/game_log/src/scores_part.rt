@@ -33,7 +33,7 @@ pub fn write_scores<R: Threads + Sync, K: Sink>(
     closed: &Closed,
     sink: &mut K,
 ) -> Result<(), LogWriteFault>
-    ensures { WritesSheet game.now closed.now (K.taken sink.old) (K.taken sink.new) (K.faults sink.old) (K.faults sink.new) result }
+    ensures { WritesSheet game.now closed.now (K.state sink.old) (K.state sink.new) result }
 {
     match score_game(rt, alloc, game, closed) {
         Ok(sheet) => write_sheet_part(alloc, sink, &sheet),

@@ -19,7 +19,7 @@ pub fn write_sheet_part<K: Sink>(
     sink: &mut K,
     sheet: &Sheet,
 ) -> Result<(), LogWriteFault>
-    ensures text { WritesMade (sheet_part sheet.now) (K.taken sink.old) (K.taken sink.new) (K.faults sink.old) (K.faults sink.new) result }
+    ensures text { WritesMade (sheet_part sheet.now) (K.state sink.old) (K.state sink.new) result }
     // What is written meets the premise of the law of logs.
     ensures known { OnOk result (IsShownSheet sheet.now) }
 {

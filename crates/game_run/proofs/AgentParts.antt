@@ -11,7 +11,6 @@ use Rattle.auction_core.specs.ClosedGame.{ClosedGame}
 use Rattle.tac_io.specs.AllAnswers.{all_answers}
 use Rattle.tac_io.specs.LineAnswers.{goes_on}
 use Rattle.tac_io.specs.Lines.{count_of, held_of, last_of, link_of}
-use Rattle.tac_io.specs.Told.{IsAtEnd}
 use Rattle.tac_io.specs.declared.lines.Lines.{Lines}
 use Rattle.line_protocol.specs.declared.asking.Request.{Request}
 use Rattle.line_protocol.specs.declared.asking.RequestFault.{RequestFault}
@@ -26,7 +25,7 @@ use Rattle.agent_gate.specs.Welcome.{welcome_text}
 use Rattle.game_run.specs.declared.crew.Place.{Place}
 use Rattle.game_run.specs.declared.crew.Played.{Played}
 use Rattle.game_run.specs.declared.crew.Two.{Two}
-use Rattle.game_run.specs.LinkStates.{LinkState}
+use Rattle.tac_io.specs.States.{LinkState}
 use Rattle.game_run.specs.Seatings.{FloorIds, eight_of, played_end, IsReady, IsReadyClock, AreEightReady, IsPlayedOut, IsServedBy}
 use Rattle.game_run.specs.Staging.{IsAgentsPart, IsServedAs}
 use Rattle.game_run.proofs.Transcripts.{transcript_of, absent_of}
@@ -104,12 +103,11 @@ module _ {L : Type 0} (state : L → LinkState) (may_answer : List ℕ → Resul
         → IsServedBy state may_answer text game before lines after link cause → IsServedAs state may_answer text game closed agent lines link cause
     served_as agent before after lines link cause new borne by = record {
       more = by.session.more;
-      told = by.session.told;
       gave = by.session.gave;
       turns = by.session.turns;
       count = by.count;
       served = subst (λ n. IsServed may_answer text (welcome_text game n) (all_answers [] (2 ^ 26 - count_of lines + length (held_of lines).unread) ((held_of lines).unread ++ by.session.more))
-          (IsAtEnd (state link).left) (state (link_of lines)).sent (state link).sent by.session.turns by.count cause) new.caller by.session.served;
+          (state (link_of lines)) (state link) by.session.turns by.count cause) new.caller by.session.served;
       transcript = transcript_of closed long ids agent before after new borne by.session.turns by.session.desk by.session.served.lawful;
       faults = by.faults;
     }

@@ -9,6 +9,7 @@ use Rattle.tac_io.specs.HeldBytes.{Held}
 use Rattle.tac_io.specs.LineAnswers.{Answers, HasLineCause, goes_on}
 use Rattle.tac_io.specs.LineText.{has_end, Begins}
 use Rattle.tac_io.specs.Lines.{count_of, held_of, last_of, link_of}
+use Rattle.tac_io.specs.LinkCalls.{GaveBytes, ReadsNothing, SendsNothing}
 use Rattle.std.specs.Prelude.{◌⊎◌}
 use Rattle.tac_io.specs.Told.{and_then_told, before_told, IsAtEnd, TakesSome}
 use Rattle.tac_io.specs.declared.line_got.LineGot.{LineGot}
@@ -22,7 +23,7 @@ use Rattle.line_protocol.specs.declared.admission.Verdict.TheVariants.{Seated, S
 use Rattle.agent_gate.specs.Gates.{Seats, verdict_of, word_verdict, seat_verdict, greeting_of, seats_after}
 use Rattle.game_run.specs.Admission.{BeginsWith, refusal_line, IsSentOrCut, IsRefused, IsLost}
 use Rattle.game_run.specs.Arriving.{seat_of, IsUnseated, IsAnswered, IsTurnedAway, IsFirstRead}
-use Rattle.game_run.specs.LinkStates.{LinkState}
+use Rattle.tac_io.specs.States.{LinkState}
 
 -- ---- the first answer by the bytes
 
@@ -72,15 +73,15 @@ no_word_lost seats (Some word) e = no_seat_lost seats.taken (position (bytes_eq 
 -- ---- what was read
 
 module _ {L : Type 0} (state : L → LinkState) (seats : Seats) (before : LinkState) (lines : Lines L) (old : Held) (none : old.unread ≡ []) (count : ℕ) (zero_count : count ≡ 0)
-    (few : count_of lines ≤ 2 ^ 26) (sent : (state (link_of lines)).sent ≡ before.sent) (writes : (state (link_of lines)).writes ≡ before.writes) where
-  module _ (got : LineGot) (a : Answers old (held_of lines) before.taken (state (link_of lines)).taken before.left (state (link_of lines)).left count (count_of lines) got) where
+    (few : count_of lines ≤ 2 ^ 26) (quiet : SendsNothing before (state (link_of lines))) where
+  module _ (got : LineGot) (a : Answers old (held_of lines) before (state (link_of lines)) count (count_of lines) got) where
     bytes_are : old.unread ++ a.more ≡ a.more
     bytes_are = ap (λ l. l ++ a.more) none
 
     counted : count_of lines ≡ length a.more
     counted = omega (arith, a.counted, zero_count)
 
-  pub line_read : (verdict : Verdict) → Answers old (held_of lines) before.taken (state (link_of lines)).taken before.left (state (link_of lines)).left count (count_of lines) gots.Line
+  pub line_read : (verdict : Verdict) → Answers old (held_of lines) before (state (link_of lines)) count (count_of lines) gots.Line
       → (state (link_of lines)).reads ≡ before.reads → goes_on (last_of lines) ≡ true → verdict ≡ verdict_of seats (held_of lines).line → IsFirstRead state seats verdict before lines
   line_read verdict a reads more due = by verdict due
     where
@@ -91,23 +92,22 @@ module _ {L : Type 0} (state : L → LinkState) (seats : Seats) (before : LinkSt
       within = omega (arith, counted gots.Line a, few)
 
       unseated : (verdict : Verdict) → verdict ≡ verdict_of seats (held_of lines).line → IsUnseated seats verdict before (state (link_of lines))
-      unseated verdict due = record {
-        bytes = a.more;
-        told = a.told;
-        gave = a.gave;
-        got = gots.Line;
-        line = (held_of lines).line;
-        first = begins_with a.more (held_of lines).line (held_of lines).unread whole within a.next.1;
-        due = due;
-        sent = sent;
-        reads = reads;
-        writes = writes;
-      }
+      unseated verdict due = (
+        record {
+          bytes = a.more;
+          gave = a.gave;
+          got = gots.Line;
+          line = (held_of lines).line;
+          first = begins_with a.more (held_of lines).line (held_of lines).unread whole within a.next.1;
+          due = due;
+          reads = reads;
+        },
+        quiet,
+      )
 
       by : (verdict : Verdict) → verdict ≡ verdict_of seats (held_of lines).line → IsFirstRead state seats verdict before lines
       by (Seated agent) due = record {
         bytes = a.more;
-        told = a.told;
         gave = a.gave;
         line = (held_of lines).line;
         first = whole;
@@ -115,9 +115,8 @@ module _ {L : Type 0} (state : L → LinkState) (seats : Seats) (before : LinkSt
         counted = counted gots.Line a;
         few = few;
         seat = sym due;
-        sent = sent;
+        quiet = quiet;
         reads = reads;
-        writes = writes;
         more = more;
       }
       by Syntax due = unseated Syntax due
@@ -125,49 +124,42 @@ module _ {L : Type 0} (state : L → LinkState) (seats : Seats) (before : LinkSt
       by Taken due = unseated Taken due
       by Lost due = absurd (no_word_lost seats (greeting_of (held_of lines).line) (sym due))
 
-  pub long_read : Answers old (held_of lines) before.taken (state (link_of lines)).taken before.left (state (link_of lines)).left count (count_of lines) gots.TooLong
+  pub long_read : Answers old (held_of lines) before (state (link_of lines)) count (count_of lines) gots.TooLong
       → (state (link_of lines)).reads ≡ before.reads → IsUnseated seats Syntax before (state (link_of lines))
   long_read a reads =
-      let whole : Begins a.more a.next.0 (held_of lines).unread = subst (λ bytes. Begins bytes a.next.0 (held_of lines).unread) (bytes_are gots.TooLong a) a.next.1 in
-      record {
-        bytes = a.more;
-        told = a.told;
-        gave = a.gave;
-        got = gots.TooLong;
-        line = [];
-        first = begins_long a.more a.next.0 (held_of lines).unread whole (omega (arith, counted gots.TooLong a, few)) a.next.2;
-        due = refl;
-        sent = sent;
-        reads = reads;
-        writes = writes;
-      }
+      let whole : Begins a.more a.next.0 (held_of lines).unread = subst (λ bytes. Begins bytes a.next.0 (held_of lines).unread) (bytes_are gots.TooLong a) a.next.1 in (
+        record {
+          bytes = a.more;
+          gave = a.gave;
+          got = gots.TooLong;
+          line = [];
+          first = begins_long a.more a.next.0 (held_of lines).unread whole (omega (arith, counted gots.TooLong a, few)) a.next.2;
+          due = refl;
+          reads = reads;
+        },
+        quiet,
+      )
 
-  pub none_read : (got : LineGot) → Answers old (held_of lines) before.taken (state (link_of lines)).taken before.left (state (link_of lines)).left count (count_of lines) got
+  pub none_read : (got : LineGot) → Answers old (held_of lines) before (state (link_of lines)) count (count_of lines) got
       → HasLineCause before.reads (state (link_of lines)).reads got → got ≢ gots.Line → got ≢ gots.TooLong → IsLost before (state (link_of lines))
   none_read gots.Line a cause not_line not_long = absurd (not_line refl)
   none_read gots.TooLong a cause not_line not_long = absurd (not_long refl)
   none_read gots.End a cause not_line not_long = record {
     bytes = a.more;
-    told = a.told;
     gave = a.gave;
-    sent = sent;
-    writes = writes;
+    quiet = quiet;
     why = inl (all_answers-end [] a.more (2 ^ 26) (ap has_end (sym (bytes_are gots.End a)) ∙ a.next.0) (omega (arith, counted gots.End a, a.next.1)), a.next.2, cause);
   }
   none_read gots.Failed a cause not_line not_long = record {
     bytes = a.more;
-    told = a.told;
     gave = a.gave;
-    sent = sent;
-    writes = writes;
+    quiet = quiet;
     why = inr (inr (all_answers-end [] a.more (2 ^ 26) (ap has_end (sym (bytes_are gots.Failed a)) ∙ a.next.0) (omega (arith, counted gots.Failed a, a.next.1)), cause));
   }
   none_read gots.Budget a cause not_line not_long = record {
     bytes = a.more;
-    told = a.told;
     gave = a.gave;
-    sent = sent;
-    writes = writes;
+    quiet = quiet;
     why = inr (inl (
       ap (all_answers [] (2 ^ 26)) (sym (append-nil a.more))
           ∙ all_answers-budget [] a.more [] (2 ^ 26) (ap has_end (sym (bytes_are gots.Budget a)) ∙ a.next.0) (sym (counted gots.Budget a) ∙ a.next.1),
@@ -177,23 +169,28 @@ module _ {L : Type 0} (state : L → LinkState) (seats : Seats) (before : LinkSt
 
 -- ---- what was sent to a link without a seat
 
-sent_nothing : (before after : LinkState) → IsSentOrCut [] before after → (after.sent ≡ before.sent) × (after.writes ≡ before.writes)
+sent_nothing : (before after : LinkState) → IsSentOrCut [] before after → SendsNothing before after
 sent_nothing before after (inl h) = (h.0 ∙ and_then_told-nothing before.sent, h.1)
 sent_nothing before after (inr h) = absurd (omega (arith, h.0.proper))
 
+-- what a link gave is the same while nothing is read of it
+gave_still : (bytes : List ℕ) (before between after : LinkState) → GaveBytes bytes before between → ReadsNothing between after → GaveBytes bytes before after
+gave_still bytes before between after gave read = (read.0 ∙ gave.0, gave.1 ∙ ap (before_told bytes) (sym read.1))
+
 refused : (seats : Seats) (verdict : Verdict) (before between after : LinkState) → IsUnseated seats verdict before between → IsAnswered (refusal_line verdict) between after → IsRefused seats verdict before after
-refused seats verdict before between after u a = record {
-  bytes = u.bytes;
-  told = a.taken ∙ u.told;
-  gave = u.gave ∙ ap (before_told u.bytes) (sym a.left);
-  got = u.got;
-  line = u.line;
-  first = u.first;
-  due = u.due;
-  sent = subst (λ writes. ((after.sent ≡ and_then_told before.sent (refusal_line verdict)) × (after.writes ≡ writes)) ⊎ (TakesSome before.sent after.sent (refusal_line verdict) × Rose writes after.writes)) u.writes
-      (subst (λ sent. ((after.sent ≡ and_then_told sent (refusal_line verdict)) × (after.writes ≡ between.writes)) ⊎ (TakesSome sent after.sent (refusal_line verdict) × Rose between.writes after.writes)) u.sent a.sent);
-  reads = a.reads ∙ u.reads;
-}
+refused seats verdict before between after u a = (
+  record {
+    bytes = u.0.bytes;
+    gave = gave_still u.0.bytes before between after u.0.gave a.read;
+    got = u.0.got;
+    line = u.0.line;
+    first = u.0.first;
+    due = u.0.due;
+    reads = a.read.2 ∙ u.0.reads;
+  },
+  subst (λ (w : Option (List ℕ) × ℕ). ((after.sent ≡ and_then_told w.0 (refusal_line verdict)) × (after.writes ≡ w.1)) ⊎ (TakesSome w.0 after.sent (refusal_line verdict) × Rose w.1 after.writes))
+      (λ i. (u.1.0 i, u.1.1 i)) a.sent,
+)
 
 -- what is so of a link still is after nothing was sent to it
 lost : (before between after : LinkState) → IsLost before between → IsAnswered [] between after → IsLost before after
@@ -201,16 +198,11 @@ lost before between after l a =
     let none = sent_nothing between after a.sent in
     record {
       bytes = l.bytes;
-      told = a.taken ∙ l.told;
-      gave = l.gave ∙ ap (before_told l.bytes) (sym a.left);
-      why = subst (λ reads. ((all_answers [] (2 ^ 26) l.bytes ≡ (gots.End, []) ∷ []) × IsAtEnd after.left × (reads ≡ before.reads))
-          ⊎ ((all_answers [] (2 ^ 26) l.bytes ≡ (gots.Budget, []) ∷ []) × (reads ≡ before.reads))
-          ⊎ ((all_answers [] (2 ^ 26) l.bytes ≡ (gots.End, []) ∷ []) × Rose before.reads reads)) (sym a.reads)
-          (subst (λ left. ((all_answers [] (2 ^ 26) l.bytes ≡ (gots.End, []) ∷ []) × IsAtEnd left × (between.reads ≡ before.reads))
-          ⊎ ((all_answers [] (2 ^ 26) l.bytes ≡ (gots.Budget, []) ∷ []) × (between.reads ≡ before.reads))
-          ⊎ ((all_answers [] (2 ^ 26) l.bytes ≡ (gots.End, []) ∷ []) × Rose before.reads between.reads)) (sym a.left) l.why);
-      sent = none.0 ∙ l.sent;
-      writes = none.1 ∙ l.writes;
+      gave = gave_still l.bytes before between after l.gave a.read;
+      why = subst (λ (w : Option (List ℕ) × ℕ). ((all_answers [] (2 ^ 26) l.bytes ≡ (gots.End, []) ∷ []) × IsAtEnd w.0 × (w.1 ≡ before.reads))
+          ⊎ ((all_answers [] (2 ^ 26) l.bytes ≡ (gots.Budget, []) ∷ []) × (w.1 ≡ before.reads))
+          ⊎ ((all_answers [] (2 ^ 26) l.bytes ≡ (gots.End, []) ∷ []) × Rose before.reads w.1)) (λ i. (sym a.read.1 i, sym a.read.2 i)) l.why;
+      quiet = (none.0 ∙ l.quiet.0, none.1 ∙ l.quiet.1);
     }
 
 pub turned_away : {L : Type 0} (state : L → LinkState) (seats : Seats) (verdict : Verdict) (before : LinkState) (lines : Lines L) (after : LinkState) → seat_of verdict ≡ None

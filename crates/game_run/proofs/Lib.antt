@@ -6,4 +6,5 @@ pub mod Transcripts
 pub mod AgentParts
 pub mod LinksBack
 pub mod PlayedPlaces
+pub mod SameStart
 pub mod WholeGames

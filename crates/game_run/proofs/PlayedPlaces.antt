@@ -23,10 +23,10 @@ use Rattle.floor.specs.Desks.{desk_ids, desk_caller, IsNewDesk}
 use Rattle.game_run.specs.declared.crew.Place.{Place}
 use Rattle.game_run.specs.declared.crew.Played.{Played}
 use Rattle.game_run.specs.declared.crew.Two.{Two}
-use Rattle.game_run.specs.Gathering.{AreEightAgents}
-use Rattle.game_run.specs.LinkStates.{LinkState}
+use Rattle.game_run.specs.Gathering.{IsAgents}
+use Rattle.tac_io.specs.States.{LinkState}
 use Rattle.game_run.specs.PlayedGame.{IsLegalGame}
-use Rattle.game_run.specs.Seatings.{FloorIds, eight_of, played_end, played_link, IsPlayedPlace, AreFourPlayed, HasMadeAll}
+use Rattle.game_run.specs.Seatings.{AreBoth, FloorIds, eight_of, played_end, played_link, IsPlayedPlace, AreEightPlayed, HasMadeAll}
 use Rattle.game_run.specs.Staging.{IsAgentsPart, IsPlayedThrough}
 use Rattle.game_run.proofs.AgentParts.{below_eight, same_out, same_kind, agents_part, end_of_agent, ends_in_order}
 use Rattle.game_run.proofs.Transcripts.{scheduled_of}
@@ -37,7 +37,7 @@ same_value a b e = cc
 module _ {L : Type 0} (state : L → LinkState) (may_answer : List ℕ → Result Request RequestFault → Type 0) (text : Said → List ℕ) (game : GameFile)
     (e : Two (Two (Two (Place L)))) (p : Two (Two (Two (Played L)))) (clock clock' : Desk) (ids : FloorIds)
     (fresh : (i : ℕ) (d : Desk) → get_elem? (map (λ q. q.desk) (eight_of e) ++ clock ∷ []) i ≡ some d → IsNewDesk ids i d)
-    (played : AreFourPlayed state may_answer text game e.first p.first × AreFourPlayed state may_answer text game e.second p.second) where
+    (played : AreEightPlayed state may_answer text game e p) where
   same_at : (number : ℕ) (place : Place L) (q : Played L) → get_elem? (map (λ r. r.desk) (eight_of e) ++ clock ∷ []) number ≡ some place.desk → IsPlayedPlace state may_answer text game place q
       → (desk_ids q.desk ≡ ids) × (desk_caller q.desk ≡ number)
   same_at number place q at out =
@@ -45,30 +45,30 @@ module _ {L : Type 0} (state : L → LinkState) (may_answer : List ℕ → Resul
       (same.0 ∙ new.ids, same.1 ∙ new.caller)
 
   at0 : (desk_ids p.first.first.first.desk ≡ ids) × (desk_caller p.first.first.first.desk ≡ 0)
-  at0 = same_at 0 e.first.first.first p.first.first.first refl played.0.one.one
+  at0 = same_at 0 e.first.first.first p.first.first.first refl played.one.one.one
 
   at1 : (desk_ids p.first.first.second.desk ≡ ids) × (desk_caller p.first.first.second.desk ≡ 1)
-  at1 = same_at 1 e.first.first.second p.first.first.second refl played.0.one.other
+  at1 = same_at 1 e.first.first.second p.first.first.second refl played.one.one.other
 
   at2 : (desk_ids p.first.second.first.desk ≡ ids) × (desk_caller p.first.second.first.desk ≡ 2)
-  at2 = same_at 2 e.first.second.first p.first.second.first refl played.0.other.one
+  at2 = same_at 2 e.first.second.first p.first.second.first refl played.one.other.one
 
   at3 : (desk_ids p.first.second.second.desk ≡ ids) × (desk_caller p.first.second.second.desk ≡ 3)
-  at3 = same_at 3 e.first.second.second p.first.second.second refl played.0.other.other
+  at3 = same_at 3 e.first.second.second p.first.second.second refl played.one.other.other
 
   at4 : (desk_ids p.second.first.first.desk ≡ ids) × (desk_caller p.second.first.first.desk ≡ 4)
-  at4 = same_at 4 e.second.first.first p.second.first.first refl played.1.one.one
+  at4 = same_at 4 e.second.first.first p.second.first.first refl played.other.one.one
 
   at5 : (desk_ids p.second.first.second.desk ≡ ids) × (desk_caller p.second.first.second.desk ≡ 5)
-  at5 = same_at 5 e.second.first.second p.second.first.second refl played.1.one.other
+  at5 = same_at 5 e.second.first.second p.second.first.second refl played.other.one.other
 
   at6 : (desk_ids p.second.second.first.desk ≡ ids) × (desk_caller p.second.second.first.desk ≡ 6)
-  at6 = same_at 6 e.second.second.first p.second.second.first refl played.1.other.one
+  at6 = same_at 6 e.second.second.first p.second.second.first refl played.other.other.one
 
   at7 : (desk_ids p.second.second.second.desk ≡ ids) × (desk_caller p.second.second.second.desk ≡ 7)
-  at7 = same_at 7 e.second.second.second p.second.second.second refl played.1.other.other
+  at7 = same_at 7 e.second.second.second p.second.second.second refl played.other.other.other
 
-  pub eight_agents : AreEightAgents p
+  pub eight_agents : AreBoth (AreBoth (AreBoth IsAgents)) p
   eight_agents = record {
     one = record { one = record { one = omega (arith, at0.1); other = omega (arith, at1.1) }; other = record { one = omega (arith, at2.1); other = omega (arith, at3.1) } };
     other = record { one = record { one = omega (arith, at4.1); other = omega (arith, at5.1) }; other = record { one = omega (arith, at6.1); other = omega (arith, at7.1) } };
@@ -97,14 +97,14 @@ module _ {L : Type 0} (state : L → LinkState) (may_answer : List ℕ → Resul
         (slice_index_or (map (λ q. q.lines) (eight_of e)) agent None) (slice_index_or (map played_link (eight_of p)) agent None)
     each_agent = below_eight (λ agent. IsAgentsPart state may_answer text game closed (filter_map played_end (eight_of p)) agent
         (slice_index_or (map (λ q. q.lines) (eight_of e)) agent None) (slice_index_or (map played_link (eight_of p)) agent None))
-        (part_at 0 e.first.first.first p.first.first.first refl refl (borne 0 clock' (omega arith)) played.0.one.one)
-        (part_at 1 e.first.first.second p.first.first.second refl refl (borne 1 clock' (omega arith)) played.0.one.other)
-        (part_at 2 e.first.second.first p.first.second.first refl refl (borne 2 clock' (omega arith)) played.0.other.one)
-        (part_at 3 e.first.second.second p.first.second.second refl refl (borne 3 clock' (omega arith)) played.0.other.other)
-        (part_at 4 e.second.first.first p.second.first.first refl refl (borne 4 clock' (omega arith)) played.1.one.one)
-        (part_at 5 e.second.first.second p.second.first.second refl refl (borne 5 clock' (omega arith)) played.1.one.other)
-        (part_at 6 e.second.second.first p.second.second.first refl refl (borne 6 clock' (omega arith)) played.1.other.one)
-        (part_at 7 e.second.second.second p.second.second.second refl refl (borne 7 clock' (omega arith)) played.1.other.other)
+        (part_at 0 e.first.first.first p.first.first.first refl refl (borne 0 clock' (omega arith)) played.one.one.one)
+        (part_at 1 e.first.first.second p.first.first.second refl refl (borne 1 clock' (omega arith)) played.one.one.other)
+        (part_at 2 e.first.second.first p.first.second.first refl refl (borne 2 clock' (omega arith)) played.one.other.one)
+        (part_at 3 e.first.second.second p.first.second.second refl refl (borne 3 clock' (omega arith)) played.one.other.other)
+        (part_at 4 e.second.first.first p.second.first.first refl refl (borne 4 clock' (omega arith)) played.other.one.one)
+        (part_at 5 e.second.first.second p.second.first.second refl refl (borne 5 clock' (omega arith)) played.other.one.other)
+        (part_at 6 e.second.second.first p.second.second.first refl refl (borne 6 clock' (omega arith)) played.other.other.one)
+        (part_at 7 e.second.second.second p.second.second.second refl refl (borne 7 clock' (omega arith)) played.other.other.other)
 
     HasEnd : ℕ → Type 0
     HasEnd k = (q : Played L) → slice_get (eight_of p) k ≡ Some q → (desk_caller q.desk ≡ 0 + k) × (slice_index_or (map (λ ls. is_some ls) (map (λ q. q.lines) (eight_of e))) (0 + k) false ≡ is_some q.end)
@@ -117,14 +117,14 @@ module _ {L : Type 0} (state : L → LinkState) (may_answer : List ℕ → Resul
     each_end : (k : ℕ) → k < 8 → HasEnd k
     unfolding HasEnd
     each_end = below_eight HasEnd
-        (λ r at. end_at 0 e.first.first.first p.first.first.first r refl played.0.one.one at)
-        (λ r at. end_at 1 e.first.first.second p.first.first.second r refl played.0.one.other at)
-        (λ r at. end_at 2 e.first.second.first p.first.second.first r refl played.0.other.one at)
-        (λ r at. end_at 3 e.first.second.second p.first.second.second r refl played.0.other.other at)
-        (λ r at. end_at 4 e.second.first.first p.second.first.first r refl played.1.one.one at)
-        (λ r at. end_at 5 e.second.first.second p.second.first.second r refl played.1.one.other at)
-        (λ r at. end_at 6 e.second.second.first p.second.second.first r refl played.1.other.one at)
-        (λ r at. end_at 7 e.second.second.second p.second.second.second r refl played.1.other.other at)
+        (λ r at. end_at 0 e.first.first.first p.first.first.first r refl played.one.one.one at)
+        (λ r at. end_at 1 e.first.first.second p.first.first.second r refl played.one.one.other at)
+        (λ r at. end_at 2 e.first.second.first p.first.second.first r refl played.one.other.one at)
+        (λ r at. end_at 3 e.first.second.second p.first.second.second r refl played.one.other.other at)
+        (λ r at. end_at 4 e.second.first.first p.second.first.first r refl played.other.one.one at)
+        (λ r at. end_at 5 e.second.first.second p.second.first.second r refl played.other.one.other at)
+        (λ r at. end_at 6 e.second.second.first p.second.second.first r refl played.other.other.one at)
+        (λ r at. end_at 7 e.second.second.second p.second.second.second r refl played.other.other.other at)
 
     ended : map (λ end. end.0) (filter_map played_end (eight_of p)) ≡ filter (λ agent. slice_index_or (map (λ ls. is_some ls) (map (λ q. q.lines) (eight_of e))) agent false) agents
     unfolding HasEnd

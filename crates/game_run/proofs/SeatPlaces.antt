@@ -12,7 +12,7 @@ use Rattle.game_run.specs.declared.arrivals.Spot.{Spot}
 use Rattle.game_run.specs.declared.arrivals.Spot.TheVariants.{Seat, Apart}
 use Rattle.game_run.specs.Admission.{AreAdmitted}
 use Rattle.game_run.specs.Arriving.{IsTurnedAway, Keeps}
-use Rattle.game_run.specs.LinkStates.{LinkState}
+use Rattle.tac_io.specs.States.{LinkState}
 use Rattle.game_run.specs.Places.{AreFilled, AreLinksOf}
 use Rattle.game_run.proofs.Admitting.{follows}
 

@@ -23,7 +23,7 @@ use Rattle.game_run.specs.declared.arrivals.Spot.{Spot}
 use Rattle.game_run.specs.declared.arrivals.Spot.TheVariants.{Seat, Apart}
 use Rattle.game_run.specs.Admission.{free_seats, seats_given, is_seated, AreAdmitted, MayGoOn}
 use Rattle.game_run.specs.Arriving.{IsTurnedAway, IsGreeted, IsGreeting, Adds, IsTakenIn, Keeps, AreKept, AreTaken}
-use Rattle.game_run.specs.LinkStates.{LinkState}
+use Rattle.tac_io.specs.States.{LinkState}
 use Rattle.game_run.proofs.Admitting.{one_more, follows}
 use Rattle.game_run.proofs.SeatPlaces.{get_set_same, map_set, seat_was_free, keeps_beside}
 

@@ -11,10 +11,11 @@ use Rattle.tac_base.specs.Goods.{agents}
 use Rattle.auction_core.specs.ClosedGame.{ClosedGame}
 use Rattle.tac_io.specs.AllAnswers.{all_answers}
 use Rattle.tac_io.specs.Lines.{count_of, held_of, link_of}
-use Rattle.tac_io.specs.Told.{and_then_told, before_told, IsAtEnd}
+use Rattle.tac_io.specs.States.{LinkState, LinksState}
+use Rattle.tac_io.specs.Told.{and_then_told, IsAtEnd}
 use Rattle.tac_io.specs.declared.line_got.LineGot.TheVariants as gots
 use Rattle.tac_io.specs.declared.lines.Lines.{Lines}
-use Rattle.tac_io.proofs.Tellings.{and_then_told-twice, before_told-twice}
+use Rattle.tac_io.proofs.Tellings.{gave_twice}
 use Rattle.line_protocol.specs.declared.asking.Request.{Request}
 use Rattle.line_protocol.specs.declared.asking.RequestFault.{RequestFault}
 use Rattle.line_protocol.specs.declared.saying.Said.{Said}
@@ -22,15 +23,13 @@ use Rattle.line_protocol.specs.declared.admission.Cause.{Cause}
 use Rattle.line_protocol.specs.declared.admission.Verdict.{Verdict}
 use Rattle.line_protocol.specs.declared.admission.Verdict.TheVariants.{Seated, Syntax, WrongWord, Taken, Lost}
 use Rattle.agent_gate.specs.Gates.{Seats}
-use Rattle.agent_gate.specs.Served.{IsServed, HasSessionCause}
 use Rattle.agent_gate.specs.Welcome.{welcome_text}
 use Rattle.game_run.specs.declared.arrivals.Arrivals.{Arrivals}
 use Rattle.game_run.specs.declared.arrivals.Spot.{Spot}
 use Rattle.game_run.specs.declared.arrivals.Spot.TheVariants.{Seat, Apart}
-use Rattle.game_run.specs.Admission.{free_seats, seats_given, MayGoOn}
+use Rattle.game_run.specs.Admission.{free_seats, seats_given, CameTo, MayGoOn}
 use Rattle.game_run.specs.Arriving.{IsGreeted, IsTurnedAway, Keeps, AreKept, AreTaken}
-use Rattle.game_run.specs.LinkRuns.{IsSeated, RunsLink, IsLeft, LeavesLink}
-use Rattle.game_run.specs.LinkStates.{LinkState}
+use Rattle.game_run.specs.LinkRuns.{IsSeated, IsLeft}
 use Rattle.game_run.specs.Outcomes.{IsPlayed, IsNotPlayed}
 use Rattle.game_run.specs.Places.{AreFilled, AreLinksOf}
 use Rattle.game_run.specs.PlayedGame.{IsAbsent}
@@ -38,6 +37,7 @@ use Rattle.game_run.specs.Staging.{IsServedAs, IsAgentsPart, IsPlayedThrough}
 use Rattle.game_run.proofs.Admitting.{follows}
 use Rattle.game_run.proofs.FirstLines.{first_line, begins_with}
 use Rattle.game_run.proofs.LinksBack.{filled_alike}
+use Rattle.game_run.proofs.SameStart.{caused_from, served_from}
 use Rattle.game_run.proofs.SeatPlaces.{seat_was_free, filled, links_hold, get_map}
 use Rattle.game_run.proofs.Transcripts.{map_at}
 
@@ -50,62 +50,61 @@ module _ {L : Type 0} (state : L → LinkState) (game : GameFile) (given : List 
 
 -- ---- a game that was not played
 
-leaves : (seats : Seats) (v : Verdict) (before after : LinkState) → IsTurnedAway seats v before after → LeavesLink seats v before after
-leaves seats (Seated agent) before after h = absurd h
-leaves seats Syntax before after h = h
-leaves seats WrongWord before after h = h
-leaves seats Taken before after h = h
-leaves seats Lost before after h = h
+-- what is so of a link without a seat, whatever is so of one with a seat
+came_so : (Sits : Seats → ℕ → LinkState → LinkState → Type 0) (seats : Seats) (v : Verdict) (before after : LinkState) → IsTurnedAway seats v before after → CameTo Sits seats v before after
+came_so Sits seats (Seated agent) before after h = absurd h
+came_so Sits seats Syntax before after h = h
+came_so Sits seats WrongWord before after h = h
+came_so Sits seats Taken before after h = h
+came_so Sits seats Lost before after h = h
 
 module _ {L : Type 0} (state : L → LinkState) where
   left_so : (seats : Seats) (agent : ℕ) (before : LinkState) (lines : Lines L) → IsGreeted state seats agent before lines → IsLeft seats agent before (state (link_of lines))
-  left_so seats agent before lines g = record {
-    bytes = g.bytes;
-    told = g.told;
-    gave = g.gave;
-    line = g.line;
-    first = begins_with g.bytes g.line (held_of lines).unread g.first (omega (arith, g.counted, g.few)) g.short;
-    seat = g.seat;
-    sent = g.sent;
-    reads = g.reads;
-    writes = g.writes;
-  }
+  left_so seats agent before lines g = (
+    record {
+      bytes = g.bytes;
+      gave = g.gave;
+      got = gots.Line;
+      line = g.line;
+      first = begins_with g.bytes g.line (held_of lines).unread g.first (omega (arith, g.counted, g.few)) g.short;
+      due = sym g.seat;
+      reads = g.reads;
+    },
+    g.quiet,
+  )
 
   left_at : (lines : List (Option (Lines L))) (seats : Seats) (v : Verdict) (before : LinkState) (spot : Spot L) → Keeps state (IsGreeted state) lines seats v before spot
       → Keeps state (λ s agent b link. IsLeft s agent b (state link)) (map (λ o. option_map (λ l. link_of l) o) lines) seats v before spot
   left_at lines seats v before (Apart link) k = k
   left_at lines seats v before (Seat agent) k = (link_of k.0, k.1, get_map (λ o. option_map (λ l. link_of l) o) lines agent (Some k.0) k.2, left_so seats agent before k.0 k.3)
 
-  pub not_played : (game : GameFile) (pending pending' : Option (List L)) (arrivals : Arrivals L) (links : List L) → AreTaken state game pending pending' arrivals → MayGoOn arrivals.verdicts.items
-      → AreLinksOf (map (λ o. option_map (λ l. link_of l) o) arrivals.lines.items) arrivals.spots.items links → IsNotPlayed state game pending pending' links
-  not_played game pending pending' arrivals links taken may back =
+  pub not_played : (game : GameFile) (port : ℕ) (links links' : LinksState L) (arrivals : Arrivals L) (ended : List L) → AreTaken state game links.pending links'.pending arrivals → MayGoOn arrivals.verdicts.items
+      → AreLinksOf (map (λ o. option_map (λ l. link_of l) o) arrivals.lines.items) arrivals.spots.items ended → links'.ports ≡ and_then_told links.ports (port ∷ []) → Rose links.faults links'.faults
+      → IsNotPlayed state game port links links' ended
+  not_played game port links links' arrivals ended taken may back ports fault =
       let places = map (λ o. option_map (λ l. link_of l) o) arrivals.lines.items in
       record {
         given = taken.given;
         from = taken.from;
         verdicts = arrivals.verdicts.items;
         more = may;
-        admitted = links_hold state (λ s agent b link. IsLeft s agent b (state link)) LeavesLink (λ s agent b link h. h) leaves places (free_seats game) (map state taken.given) arrivals.verdicts.items arrivals.spots.items links
+        admitted = links_hold state (λ s agent b link. IsLeft s agent b (state link)) (CameTo IsLeft) (λ s agent b link h. h) (came_so IsLeft) places (free_seats game) (map state taken.given) arrivals.verdicts.items arrivals.spots.items ended
             (follows (Keeps state (IsGreeted state) arrivals.lines.items) (Keeps state (λ s agent b link. IsLeft s agent b (state link)) places) (λ s. Unit {0}) (λ s v x y u h. tt)
             (λ s v x spot u h. left_at arrivals.lines.items s v x spot h) (free_seats game) (map state taken.given) arrivals.verdicts.items arrivals.spots.items tt taken.kept.links) back;
+        ports = ports;
+        fault = fault;
       }
 
 -- ---- a game that was played
 
 module _ {L : Type 0} (state : L → LinkState) (may_answer : List ℕ → Result Request RequestFault → Type 0) (text : Said → List ℕ) (game : GameFile) (closed : ClosedGame) (ends : List (ℕ × Cause)) where
-  runs : (seats : Seats) (v : Verdict) (before after : LinkState) → IsTurnedAway seats v before after → RunsLink may_answer text game closed ends seats v before after
-  runs seats (Seated agent) before after h = absurd h
-  runs seats Syntax before after h = h
-  runs seats WrongWord before after h = h
-  runs seats Taken before after h = h
-  runs seats Lost before after h = h
-
   seated_so : (seats : Seats) (agent : ℕ) (before : LinkState) (lines : Lines L) (link : L) (cause : Cause) → IsGreeted state seats agent before lines
-      → IsServedAs state may_answer text game closed agent lines link cause → IsSeated may_answer text game closed seats agent cause before (state link)
-  seated_so seats agent before lines link cause g s = record {
+      → Contains ends (agent, cause) → IsServedAs state may_answer text game closed agent lines link cause → IsSeated may_answer text game closed ends seats agent before (state link)
+  seated_so seats agent before lines link cause g ended s = record {
+    cause = cause;
+    ended = ended;
     bytes = g.bytes ++ s.more;
-    told = s.told ∙ (ap (λ t. and_then_told t s.more) g.told ∙ and_then_told-twice before.taken g.bytes s.more);
-    gave = g.gave ∙ (ap (before_told g.bytes) s.gave ∙ before_told-twice (state link).left g.bytes s.more);
+    gave = gave_twice before (state (link_of lines)) (state link) g.bytes s.more g.gave s.gave;
     line = g.line;
     answers = all_answers [] (2 ^ 26 - count_of lines + length (held_of lines).unread) ((held_of lines).unread ++ s.more);
     first = first_line g.bytes g.line (held_of lines).unread s.more g.first (omega (arith, g.counted, g.few)) g.short
@@ -113,17 +112,15 @@ module _ {L : Type 0} (state : L → LinkState) (may_answer : List ℕ → Resul
     seat = g.seat;
     turns = s.turns;
     lines = s.count;
-    served = subst (λ sent. IsServed may_answer text (welcome_text game agent) (all_answers [] (2 ^ 26 - count_of lines + length (held_of lines).unread) ((held_of lines).unread ++ s.more))
-        (IsAtEnd (state link).left) sent (state link).sent s.turns s.count cause) g.sent s.served;
+    served = served_from before (state (link_of lines)) (state link) g.quiet.0 may_answer text (welcome_text game agent) _ s.turns s.count cause s.served;
     transcript = s.transcript;
-    faults = subst (λ reads. HasSessionCause reads (state link).reads before.writes (state link).writes cause) g.reads
-        (subst (λ writes. HasSessionCause (state (link_of lines)).reads (state link).reads writes (state link).writes cause) g.writes s.faults);
+    faults = caused_from before (state (link_of lines)) (state link) g.reads g.quiet.1 cause s.faults;
   }
 
   served_link : (seats : Seats) (agent : ℕ) (before : LinkState) (lines : Lines L) (o : Option L) → IsGreeted state seats agent before lines → IsAgentsPart state may_answer text game closed ends agent (Some lines) o
-      → (link : L) × (o ≡ Some link) × ((cause : Cause) × Contains ends (agent, cause) × IsSeated may_answer text game closed seats agent cause before (state link))
+      → (link : L) × (o ≡ Some link) × IsSeated may_answer text game closed ends seats agent before (state link)
   served_link seats agent before lines None g part = absurd part
-  served_link seats agent before lines (Some link) g part = (link, refl, (part.0, part.1, seated_so seats agent before lines link part.0 g part.2))
+  served_link seats agent before lines (Some link) g part = (link, refl, seated_so seats agent before lines link part.0 g part.1 part.2)
 
   absent_part : (agent : ℕ) (o : Option (Lines L)) (l : Option L) → is_some o ≡ false → IsAgentsPart state may_answer text game closed ends agent o l → IsAbsent closed agent
   absent_part agent None None no_lines part = part
@@ -132,7 +129,7 @@ module _ {L : Type 0} (state : L → LinkState) (may_answer : List ℕ → Resul
 
   module _ (lines : List (Option (Lines L))) (places : List (Option L)) (wide : length lines ≡ 8) (through : IsPlayedThrough state may_answer text game closed lines places ends) where
     runs_at : (seats : Seats) (v : Verdict) (before : LinkState) (spot : Spot L) → Keeps state (IsGreeted state) lines seats v before spot
-        → Keeps state (λ s agent b link. (cause : Cause) × Contains ends (agent, cause) × IsSeated may_answer text game closed s agent cause b (state link)) places seats v before spot
+        → Keeps state (λ s agent b link. IsSeated may_answer text game closed ends s agent b (state link)) places seats v before spot
     runs_at seats v before (Apart link) k = k
     runs_at seats v before (Seat agent) k =
         let lt : agent < 8 = let within = slice_get_within lines agent (Some k.0) k.2 in omega (arith, within, wide) in
@@ -150,12 +147,12 @@ module _ {L : Type 0} (state : L → LinkState) (may_answer : List ℕ → Resul
       → AreLinksOf places arrivals.spots.items links → IsPlayed state may_answer text game pending pending' arrivals.verdicts.items ends closed links
   was_played pending pending' arrivals places links taken no_fewer through back =
       let lines = arrivals.lines.items in let kept = taken.kept in
-      let Sits = λ (s : Seats) (agent : ℕ) (b : LinkState) (link : L). (cause : Cause) × Contains ends (agent, cause) × IsSeated may_answer text game closed s agent cause b (state link) in
+      let Sits = λ (s : Seats) (agent : ℕ) (b : LinkState) (link : L). IsSeated may_answer text game closed ends s agent b (state link) in
       record {
         given = taken.given;
         from = taken.from;
         all = record { no_more = kept.no_more; no_fewer = no_fewer };
-        admitted = links_hold state Sits (RunsLink may_answer text game closed ends) (λ s agent b link h. h) runs places (free_seats game) (map state taken.given) arrivals.verdicts.items arrivals.spots.items links
+        admitted = links_hold state Sits (CameTo (IsSeated may_answer text game closed ends)) (λ s agent b link h. h) (came_so (IsSeated may_answer text game closed ends)) places (free_seats game) (map state taken.given) arrivals.verdicts.items arrivals.spots.items links
             (follows (Keeps state (IsGreeted state) lines) (Keeps state Sits places) (λ s. Unit {0}) (λ s v x y u h. tt)
             (λ s v x spot u h. runs_at lines places kept.wide through s v x spot h) (free_seats game) (map state taken.given) arrivals.verdicts.items arrivals.spots.items tt kept.links) back;
         played = record {

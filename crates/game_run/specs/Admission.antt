@@ -5,13 +5,14 @@ use Rattle.tac_base.specs.declared.limits.TheConstants.{LINK_BYTES, LINKS}
 use Rattle.game_text.specs.Games.{GameFile}
 use Rattle.tac_io.specs.AllAnswers.{all_answers}
 use Rattle.tac_io.specs.Counts.{Rose}
-use Rattle.tac_io.specs.Told.{and_then_told, before_told, IsAtEnd, TakesSome}
+use Rattle.tac_io.specs.LinkCalls.{GaveBytes, SendsNothing}
+use Rattle.tac_io.specs.States.{LinkState}
+use Rattle.tac_io.specs.Told.{and_then_told, IsAtEnd, TakesSome}
 use Rattle.tac_io.specs.declared.line_got.LineGot.{LineGot}
 use Rattle.tac_io.specs.declared.line_got.LineGot.TheVariants as gots
 use Rattle.line_protocol.specs.declared.admission.Verdict.{Verdict}
 use Rattle.line_protocol.specs.declared.admission.Verdict.TheVariants.{Seated, Syntax, WrongWord, Taken, Lost}
 use Rattle.agent_gate.specs.Gates.{Seats, verdict_of, seats_after}
-use Rattle.game_run.specs.LinkStates.{LinkState}
 
 -- the seats of a game before any link came
 abbrev pub free_seats : GameFile → Seats
@@ -31,9 +32,7 @@ is_seated verdict = false
 abbrev pub first_verdict : Seats → LineGot → List ℕ → Verdict
 first_verdict seats gots.Line line = verdict_of seats line
 first_verdict seats gots.TooLong line = Syntax
-first_verdict seats gots.End line = Lost
-first_verdict seats gots.Failed line = Lost
-first_verdict seats gots.Budget line = Lost
+first_verdict seats got line = Lost
 
 -- the first line of a link: the bytes that were taken begin with it
 abbrev pub BeginsWith : List ℕ → LineGot → List ℕ → Type 0
@@ -44,8 +43,7 @@ abbrev pub refusal_line : Verdict → List ℕ
 refusal_line Syntax = codes "refused syntax\n"
 refusal_line WrongWord = codes "refused wrongword\n"
 refusal_line Taken = codes "refused taken\n"
-refusal_line (Seated agent) = []
-refusal_line Lost = []
+refusal_line verdict = []
 
 -- the line was sent, or a fault of a write was counted and only its first bytes were
 abbrev pub IsSentOrCut : List ℕ → LinkState → LinkState → Type 0
@@ -53,30 +51,36 @@ IsSentOrCut line before after =
     ((after.sent ≡ and_then_told before.sent line) × (after.writes ≡ before.writes))
     ⊎ (TakesSome before.sent after.sent line × Rose before.writes after.writes)
 
--- a link was refused by its first line
-pub record IsRefused (seats : Seats) (verdict : Verdict) (before after : LinkState) : Type 0 where
+-- the bytes that a link gave begin with a line of this verdict
+pub record HasFirstLine (seats : Seats) (verdict : Verdict) (before after : LinkState) : Type 0 where
   pub bytes : List ℕ
-  pub told : after.taken ≡ and_then_told before.taken bytes
-  pub gave : before.left ≡ before_told bytes after.left
+  pub gave : GaveBytes bytes before after
   pub got : LineGot
   pub line : List ℕ
   pub first : BeginsWith bytes got line
   pub due : verdict ≡ first_verdict seats got line
-  pub sent : IsSentOrCut (refusal_line verdict) before after
   pub reads : after.reads ≡ before.reads
+
+-- a link was refused by its first line
+abbrev pub IsRefused : Seats → Verdict → LinkState → LinkState → Type 0
+IsRefused seats verdict before after = HasFirstLine seats verdict before after × IsSentOrCut (refusal_line verdict) before after
 
 -- A link is lost: its first line has no end within the first 67,108,864 bytes that it had to give, or a read failed before that end was
 -- taken. It was sent nothing.
 pub record IsLost (before after : LinkState) : Type 0 where
   pub bytes : List ℕ
-  pub told : after.taken ≡ and_then_told before.taken bytes
-  pub gave : before.left ≡ before_told bytes after.left
+  pub gave : GaveBytes bytes before after
   pub why :
       ((all_answers [] (LINK_BYTES) bytes ≡ (gots.End, []) ∷ []) × IsAtEnd after.left × (after.reads ≡ before.reads))
       ⊎ ((all_answers [] (LINK_BYTES) bytes ≡ (gots.Budget, []) ∷ []) × (after.reads ≡ before.reads))
       ⊎ ((all_answers [] (LINK_BYTES) bytes ≡ (gots.End, []) ∷ []) × Rose before.reads after.reads)
-  pub sent : after.sent ≡ before.sent
-  pub writes : after.writes ≡ before.writes
+  pub quiet : SendsNothing before after
+
+-- what became of a link by its verdict, where `Sits` is so of one with a seat
+abbrev pub CameTo : (Seats → ℕ → LinkState → LinkState → Type 0) → Seats → Verdict → LinkState → LinkState → Type 0
+CameTo Sits seats (Seated agent) before after = Sits seats agent before after
+CameTo Sits seats Lost before after = IsLost before after
+CameTo Sits seats verdict before after = IsRefused seats verdict before after
 
 -- ---- all links
 

@@ -5,8 +5,9 @@ use Rattle.game_text.specs.Games.{GameFile}
 use Rattle.tac_io.specs.LineAnswers.{goes_on}
 use Rattle.tac_io.specs.LineText.{Begins}
 use Rattle.tac_io.specs.Lines.{count_of, held_of, last_of, link_of}
-use Rattle.tac_io.specs.Told.{and_then_told, before_told}
-use Rattle.tac_io.specs.declared.line_got.LineGot.{LineGot}
+use Rattle.tac_io.specs.LinkCalls.{GaveBytes, ReadsNothing, SendsNothing}
+use Rattle.tac_io.specs.States.{LinkState}
+use Rattle.tac_io.specs.Told.{before_told}
 use Rattle.tac_io.specs.declared.lines.Lines.{Lines}
 use Rattle.line_protocol.specs.declared.admission.Verdict.{Verdict}
 use Rattle.line_protocol.specs.declared.admission.Verdict.TheVariants.{Seated, Lost}
@@ -16,8 +17,7 @@ use Rattle.game_run.specs.declared.arrivals.Greeting.{Greeting}
 use Rattle.game_run.specs.declared.arrivals.Greeting.TheVariants as greetings
 use Rattle.game_run.specs.declared.arrivals.Spot.{Spot}
 use Rattle.game_run.specs.declared.arrivals.Spot.TheVariants.{Seat, Apart}
-use Rattle.game_run.specs.Admission.{free_seats, seats_given, first_verdict, BeginsWith, IsSentOrCut, IsRefused, IsLost, AreAdmitted, MayGoOn}
-use Rattle.game_run.specs.LinkStates.{LinkState}
+use Rattle.game_run.specs.Admission.{free_seats, seats_given, HasFirstLine, IsSentOrCut, IsLost, CameTo, AreAdmitted, MayGoOn}
 
 -- the agent that a verdict seats
 abbrev pub seat_of : Verdict → Option ℕ
@@ -25,46 +25,31 @@ seat_of (Seated agent) = Some agent
 seat_of verdict = None
 
 -- a first line was read that gives the link no seat, and nothing was sent yet
-pub record IsUnseated (seats : Seats) (verdict : Verdict) (before after : LinkState) : Type 0 where
-  pub bytes : List ℕ
-  pub told : after.taken ≡ and_then_told before.taken bytes
-  pub gave : before.left ≡ before_told bytes after.left
-  pub got : LineGot
-  pub line : List ℕ
-  pub first : BeginsWith bytes got line
-  pub due : verdict ≡ first_verdict seats got line
-  pub sent : after.sent ≡ before.sent
-  pub reads : after.reads ≡ before.reads
-  pub writes : after.writes ≡ before.writes
+abbrev pub IsUnseated : Seats → Verdict → LinkState → LinkState → Type 0
+IsUnseated seats verdict before after = HasFirstLine seats verdict before after × SendsNothing before after
 
 -- a line was sent, or its first bytes were, and nothing was read
 pub record IsAnswered (line : List ℕ) (before after : LinkState) : Type 0 where
-  pub taken : after.taken ≡ before.taken
-  pub left : after.left ≡ before.left
+  pub read : ReadsNothing before after
   pub sent : IsSentOrCut line before after
-  pub reads : after.reads ≡ before.reads
 
 -- what is so of a link without a seat
 abbrev pub IsTurnedAway : Seats → Verdict → LinkState → LinkState → Type 0
-IsTurnedAway seats (Seated agent) before after = ⊥
-IsTurnedAway seats Lost before after = IsLost before after
-IsTurnedAway seats verdict before after = IsRefused seats verdict before after
+IsTurnedAway = CameTo (λ seats agent before after. ⊥)
 
 module _ {L : Type 0} (state : L → LinkState) where
   -- A link was seated by its first line. Its lines hold what was taken after that line, and it was sent nothing.
   pub record IsGreeted (seats : Seats) (agent : ℕ) (before : LinkState) (lines : Lines L) : Type 0 where
     pub bytes : List ℕ
-    pub told : (state (link_of lines)).taken ≡ and_then_told before.taken bytes
-    pub gave : before.left ≡ before_told bytes (state (link_of lines)).left
+    pub gave : GaveBytes bytes before (state (link_of lines))
     pub line : List ℕ
     pub first : Begins bytes line (held_of lines).unread
     pub short : length line ≤ LINE_BYTES
     pub counted : count_of lines ≡ length bytes
     pub few : count_of lines ≤ LINK_BYTES
     pub seat : verdict_of seats line ≡ Seated agent
-    pub sent : (state (link_of lines)).sent ≡ before.sent
+    pub quiet : SendsNothing before (state (link_of lines))
     pub reads : (state (link_of lines)).reads ≡ before.reads
-    pub writes : (state (link_of lines)).writes ≡ before.writes
     pub more : goes_on (last_of lines) ≡ true
 
   -- what is so of the lines of a link after its first line, before anything is sent

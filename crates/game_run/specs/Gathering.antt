@@ -3,7 +3,6 @@ use Rattle.std.specs.Prelude.{◌≡◌, ℕ, ◌+◌, ◌<◌, ◌≤◌, List,
 use Rattle.std.specs.List.{filter_map}
 use Rattle.floor.specs.Desks.{desk_caller}
 use Rattle.game_run.specs.declared.crew.Played.{Played}
-use Rattle.game_run.specs.declared.crew.Two.{Two}
 use Rattle.game_run.specs.declared.ending.Ending.{Ending}
 use Rattle.game_run.specs.Seatings.{played_link, played_end}
 
@@ -28,15 +27,6 @@ pub record Gathers {L : Type 0} (old new : Ending L) (played : List (Played L)) 
   pub ends : new.ends.items ≡ old.ends.items ++ filter_map played_end played
   pub links : new.links.items ≡ old.links.items ++ map played_link played
 
--- those who played are agents
-pub record AreTwoAgents {L : Type 0} (two : Two (Played L)) : Type 0 where
-  pub one : desk_caller two.first.desk < 8
-  pub other : desk_caller two.second.desk < 8
-
-pub record AreFourAgents {L : Type 0} (four : Two (Two (Played L))) : Type 0 where
-  pub one : AreTwoAgents four.first
-  pub other : AreTwoAgents four.second
-
-pub record AreEightAgents {L : Type 0} (eight : Two (Two (Two (Played L)))) : Type 0 where
-  pub one : AreFourAgents eight.first
-  pub other : AreFourAgents eight.second
+-- who played there is an agent
+abbrev pub IsAgents : {L : Type 0} → Played L → Type 0
+IsAgents played = desk_caller played.desk < 8

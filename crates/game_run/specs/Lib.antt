@@ -1,4 +1,3 @@
-pub mod LinkStates
 pub mod Admission
 pub mod LinkRuns
 pub mod PlayedGame

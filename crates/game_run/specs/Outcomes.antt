@@ -1,5 +1,5 @@
 -- What `run_game` leaves of the links and of the ticker.
-use Rattle.std.specs.Prelude.{◌≡◌, ℕ, List, [], ◌∷◌, Bool, Result, Ok, Err, Option, map}
+use Rattle.std.specs.Prelude.{◌≡◌, ℕ, List, [], ◌∷◌, Result, Option, map}
 use Rattle.game_text.specs.Games.{GameFile}
 use Rattle.auction_core.specs.ClosedGame.{ClosedGame}
 use Rattle.tac_io.specs.Counts.{Rose}
@@ -9,14 +9,14 @@ use Rattle.line_protocol.specs.declared.asking.RequestFault.{RequestFault}
 use Rattle.line_protocol.specs.declared.saying.Said.{Said}
 use Rattle.line_protocol.specs.declared.admission.Cause.{Cause}
 use Rattle.line_protocol.specs.declared.admission.Verdict.{Verdict}
-use Rattle.clock_events.specs.Clocking.{WaitsForAll, HasMissedCause}
+use Rattle.clock_events.specs.Clocking.{WaitsForAll}
 use Rattle.line_protocol.specs.Heads.{head_of, Serve}
 use Rattle.game_run.specs.declared.run.GameEnd.{GameEnd}
 use Rattle.game_run.specs.declared.run.RunFault.{RunFault}
 use Rattle.game_run.specs.declared.run.RunFault.TheVariants.{Links, Memory}
-use Rattle.game_run.specs.Admission.{free_seats, AreAdmitted, AreAllTaken, MayGoOn}
-use Rattle.game_run.specs.LinkRuns.{RunsLink, LeavesLink}
-use Rattle.game_run.specs.LinkStates.{LinkState}
+use Rattle.game_run.specs.Admission.{free_seats, AreAdmitted, AreAllTaken, CameTo, MayGoOn}
+use Rattle.game_run.specs.LinkRuns.{IsLeft, IsSeated}
+use Rattle.tac_io.specs.States.{LinkState, LinksState, TickerState}
 use Rattle.game_run.specs.PlayedGame.{IsPlayedBy}
 
 module _ {L : Type 0} (state : L → LinkState) where
@@ -26,36 +26,32 @@ module _ {L : Type 0} (state : L → LinkState) where
     pub given : List L
     pub from : pending ≡ before_told given pending'
     pub all : AreAllTaken verdicts pending'
-    pub admitted : AreAdmitted (RunsLink may_answer text game closed ends) (free_seats game) (map state given) verdicts (map state links)
+    pub admitted : AreAdmitted (CameTo (IsSeated may_answer text game closed ends)) (free_seats game) (map state given) verdicts (map state links)
     pub played : IsPlayedBy game verdicts ends closed
 
-  -- No game was played, since the links failed: another could be taken.
-  pub record IsNotPlayed (game : GameFile) (pending pending' : Option (List L)) (links : List L) : Type 0 where
+  -- The links were asked to listen at the port and failed, and no game was played: another could be taken.
+  pub record IsNotPlayed (game : GameFile) (port : ℕ) (links links' : LinksState L) (ended : List L) : Type 0 where
     pub given : List L
-    pub from : pending ≡ before_told given pending'
+    pub from : links.pending ≡ before_told given links'.pending
     pub verdicts : List Verdict
     pub more : MayGoOn verdicts
-    pub admitted : AreAdmitted LeavesLink (free_seats game) (map state given) verdicts (map state links)
+    pub admitted : AreAdmitted (CameTo IsLeft) (free_seats game) (map state given) verdicts (map state ended)
+    pub ports : links'.ports ≡ and_then_told links.ports (port ∷ [])
+    pub fault : Rose links.faults links'.faults
 
-  -- how a game ended: what its head says is what was played
-  pub record IsEnd (may_answer : List ℕ → Result Request RequestFault → Type 0) (text : Said → List ℕ) (game : GameFile)
-      (pending pending' : Option (List L)) (waited waited' : Option (List (ℕ × Bool))) (lapses lapses' : ℕ) (end : GameEnd L) : Type 0 where
+  -- How a game ended: what its head says is what was played. The links were asked to listen at the port and did not fail.
+  pub record IsEnd (may_answer : List ℕ → Result Request RequestFault → Type 0) (text : Said → List ℕ) (game : GameFile) (port : ℕ)
+      (links links' : LinksState L) (ticker ticker' : TickerState) (end : GameEnd L) : Type 0 where
     pub verdicts : List Verdict
     pub ends : List (ℕ × Cause)
     pub missed : ℕ
     pub head : head_of end.head ≡ Serve verdicts ends missed
-    pub played : IsPlayed may_answer text game pending pending' verdicts ends end.closed end.links.items
-    pub waits : WaitsForAll waited waited' missed
-    pub cause : HasMissedCause lapses lapses' missed
+    pub played : IsPlayed may_answer text game links.pending links'.pending verdicts ends end.closed end.links.items
+    pub ports : links'.ports ≡ and_then_told links.ports (port ∷ [])
+    pub no_fault : links'.faults ≡ links.faults
+    pub waits : WaitsForAll ticker ticker' missed
 
-  -- why no game was played: the links failed, or there was no memory
-  abbrev pub IsRunFault : GameFile → Option (List L) → Option (List L) → RunFault L → Type 0
-  IsRunFault game pending pending' (Links links) = IsNotPlayed game pending pending' links.items
-  IsRunFault game pending pending' Memory = pending' ≡ pending
-
--- the links failed exactly where their count rose, and before that they were asked to listen at the port once; without memory they
--- were asked nothing
-abbrev pub HasRunCause : {L : Type 0} → Option (List ℕ) → Option (List ℕ) → ℕ → ℕ → ℕ → Result (GameEnd L) (RunFault L) → Type 0
-HasRunCause ports ports' port faults faults' (Ok end) = (ports' ≡ and_then_told ports (port ∷ [])) × (faults' ≡ faults)
-HasRunCause ports ports' port faults faults' (Err (Links links)) = (ports' ≡ and_then_told ports (port ∷ [])) × Rose faults faults'
-HasRunCause ports ports' port faults faults' (Err Memory) = (ports' ≡ ports) × (faults' ≡ faults)
+  -- why no game was played: the links failed, or there was no memory, and nothing was asked of them
+  abbrev pub IsRunFault : GameFile → ℕ → LinksState L → LinksState L → RunFault L → Type 0
+  IsRunFault game port links links' (Links ended) = IsNotPlayed game port links links' ended.items
+  IsRunFault game port links links' Memory = links' ≡ links

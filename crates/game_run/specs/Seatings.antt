@@ -20,7 +20,7 @@ use Rattle.agent_gate.specs.Sessions.{IsSession}
 use Rattle.game_run.specs.declared.crew.Two.{Two}
 use Rattle.game_run.specs.declared.crew.Place.{Place}
 use Rattle.game_run.specs.declared.crew.Played.{Played}
-use Rattle.game_run.specs.LinkStates.{LinkState}
+use Rattle.tac_io.specs.States.{LinkState}
 
 -- ---- two, four and eight in order
 
@@ -32,6 +32,16 @@ four_of four = two_of four.first ++ two_of four.second
 
 abbrev pub eight_of : {X : Type 0} → Two (Two (Two X)) → List X
 eight_of eight = four_of eight.first ++ four_of eight.second
+
+-- it is so of both of two
+pub record AreBoth {X : Type 0} (Holds : X → Type 0) (two : Two X) : Type 0 where
+  pub one : Holds two.first
+  pub other : Holds two.second
+
+-- it is so of both of two, each with what is left of it
+pub record BothOver {X Y : Type 0} (Holds : X → Y → Type 0) (two : Two X) (over : Two Y) : Type 0 where
+  pub one : Holds two.first over.first
+  pub other : Holds two.second over.second
 
 -- ---- before the sessions
 
@@ -52,17 +62,8 @@ pub record IsReadyClock (ids : FloorIds) (desk : Desk) : Type 0 where
   pub caller : desk_caller desk ≡ 8
   pub no_calls : (entries_of desk ≡ replicate 28 []) × (cash_of desk ≡ [])
 
-pub record AreTwoReady {L : Type 0} (ids : FloorIds) (two : Two (Place L)) : Type 0 where
-  pub one : IsReady ids two.first
-  pub other : IsReady ids two.second
-
-pub record AreFourReady {L : Type 0} (ids : FloorIds) (four : Two (Two (Place L))) : Type 0 where
-  pub one : AreTwoReady ids four.first
-  pub other : AreTwoReady ids four.second
-
-pub record AreEightReady {L : Type 0} (ids : FloorIds) (eight : Two (Two (Two (Place L)))) : Type 0 where
-  pub one : AreFourReady ids eight.first
-  pub other : AreFourReady ids eight.second
+abbrev pub AreEightReady : {L : Type 0} → FloorIds → Two (Two (Two (Place L))) → Type 0
+AreEightReady ids eight = AreBoth (AreBoth (AreBoth (IsReady ids))) eight
 
 -- ---- after the sessions
 
@@ -74,9 +75,8 @@ module _ {L : Type 0} (state : L → LinkState) (may_answer : List ℕ → Resul
   -- a session of these lines at this desk left the link and the desk, and ended so
   pub record IsServedBy (before : Desk) (lines : Lines L) (after : Desk) (link : L) (cause : Cause) : Type 0 where
     pub count : ℕ
-    pub session : IsSession may_answer text game (held_of lines) (count_of lines) (state (link_of lines)).taken (state link).taken
-        (state (link_of lines)).left (state link).left (state (link_of lines)).sent (state link).sent before after count cause
-    pub faults : HasSessionCause (state (link_of lines)).reads (state link).reads (state (link_of lines)).writes (state link).writes cause
+    pub session : IsSession may_answer text game (held_of lines) (count_of lines) (state (link_of lines)) (state link) before after count cause
+    pub faults : HasSessionCause (state (link_of lines)) (state link) cause
 
   -- a place without lines was left as it was; a place with lines had its session
   abbrev pub IsPlayedOut : Desk → Option (Lines L) → Desk → Option (L × Cause) → Type 0
@@ -87,16 +87,8 @@ module _ {L : Type 0} (state : L → LinkState) (may_answer : List ℕ → Resul
   abbrev pub IsPlayedPlace : Place L → Played L → Type 0
   IsPlayedPlace place played = IsPlayedOut place.desk place.lines played.desk played.end
 
-  pub record AreTwoPlayed (places : Two (Place L)) (played : Two (Played L)) : Type 0 where
-    pub one : IsPlayedPlace places.first played.first
-    pub other : IsPlayedPlace places.second played.second
-
-  pub record AreFourPlayed (places : Two (Two (Place L))) (played : Two (Two (Played L))) : Type 0 where
-    pub one : AreTwoPlayed places.first played.first
-    pub other : AreTwoPlayed places.second played.second
-
-  unfoldable pub AreEightPlayed : Two (Two (Two (Place L))) → Two (Two (Two (Played L))) → Type 0
-  AreEightPlayed places played = AreFourPlayed places.first played.first × AreFourPlayed places.second played.second
+  abbrev pub AreEightPlayed : Two (Two (Two (Place L))) → Two (Two (Two (Played L))) → Type 0
+  AreEightPlayed places played = BothOver (BothOver (BothOver IsPlayedPlace)) places played
 
   -- the same of places that were handed over
   unfoldable pub AreTakenPlayed : Option (Two (Two (Two (Place L)))) → Two (Two (Two (Played L))) → Type 0

@@ -9,7 +9,7 @@ use Rattle.auction_core.specs.ClosedGame.{ClosedGame, all_goods}
 use Rattle.auction_core.specs.Setups.{setup_of}
 use Rattle.tac_io.specs.AllAnswers.{all_answers}
 use Rattle.tac_io.specs.Lines.{count_of, held_of, link_of}
-use Rattle.tac_io.specs.Told.{and_then_told, before_told, IsAtEnd}
+use Rattle.tac_io.specs.LinkCalls.{GaveBytes}
 use Rattle.tac_io.specs.declared.lines.Lines.{Lines}
 use Rattle.line_protocol.specs.declared.asking.Request.{Request}
 use Rattle.line_protocol.specs.declared.asking.RequestFault.{RequestFault}
@@ -26,7 +26,7 @@ use Rattle.agent_gate.specs.Turns.{Turn}
 use Rattle.agent_gate.specs.Welcome.{welcome_text}
 use Rattle.game_run.specs.declared.ending.Ending.{Ending}
 use Rattle.game_run.specs.declared.stage.Stage.{Stage}
-use Rattle.game_run.specs.LinkStates.{LinkState}
+use Rattle.tac_io.specs.States.{LinkState}
 use Rattle.game_run.specs.PlayedGame.{parts_of, IsLegalGame, IsAbsent}
 
 -- ---- before the game
@@ -53,14 +53,13 @@ module _ {L : Type 0} (state : L → LinkState) (may_answer : List ℕ → Resul
   -- the agent was served by a session from these lines on, and its turns are its part of the histories
   pub record IsServedAs (agent : ℕ) (lines : Lines L) (link : L) (cause : Cause) : Type 0 where
     pub more : List ℕ
-    pub told : (state link).taken ≡ and_then_told (state (link_of lines)).taken more
-    pub gave : (state (link_of lines)).left ≡ before_told more (state link).left
+    pub gave : GaveBytes more (state (link_of lines)) (state link)
     pub turns : List Turn
     pub count : ℕ
     pub served : IsServed may_answer text (welcome_text game agent) (all_answers [] (LINK_BYTES - count_of lines + length (held_of lines).unread) ((held_of lines).unread ++ more))
-        (IsAtEnd (state link).left) (state (link_of lines)).sent (state link).sent turns count cause
+        (state (link_of lines)) (state link) turns count cause
     pub transcript : IsTranscript agent closed turns
-    pub faults : HasSessionCause (state (link_of lines)).reads (state link).reads (state (link_of lines)).writes (state link).writes cause
+    pub faults : HasSessionCause (state (link_of lines)) (state link) cause
 
   -- what became of an agent: one with lines was served, and has its end; one without made no call
   abbrev pub IsAgentsPart : List (ℕ × Cause) → ℕ → Option (Lines L) → Option L → Type 0

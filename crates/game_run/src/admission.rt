@@ -45,8 +45,7 @@ fn first_verdict<L: Link>(gate: &mut Gate, lines: &mut Lines<L>) -> Verdict
     requires unread { (held_of lines.old).unread ≡ [] }
     requires count { count_of lines.old ≡ 0 }
     requires last { last_of lines.old ≡ None }
-    ensures read { IsFirstRead (λ l. record { taken = L.taken l; left = L.left l; sent = L.sent l; reads = L.faults l; writes = L.write_faults l })
-        gate.old result (record { taken = L.taken (link_of lines.old); left = L.left (link_of lines.old); sent = L.sent (link_of lines.old); reads = L.faults (link_of lines.old); writes = L.write_faults (link_of lines.old) }) lines.new }
+    ensures read { IsFirstRead L.state gate.old result (L.state (link_of lines.old)) lines.new }
     ensures seats { gate.new ≡ seats_after gate.old result }
 {
     match lines.next() {
@@ -58,9 +57,7 @@ fn first_verdict<L: Link>(gate: &mut Gate, lines: &mut Lines<L>) -> Verdict
 
 /// Tells a link that it gets no seat, and why.
 fn turn_away<L: Link>(verdict: &Verdict, mut lines: Lines<L>) -> L
-    ensures { IsAnswered (refusal_line verdict.now)
-        (record { taken = L.taken (link_of lines); left = L.left (link_of lines); sent = L.sent (link_of lines); reads = L.faults (link_of lines); writes = L.write_faults (link_of lines) })
-        (record { taken = L.taken result; left = L.left result; sent = L.sent result; reads = L.faults result; writes = L.write_faults result }) }
+    ensures { IsAnswered (refusal_line verdict.now) (L.state (link_of lines)) (L.state result) }
 {
     let _ = lines.send(refusal(verdict));
     lines.into_link()
@@ -68,8 +65,7 @@ fn turn_away<L: Link>(verdict: &Verdict, mut lines: Lines<L>) -> L
 
 /// Reads the first line of a link, and turns it away if it gets no seat.
 fn greet<L: Link>(gate: &mut Gate, link: L) -> Greeting<L>
-    ensures { IsGreeting (λ l. record { taken = L.taken l; left = L.left l; sent = L.sent l; reads = L.faults l; writes = L.write_faults l })
-        gate.old gate.new (record { taken = L.taken link; left = L.left link; sent = L.sent link; reads = L.faults link; writes = L.write_faults link }) result }
+    ensures { IsGreeting L.state gate.old gate.new (L.state link) result }
 {
     let mut lines = Lines::new(link);
     let verdict = first_verdict(gate, &mut lines);
@@ -87,8 +83,7 @@ fn take_in<L: Link + Drop>(gate: &mut Gate, arrivals: &mut Arrivals<L>, link: L)
     requires verdicts { vec_len arrivals.old.verdicts < vec_capacity arrivals.old.verdicts }
     requires spots { vec_len arrivals.old.spots < vec_capacity arrivals.old.spots }
     requires seats { vec_len arrivals.old.lines ≡ 8 }
-    ensures taken { IsTakenIn (λ l. record { taken = L.taken l; left = L.left l; sent = L.sent l; reads = L.faults l; writes = L.write_faults l })
-        gate.old gate.new (record { taken = L.taken link; left = L.left link; sent = L.sent link; reads = L.faults link; writes = L.write_faults link }) arrivals.old arrivals.new result }
+    ensures taken { IsTakenIn L.state gate.old gate.new (L.state link) arrivals.old arrivals.new result }
     ensures verdicts { (vec_len arrivals.new.verdicts ≡ vec_len arrivals.old.verdicts + 1) × (vec_capacity arrivals.new.verdicts ≡ vec_capacity arrivals.old.verdicts) }
     ensures spots { (vec_len arrivals.new.spots ≡ vec_len arrivals.old.spots + 1) × (vec_capacity arrivals.new.spots ≡ vec_capacity arrivals.old.spots) }
     ensures seats { vec_len arrivals.new.lines ≡ 8 }
@@ -115,17 +110,16 @@ pub(crate) fn admit<N: Links>(
     links: &mut N,
     arrivals: &mut Arrivals<N::Link>,
 ) -> Result<(), Failed>
-    requires ports { IfSome (N.ports links.old) (λ ports. ports ≡ []) }
+    requires ports { IfSome (N.state links.old).ports (λ ports. ports ≡ []) }
     requires none { (arrivals.old.verdicts.items ≡ []) × (arrivals.old.spots.items ≡ []) }
     requires free { arrivals.old.lines.items ≡ replicate 8 None }
     requires room { (vec_capacity arrivals.old.verdicts ≡ LINKS) × (vec_capacity arrivals.old.spots ≡ LINKS) }
-    ensures taken { AreTaken (λ l. record { taken = N.Link.taken l; left = N.Link.left l; sent = N.Link.sent l; reads = N.Link.faults l; writes = N.Link.write_faults l })
-        game.now (N.pending links.old) (N.pending links.new) arrivals.new }
-    ensures no_fewer { OnOk result (MayGoOn arrivals.new.verdicts.items → IsAtEnd (N.pending links.new)) }
+    ensures taken { AreTaken N.Link.state game.now (N.state links.old).pending (N.state links.new).pending arrivals.new }
+    ensures no_fewer { OnOk result (MayGoOn arrivals.new.verdicts.items → IsAtEnd (N.state links.new).pending) }
     ensures more { OnErr result (MayGoOn arrivals.new.verdicts.items) }
     ensures few { vec_len arrivals.new.spots ≤ LINKS }
-    ensures ports { N.ports links.new ≡ and_then_told (N.ports links.old) (port ∷ []) }
-    ensures cause { HasCause (N.faults links.old) (N.faults links.new) result }
+    ensures ports { (N.state links.new).ports ≡ and_then_told (N.state links.old).ports (port ∷ []) }
+    ensures cause { HasCause (N.state links.old).faults (N.state links.new).faults result }
 {
     links.listen(port)?;
     let mut gate = Gate::new(game);

@@ -2,8 +2,8 @@
 ghost use Rattle.std.specs.Prelude.{◌≡◌, IsSomeAnd, IfSome, Some, []};
 ghost use Rattle.floor.specs.Answers.{IsSameDesk};
 ghost use Rattle.floor.specs.Floors.{floor_ids};
-ghost use Rattle.clock_events.specs.Clocking.{HasMissedCause, WaitsForAll};
-ghost use Rattle.game_run.specs.Seatings.{AreEightPlayed, AreEightReady, AreFourPlayed, AreFourReady, AreTakenPlayed, AreTwoPlayed, AreTwoReady, IsPlayedPlace, IsReady, IsReadyClock, HasMadeAll};
+ghost use Rattle.clock_events.specs.Clocking.{WaitsForAll};
+ghost use Rattle.game_run.specs.Seatings.{AreBoth, AreEightPlayed, AreEightReady, AreTakenPlayed, BothOver, IsPlayedPlace, IsReady, IsReadyClock, HasMadeAll};
 
 use agent_gate::{Dialect, SessionEnd, run_session};
 use clock_events::{ClockEnd, run_clock};
@@ -49,7 +49,7 @@ fn run_place<R: Wait + Clock, D: Dialect, L: Link>(
     place: Place<L>,
 ) -> Played<L>
     requires ready { IsReady (floor_ids floor.now) place }
-    ensures { IsPlayedPlace (λ l. record { taken = L.taken l; left = L.left l; sent = L.sent l; reads = L.faults l; writes = L.write_faults l })
+    ensures { IsPlayedPlace L.state
         (D.may_answer dialect.now) (D.text dialect.now) game.now place result }
 {
     let Place { desk, lines } = place;
@@ -78,9 +78,8 @@ fn run_two<R: Threads + Sync + Wait + Clock, D: Dialect + Sync, L: Link + Send +
     dialect: &D,
     places: Two<Place<L>>,
 ) -> Two<Played<L>>
-    requires ready { AreTwoReady (floor_ids floor.now) places }
-    ensures { AreTwoPlayed (λ l. record { taken = L.taken l; left = L.left l; sent = L.sent l; reads = L.faults l; writes = L.write_faults l })
-        (D.may_answer dialect.now) (D.text dialect.now) game.now places result }
+    requires ready { AreBoth (IsReady (floor_ids floor.now)) places }
+    ensures { BothOver (IsPlayedPlace L.state (D.may_answer dialect.now) (D.text dialect.now) game.now) places result }
 {
     let Two { first, second } = places;
     let (first, second) = join(
@@ -99,18 +98,17 @@ fn run_four<R: Threads + Sync + Wait + Clock, D: Dialect + Sync, L: Link + Send 
     dialect: &D,
     places: Four<Place<L>>,
 ) -> Four<Played<L>>
-    requires ready { AreFourReady (floor_ids floor.now) places }
-    ensures { AreFourPlayed (λ l. record { taken = L.taken l; left = L.left l; sent = L.sent l; reads = L.faults l; writes = L.write_faults l })
-        (D.may_answer dialect.now) (D.text dialect.now) game.now places result }
+    requires ready { AreBoth (AreBoth (IsReady (floor_ids floor.now))) places }
+    ensures { BothOver (BothOver (IsPlayedPlace L.state (D.may_answer dialect.now) (D.text dialect.now) game.now)) places result }
 {
     let Two { first, second } = places;
     let (first, second) = join(
         rt,
         ||
-            requires { AreTwoReady (floor_ids floor.now) first }
+            requires { AreBoth (IsReady (floor_ids floor.now)) first }
         { run_two(rt, floor, game, dialect, first) },
         ||
-            requires { AreTwoReady (floor_ids floor.now) second }
+            requires { AreBoth (IsReady (floor_ids floor.now)) second }
         { run_two(rt, floor, game, dialect, second) },
     );
     Two { first, second }
@@ -125,37 +123,20 @@ fn run_eight<R: Threads + Sync + Wait + Clock, D: Dialect + Sync, L: Link + Send
     places: Eight<Place<L>>,
 ) -> Eight<Played<L>>
     requires ready { AreEightReady (floor_ids floor.now) places }
-    ensures first { AreFourPlayed (λ l. record { taken = L.taken l; left = L.left l; sent = L.sent l; reads = L.faults l; writes = L.write_faults l })
-        (D.may_answer dialect.now) (D.text dialect.now) game.now places.first result.first }
-    ensures second { AreFourPlayed (λ l. record { taken = L.taken l; left = L.left l; sent = L.sent l; reads = L.faults l; writes = L.write_faults l })
-        (D.may_answer dialect.now) (D.text dialect.now) game.now places.second result.second }
+    ensures { AreEightPlayed L.state
+        (D.may_answer dialect.now) (D.text dialect.now) game.now places result }
 {
     let Two { first, second } = places;
     let (first, second) = join(
         rt,
         ||
-            requires { AreFourReady (floor_ids floor.now) first }
+            requires { AreBoth (AreBoth (IsReady (floor_ids floor.now))) first }
         { run_four(rt, floor, game, dialect, first) },
         ||
-            requires { AreFourReady (floor_ids floor.now) second }
+            requires { AreBoth (AreBoth (IsReady (floor_ids floor.now))) second }
         { run_four(rt, floor, game, dialect, second) },
     );
     Two { first, second }
-}
-
-// The same, said of all at once.
-fn run_places<R: Threads + Sync + Wait + Clock, D: Dialect + Sync, L: Link + Send + Drop>(
-    rt: &R,
-    floor: &Floor,
-    game: &Game,
-    dialect: &D,
-    places: Eight<Place<L>>,
-) -> Eight<Played<L>>
-    requires ready { AreEightReady (floor_ids floor.now) places }
-    ensures { AreEightPlayed (λ l. record { taken = L.taken l; left = L.left l; sent = L.sent l; reads = L.faults l; writes = L.write_faults l })
-        (D.may_answer dialect.now) (D.text dialect.now) game.now places result }
-{
-    run_eight(rt, floor, game, dialect, places)
 }
 
 // Takes the places, and runs them.
@@ -167,10 +148,10 @@ fn run_taken<R: Threads + Sync + Wait + Clock, D: Dialect + Sync, L: Link + Send
     places: &mut Option<Eight<Place<L>>>,
 ) -> Eight<Played<L>>
     requires ready { IsSomeAnd places.old (λ p. AreEightReady (floor_ids floor.now) p) }
-    ensures { AreTakenPlayed (λ l. record { taken = L.taken l; left = L.left l; sent = L.sent l; reads = L.faults l; writes = L.write_faults l })
+    ensures { AreTakenPlayed L.state
         (D.may_answer dialect.now) (D.text dialect.now) game.now places.old result }
 {
-    run_places(rt, floor, game, dialect, places.take().unwrap())
+    run_eight(rt, floor, game, dialect, places.take().unwrap())
 }
 
 // The clock, whose desk made no call.
@@ -182,12 +163,10 @@ fn run_ready_clock<R: Wait + Clock, T: Ticker>(
     ticker: &mut T,
 ) -> ClockEnd
     requires ready { IsReadyClock (floor_ids floor.now) desk }
-    requires ticks { IfSome (T.waited ticker.old) (λ ticks. ticks ≡ []) }
+    requires ticks { IfSome (T.state ticker.old).waited (λ ticks. ticks ≡ []) }
     ensures made { HasMadeAll game.now result.desk }
     ensures same { IsSameDesk desk result.desk }
-    ensures waited { WaitsForAll (T.waited ticker.old) (T.waited ticker.new) result.missed }
-    ensures paced { T.paced ticker.new ≡ T.paced ticker.old }
-    ensures cause { HasMissedCause (T.faults ticker.old) (T.faults ticker.new) result.missed }
+    ensures waits { WaitsForAll (T.state ticker.old) (T.state ticker.new) result.missed }
 {
     run_clock(rt, floor, desk, game, ticker)
 }
@@ -212,14 +191,12 @@ pub(crate) fn run_all<
 ) -> (Eight<Played<L>>, ClockEnd)
     requires ready { AreEightReady (floor_ids floor.now) places }
     requires clock { IsReadyClock (floor_ids floor.now) clock }
-    requires ticks { IfSome (T.waited ticker.old) (λ ticks. ticks ≡ []) }
-    ensures played { AreTakenPlayed (λ l. record { taken = L.taken l; left = L.left l; sent = L.sent l; reads = L.faults l; writes = L.write_faults l })
+    requires ticks { IfSome (T.state ticker.old).waited (λ ticks. ticks ≡ []) }
+    ensures played { AreTakenPlayed L.state
         (D.may_answer dialect.now) (D.text dialect.now) game.now (Some places) result.0 }
     ensures made { HasMadeAll game.now result.1.desk }
     ensures same { IsSameDesk clock result.1.desk }
-    ensures waited { WaitsForAll (T.waited ticker.old) (T.waited ticker.new) result.1.missed }
-    ensures paced { T.paced ticker.new ≡ T.paced ticker.old }
-    ensures cause { HasMissedCause (T.faults ticker.old) (T.faults ticker.new) result.1.missed }
+    ensures waits { WaitsForAll (T.state ticker.old) (T.state ticker.new) result.1.missed }
 {
     let mut places = Some(places);
     let mut clock = Some(clock);
@@ -227,11 +204,11 @@ pub(crate) fn run_all<
         rt,
         &mut || -> Eight<Played<L>>
             requires { IsSomeAnd places (λ p. AreEightReady (floor_ids floor.now) p) }
-            ensures { AreTakenPlayed (λ l. record { taken = L.taken l; left = L.left l; sent = L.sent l; reads = L.faults l; writes = L.write_faults l })
+            ensures { AreTakenPlayed L.state
                 (D.may_answer dialect.entry.now) (D.text dialect.entry.now) game.entry.now places.entry result }
         { run_taken(rt, floor, game, dialect, &mut places) },
         &mut ||
-            requires { IsSomeAnd clock (λ d. IsReadyClock (floor_ids floor.now) d) × IfSome (T.waited ticker.now) (λ ticks. ticks ≡ []) }
+            requires { IsSomeAnd clock (λ d. IsReadyClock (floor_ids floor.now) d) × IfSome (T.state ticker.now).waited (λ ticks. ticks ≡ []) }
         { run_ready_clock(rt, floor, game, clock.take().unwrap(), ticker) },
     );
     let_go(places);

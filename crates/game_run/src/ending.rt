@@ -1,11 +1,10 @@
 // What the sessions left is gathered, and links come back in the order in which they came.
 ghost use Rattle.std.specs.Prelude.{◌≡◌, ◌∷◌, [], ◌<◌, ◌≤◌, map, vec_len, vec_capacity};
 ghost use Rattle.std.specs.Option.{option_map};
-ghost use Rattle.floor.specs.Desks.{desk_caller};
 ghost use Rattle.tac_io.specs.Lines.{link_of};
-ghost use Rattle.game_run.specs.Gathering.{AreEightAgents, AreFourAgents, AreTwoAgents, Gathers, HasRoom, TakesRoom};
+ghost use Rattle.game_run.specs.Gathering.{Gathers, HasRoom, IsAgents, TakesRoom};
 ghost use Rattle.game_run.specs.Places.{AreFilled, AreLinksOf, IsFilled, IsLinkOf, places_after};
-ghost use Rattle.game_run.specs.Seatings.{eight_of, four_of, two_of};
+ghost use Rattle.game_run.specs.Seatings.{AreBoth, eight_of, four_of, two_of};
 
 use crate::arrivals::Spot;
 use crate::crew::{Eight, Four, Played, Two};
@@ -28,7 +27,7 @@ impl<L> Ending<L> {
     // Adds what an agent's place left.
     fn add(&mut self, played: Played<L>)
         requires room { HasRoom self.old 1 }
-        requires agent { desk_caller played.desk < 8 }
+        requires agent { IsAgents played }
         ensures gathers { Gathers self.old self.new (played ∷ []) }
         ensures room { TakesRoom self.old self.new 1 }
     {
@@ -46,7 +45,7 @@ impl<L> Ending<L> {
 
     fn add_two(&mut self, two: Two<Played<L>>)
         requires room { HasRoom self.old 2 }
-        requires agents { AreTwoAgents two }
+        requires agents { AreBoth IsAgents two }
         ensures gathers { Gathers self.old self.new (two_of two) }
         ensures room { TakesRoom self.old self.new 2 }
     {
@@ -57,7 +56,7 @@ impl<L> Ending<L> {
 
     fn add_four(&mut self, four: Four<Played<L>>)
         requires room { HasRoom self.old 4 }
-        requires agents { AreFourAgents four }
+        requires agents { AreBoth (AreBoth IsAgents) four }
         ensures gathers { Gathers self.old self.new (four_of four) }
         ensures room { TakesRoom self.old self.new 4 }
     {
@@ -69,7 +68,7 @@ impl<L> Ending<L> {
     /// Adds what the places of all agents left.
     pub(crate) fn add_eight(&mut self, eight: Eight<Played<L>>)
         requires room { HasRoom self.old 8 }
-        requires agents { AreEightAgents eight }
+        requires agents { AreBoth (AreBoth (AreBoth IsAgents)) eight }
         ensures gathers { Gathers self.old self.new (eight_of eight) }
         ensures room { TakesRoom self.old self.new 8 }
     {

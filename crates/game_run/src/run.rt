@@ -4,7 +4,7 @@ ghost use Rattle.std.specs.Option.{option_map};
 ghost use Rattle.tac_io.specs.Lines.{link_of};
 ghost use Rattle.game_run.specs.Places.{AreFilled, AreLinksOf};
 ghost use Rattle.game_run.specs.Rooms.{IsEmptyHall, IsRoom};
-ghost use Rattle.game_run.specs.Outcomes.{HasRunCause, IsEnd, IsRunFault};
+ghost use Rattle.game_run.specs.Outcomes.{IsEnd, IsRunFault};
 
 use crate::admission::admit;
 use crate::arrivals::Arrivals;
@@ -131,16 +131,12 @@ pub fn run_game<R: Threads + Sync + Wait + Clock, D: Dialect + Sync, N: Links, T
     links: &mut N,
     ticker: &mut T,
 ) -> Result<GameEnd<N::Link>, RunFault<N::Link>>
-    requires ports { IfSome (N.ports links.old) (λ ports. ports ≡ []) }
-    requires ticks { IfSome (T.waited ticker.old) (λ ticks. ticks ≡ []) }
-    ensures played { IfOk result (IsEnd (λ l. record { taken = N.Link.taken l; left = N.Link.left l; sent = N.Link.sent l; reads = N.Link.faults l; writes = N.Link.write_faults l })
-        (D.may_answer dialect.now) (D.text dialect.now) game.now (N.pending links.old) (N.pending links.new)
-        (T.waited ticker.old) (T.waited ticker.new) (T.faults ticker.old) (T.faults ticker.new)) }
-    ensures not_played { IfErr result (IsRunFault (λ l. record { taken = N.Link.taken l; left = N.Link.left l; sent = N.Link.sent l; reads = N.Link.faults l; writes = N.Link.write_faults l })
-        game.now (N.pending links.old) (N.pending links.new)) }
+    requires ports { IfSome (N.state links.old).ports (λ ports. ports ≡ []) }
+    requires ticks { IfSome (T.state ticker.old).waited (λ ticks. ticks ≡ []) }
+    ensures played { IfOk result (IsEnd N.Link.state (D.may_answer dialect.now) (D.text dialect.now) game.now port
+        (N.state links.old) (N.state links.new) (T.state ticker.old) (T.state ticker.new)) }
+    ensures not_played { IfErr result (IsRunFault N.Link.state game.now port (N.state links.old) (N.state links.new)) }
     ensures untouched { IfErr result (λ _. ticker.new ≡ ticker.old) }
-    ensures cause { HasRunCause (N.ports links.old) (N.ports links.new) port (N.faults links.old) (N.faults links.new) result }
-    ensures paced { T.paced ticker.new ≡ T.paced ticker.old }
 {
     let Ok(room) = make_room(alloc, game) else {
         return Err(RunFault::Memory);

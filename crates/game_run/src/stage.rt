@@ -3,7 +3,7 @@ ghost use Rattle.std.specs.Prelude.{◌≡◌, [], ℕ, Some, true, IfOk, IfSome
 ghost use Rattle.tac_io.specs.LineAnswers.{goes_on};
 ghost use Rattle.tac_io.specs.Lines.{last_of};
 ghost use Rattle.tac_io.specs.declared.lines.Lines.{Lines};
-ghost use Rattle.clock_events.specs.Clocking.{HasMissedCause, WaitsForAll};
+ghost use Rattle.clock_events.specs.Clocking.{WaitsForAll};
 ghost use Rattle.game_run.specs.Staging.{IsEmptyEnding, IsNewStage, IsPlayedThrough};
 
 use crate::crew::run_all;
@@ -79,12 +79,10 @@ pub(crate) fn play_out<
     requires stage { IsNewStage game.now stage }
     requires wide { vec_len lines ≡ 8 }
     requires readable { (agent : ℕ) (ls : Lines _) → slice_get lines.items agent ≡ Some (Some ls) → goes_on (last_of ls) ≡ true }
-    requires ticks { IfSome (T.waited ticker.old) (λ ticks. ticks ≡ []) }
-    ensures through { IsPlayedThrough (λ l. record { taken = L.taken l; left = L.left l; sent = L.sent l; reads = L.faults l; writes = L.write_faults l })
+    requires ticks { IfSome (T.state ticker.old).waited (λ ticks. ticks ≡ []) }
+    ensures through { IsPlayedThrough L.state
         (D.may_answer dialect.now) (D.text dialect.now) game.now result.closed lines.items result.links.items result.ends.items }
-    ensures waited { WaitsForAll (T.waited ticker.old) (T.waited ticker.new) result.missed }
-    ensures paced { T.paced ticker.new ≡ T.paced ticker.old }
-    ensures cause { HasMissedCause (T.faults ticker.old) (T.faults ticker.new) result.missed }
+    ensures waits { WaitsForAll (T.state ticker.old) (T.state ticker.new) result.missed }
 {
     let Stage {
         floor,

@@ -71,11 +71,7 @@ impl Ticker for LookingTicker<'_> {
 
     ghost lapse_tick = { λ lapse. lapse };
 
-    ghost paced = { λ _. None };
-
-    ghost waited = { λ _. None };
-
-    ghost faults = { λ s. s.lapses };
+    ghost state = { λ s. record { paced = None; waited = None; faults = s.lapses } };
 
     fn pace(&mut self, _milliseconds: u16) {}
 

@@ -109,8 +109,8 @@ fn a_text_is_written_whole_or_in_part(rt: HostRuntime) -> Result<(), Fail> {
 
 // The byte that the next link gives, `-` where none is left, or `!` for a fault.
 fn next_name<N: Links>(links: &mut N) -> u8
-    requires { IsTrue (N.listens links.old) }
-    ensures { IsTrue (N.listens links.new) }
+    requires { IsTrue (N.state links.old).listens }
+    ensures { IsTrue (N.state links.new).listens }
 {
     let mut name = [0];
     match links.next() {
@@ -125,7 +125,7 @@ fn next_name<N: Links>(links: &mut N) -> u8
 
 // What comes of listening and asking for four links.
 fn names<N: Links>(links: &mut N) -> Option<[u8; 4]>
-    requires { IfSome (N.ports links.old) (λ ports. ports ≡ []) }
+    requires { IfSome (N.state links.old).ports (λ ports. ports ≡ []) }
 {
     links.listen(7000).ok()?;
     Some([
@@ -164,8 +164,8 @@ fn links_come_in_order_and_fail_where_stated(rt: HostRuntime) -> Result<(), Fail
 
 // Whether a tick is due in time.
 fn is_due<R: Wait + Clock, T: Ticker + Send>(rt: &R, ticker: &mut T, tick: Tick) -> bool
-    requires { IfSome (T.waited ticker.old) (λ ticks. length ticks < 54) }
-    ensures { (late : Bool) × (T.waited ticker.new ≡ and_then_told (T.waited ticker.old) ((tick, late) ∷ [])) }
+    requires { IfSome (T.state ticker.old).waited (λ ticks. length ticks < 54) }
+    ensures { (late : Bool) × ((T.state ticker.new).waited ≡ and_then_told (T.state ticker.old).waited ((tick, late) ∷ [])) }
 {
     ticker.pace(100);
     match ticker.wait(rt, tick) {

@@ -42,7 +42,7 @@ fn played<R: Threads + Sync + Wait + Clock, L: Link + Send + Drop, T: Ticker + S
     failing: u64,
     ticker: &mut T,
 ) -> Result<Result<GameEnd<L>, RunFault<L>>, Fail>
-    requires { IfSome (T.waited ticker.old) (λ ticks. ticks ≡ []) }
+    requires { IfSome (T.state ticker.old).waited (λ ticks. ticks ≡ []) }
 {
     let game = Game::default();
     let mut links = MemLinks::new(all, [failing].to_vec(alloc)?);
@@ -141,11 +141,7 @@ impl Ticker for MeetingTicker {
 
     ghost lapse_tick = { λ lapse. lapse };
 
-    ghost paced = { λ _. None };
-
-    ghost waited = { λ _. None };
-
-    ghost faults = { λ s. s.lapses };
+    ghost state = { λ s. record { paced = None; waited = None; faults = s.lapses } };
 
     fn pace(&mut self, _milliseconds: u16) {}
 

@@ -5,7 +5,6 @@ pub mod Counted
 pub mod Tables
 pub mod ScriptReading
 pub mod ClosedCounts
-pub mod Written
 pub mod PlayedGames
 pub mod GameCounting
 pub mod LineRanges

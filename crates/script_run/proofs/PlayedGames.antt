@@ -1,7 +1,6 @@
 -- A game that is played line by line, and then written.
-use Rattle.std.proofs.Common.{◌≡◌, ℕ, List, ◌∷◌, ◌++◌, sym, ap, ◌∙◌, subst, inl, inr, Ok, Err, Option}
-use Rattle.tac_io.specs.Counts.{Rose}
-use Rattle.tac_io.specs.Told.{and_then_told}
+use Rattle.std.proofs.Common.{◌≡◌, ℕ, List, ◌∷◌, ◌++◌, sym, ap, ◌∙◌, subst, inl, inr, Ok, Err}
+use Rattle.tac_io.specs.States.{SinkState}
 use Rattle.text_forms.specs.Words.{parts_of}
 use Rattle.game_text.specs.Games.{GameFile}
 use Rattle.auction_core.specs.ClosedGame.{ClosedGame}
@@ -11,9 +10,10 @@ use Rattle.game_log.specs.SheetText.{sheet_part}
 use Rattle.game_log.specs.ScoredGames.{IsSheetOf}
 use Rattle.game_log.specs.SheetWritten.{WritesSheet}
 use Rattle.game_log.specs.ShownGames.{IsShowable}
+use Rattle.game_log.specs.Taken.{TookWhole}
 use Rattle.line_protocol.specs.Heads.{Play}
 use Rattle.game_log.specs.declared.fault.LogWriteFault.TheVariants as log
-use Rattle.game_log.proofs.Writing.{some_after}
+use Rattle.game_log.proofs.Writing.{then_some}
 use Rattle.script_run.specs.declared.game_lines.GameLine.{GameLine}
 use Rattle.script_run.specs.declared.game_run.GameRun.{GameRun}
 use Rattle.script_run.specs.declared.fault.ScriptFault.{ScriptFault}
@@ -75,33 +75,29 @@ is_play_out game script lines played sheet good has scores = record {
 }
 
 -- the sheet was not written whole, after the first part
-pub fails_after : (game : GameFile) (played : Played) (t0 t1 t2 : Option (List ℕ)) (f0 f1 f2 : ℕ) → t1 ≡ and_then_told t0 (first_text played) → f1 ≡ f0 →
-    WritesSheet game played.closed t1 t2 f1 f2 (Err log.Failed) → WritesPlayed game played t0 t2 f0 f2 (Err Failed)
-fails_after game played t0 t1 t2 f0 f1 f2 first quiet failed =
-    (inr (failed.0, failed.1, some_after t0 t1 t2 (first_text played) (sheet_part failed.0) first failed.2), subst (λ (f : ℕ). Rose f f2) quiet failed.3)
+pub fails_after : (game : GameFile) (played : Played) (s0 s1 s2 : SinkState) → TookWhole s0 s1 (first_text played) → WritesSheet game played.closed s1 s2 (Err log.Failed) →
+    WritesPlayed game played s0 s2 (Err Failed)
+fails_after game played s0 s1 s2 first failed = inr (failed.0, failed.1, then_some (first_text played) (sheet_part failed.0) s0 s1 s2 first failed.2)
 
 -- ---- what was answered and written of a script
 
-pub plays_whole : (game : GameFile) (script : List ℕ) (played : Played) (count : PlayCount) (taken taken' : Option (List ℕ)) (faults faults' : ℕ) →
-    PlaysToEnd game script (Ok played) → WritesPlayed game played taken taken' faults faults' (Ok tt) → count ≡ counted played.closed → PlaysScript game script taken taken' faults faults' (Ok count)
-plays_whole game script played count taken taken' faults faults' ended wrote is = (
+pub plays_whole : (game : GameFile) (script : List ℕ) (played : Played) (count : PlayCount) (sink sink' : SinkState) →
+    PlaysToEnd game script (Ok played) → WritesPlayed game played sink sink' (Ok tt) → count ≡ counted played.closed → PlaysScript game script sink sink' (Ok count)
+plays_whole game script played count sink sink' ended wrote is = (
   first_text played ++ sheet_part wrote.0,
   is_play_out game script ended.0 played wrote.0 ended.1 ended.2 wrote.1,
   record { lines = ended.0; good = ended.1; is = is ∙ count_due game ended.0 played ended.2 },
   wrote.2,
-  wrote.3,
 )
 
-pub plays_partly : (game : GameFile) (script : List ℕ) (played : Played) (fault : ScriptFault) (taken taken' : Option (List ℕ)) (faults faults' : ℕ) →
-    PlaysToEnd game script (Ok played) → WritesPlayed game played taken taken' faults faults' (Err fault) → PlaysScript game script taken taken' faults faults' (Err fault)
-plays_partly game script played (Line line reason) taken taken' faults faults' ended wrote = absurd wrote
-plays_partly game script played TooLong taken taken' faults faults' ended wrote = absurd wrote
-plays_partly game script played Failed taken taken' faults faults' ended (inl first, rose) =
-    (first_text played, inl (is_first_out game script ended.0 played ended.1 ended.2), first, rose)
-plays_partly game script played Failed taken taken' faults faults' ended (inr (sheet, scores, some), rose) =
-    (first_text played ++ sheet_part sheet, inr (is_play_out game script ended.0 played sheet ended.1 ended.2 scores), some, rose)
-plays_partly game script played Memory taken taken' faults faults' ended wrote =
-    inr (first_text played, is_first_out game script ended.0 played ended.1 ended.2, wrote.0, wrote.1)
+pub plays_partly : (game : GameFile) (script : List ℕ) (played : Played) (fault : ScriptFault) (sink sink' : SinkState) →
+    PlaysToEnd game script (Ok played) → WritesPlayed game played sink sink' (Err fault) → PlaysScript game script sink sink' (Err fault)
+plays_partly game script played (Line line reason) sink sink' ended wrote = absurd wrote
+plays_partly game script played TooLong sink sink' ended wrote = absurd wrote
+plays_partly game script played Failed sink sink' ended (inl first) = (first_text played, inl (is_first_out game script ended.0 played ended.1 ended.2), first)
+plays_partly game script played Failed sink sink' ended (inr (sheet, scores, some)) =
+    (first_text played ++ sheet_part sheet, inr (is_play_out game script ended.0 played sheet ended.1 ended.2 scores), some)
+plays_partly game script played Memory sink sink' ended wrote = inr (first_text played, is_first_out game script ended.0 played ended.1 ended.2, wrote)
 
 -- ---- the same without writing
 

@@ -1,10 +1,9 @@
 -- A script's lines, read one after the other.
-use Rattle.std.proofs.Common.{◌≡◌, ◌≢◌, ℕ, suc, ◌+◌, ◌<◌, List, [], ◌∷◌, ◌++◌, length, map, reverse, refl, sym, ap, ◌∙◌, subst, arith, Bool, true, false, cond, Some}
+use Rattle.std.proofs.Common.{◌≡◌, ℕ, suc, ◌<◌, List, [], ◌∷◌, ◌++◌, length, map, reverse, refl, sym, ap, ◌∙◌, subst, arith, Bool, true, false, cond, Some}
 use Rattle.std.specs.Prelude.{◌==◌, nat_le, slice_get, Result, Ok, Err}
 use Rattle.std.proofs.lemmas.Bool.Decides.{nat_tests}
 use Rattle.std.proofs.lemmas.List.{reverse-append, reverse-reverse, length-reverse}
 use Rattle.std.proofs.lemmas.List.Sums.{sum_by-cons, sum_by_push}
-use Rattle.std.proofs.lemmas.List.Splits.{length-slice_split}
 use Rattle.text_forms.specs.Words.{parts_of}
 use Rattle.tac_base.specs.declared.calls.Trade.{Trade}
 use Rattle.auction_rules.specs.History.{Entry}
@@ -15,7 +14,7 @@ use Rattle.auction_core.specs.Auctions.{AuctionHistory}
 use Rattle.auction_core.proofs.Counting.{length-part}
 use Rattle.script_run.specs.declared.hotel_lines.HotelLine.{HotelLine}
 use Rattle.script_run.specs.declared.hotel_run.HotelRun.{HotelRun}
-use Rattle.script_run.specs.HotelLines.{line_of, asked}
+use Rattle.script_run.specs.HotelLines.{asked}
 use Rattle.script_run.specs.HotelScripts.{lines_of, judged, judge, one_hotel, script_past, entry_text, hotel_out}
 use Rattle.script_run.specs.declared.fault.ScriptReason.{ScriptReason}
 use Rattle.script_run.specs.declared.fault.ScriptReason.TheVariants.{TooMany, TooManyOfCaller}

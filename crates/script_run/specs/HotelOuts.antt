@@ -1,13 +1,12 @@
 -- What running a hotel script does to a sink.
-use Rattle.std.specs.Prelude.{◌≡◌, ℕ, ◌<◌, ◌≤◌, ⊤, List, [], length, Result, Ok, Err, Option}
-use Rattle.tac_io.specs.Counts.{Rose}
-use Rattle.tac_io.specs.Told.{and_then_told, TakesSome}
+use Rattle.std.specs.Prelude.{◌≡◌, ℕ, ◌<◌, ◌≤◌, ⊤, List, [], length, Result, Ok, Err}
+use Rattle.tac_io.specs.States.{SinkState}
 use Rattle.tac_base.specs.declared.limits.TheConstants.{TEXT_BYTES}
 use Rattle.script_run.specs.declared.hotel_lines.HotelLine.{HotelLine}
 use Rattle.script_run.specs.declared.fault.ScriptFault.{ScriptFault}
 use Rattle.script_run.specs.declared.fault.ScriptFault.TheVariants.{Line, TooLong, Failed, Memory}
 use Rattle.script_run.specs.declared.hotel_run.HotelRun.{HotelRun}
-use Rattle.game_log.specs.Written.{IsUntouched}
+use Rattle.game_log.specs.Taken.{TookWhole, TookPart}
 use Rattle.script_run.specs.HotelScripts.{script_of, hotel_out}
 use Rattle.script_run.specs.HotelRuns.{HasRun}
 
@@ -44,10 +43,9 @@ RunsLines script (Err Failed) = ⊥
 RunsLines script (Err Memory) = ⊤
 
 -- what was answered and written of a script: its whole text, or the first bytes of it where a write failed, or nothing
-abbrev pub RunsScript : List ℕ → Option (List ℕ) → Option (List ℕ) → ℕ → ℕ → Result (Unit {0}) ScriptFault → Type 0
-RunsScript script taken taken' faults faults' (Ok done) =
-    (text : List ℕ) × IsOut script text × (taken' ≡ and_then_told taken text) × (faults' ≡ faults)
-RunsScript script taken taken' faults faults' (Err (Line line reason)) = IsBad script line reason × IsUntouched taken taken' faults faults'
-RunsScript script taken taken' faults faults' (Err TooLong) = (TEXT_BYTES < length script) × IsUntouched taken taken' faults faults'
-RunsScript script taken taken' faults faults' (Err Failed) = (text : List ℕ) × IsOut script text × TakesSome taken taken' text × Rose faults faults'
-RunsScript script taken taken' faults faults' (Err Memory) = IsUntouched taken taken' faults faults'
+abbrev pub RunsScript : List ℕ → SinkState → SinkState → Result (Unit {0}) ScriptFault → Type 0
+RunsScript script sink sink' (Ok done) = (text : List ℕ) × IsOut script text × TookWhole sink sink' text
+RunsScript script sink sink' (Err (Line line reason)) = IsBad script line reason × (sink' ≡ sink)
+RunsScript script sink sink' (Err TooLong) = (TEXT_BYTES < length script) × (sink' ≡ sink)
+RunsScript script sink sink' (Err Failed) = (text : List ℕ) × IsOut script text × TookPart sink sink' text
+RunsScript script sink sink' (Err Memory) = sink' ≡ sink

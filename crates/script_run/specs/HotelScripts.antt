@@ -1,5 +1,5 @@
 -- Hotel scripts: which are run, and what is written of their run.
-use Rattle.std.specs.Prelude.{ℕ, ◌+◌, ◌==◌, nat_le, if◌then◌else◌, List, [], ◌∷◌, ◌++◌, length, map, count_by, replicate, pos, Result, Ok, Err, false}
+use Rattle.std.specs.Prelude.{ℕ, ◌==◌, nat_le, if◌then◌else◌, List, [], ◌∷◌, ◌++◌, length, map, count_by, replicate, pos, Result, Ok, Err, false}
 use Rattle.std.specs.List.{flat_map}
 use Rattle.tac_base.specs.declared.limits.TheConstants.{AUCTION_ENTRIES}
 use Rattle.auction_rules.specs.Setup.{Setup}

@@ -1,13 +1,12 @@
 -- What playing a game script does to a sink, and what is known of the game.
-use Rattle.std.specs.Prelude.{◌≡◌, ℕ, ◌<◌, ◌≤◌, ◌⊎◌, List, length, Result, Ok, Err, Option}
-use Rattle.tac_io.specs.Counts.{Rose}
-use Rattle.tac_io.specs.Told.{and_then_told, TakesSome}
+use Rattle.std.specs.Prelude.{◌≡◌, ℕ, ◌<◌, ◌≤◌, ◌⊎◌, List, length, Result, Ok, Err}
+use Rattle.tac_io.specs.States.{SinkState}
 use Rattle.game_text.specs.Games.{GameFile}
 use Rattle.tac_base.specs.declared.limits.TheConstants.{TEXT_BYTES}
 use Rattle.score_sheet.specs.Sheets.{Scored}
 use Rattle.game_log.specs.ScoredGames.{IsSheetOf}
 use Rattle.game_log.specs.ShownGames.{IsShowable}
-use Rattle.game_log.specs.Written.{IsUntouched}
+use Rattle.game_log.specs.Taken.{TookWhole, TookPart}
 use Rattle.line_protocol.specs.Heads.{Play}
 use Rattle.script_run.specs.declared.game_lines.GameLine.{GameLine}
 use Rattle.script_run.specs.declared.fault.ScriptFault.{ScriptFault}
@@ -45,13 +44,9 @@ pub record IsCount (game : GameFile) (script : List ℕ) (count : PlayCount) : T
 
 -- What was answered and written of a game: its whole text; or nothing, since a line is bad, or the script too long; or, where a
 -- write failed, the first bytes of the text, but not all. Where there was no memory nothing was written, or all but the sheet.
-abbrev pub PlaysScript : GameFile → List ℕ → Option (List ℕ) → Option (List ℕ) → ℕ → ℕ → Result PlayCount ScriptFault → Type 0
-PlaysScript game script taken taken' faults faults' (Ok count) =
-    (text : List ℕ) × IsPlayOut game script text × IsCount game script count × (taken' ≡ and_then_told taken text) × (faults' ≡ faults)
-PlaysScript game script taken taken' faults faults' (Err (Line line reason)) = IsBadScript script line reason × IsUntouched taken taken' faults faults'
-PlaysScript game script taken taken' faults faults' (Err TooLong) = (TEXT_BYTES < length script) × IsUntouched taken taken' faults faults'
-PlaysScript game script taken taken' faults faults' (Err Failed) =
-    (text : List ℕ) × (IsFirstOut game script text ⊎ IsPlayOut game script text) × TakesSome taken taken' text × Rose faults faults'
-PlaysScript game script taken taken' faults faults' (Err Memory) =
-    IsUntouched taken taken' faults faults'
-    ⊎ ((text : List ℕ) × IsFirstOut game script text × (taken' ≡ and_then_told taken text) × (faults' ≡ faults))
+abbrev pub PlaysScript : GameFile → List ℕ → SinkState → SinkState → Result PlayCount ScriptFault → Type 0
+PlaysScript game script sink sink' (Ok count) = (text : List ℕ) × IsPlayOut game script text × IsCount game script count × TookWhole sink sink' text
+PlaysScript game script sink sink' (Err (Line line reason)) = IsBadScript script line reason × (sink' ≡ sink)
+PlaysScript game script sink sink' (Err TooLong) = (TEXT_BYTES < length script) × (sink' ≡ sink)
+PlaysScript game script sink sink' (Err Failed) = (text : List ℕ) × (IsFirstOut game script text ⊎ IsPlayOut game script text) × TookPart sink sink' text
+PlaysScript game script sink sink' (Err Memory) = (sink' ≡ sink) ⊎ ((text : List ℕ) × IsFirstOut game script text × TookWhole sink sink' text)

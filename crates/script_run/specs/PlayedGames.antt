@@ -1,7 +1,6 @@
 -- A game that was played to its end, and what writing it and its sheet does to a sink.
-use Rattle.std.specs.Prelude.{◌≡◌, ℕ, ◌<◌, ◌⊎◌, ⊤, List, ◌++◌, length, Result, Ok, Err, Option}
-use Rattle.tac_io.specs.Counts.{Rose}
-use Rattle.tac_io.specs.Told.{and_then_told, TakesSome}
+use Rattle.std.specs.Prelude.{◌≡◌, ℕ, ◌<◌, ◌⊎◌, ⊤, List, ◌++◌, length, Result, Ok, Err}
+use Rattle.tac_io.specs.States.{SinkState}
 use Rattle.game_text.specs.Games.{GameFile}
 use Rattle.tac_base.specs.declared.limits.TheConstants.{TEXT_BYTES}
 use Rattle.score_sheet.specs.Sheets.{Scored}
@@ -9,6 +8,7 @@ use Rattle.game_log.specs.LogText.{play_part}
 use Rattle.game_log.specs.SheetText.{sheet_part}
 use Rattle.game_log.specs.ScoredGames.{IsSheetOf}
 use Rattle.game_log.specs.ShownGames.{IsShowable}
+use Rattle.game_log.specs.Taken.{TookWhole, TookPart}
 use Rattle.line_protocol.specs.Heads.{Play}
 use Rattle.script_run.specs.declared.game_lines.GameLine.{GameLine}
 use Rattle.script_run.specs.declared.fault.ScriptFault.{ScriptFault}
@@ -37,13 +37,11 @@ abbrev pub first_text : Played → List ℕ
 first_text played = played.replies.items ++ play_part Play played.closed
 
 -- the whole text of the game was written with some sheet of it, or not all of it, or all but the sheet where there was no memory for it
-abbrev pub WritesPlayed : GameFile → Played → Option (List ℕ) → Option (List ℕ) → ℕ → ℕ → Result (Unit {0}) ScriptFault → Type 0
-WritesPlayed game played taken taken' faults faults' (Ok done) =
-    (sheet : List Scored) × IsSheetOf game played.closed sheet × (taken' ≡ and_then_told taken (first_text played ++ sheet_part sheet)) × (faults' ≡ faults)
-WritesPlayed game played taken taken' faults faults' (Err (Line line reason)) = ⊥
-WritesPlayed game played taken taken' faults faults' (Err TooLong) = ⊥
-WritesPlayed game played taken taken' faults faults' (Err Failed) =
-    (TakesSome taken taken' (first_text played)
-    ⊎ ((sheet : List Scored) × IsSheetOf game played.closed sheet × TakesSome taken taken' (first_text played ++ sheet_part sheet)))
-    × Rose faults faults'
-WritesPlayed game played taken taken' faults faults' (Err Memory) = (taken' ≡ and_then_told taken (first_text played)) × (faults' ≡ faults)
+abbrev pub WritesPlayed : GameFile → Played → SinkState → SinkState → Result (Unit {0}) ScriptFault → Type 0
+WritesPlayed game played sink sink' (Ok done) = (sheet : List Scored) × IsSheetOf game played.closed sheet × TookWhole sink sink' (first_text played ++ sheet_part sheet)
+WritesPlayed game played sink sink' (Err (Line line reason)) = ⊥
+WritesPlayed game played sink sink' (Err TooLong) = ⊥
+WritesPlayed game played sink sink' (Err Failed) =
+    TookPart sink sink' (first_text played)
+    ⊎ ((sheet : List Scored) × IsSheetOf game played.closed sheet × TookPart sink sink' (first_text played ++ sheet_part sheet))
+WritesPlayed game played sink sink' (Err Memory) = TookWhole sink sink' (first_text played)

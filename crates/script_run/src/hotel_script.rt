@@ -46,7 +46,7 @@ pub fn run_hotel_script<K: Sink>(
     text: &[u8],
     sink: &mut K,
 ) -> Result<(), ScriptFault>
-    ensures { RunsScript text.now (K.taken sink.old) (K.taken sink.new) (K.faults sink.old) (K.faults sink.new) result }
+    ensures { RunsScript text.now (K.state sink.old) (K.state sink.new) result }
 {
     if text.len() > TEXT_BYTES as usize {
         return Err(ScriptFault::TooLong);

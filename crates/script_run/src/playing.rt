@@ -70,7 +70,7 @@ fn play_to_end(alloc: Global, game: &Game, script: &[u8]) -> Result<Played, Scri
 
 /// Writes the replies of a game and the first part of its log.
 fn write_first<K: Sink>(sink: &mut K, played: &Played) -> Result<(), Failed>
-    ensures { Writes (first_text played.now) (K.taken sink.old) (K.taken sink.new) (K.faults sink.old) (K.faults sink.new) result }
+    ensures { Writes (first_text played.now) (K.state sink.old) (K.state sink.new) result }
 {
     match write_all(sink, played.replies.as_slice()) {
         Ok(()) => write_play_part(sink, &LogHead::Play, &played.closed),
@@ -86,7 +86,7 @@ fn write_played<R: Threads + Sync, K: Sink>(
     played: &Played,
     sink: &mut K,
 ) -> Result<(), ScriptFault>
-    ensures { WritesPlayed game.now played.now (K.taken sink.old) (K.taken sink.new) (K.faults sink.old) (K.faults sink.new) result }
+    ensures { WritesPlayed game.now played.now (K.state sink.old) (K.state sink.new) result }
 {
     match write_first(sink, played) {
         Ok(()) => match write_scores(rt, alloc, game, &played.closed, sink) {
@@ -108,7 +108,7 @@ pub fn play<R: Threads + Sync, K: Sink>(
     text: &[u8],
     sink: &mut K,
 ) -> Result<PlayCount, ScriptFault>
-    ensures { PlaysScript game.now text.now (K.taken sink.old) (K.taken sink.new) (K.faults sink.old) (K.faults sink.new) result }
+    ensures { PlaysScript game.now text.now (K.state sink.old) (K.state sink.new) result }
 {
     let played = match play_to_end(alloc, game, text) {
         Ok(played) => played,

@@ -1,8 +1,8 @@
 -- What a run says of the code: each cause by one recursion over the steps.
-use Rattle.std.proofs.Common.{◌≡◌, ◌≢◌, ℕ, List, [], ◌∷◌, refl, sym, ap, ◌∙◌, subst, inl, inr, arith, Option, Some, None}
+use Rattle.std.proofs.Common.{◌≡◌, ◌≢◌, ℕ, List, refl, sym, ap, ◌∙◌, subst, inl, inr, arith, Option, Some, None}
 use Rattle.std.specs.Prelude.{◌⊎◌, Ok, Err, IfSome}
 use Rattle.tac_io.specs.Counts.{Rose}
-use Rattle.tac_io.specs.Told.{and_then_told}
+use Rattle.tac_io.specs.States.{FilesState}
 use Rattle.game_text.specs.declared.fault.GameFault.{GameFault}
 use Rattle.game_text.specs.declared.fault.GameFault.TheVariants.{Line, TooLong}
 use Rattle.game_text.specs.Games.{GameFile}
@@ -12,11 +12,10 @@ use Rattle.tac_commands.specs.declared.file_kinds.FileKind.{FileKind}
 use Rattle.tac_commands.specs.declared.file_kinds.FileKind.TheVariants.{Game, HotelScript, GameScript, Account, Log}
 use Rattle.tac_commands.specs.declared.refusals.Refusal.{Refusal}
 use Rattle.tac_commands.specs.declared.refusals.Refusal.TheVariants.{Memory}
-use Rattle.tac_commands.specs.Codes.{number_of}
 use Rattle.tac_commands.specs.FileKinds.{Value, read_as, refusal_of, refused_code}
 use Rattle.tac_commands.specs.Files.{Content, IsRead, IsNotRead, HasFault}
-use Rattle.tac_commands.specs.Outcomes.{Outcome, Unsound, Refused, refusal_code, code_of}
-use Rattle.tac_commands.specs.Runs.{Names, Runs, StopsAt}
+use Rattle.tac_commands.specs.Outcomes.{Outcome, Unsound, Refused, refusal_end, code_of}
+use Rattle.tac_commands.specs.Runs.{Runs, StopsAt, with_name}
 use Rattle.tac_commands.specs.Causes.{IsQuiet, Holds, HasBad, HasRefused, AreGood, HasUnsound}
 use Rattle.tac_commands.specs.Selected.{EndsAt, EndsAtAudit, SelectsFiles}
 use Rattle.tac_commands.specs.Steps.{NamedFile, Steps, Reads, Audits, EndsWith}
@@ -25,18 +24,15 @@ use Rattle.tac_commands.proofs.OwnCodes.{EndsWithin, IsLastCode}
 
 -- ---- one file
 
-abbrev code_at : FileKind → ℕ
-code_at kind = number_of (refused_code kind)
-
 -- a refused file's code is 2 or 8
-kind_code : (kind : FileKind) → (code_at kind ≡ 2) ⊎ (code_at kind ≡ 8)
+kind_code : (kind : FileKind) → (refused_code kind ≡ 2) ⊎ (refused_code kind ≡ 8)
 kind_code Game = inl refl
 kind_code HotelScript = inr refl
 kind_code GameScript = inr refl
 kind_code Account = inr refl
 kind_code Log = inr refl
 
-fault_code : (kind : FileKind) (fault : GameFault) → number_of (refusal_code (refusal_of kind fault)) ≡ code_at kind
+fault_code : (kind : FileKind) (fault : GameFault) → (refusal_end (refusal_of kind fault)).0 ≡ refused_code kind
 fault_code Game (Line line reason) = refl
 fault_code Game TooLong = refl
 fault_code HotelScript (Line line reason) = refl
@@ -49,23 +45,25 @@ fault_code Log (Line line reason) = refl
 fault_code Log TooLong = refl
 
 -- why the run stopped at a file, with its code
-abbrev StopsSo : Content → FileKind → List ℕ → ℕ → ℕ → ℕ → Type 0
-StopsSo content kind name before now code =
-    ((code ≡ 3) × Rose before now) ⊎ ((code ≡ 7) × (now ≡ before)) ⊎ ((code ≡ code_at kind) × ((fault : GameFault) × HasFault content kind name fault) × (now ≡ before))
+abbrev StopsSo : FilesState → FilesState → FileKind → List ℕ → ℕ → Type 0
+StopsSo files files' kind name code =
+    ((code ≡ 3) × Rose files.faults files'.faults)
+    ⊎ ((code ≡ 7) × (files'.faults ≡ files.faults))
+    ⊎ ((code ≡ refused_code kind) × ((fault : GameFault) × HasFault files.content kind name fault) × (files'.faults ≡ files.faults))
 
-stopped : (content : Content) (kind : FileKind) (name : List ℕ) (before now : ℕ) (refusal : Refusal) (outcome : Outcome) → outcome ≡ Refused refusal → IsNotRead content kind name before now refusal →
-    StopsSo content kind name before now (code_of outcome)
-stopped content kind name before now refusal outcome is (inl fault) = inl (ap code_of is ∙ ap (λ r. number_of (refusal_code r)) fault.0, fault.1)
-stopped content kind name before now refusal outcome is (inr (inl memory)) = inr (inl (ap code_of is ∙ ap (λ r. number_of (refusal_code r)) memory.0, memory.1))
-stopped content kind name before now refusal outcome is (inr (inr bad)) =
-    inr (inr (ap code_of is ∙ ap (λ r. number_of (refusal_code r)) bad.1 ∙ fault_code kind bad.0, (bad.0, bad.2), bad.3))
+stopped : (files files' : FilesState) (kind : FileKind) (name : List ℕ) (refusal : Refusal) (outcome : Outcome) → outcome ≡ Refused refusal → IsNotRead files files' kind name refusal →
+    StopsSo files files' kind name (code_of outcome)
+stopped files files' kind name refusal outcome is (inl fault) = inl (ap code_of is ∙ ap (λ r. (refusal_end r).0) fault.0, fault.1)
+stopped files files' kind name refusal outcome is (inr (inl memory)) = inr (inl (ap code_of is ∙ ap (λ r. (refusal_end r).0) memory.0, memory.1))
+stopped files files' kind name refusal outcome is (inr (inr bad)) =
+    inr (inr (ap code_of is ∙ ap (λ r. (refusal_end r).0) bad.1 ∙ fault_code kind bad.0, (bad.0, bad.2), bad.3))
 
 -- what is written in place of a file has no code of the links or the ticker
-pub no_link_refusal : (content : Content) (kind : FileKind) (name : List ℕ) (before now : ℕ) (refusal : Refusal) → IsNotRead content kind name before now refusal →
-    (number_of (refusal_code refusal) ≢ 5) × (number_of (refusal_code refusal) ≢ 6)
-no_link_refusal content kind name before now refusal not_read = by_cause (stopped content kind name before now refusal (Refused refusal) refl not_read)
+pub no_link_refusal : (files files' : FilesState) (kind : FileKind) (name : List ℕ) (refusal : Refusal) → IsNotRead files files' kind name refusal →
+    ((refusal_end refusal).0 ≢ 5) × ((refusal_end refusal).0 ≢ 6)
+no_link_refusal files files' kind name refusal not_read = by_cause (stopped files files' kind name refusal (Refused refusal) refl not_read)
   where
-    by_cause : StopsSo content kind name before now (number_of (refusal_code refusal)) → (number_of (refusal_code refusal) ≢ 5) × (number_of (refusal_code refusal) ≢ 6)
+    by_cause : StopsSo files files' kind name (refusal_end refusal).0 → ((refusal_end refusal).0 ≢ 5) × ((refusal_end refusal).0 ≢ 6)
     by_cause (inl fault) = let is = fault.0 in (λ five. omega (arith, is, five), λ six. omega (arith, is, six))
     by_cause (inr (inl memory)) = let is = memory.0 in (λ five. omega (arith, is, five), λ six. omega (arith, is, six))
     by_cause (inr (inr bad)) = let is = bad.0 in let either = kind_code kind in (λ five. grind (arith, is, either, five), λ six. grind (arith, is, either, six))
@@ -112,34 +110,34 @@ audit_stopped game log IsDue outcome stop = absurd stop
 
 -- ---- all steps
 
-module _ (content : Content) (before now : ℕ) (outcome : Outcome) where
+module _ (files' : FilesState) (outcome : Outcome) where
   -- 3 is the code of a read that failed
-  abbrev pub IsTold : Type 0
-  IsTold = ((code_of outcome ≡ 3) × Rose before now) ⊎ ((code_of outcome ≢ 3) × (now ≡ before))
+  abbrev pub IsTold : FilesState → Type 0
+  IsTold files = ((code_of outcome ≡ 3) × Rose files.faults files'.faults) ⊎ ((code_of outcome ≢ 3) × (files'.faults ≡ files.faults))
 
-  told_at : (kind : FileKind) (name : List ℕ) → StopsSo content kind name before now (code_of outcome) → IsTold
-  told_at kind name (inl fault) = inl fault
-  told_at kind name (inr (inl memory)) = let seven = memory.0 in inr (λ three. omega (arith, seven, three), memory.1)
-  told_at kind name (inr (inr refused)) = let is = refused.0 in let either = kind_code kind in inr (λ three. grind (arith, is, either, three), refused.2)
+  told_at : (files : FilesState) (kind : FileKind) (name : List ℕ) → StopsSo files files' kind name (code_of outcome) → IsTold files
+  told_at files kind name (inl fault) = inl fault
+  told_at files kind name (inr (inl memory)) = let seven = memory.0 in inr (λ three. omega (arith, seven, three), memory.1)
+  told_at files kind name (inr (inr refused)) = let is = refused.0 in let either = kind_code kind in inr (λ three. grind (arith, is, either, three), refused.2)
 
-  told_at_audit : (game : GameFile) (log : LoggedGame) → StoppedSo game log (code_of outcome) → now ≡ before → IsTold
-  told_at_audit game log (inl unsound) same = let nine = unsound.0 in inr (λ three. omega (arith, nine, three), same)
-  told_at_audit game log (inr seven) same = inr (λ three. omega (arith, seven, three), same)
+  told_at_audit : (files : FilesState) (game : GameFile) (log : LoggedGame) → StoppedSo game log (code_of outcome) → files'.faults ≡ files.faults → IsTold files
+  told_at_audit files game log (inl unsound) same = let nine = unsound.0 in inr (λ three. omega (arith, nine, three), same)
+  told_at_audit files game log (inr seven) same = inr (λ three. omega (arith, seven, three), same)
 
   -- a refused file's code
   abbrev pub IsRefusing : ℕ → Type 0
   IsRefusing code = (code ≡ 2) ⊎ (code ≡ 8)
 
-  here_refused : (told : Content) (code : ℕ) (file : NamedFile) (next : Value file.kind → Steps) (fault : GameFault) → code_at file.kind ≡ code → HasFault told file.kind file.name fault →
+  here_refused : (told : Content) (code : ℕ) (file : NamedFile) (next : Value file.kind → Steps) (fault : GameFault) → refused_code file.kind ≡ code → HasFault told file.kind file.name fault →
       IfSome told (λ _. HasRefused told code (Reads file next))
   here_refused None code file next fault is has = tt
   here_refused (Some given) code file next fault is has = inl (is, bad given file fault has)
 
-  refused_at : (code : ℕ) (file : NamedFile) (next : Value file.kind → Steps) → IsRefusing code → code_of outcome ≡ code → StopsSo content file.kind file.name before now (code_of outcome) →
-      IfSome content (λ _. HasRefused content code (Reads file next))
-  refused_at code file next refusing is (inl fault) = let three = fault.0 in absurd (grind (arith, refusing, is, three))
-  refused_at code file next refusing is (inr (inl memory)) = let seven = memory.0 in absurd (grind (arith, refusing, is, seven))
-  refused_at code file next refusing is (inr (inr refused)) = here_refused content code file next refused.1.0 (sym refused.0 ∙ is) refused.1.1
+  refused_at : (files : FilesState) (code : ℕ) (file : NamedFile) (next : Value file.kind → Steps) → IsRefusing code → code_of outcome ≡ code → StopsSo files files' file.kind file.name (code_of outcome) →
+      IfSome files.content (λ _. HasRefused files.content code (Reads file next))
+  refused_at files code file next refusing is (inl fault) = let three = fault.0 in absurd (grind (arith, refusing, is, three))
+  refused_at files code file next refusing is (inr (inl memory)) = let seven = memory.0 in absurd (grind (arith, refusing, is, seven))
+  refused_at files code file next refusing is (inr (inr refused)) = here_refused files.content code file next refused.1.0 (sym refused.0 ∙ is) refused.1.1
 
   audit_refuses_none : (code : ℕ) (game : GameFile) (log : LoggedGame) → IsRefusing code → code_of outcome ≡ code → StoppedSo game log (code_of outcome) → ⊥
   audit_refuses_none code game log refusing is (inl unsound) = let nine = unsound.0 in grind (arith, refusing, is, nine)
@@ -157,35 +155,35 @@ module _ (content : Content) (before now : ℕ) (outcome : Outcome) where
   behind_sound (Some given) P Q f p = f p
 
   -- it always comes there, or that of memory
-  due_at : (code : ℕ) (file : NamedFile) → code_at file.kind ≡ code → IsQuiet before now → StopsSo content file.kind file.name before now (code_of outcome) → (code_of outcome ≡ code) ⊎ (code_of outcome ≡ 7)
-  due_at code file is quiet (inl fault) = absurd (quiet_did_not_rise before now quiet fault.1)
-  due_at code file is quiet (inr (inl memory)) = inr memory.0
-  due_at code file is quiet (inr (inr refused)) = inl (refused.0 ∙ is)
+  due_at : (files : FilesState) (code : ℕ) (file : NamedFile) → refused_code file.kind ≡ code → IsQuiet files.faults files'.faults → StopsSo files files' file.kind file.name (code_of outcome) → (code_of outcome ≡ code) ⊎ (code_of outcome ≡ 7)
+  due_at files code file is quiet (inl fault) = absurd (quiet_did_not_rise files.faults files'.faults quiet fault.1)
+  due_at files code file is quiet (inr (inl memory)) = inr memory.0
+  due_at files code file is quiet (inr (inr refused)) = inl (refused.0 ∙ is)
 
   -- a file that is good is not refused, but there may be no memory for it
-  good_at : (file : NamedFile) (value : Value file.kind) → Holds content file value → IsQuiet before now → StopsSo content file.kind file.name before now (code_of outcome) → code_of outcome ≡ 7
-  good_at file value good quiet (inl fault) = absurd (quiet_did_not_rise before now quiet fault.1)
-  good_at file value good quiet (inr (inl memory)) = memory.0
-  good_at file value good quiet (inr (inr refused)) = absurd (good_no_fault content file value refused.1.0 good refused.1.1)
+  good_at : (files : FilesState) (file : NamedFile) (value : Value file.kind) → Holds files.content file value → IsQuiet files.faults files'.faults → StopsSo files files' file.kind file.name (code_of outcome) → code_of outcome ≡ 7
+  good_at files file value good quiet (inl fault) = absurd (quiet_did_not_rise files.faults files'.faults quiet fault.1)
+  good_at files file value good quiet (inr (inl memory)) = memory.0
+  good_at files file value good quiet (inr (inr refused)) = absurd (good_no_fault files.content file value refused.1.0 good refused.1.1)
 
   -- a log that is sound stops no run, but there may be no memory for the audit
   sound_at : (game : GameFile) (log : LoggedGame) → IsSound game log → StoppedSo game log (code_of outcome) → code_of outcome ≡ 7
   sound_at game log sound (inl unsound) = absurd (unsound.1 sound)
   sound_at game log sound (inr seven) = seven
 
-  pub refused_due : (code : ℕ) (steps : Steps) (names names' : Names) → IsQuiet before now → HasRefused content code steps → Runs content steps names names' before now outcome →
+  pub refused_due : (code : ℕ) (steps : Steps) (files : FilesState) → IsQuiet files.faults files'.faults → HasRefused files.content code steps → Runs steps files files' outcome →
       (code_of outcome ≡ code) ⊎ (code_of outcome ≡ 7)
-  refused_due code (Reads file next) names names' quiet (inl here) (inl read) = absurd (read_not_bad content file read.0 read.1 here.1)
-  refused_due code (Reads file next) names names' quiet (inl here) (inr stop) =
-      due_at code file here.0 quiet (stopped content file.kind file.name before now stop.0 outcome stop.1 stop.2)
-  refused_due code (Reads file next) names names' quiet (inr later) (inl read) =
-      refused_due code (next later.0) (and_then_told names (file.name ∷ [])) names' quiet later.2
-      (subst (λ (v : Value file.kind). Runs content (next v) (and_then_told names (file.name ∷ [])) names' before now outcome) (same_read content file later.0 read.0 later.1 read.1) read.2)
-  refused_due code (Reads file next) names names' quiet (inr later) (inr stop) =
-      inr (good_at file later.0 later.1 quiet (stopped content file.kind file.name before now stop.0 outcome stop.1 stop.2))
-  refused_due code (Audits game log IsDue next) names names' quiet refused (inl run) = refused_due code next names names' quiet refused.1 run.1
-  refused_due code (Audits game log IsDue next) names names' quiet refused (inr stop) = inr (sound_at game log refused.0 (audit_stopped game log IsDue outcome stop.0))
-  refused_due code (EndsWith allows) names names' quiet refused run = absurd refused
+  refused_due code (Reads file next) files quiet (inl here) (inl read) = absurd (read_not_bad files.content file read.0 read.1 here.1)
+  refused_due code (Reads file next) files quiet (inl here) (inr stop) =
+      due_at files code file here.0 quiet (stopped files files' file.kind file.name stop.0 outcome stop.1 stop.2)
+  refused_due code (Reads file next) files quiet (inr later) (inl read) =
+      refused_due code (next later.0) (with_name files file.name) quiet later.2
+      (subst (λ (v : Value file.kind). Runs (next v) (with_name files file.name) files' outcome) (same_read files.content file later.0 read.0 later.1 read.1) read.2)
+  refused_due code (Reads file next) files quiet (inr later) (inr stop) =
+      inr (good_at files file later.0 later.1 quiet (stopped files files' file.kind file.name stop.0 outcome stop.1 stop.2))
+  refused_due code (Audits game log IsDue next) files quiet refused (inl run) = refused_due code next files quiet refused.1 run.1
+  refused_due code (Audits game log IsDue next) files quiet refused (inr stop) = inr (sound_at game log refused.0 (audit_stopped game log IsDue outcome stop.0))
+  refused_due code (EndsWith allows) files quiet refused run = absurd refused
 
   -- ---- a log that is not sound
 
@@ -193,22 +191,22 @@ module _ (content : Content) (before now : ℕ) (outcome : Outcome) where
   unsound_at game log (inl unsound) = inl unsound.0
   unsound_at game log (inr seven) = inr seven
 
-  pub unsound_due : (steps : Steps) (names names' : Names) → IsQuiet before now → HasUnsound content steps → Runs content steps names names' before now outcome →
+  pub unsound_due : (steps : Steps) (files : FilesState) → IsQuiet files.faults files'.faults → HasUnsound files.content steps → Runs steps files files' outcome →
       (code_of outcome ≡ 9) ⊎ (code_of outcome ≡ 7)
-  unsound_due (Reads file next) names names' quiet unsound (inl read) =
-      unsound_due (next unsound.0) (and_then_told names (file.name ∷ [])) names' quiet unsound.2
-      (subst (λ (v : Value file.kind). Runs content (next v) (and_then_told names (file.name ∷ [])) names' before now outcome) (same_read content file unsound.0 read.0 unsound.1 read.1) read.2)
-  unsound_due (Reads file next) names names' quiet unsound (inr stop) =
-      inr (good_at file unsound.0 unsound.1 quiet (stopped content file.kind file.name before now stop.0 outcome stop.1 stop.2))
-  unsound_due (Audits game log IsDue next) names names' quiet (inl not_sound) (inl run) = absurd (not_sound run.0)
-  unsound_due (Audits game log IsDue next) names names' quiet (inr later) (inl run) = unsound_due next names names' quiet later.1 run.1
-  unsound_due (Audits game log IsDue next) names names' quiet unsound (inr stop) = unsound_at game log (audit_stopped game log IsDue outcome stop.0)
-  unsound_due (EndsWith allows) names names' quiet unsound run = absurd unsound
+  unsound_due (Reads file next) files quiet unsound (inl read) =
+      unsound_due (next unsound.0) (with_name files file.name) quiet unsound.2
+      (subst (λ (v : Value file.kind). Runs (next v) (with_name files file.name) files' outcome) (same_read files.content file unsound.0 read.0 unsound.1 read.1) read.2)
+  unsound_due (Reads file next) files quiet unsound (inr stop) =
+      inr (good_at files file unsound.0 unsound.1 quiet (stopped files files' file.kind file.name stop.0 outcome stop.1 stop.2))
+  unsound_due (Audits game log IsDue next) files quiet (inl not_sound) (inl run) = absurd (not_sound run.0)
+  unsound_due (Audits game log IsDue next) files quiet (inr later) (inl run) = unsound_due next files quiet later.1 run.1
+  unsound_due (Audits game log IsDue next) files quiet unsound (inr stop) = unsound_at game log (audit_stopped game log IsDue outcome stop.0)
+  unsound_due (EndsWith allows) files quiet unsound run = absurd unsound
 
-  no_unsound_file : (file : NamedFile) → code_of outcome ≡ 9 → StopsSo content file.kind file.name before now (code_of outcome) → ⊥
-  no_unsound_file file is (inl fault) = let three = fault.0 in omega (arith, is, three)
-  no_unsound_file file is (inr (inl memory)) = let seven = memory.0 in omega (arith, is, seven)
-  no_unsound_file file is (inr (inr refused)) = let same = refused.0 in let either = kind_code file.kind in grind (arith, is, same, either)
+  no_unsound_file : (files : FilesState) (file : NamedFile) → code_of outcome ≡ 9 → StopsSo files files' file.kind file.name (code_of outcome) → ⊥
+  no_unsound_file files file is (inl fault) = let three = fault.0 in omega (arith, is, three)
+  no_unsound_file files file is (inr (inl memory)) = let seven = memory.0 in omega (arith, is, seven)
+  no_unsound_file files file is (inr (inr refused)) = let same = refused.0 in let either = kind_code file.kind in grind (arith, is, same, either)
 
   unsound_here : (game : GameFile) (log : LoggedGame) → code_of outcome ≡ 9 → StoppedSo game log (code_of outcome) → IsSound game log → ⊥
   unsound_here game log is (inl unsound) = unsound.1
@@ -226,69 +224,69 @@ module _ (content : Content) (before now : ℕ) (outcome : Outcome) where
   -- ---- by the codes of the last step
 
   module _ (Own : ℕ → Type 0) (last : (code : ℕ) → Own code → IsLastCode code) where
-    pub read_told : (steps : Steps) → EndsWithin Own steps → (names names' : Names) → Runs content steps names names' before now outcome → IsTold
-    read_told (Reads file next) own names names' (inl read) = read_told (next read.0) (own read.0) (and_then_told names (file.name ∷ [])) names' read.2
-    read_told (Reads file next) own names names' (inr stop) = told_at file.kind file.name (stopped content file.kind file.name before now stop.0 outcome stop.1 stop.2)
-    read_told (Audits game log IsDue next) own names names' (inl run) = read_told next own names names' run.1
-    read_told (Audits game log IsDue next) own names names' (inr stop) = told_at_audit game log (audit_stopped game log IsDue outcome stop.0) stop.2
-    read_told (EndsWith allows) own names names' run = inr ((last (code_of outcome) (own outcome run.0)).no_fault, run.2)
+    pub read_told : (steps : Steps) → EndsWithin Own steps → (files : FilesState) → Runs steps files files' outcome → IsTold files
+    read_told (Reads file next) own files (inl read) = read_told (next read.0) (own read.0) (with_name files file.name) read.2
+    read_told (Reads file next) own files (inr stop) = told_at files file.kind file.name (stopped files files' file.kind file.name stop.0 outcome stop.1 stop.2)
+    read_told (Audits game log IsDue next) own files (inl run) = read_told next own files run.1
+    read_told (Audits game log IsDue next) own files (inr stop) = told_at_audit files game log (audit_stopped game log IsDue outcome stop.0) stop.1.1
+    read_told (EndsWith allows) own files run = inr ((last (code_of outcome) (own outcome run.0)).no_fault, run.1.1)
 
     own_refuses_none : (code : ℕ) → IsRefusing code → Own (code_of outcome) → code_of outcome ≡ code → ⊥
     own_refuses_none code (inl two) own is = (last (code_of outcome) own).no_game (is ∙ two)
     own_refuses_none code (inr eight) own is = (last (code_of outcome) own).no_text (is ∙ eight)
 
     -- the code of a refused file comes only where a file is refused that is read
-    pub refused_only : (code : ℕ) → IsRefusing code → (steps : Steps) → EndsWithin Own steps → (names names' : Names) → Runs content steps names names' before now outcome → code_of outcome ≡ code →
-        IfSome content (λ _. HasRefused content code steps)
-    refused_only code refusing (Reads file next) own names names' (inl read) is =
-        later_refused content code file next read.0 read.1 (refused_only code refusing (next read.0) (own read.0) (and_then_told names (file.name ∷ [])) names' read.2 is)
-    refused_only code refusing (Reads file next) own names names' (inr stop) is =
-        refused_at code file next refusing is (stopped content file.kind file.name before now stop.0 outcome stop.1 stop.2)
-    refused_only code refusing (Audits game log IsDue next) own names names' (inl run) is =
-        behind_sound content (HasRefused content code next) (IsSound game log × HasRefused content code next) (λ refused. (run.0, refused)) (refused_only code refusing next own names names' run.1 is)
-    refused_only code refusing (Audits game log IsDue next) own names names' (inr stop) is = absurd (audit_refuses_none code game log refusing is (audit_stopped game log IsDue outcome stop.0))
-    refused_only code refusing (EndsWith allows) own names names' run is = absurd (own_refuses_none code refusing (own outcome run.0) is)
+    pub refused_only : (code : ℕ) → IsRefusing code → (steps : Steps) → EndsWithin Own steps → (files : FilesState) → Runs steps files files' outcome → code_of outcome ≡ code →
+        IfSome files.content (λ _. HasRefused files.content code steps)
+    refused_only code refusing (Reads file next) own files (inl read) is =
+        later_refused files.content code file next read.0 read.1 (refused_only code refusing (next read.0) (own read.0) (with_name files file.name) read.2 is)
+    refused_only code refusing (Reads file next) own files (inr stop) is =
+        refused_at files code file next refusing is (stopped files files' file.kind file.name stop.0 outcome stop.1 stop.2)
+    refused_only code refusing (Audits game log IsDue next) own files (inl run) is =
+        behind_sound files.content (HasRefused files.content code next) (IsSound game log × HasRefused files.content code next) (λ refused. (run.0, refused)) (refused_only code refusing next own files run.1 is)
+    refused_only code refusing (Audits game log IsDue next) own files (inr stop) is = absurd (audit_refuses_none code game log refusing is (audit_stopped game log IsDue outcome stop.0))
+    refused_only code refusing (EndsWith allows) own files run is = absurd (own_refuses_none code refusing (own outcome run.0) is)
 
     -- that of a log that is not sound only where such a log is audited
-    pub unsound_only : (steps : Steps) → EndsWithin Own steps → (names names' : Names) → Runs content steps names names' before now outcome → code_of outcome ≡ 9 →
-        IfSome content (λ _. HasUnsound content steps)
-    unsound_only (Reads file next) own names names' (inl read) is =
-        later_unsound content file next read.0 read.1 (unsound_only (next read.0) (own read.0) (and_then_told names (file.name ∷ [])) names' read.2 is)
-    unsound_only (Reads file next) own names names' (inr stop) is = absurd (no_unsound_file file is (stopped content file.kind file.name before now stop.0 outcome stop.1 stop.2))
-    unsound_only (Audits game log IsDue next) own names names' (inl run) is =
-        behind_sound content (HasUnsound content next) (HasUnsound content (Audits game log IsDue next)) (λ unsound. inr (run.0, unsound)) (unsound_only next own names names' run.1 is)
-    unsound_only (Audits game log IsDue next) own names names' (inr stop) is =
-        here_unsound content game log IsDue next (unsound_here game log is (audit_stopped game log IsDue outcome stop.0))
-    unsound_only (EndsWith allows) own names names' run is = absurd ((last (code_of outcome) (own outcome run.0)).no_unsound is)
+    pub unsound_only : (steps : Steps) → EndsWithin Own steps → (files : FilesState) → Runs steps files files' outcome → code_of outcome ≡ 9 →
+        IfSome files.content (λ _. HasUnsound files.content steps)
+    unsound_only (Reads file next) own files (inl read) is =
+        later_unsound files.content file next read.0 read.1 (unsound_only (next read.0) (own read.0) (with_name files file.name) read.2 is)
+    unsound_only (Reads file next) own files (inr stop) is = absurd (no_unsound_file files file is (stopped files files' file.kind file.name stop.0 outcome stop.1 stop.2))
+    unsound_only (Audits game log IsDue next) own files (inl run) is =
+        behind_sound files.content (HasUnsound files.content next) (HasUnsound files.content (Audits game log IsDue next)) (λ unsound. inr (run.0, unsound)) (unsound_only next own files run.1 is)
+    unsound_only (Audits game log IsDue next) own files (inr stop) is =
+        here_unsound files.content game log IsDue next (unsound_here game log is (audit_stopped game log IsDue outcome stop.0))
+    unsound_only (EndsWith allows) own files run is = absurd ((last (code_of outcome) (own outcome run.0)).no_unsound is)
 
     -- where all files are good that are read, the code is one of the last step, or that of memory, or a log is not sound
-    abbrev IsReadyEnd : Steps → Type 0
-    IsReadyEnd steps = Own (code_of outcome) ⊎ (code_of outcome ≡ 7) ⊎ ((code_of outcome ≡ 9) × HasUnsound content steps)
+    abbrev IsReadyEnd : Content → Steps → Type 0
+    IsReadyEnd content steps = Own (code_of outcome) ⊎ (code_of outcome ≡ 7) ⊎ ((code_of outcome ≡ 9) × HasUnsound content steps)
 
-    ready_later : (file : NamedFile) (next : Value file.kind → Steps) (value : Value file.kind) → Holds content file value → IsReadyEnd (next value) → IsReadyEnd (Reads file next)
-    ready_later file next value good (inl own) = inl own
-    ready_later file next value good (inr (inl seven)) = inr (inl seven)
-    ready_later file next value good (inr (inr unsound)) = inr (inr (unsound.0, (value, good, unsound.1)))
+    ready_later : (content : Content) (file : NamedFile) (next : Value file.kind → Steps) (value : Value file.kind) → Holds content file value → IsReadyEnd content (next value) → IsReadyEnd content (Reads file next)
+    ready_later content file next value good (inl own) = inl own
+    ready_later content file next value good (inr (inl seven)) = inr (inl seven)
+    ready_later content file next value good (inr (inr unsound)) = inr (inr (unsound.0, (value, good, unsound.1)))
 
-    ready_behind : (game : GameFile) (log : LoggedGame) (IsDue : List ℕ → Type 0) (next : Steps) → IsSound game log → IsReadyEnd next → IsReadyEnd (Audits game log IsDue next)
-    ready_behind game log IsDue next sound (inl own) = inl own
-    ready_behind game log IsDue next sound (inr (inl seven)) = inr (inl seven)
-    ready_behind game log IsDue next sound (inr (inr unsound)) = inr (inr (unsound.0, inr (sound, unsound.1)))
+    ready_behind : (content : Content) (game : GameFile) (log : LoggedGame) (IsDue : List ℕ → Type 0) (next : Steps) → IsSound game log → IsReadyEnd content next → IsReadyEnd content (Audits game log IsDue next)
+    ready_behind content game log IsDue next sound (inl own) = inl own
+    ready_behind content game log IsDue next sound (inr (inl seven)) = inr (inl seven)
+    ready_behind content game log IsDue next sound (inr (inr unsound)) = inr (inr (unsound.0, inr (sound, unsound.1)))
 
-    ready_at_audit : (game : GameFile) (log : LoggedGame) (IsDue : List ℕ → Type 0) (next : Steps) → StoppedSo game log (code_of outcome) → IsReadyEnd (Audits game log IsDue next)
-    ready_at_audit game log IsDue next (inl unsound) = inr (inr (unsound.0, inl unsound.1))
-    ready_at_audit game log IsDue next (inr seven) = inr (inl seven)
+    ready_at_audit : (content : Content) (game : GameFile) (log : LoggedGame) (IsDue : List ℕ → Type 0) (next : Steps) → StoppedSo game log (code_of outcome) → IsReadyEnd content (Audits game log IsDue next)
+    ready_at_audit content game log IsDue next (inl unsound) = inr (inr (unsound.0, inl unsound.1))
+    ready_at_audit content game log IsDue next (inr seven) = inr (inl seven)
 
-    pub ready : (steps : Steps) → EndsWithin Own steps → (names names' : Names) → IsQuiet before now → AreGood content steps → Runs content steps names names' before now outcome → IsReadyEnd steps
-    ready (Reads file next) own names names' quiet are_good (inl read) =
-        ready_later file next are_good.0 are_good.1 (ready (next are_good.0) (own are_good.0) (and_then_told names (file.name ∷ [])) names' quiet are_good.2
-        (subst (λ (v : Value file.kind). Runs content (next v) (and_then_told names (file.name ∷ [])) names' before now outcome) (same_read content file are_good.0 read.0 are_good.1 read.1) read.2))
-    ready (Reads file next) own names names' quiet are_good (inr stop) =
-        inr (inl (good_at file are_good.0 are_good.1 quiet (stopped content file.kind file.name before now stop.0 outcome stop.1 stop.2)))
-    ready (Audits game log IsDue next) own names names' quiet are_good (inl run) =
-        ready_behind game log IsDue next run.0 (ready next own names names' quiet (are_good run.0) run.1)
-    ready (Audits game log IsDue next) own names names' quiet are_good (inr stop) = ready_at_audit game log IsDue next (audit_stopped game log IsDue outcome stop.0)
-    ready (EndsWith allows) own names names' quiet are_good run = inl (own outcome run.0)
+    pub ready : (steps : Steps) → EndsWithin Own steps → (files : FilesState) → IsQuiet files.faults files'.faults → AreGood files.content steps → Runs steps files files' outcome → IsReadyEnd files.content steps
+    ready (Reads file next) own files quiet are_good (inl read) =
+        ready_later files.content file next are_good.0 are_good.1 (ready (next are_good.0) (own are_good.0) (with_name files file.name) quiet are_good.2
+        (subst (λ (v : Value file.kind). Runs (next v) (with_name files file.name) files' outcome) (same_read files.content file are_good.0 read.0 are_good.1 read.1) read.2))
+    ready (Reads file next) own files quiet are_good (inr stop) =
+        inr (inl (good_at files file are_good.0 are_good.1 quiet (stopped files files' file.kind file.name stop.0 outcome stop.1 stop.2)))
+    ready (Audits game log IsDue next) own files quiet are_good (inl run) =
+        ready_behind files.content game log IsDue next run.0 (ready next own files quiet (are_good run.0) run.1)
+    ready (Audits game log IsDue next) own files quiet are_good (inr stop) = ready_at_audit files.content game log IsDue next (audit_stopped game log IsDue outcome stop.0)
+    ready (EndsWith allows) own files quiet are_good run = inl (own outcome run.0)
 
     -- ---- all codes
 
@@ -296,12 +294,12 @@ module _ (content : Content) (before now : ℕ) (outcome : Outcome) where
     abbrev pub IsEarlyCode : ℕ → Type 0
     IsEarlyCode code = (code ≡ 2) ⊎ (code ≡ 3) ⊎ (code ≡ 7) ⊎ (code ≡ 8) ⊎ (code ≡ 9)
 
-    file_code_at : (kind : FileKind) (name : List ℕ) → StopsSo content kind name before now (code_of outcome) → IsEarlyCode (code_of outcome)
-    file_code_at kind name (inl fault) = inr (inl fault.0)
-    file_code_at kind name (inr (inl memory)) = inr (inr (inl memory.0))
-    file_code_at kind name (inr (inr refused)) = by_kind (kind_code kind)
+    file_code_at : (files : FilesState) (kind : FileKind) (name : List ℕ) → StopsSo files files' kind name (code_of outcome) → IsEarlyCode (code_of outcome)
+    file_code_at files kind name (inl fault) = inr (inl fault.0)
+    file_code_at files kind name (inr (inl memory)) = inr (inr (inl memory.0))
+    file_code_at files kind name (inr (inr refused)) = by_kind (kind_code kind)
       where
-        by_kind : (code_at kind ≡ 2) ⊎ (code_at kind ≡ 8) → IsEarlyCode (code_of outcome)
+        by_kind : (refused_code kind ≡ 2) ⊎ (refused_code kind ≡ 8) → IsEarlyCode (code_of outcome)
         by_kind (inl two) = inl (refused.0 ∙ two)
         by_kind (inr eight) = inr (inr (inr (inl (refused.0 ∙ eight))))
 
@@ -310,21 +308,21 @@ module _ (content : Content) (before now : ℕ) (outcome : Outcome) where
     audit_code game log (inr seven) = inr (inr (inl seven))
 
     -- the code is one of the last step, or of a file or an audit
-    pub codes : (steps : Steps) → EndsWithin Own steps → (names names' : Names) → Runs content steps names names' before now outcome → Own (code_of outcome) ⊎ IsEarlyCode (code_of outcome)
-    codes (Reads file next) own names names' (inl read) = codes (next read.0) (own read.0) (and_then_told names (file.name ∷ [])) names' read.2
-    codes (Reads file next) own names names' (inr stop) = inr (file_code_at file.kind file.name (stopped content file.kind file.name before now stop.0 outcome stop.1 stop.2))
-    codes (Audits game log IsDue next) own names names' (inl run) = codes next own names names' run.1
-    codes (Audits game log IsDue next) own names names' (inr stop) = inr (audit_code game log (audit_stopped game log IsDue outcome stop.0))
-    codes (EndsWith allows) own names names' run = inl (own outcome run.0)
+    pub codes : (steps : Steps) → EndsWithin Own steps → (files : FilesState) → Runs steps files files' outcome → Own (code_of outcome) ⊎ IsEarlyCode (code_of outcome)
+    codes (Reads file next) own files (inl read) = codes (next read.0) (own read.0) (with_name files file.name) read.2
+    codes (Reads file next) own files (inr stop) = inr (file_code_at files file.kind file.name (stopped files files' file.kind file.name stop.0 outcome stop.1 stop.2))
+    codes (Audits game log IsDue next) own files (inl run) = codes next own files run.1
+    codes (Audits game log IsDue next) own files (inr stop) = inr (audit_code game log (audit_stopped game log IsDue outcome stop.0))
+    codes (EndsWith allows) own files run = inl (own outcome run.0)
 
     -- ---- the files that were selected
 
     module _ (code : ℕ) (told : (code ≡ 4) ⊎ (code ≡ code_of outcome)) where
-      ends_at : (kind : FileKind) (name : List ℕ) → StopsSo content kind name before now (code_of outcome) → (code ≡ 4) ⊎ (code ≡ code_of outcome) → EndsAt kind code
-      ends_at kind name stop (inl four) = inr (inl four)
-      ends_at kind name (inl fault) (inr same) = inl (same ∙ fault.0)
-      ends_at kind name (inr (inl memory)) (inr same) = inr (inr (inl (same ∙ memory.0)))
-      ends_at kind name (inr (inr refused)) (inr same) = inr (inr (inr (same ∙ refused.0)))
+      ends_at : (files : FilesState) (kind : FileKind) (name : List ℕ) → StopsSo files files' kind name (code_of outcome) → (code ≡ 4) ⊎ (code ≡ code_of outcome) → EndsAt kind code
+      ends_at files kind name stop (inl four) = inr (inl four)
+      ends_at files kind name (inl fault) (inr same) = inl (same ∙ fault.0)
+      ends_at files kind name (inr (inl memory)) (inr same) = inr (inr (inl (same ∙ memory.0)))
+      ends_at files kind name (inr (inr refused)) (inr same) = inr (inr (inr (same ∙ refused.0)))
 
       ends_at_audit : (game : GameFile) (log : LoggedGame) → StoppedSo game log (code_of outcome) → (code ≡ 4) ⊎ (code ≡ code_of outcome) → EndsAtAudit code
       ends_at_audit game log stop (inl four) = inl four
@@ -335,15 +333,15 @@ module _ (content : Content) (before now : ℕ) (outcome : Outcome) where
       not_code due not not_four (inl four) is = not_four (sym four ∙ is)
       not_code due not not_four (inr same) is = not (sym same ∙ is)
 
-      pub selects : (steps : Steps) → EndsWithin Own steps → (names names' : Names) → Runs content steps names names' before now outcome → SelectsFiles content steps names names' code
-      selects (Reads file next) own names names' (inl read) = inr (read.0, read.1, selects (next read.0) (own read.0) (and_then_told names (file.name ∷ [])) names' read.2)
-      selects (Reads file next) own names names' (inr stop) =
-          inl (stop.3, ends_at file.kind file.name (stopped content file.kind file.name before now stop.0 outcome stop.1 stop.2) told)
-      selects (Audits game log IsDue next) own names names' (inl run) = inr (run.0, selects next own names names' run.1)
-      selects (Audits game log IsDue next) own names names' (inr stop) = inl (stop.1, ends_at_audit game log (audit_stopped game log IsDue outcome stop.0) told)
-      selects (EndsWith allows) own names names' run =
+      pub selects : (steps : Steps) → EndsWithin Own steps → (files : FilesState) → Runs steps files files' outcome → SelectsFiles steps files files' code
+      selects (Reads file next) own files (inl read) = inr (read.0, read.1, selects (next read.0) (own read.0) (with_name files file.name) read.2)
+      selects (Reads file next) own files (inr stop) =
+          inl (stop.3, ends_at files file.kind file.name (stopped files files' file.kind file.name stop.0 outcome stop.1 stop.2) told)
+      selects (Audits game log IsDue next) own files (inl run) = inr (run.0, selects next own files run.1)
+      selects (Audits game log IsDue next) own files (inr stop) = inl (stop.1.0, ends_at_audit game log (audit_stopped game log IsDue outcome stop.0) told)
+      selects (EndsWith allows) own files run =
           let none = last (code_of outcome) (own outcome run.0) in (
-            run.1,
+            run.1.0,
             not_code 2 none.no_game (omega arith) told,
             not_code 3 none.no_fault (omega arith) told,
             not_code 8 none.no_text (omega arith) told,

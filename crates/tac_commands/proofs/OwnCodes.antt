@@ -51,7 +51,7 @@ batch_code (Table pairs) = table_code pairs []
 -- of any command
 abbrev pub OwnCode : Command → ℕ → Type 0
 OwnCode (Batch command) code = IsWritten code
-OwnCode (Serve game port pace form) code = (code ≡ 0) ⊎ (code ≡ 5) ⊎ (code ≡ 6) ⊎ (code ≡ 7)
+OwnCode (Serve asked) code = (code ≡ 0) ⊎ (code ≡ 5) ⊎ (code ≡ 6) ⊎ (code ≡ 7)
 
 service : (outcome : Outcome) → IsServiceEnd outcome → (code_of outcome ≡ 0) ⊎ (code_of outcome ≡ 5) ⊎ (code_of outcome ≡ 6) ⊎ (code_of outcome ≡ 7)
 service (Done text) allowed = inl refl
@@ -63,7 +63,7 @@ service outcome allowed = absurd allowed
 
 pub own_code : (command : Command) → EndsWithin (OwnCode command) (steps_of command)
 own_code (Batch command) = batch_code command
-own_code (Serve game port pace form) = λ value outcome allowed. service outcome allowed
+own_code (Serve asked) = λ value outcome allowed. service outcome allowed
 
 -- none of these is a code of a file, of a log that is not sound, or of words that are no command
 pub record IsLastCode (code : ℕ) : Type 0 where
@@ -81,7 +81,7 @@ last_code (Batch command) code own = record {
   no_text = λ is. grind (arith, own, is);
   no_unsound = λ is. grind (arith, own, is);
 }
-last_code (Serve game port pace form) code own = record {
+last_code (Serve asked) code own = record {
   no_usage = λ is. grind (arith, own, is);
   no_game = λ is. grind (arith, own, is);
   no_fault = λ is. grind (arith, own, is);

@@ -1,47 +1,55 @@
 -- How a command ends whose files were read, or not.
-use Rattle.std.proofs.Common.{◌≡◌, ℕ, List, [], ◌∷◌, refl, subst, inl, Option}
+use Rattle.std.proofs.Common.{◌≡◌, ℕ, List, [], ◌∷◌, refl, ap, ◌∙◌, subst, inl, inr}
+use Rattle.tac_io.specs.Counts.{Rose}
+use Rattle.tac_io.specs.States.{FilesState, SinkState}
 use Rattle.tac_io.specs.Told.{and_then_told}
 use Rattle.tac_commands.specs.declared.ends.End.{End}
+use Rattle.tac_commands.specs.declared.file_kinds.FileKind.{FileKind}
+use Rattle.tac_commands.specs.declared.refusals.Refusal.{Refusal}
 use Rattle.tac_commands.specs.FileKinds.{Value}
-use Rattle.tac_commands.specs.Files.{Content, IsRead}
+use Rattle.tac_commands.specs.Files.{Content, IsRead, IsNotRead, HasFault}
 use Rattle.tac_commands.specs.Outcomes.{Outcome}
-use Rattle.tac_commands.specs.Runs.{Names, Runs}
-use Rattle.tac_commands.specs.Steps.{NamedFile, Steps, Reads, EndsWith}
-use Rattle.tac_commands.specs.Ends.{Ends, EndsOrIsCut}
+use Rattle.tac_commands.specs.Runs.{Runs, with_name}
+use Rattle.tac_commands.specs.Steps.{NamedFile, Steps, Reads, Audits, EndsWith}
+use Rattle.tac_commands.specs.Ends.{Ends, EndsSteps}
 use Rattle.tac_commands.proofs.Endings.{weaker}
 
--- a run that goes on from here is one from before the file was read
-pub runs_on : (content content' : Content) (file : NamedFile) (next : Value file.kind → Steps) (names between_names names' : Names) (before between now : ℕ) (value : Value file.kind) →
-    IsRead content file.kind file.name value → content' ≡ content → between_names ≡ and_then_told names (file.name ∷ []) → between ≡ before →
-    (outcome : Outcome) → Runs content' (next value) between_names names' between now outcome → Runs content (Reads file next) names names' before now outcome
-runs_on content content' file next names between_names names' before between now value is same selected quiet outcome run = inl (
-  value,
-  is,
-  subst (λ (c : Content). Runs c (next value) (and_then_told names (file.name ∷ [])) names' before now outcome) same
-      (subst (λ (n : Names). Runs content' (next value) n names' before now outcome) selected
-      (subst (λ (n : ℕ). Runs content' (next value) between_names names' n now outcome) quiet run)),
-)
+-- a run sees of the files that it begins with what they hold, the names that were selected, and the count of faults
+module _ (last : FilesState) (outcome : Outcome) where
+  still_not_read : (files files' : FilesState) (kind : FileKind) (name : List ℕ) (refusal : Refusal) → files'.content ≡ files.content → files'.faults ≡ files.faults →
+      IsNotRead files' last kind name refusal → IsNotRead files last kind name refusal
+  still_not_read files files' kind name refusal same quiet (inl fault) = inl (fault.0, subst (λ (n : ℕ). Rose n last.faults) quiet fault.1)
+  still_not_read files files' kind name refusal same quiet (inr (inl memory)) = inr (inl (memory.0, memory.1 ∙ quiet))
+  still_not_read files files' kind name refusal same quiet (inr (inr bad)) =
+      inr (inr (bad.0, bad.1, subst (λ (c : Content). HasFault c kind name bad.0) same bad.2, bad.3 ∙ quiet))
 
--- a file was read before others
-pub ends_later : (content content' : Content) (file : NamedFile) (next : Value file.kind → Steps) (names between_names names' : Names) (before between now : ℕ)
-    (taken taken' : Option (List ℕ)) (faults faults' : ℕ) (end : End) (value : Value file.kind) → IsRead content file.kind file.name value → content' ≡ content →
-    between_names ≡ and_then_told names (file.name ∷ []) → between ≡ before →
-    EndsOrIsCut (Runs content' (next value) between_names names' between now) taken taken' faults faults' end →
-    EndsOrIsCut (Runs content (Reads file next) names names' before now) taken taken' faults faults' end
-ends_later content content' file next names between_names names' before between now taken taken' faults faults' end value is same selected quiet ended =
-    weaker (Runs content' (next value) between_names names' between now) (Runs content (Reads file next) names names' before now) taken taken' faults faults' end
-    (runs_on content content' file next names between_names names' before between now value is same selected quiet) ended
+  pub runs_from : (steps : Steps) (files files' : FilesState) → files'.content ≡ files.content → files'.names ≡ files.names → files'.faults ≡ files.faults →
+      Runs steps files' last outcome → Runs steps files last outcome
+  runs_from (Reads file next) files files' same selected quiet (inl read) = inl (
+    read.0,
+    subst (λ (c : Content). IsRead c file.kind file.name read.0) same read.1,
+    runs_from (next read.0) (with_name files file.name) (with_name files' file.name) same (ap (λ names. and_then_told names (file.name ∷ [])) selected) quiet read.2,
+  )
+  runs_from (Reads file next) files files' same selected quiet (inr stop) = inr (
+    stop.0,
+    stop.1,
+    still_not_read files files' file.kind file.name stop.0 same quiet stop.2,
+    stop.3 ∙ ap (λ names. and_then_told names (file.name ∷ [])) selected,
+  )
+  runs_from (Audits game log IsDue next) files files' same selected quiet (inl run) = inl (run.0, runs_from next files files' same selected quiet run.1)
+  runs_from (Audits game log IsDue next) files files' same selected quiet (inr stop) = inr (stop.0, (stop.1.0 ∙ selected, stop.1.1 ∙ quiet))
+  runs_from (EndsWith allows) files files' same selected quiet run = (run.0, (run.1.0 ∙ selected, run.1.1 ∙ quiet))
 
--- the last file was read
-pub ends_last : (content : Content) (file : NamedFile) (allows : Value file.kind → Outcome → Type 0) (names names' : Names) (before now : ℕ) (taken taken' : Option (List ℕ)) (faults faults' : ℕ)
-    (end : End) (value : Value file.kind) → IsRead content file.kind file.name value → names' ≡ and_then_told names (file.name ∷ []) → now ≡ before →
-    Ends (allows value) taken taken' faults faults' end → EndsOrIsCut (Runs content (Reads file (λ v. EndsWith (allows v))) names names' before now) taken taken' faults faults' end
-ends_last content file allows names names' before now taken taken' faults faults' end value is selected quiet ended =
-    weaker (allows value) (Runs content (Reads file (λ v. EndsWith (allows v))) names names' before now) taken taken' faults faults' end
-    (λ outcome allowed. inl (value, is, (allowed, selected, quiet))) (inl ended)
+module _ (files between : FilesState) (file : NamedFile) (next : Value file.kind → Steps) (value : Value file.kind) (is : IsRead files.content file.kind file.name value)
+    (same : between.content ≡ files.content) (selected : between.names ≡ and_then_told files.names (file.name ∷ [])) (quiet : between.faults ≡ files.faults) where
+  -- a run that goes on from here is one from before the file was read
+  pub runs_on : (files' : FilesState) (outcome : Outcome) → Runs (next value) between files' outcome → Runs (Reads file next) files files' outcome
+  runs_on files' outcome run = inl (value, is, runs_from files' outcome (next value) (with_name files file.name) between same selected quiet run)
+
+  -- a file was read before others
+  pub ends_later : (files' : FilesState) (sink sink' : SinkState) (end : End) → EndsSteps (next value) between files' sink sink' end → EndsSteps (Reads file next) files files' sink sink' end
+  ends_later files' sink sink' end ended = weaker (Runs (next value) between files') (Runs (Reads file next) files files') sink sink' end (runs_on files') ended
 
 -- no file is read any more
-pub ends_alone : (content : Content) (allows : Outcome → Type 0) (names : Names) (count : ℕ) (taken taken' : Option (List ℕ)) (faults faults' : ℕ) (end : End) →
-    Ends allows taken taken' faults faults' end → EndsOrIsCut (Runs content (EndsWith allows) names names count count) taken taken' faults faults' end
-ends_alone content allows names count taken taken' faults faults' end ended =
-    weaker allows (Runs content (EndsWith allows) names names count count) taken taken' faults faults' end (λ outcome allowed. (allowed, refl, refl)) (inl ended)
+pub ends_alone : (files : FilesState) (allows : Outcome → Type 0) (sink sink' : SinkState) (end : End) → Ends allows sink sink' end → EndsSteps (EndsWith allows) files files sink sink' end
+ends_alone files allows sink sink' end ended = weaker allows (Runs (EndsWith allows) files files) sink sink' end (λ outcome allowed. (allowed, (refl, refl))) (inl ended)

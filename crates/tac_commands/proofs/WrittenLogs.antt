@@ -2,6 +2,7 @@
 use Rattle.std.proofs.Common.{◌≡◌, ℕ, ◌≤◌, List, ◌++◌, length, refl, sym, ap, ◌∙◌, subst, inl, inr, append_assoc}
 use Rattle.std.specs.Prelude.{◌⊎◌, codes, Ok}
 use Rattle.std.proofs.lemmas.List.{append_cancel_left}
+use Rattle.tac_io.specs.States.{FilesState}
 use Rattle.game_text.specs.Games.{GameFile}
 use Rattle.auction_rules.specs.History.{Entry}
 use Rattle.auction_core.specs.ClosedGame.{ClosedGame}
@@ -16,9 +17,8 @@ use Rattle.tac_commands.specs.declared.file_kinds.FileKind.TheVariants.{Log}
 use Rattle.tac_commands.specs.declared.refusals.Refusal.TheVariants.{Memory}
 use Rattle.tac_commands.specs.Allowed.{Writes, IsFlawText, audit_steps}
 use Rattle.tac_commands.specs.FileKinds.{read_as, logged_or_fault}
-use Rattle.tac_commands.specs.Files.{Content}
 use Rattle.tac_commands.specs.Outcomes.{Outcome, Done, Lapsed, Unsound, Cut, Refused}
-use Rattle.tac_commands.specs.Runs.{Names, StopsAt, Runs}
+use Rattle.tac_commands.specs.Runs.{StopsAt, Runs}
 use Rattle.tac_commands.specs.SoundTexts.{EndsInSoundLog}
 use Rattle.tac_commands.proofs.LoggedNumbers.{head_is, game_in, game_is, same_histories}
 
@@ -68,7 +68,7 @@ stopped game log (Cut text) sound stops = absurd stops
 stopped game log (Refused Memory) sound stops = inr refl
 stopped game log (Refused refusal) sound stops = absurd stops
 
-pub says_sound : (game : GameFile) (log : LoggedGame) (content : Content) (names names' : Names) (first last : ℕ) (outcome : Outcome) → IsSound game log →
-    Runs content (audit_steps game log) names names' first last outcome → (outcome ≡ Done (codes "sound\n")) ⊎ (outcome ≡ Refused Memory)
-says_sound game log content names names' first last outcome sound (inl run) = written outcome run.1.0
-says_sound game log content names names' first last outcome sound (inr run) = stopped game log outcome sound run.0
+pub says_sound : (game : GameFile) (log : LoggedGame) (files files' : FilesState) (outcome : Outcome) → IsSound game log → Runs (audit_steps game log) files files' outcome →
+    (outcome ≡ Done (codes "sound\n")) ⊎ (outcome ≡ Refused Memory)
+says_sound game log files files' outcome sound (inl run) = written outcome run.1.0
+says_sound game log files files' outcome sound (inr run) = stopped game log outcome sound run.0

@@ -1,5 +1,6 @@
 -- What each command does with its files and makes of their values, and so which outcomes the words and the files allow.
 use Rattle.std.specs.Prelude.{◌≡◌, ℕ, ◌<◌, ⊤, codes, List, [], ◌∷◌, ◌++◌, length, Option, Some, None, ◌≤ℤ◌, ◌<ℤ◌, pos}
+use Rattle.tac_io.specs.States.{FilesState}
 use Rattle.game_text.specs.Games.{GameFile, spelling, upgraded}
 use Rattle.game_text.specs.Accounts.{AccountFile}
 use Rattle.good_worth.specs.Worth.{IsUp, IsDown, held}
@@ -25,10 +26,9 @@ use Rattle.tac_commands.specs.declared.file_kinds.FileKind.TheVariants.{Game, Ho
 use Rattle.tac_commands.specs.declared.refusals.Refusal.TheVariants.{Usage, LinkFault, Memory}
 use Rattle.tac_commands.specs.Cash.{IsCashOfPosts}
 use Rattle.tac_commands.specs.Commands.{BatchCommand, Hotel, Show, Upgrade, Make, Solve, Worth, Play, Trial, Audit, Table, Command, Batch, Serve}
-use Rattle.tac_commands.specs.Files.{Content}
 use Rattle.tac_commands.specs.FlawTexts.{flaw_text, unsound_text}
 use Rattle.tac_commands.specs.Outcomes.{Outcome, Done, Lapsed, Unsound, Cut, Refused}
-use Rattle.tac_commands.specs.Runs.{Names, Runs}
+use Rattle.tac_commands.specs.Runs.{AreUnasked, Runs}
 use Rattle.tac_commands.specs.SoundTexts.{told_of, EndsInSoundLog}
 use Rattle.tac_commands.specs.Steps.{Steps, Reads, Audits, EndsWith, file}
 use Rattle.tac_commands.specs.Trials.{trial_text}
@@ -134,9 +134,9 @@ IsServiceEnd (Unsound text) = ⊥
 -- what a command does
 abbrev pub steps_of : Command → Steps
 steps_of (Batch command) = batch_steps command
-steps_of (Serve game port pace form) = Reads (file Game game) (λ _. EndsWith IsServiceEnd)
+steps_of (Serve service) = Reads (file Game service.game) (λ _. EndsWith IsServiceEnd)
 
 -- The outcome, and the names that were selected, are those of the command, if there is one; without a command the usage is written.
-abbrev pub Allows : Content → Option Command → Names → Names → ℕ → ℕ → Outcome → Type 0
-Allows content None names names' before now outcome = (outcome ≡ Refused Usage) × (names' ≡ names) × (now ≡ before)
-Allows content (Some command) names names' before now outcome = Runs content (steps_of command) names names' before now outcome
+abbrev pub Allows : Option Command → FilesState → FilesState → Outcome → Type 0
+Allows None files files' outcome = (outcome ≡ Refused Usage) × AreUnasked files files'
+Allows (Some command) files files' outcome = Runs (steps_of command) files files' outcome

@@ -2,13 +2,14 @@
 -- where memory is refused the code is 7.
 use Rattle.std.specs.Prelude.{◌≡◌, ℕ, ◌-◌, ◌^◌, ◌<◌, ◌⊎◌, ⊤, List, Option, Some, None, Ok, Err, IfSome}
 use Rattle.tac_io.specs.Counts.{Rose}
+use Rattle.tac_io.specs.States.{FilesState, SinkState, LinksState, TickerState}
 use Rattle.game_text.specs.declared.fault.GameFault.{GameFault}
 use Rattle.log_reader.specs.SoundLog.{IsSound}
 use Rattle.tac_commands.specs.Allowed.{steps_of}
-use Rattle.tac_commands.specs.Codes.{number_of}
 use Rattle.tac_commands.specs.Commands.{Command}
 use Rattle.tac_commands.specs.FileKinds.{Value, read_as, refused_code}
 use Rattle.tac_commands.specs.Files.{Content}
+use Rattle.tac_commands.specs.Outsides.{Outside}
 use Rattle.tac_commands.specs.Steps.{NamedFile, Steps, Reads, Audits, EndsWith}
 
 -- no call failed: the count is as before, and below its last value
@@ -22,14 +23,14 @@ pub record UsageExactly (command : Option Command) (code : ℕ) : Type 0 where
   pub always : command ≡ None → (code ≡ 1) ⊎ (code ≡ 4)
 
 -- 3 comes exactly where the count of faults of the files rose
-pub record ReadFaultExactly (before now code : ℕ) : Type 0 where
-  pub only : code ≡ 3 → Rose before now
-  pub always : before < now → (code ≡ 3) ⊎ (code ≡ 4)
+pub record ReadFaultExactly (files files' : FilesState) (code : ℕ) : Type 0 where
+  pub only : code ≡ 3 → Rose files.faults files'.faults
+  pub always : files.faults < files'.faults → (code ≡ 3) ⊎ (code ≡ 4)
 
 -- 4 comes exactly where the count of faults of the sink rose
-pub record WriteFaultExactly (before now code : ℕ) : Type 0 where
-  pub only : code ≡ 4 → Rose before now
-  pub always : before < now → code ≡ 4
+pub record WriteFaultExactly (sink sink' : SinkState) (code : ℕ) : Type 0 where
+  pub only : code ≡ 4 → Rose sink.faults sink'.faults
+  pub always : sink.faults < sink'.faults → code ≡ 4
 
 -- the bytes of the file of that name, where files are told
 abbrev pub told_file : Content → List ℕ → Option (List ℕ)
@@ -52,7 +53,7 @@ pub record HasBad (content : Content) (file : NamedFile) : Type 0 where
 -- a file that is read is refused with this code: those before it are good, and the logs that are audited before it are sound
 abbrev pub HasRefused : Content → ℕ → Steps → Type 0
 HasRefused content code (Reads file next) =
-    ((number_of (refused_code file.kind) ≡ code) × HasBad content file)
+    ((refused_code file.kind ≡ code) × HasBad content file)
     ⊎ ((value : Value file.kind) × Holds content file value × HasRefused content code (next value))
 HasRefused content code (Audits game log IsDue next) = IsSound game log × HasRefused content code next
 HasRefused content code (EndsWith allows) = ⊥
@@ -80,14 +81,14 @@ HasRefusedText content None = ⊥
 HasRefusedText content (Some command) = HasRefused content 8 (steps_of command)
 
 -- 2 comes exactly where a game file is read and refused
-pub record GameRefusedExactly (content : Content) (command : Option Command) (before now code : ℕ) : Type 0 where
-  pub only : code ≡ 2 → IfSome content (λ _. HasRefusedGame content command)
-  pub always : HasRefusedGame content command → IsQuiet before now → (code ≡ 2) ⊎ (code ≡ 4) ⊎ (code ≡ 7)
+pub record GameRefusedExactly (command : Option Command) (files files' : FilesState) (code : ℕ) : Type 0 where
+  pub only : code ≡ 2 → IfSome files.content (λ _. HasRefusedGame files.content command)
+  pub always : HasRefusedGame files.content command → IsQuiet files.faults files'.faults → (code ≡ 2) ⊎ (code ≡ 4) ⊎ (code ≡ 7)
 
 -- 8 comes exactly where a script, an account or a log is read and refused
-pub record TextRefusedExactly (content : Content) (command : Option Command) (before now code : ℕ) : Type 0 where
-  pub only : code ≡ 8 → IfSome content (λ _. HasRefusedText content command)
-  pub always : HasRefusedText content command → IsQuiet before now → (code ≡ 8) ⊎ (code ≡ 4) ⊎ (code ≡ 7)
+pub record TextRefusedExactly (command : Option Command) (files files' : FilesState) (code : ℕ) : Type 0 where
+  pub only : code ≡ 8 → IfSome files.content (λ _. HasRefusedText files.content command)
+  pub always : HasRefusedText files.content command → IsQuiet files.faults files'.faults → (code ≡ 8) ⊎ (code ≡ 4) ⊎ (code ≡ 7)
 
 -- the words are a command, and the files that it reads, if it reads some, are there and good
 abbrev pub IsReady : Content → Option Command → Type 0
@@ -100,9 +101,9 @@ HasUnsoundLog content None = ⊥
 HasUnsoundLog content (Some command) = HasUnsound content (steps_of command)
 
 -- 9 comes exactly where the files up to a log were read and accepted, memory sufficed and the log is not sound
-pub record UnsoundExactly (content : Content) (command : Option Command) (before now code : ℕ) : Type 0 where
-  pub only : code ≡ 9 → IfSome content (λ _. HasUnsoundLog content command)
-  pub always : HasUnsoundLog content command → IsQuiet before now → (code ≡ 9) ⊎ (code ≡ 4) ⊎ (code ≡ 7)
+pub record UnsoundExactly (command : Option Command) (files files' : FilesState) (code : ℕ) : Type 0 where
+  pub only : code ≡ 9 → IfSome files.content (λ _. HasUnsoundLog files.content command)
+  pub always : HasUnsoundLog files.content command → IsQuiet files.faults files'.faults → (code ≡ 9) ⊎ (code ≡ 4) ⊎ (code ≡ 7)
 
 -- the code is 0, 7 or 9, and it is 9 exactly where a log that the command audits is not sound, unless memory was refused
 pub record IsGoodEnd (content : Content) (command : Option Command) (code : ℕ) : Type 0 where
@@ -110,17 +111,24 @@ pub record IsGoodEnd (content : Content) (command : Option Command) (code : ℕ)
   pub only : code ≡ 9 → HasUnsoundLog content command
   pub always : HasUnsoundLog content command → (code ≡ 9) ⊎ (code ≡ 7)
 
--- so it is where the words are a command, its files are good and no count of the files, the sink, the links or the ticker rose
-pub record IsComplete (content : Content) (command : Option Command) (before now out_before out_now links_before links_now ticks_before ticks_now code : ℕ) : Type 0 where
-  pub good : IsReady content command → IsQuiet before now → IsQuiet out_before out_now → IsQuiet links_before links_now → IsQuiet ticks_before ticks_now → IsGoodEnd content command code
+-- no call of the outside failed
+pub record IsFaultless {L : Type 0} (before after : Outside L) : Type 0 where
+  pub files : IsQuiet before.files.faults after.files.faults
+  pub out : IsQuiet before.out.faults after.out.faults
+  pub links : IsQuiet before.links.faults after.links.faults
+  pub ticker : IsQuiet before.ticker.faults after.ticker.faults
+
+-- so it is where the words are a command, its files are good and no call of the outside failed
+pub record IsComplete {L : Type 0} (command : Option Command) (before after : Outside L) (code : ℕ) : Type 0 where
+  pub good : IsReady before.files.content command → IsFaultless before after → IsGoodEnd before.files.content command code
 
 -- 5 comes exactly where the count of faults of the links rose
-pub record LinkFaultExactly (before now code : ℕ) : Type 0 where
-  pub only : code ≡ 5 → Rose before now
-  pub always : before < now → (code ≡ 5) ⊎ (code ≡ 4)
+pub record LinkFaultExactly {L : Type 0} (links links' : LinksState L) (code : ℕ) : Type 0 where
+  pub only : code ≡ 5 → Rose links.faults links'.faults
+  pub always : links.faults < links'.faults → (code ≡ 5) ⊎ (code ≡ 4)
 
 -- 6 comes exactly where the count of faults of the ticker rose and no other code applies: the game was played, and memory sufficed for
 -- its scores
-pub record ClockFaultExactly (before now code : ℕ) : Type 0 where
-  pub only : code ≡ 6 → Rose before now
-  pub always : before < now → (code ≡ 6) ⊎ (code ≡ 4) ⊎ (code ≡ 7)
+pub record ClockFaultExactly (ticker ticker' : TickerState) (code : ℕ) : Type 0 where
+  pub only : code ≡ 6 → Rose ticker.faults ticker'.faults
+  pub always : ticker.faults < ticker'.faults → (code ≡ 6) ⊎ (code ≡ 4) ⊎ (code ≡ 7)

@@ -1,63 +1,50 @@
 -- What commands write and how they end, before and after they are finished.
-use Rattle.std.specs.Prelude.{◌≡◌, ℕ, ◌⊎◌, List, Option, Result, Ok, Err}
-use Rattle.tac_io.specs.Counts.{Rose}
-use Rattle.tac_io.specs.Told.{and_then_told, TakesSome}
-use Rattle.game_log.specs.Written.{IsUntouched}
+use Rattle.std.specs.Prelude.{◌≡◌, ℕ, ◌⊎◌, List, Result, Ok, Err}
+use Rattle.tac_io.specs.States.{FilesState, SinkState}
+use Rattle.game_log.specs.Taken.{TookWhole, TookPart}
 use Rattle.script_run.specs.declared.fault.ScriptFault.{ScriptFault}
 use Rattle.script_run.specs.declared.fault.ScriptFault.TheVariants as faults
 use Rattle.tac_commands.specs.declared.refusals.Refusal.TheVariants.{Memory, TextLine, TextTooLong}
 use Rattle.tac_commands.specs.declared.ends.End.{End}
 use Rattle.tac_commands.specs.declared.ends.End.TheVariants as ends
-use Rattle.tac_commands.specs.declared.file_kinds.FileKind.TheVariants.{Log}
-use Rattle.game_text.specs.Games.{GameFile}
-use Rattle.tac_commands.specs.Allowed.{audit_steps, batch_steps, play_steps}
+use Rattle.tac_commands.specs.Allowed.{batch_steps}
 use Rattle.tac_commands.specs.Commands.{BatchCommand}
-use Rattle.tac_commands.specs.Files.{Content}
 use Rattle.tac_commands.specs.Outcomes.{Outcome, Done, Unsound, Cut, Refused}
-use Rattle.tac_commands.specs.Runs.{Names, Runs}
-use Rattle.tac_commands.specs.Steps.{Steps, Reads, file}
+use Rattle.tac_commands.specs.Runs.{Runs}
+use Rattle.tac_commands.specs.Steps.{Steps}
 use Rattle.tac_commands.specs.Telling.{Tells}
 
 -- a command that allows these outcomes ended so, and left the sink so: its text was written, or one that tells that a log is not sound, or the
 -- first bytes of either, or nothing
-abbrev pub Ends : (Outcome → Type 0) → Option (List ℕ) → Option (List ℕ) → ℕ → ℕ → End → Type 0
-Ends allows taken taken' before now ends.Done = (text : List ℕ) × allows (Done text) × (taken' ≡ and_then_told taken text) × (now ≡ before)
-Ends allows taken taken' before now ends.Unsound = (text : List ℕ) × allows (Unsound text) × (taken' ≡ and_then_told taken text) × (now ≡ before)
-Ends allows taken taken' before now ends.WriteFault = (text : List ℕ) × (allows (Done text) ⊎ allows (Unsound text)) × TakesSome taken taken' text × Rose before now
-Ends allows taken taken' before now (ends.Refused refusal) = allows (Refused refusal) × IsUntouched taken taken' before now
+abbrev pub Ends : (Outcome → Type 0) → SinkState → SinkState → End → Type 0
+Ends allows sink sink' ends.Done = (text : List ℕ) × allows (Done text) × TookWhole sink sink' text
+Ends allows sink sink' ends.Unsound = (text : List ℕ) × allows (Unsound text) × TookWhole sink sink' text
+Ends allows sink sink' ends.WriteFault = (text : List ℕ) × (allows (Done text) ⊎ allows (Unsound text)) × TookPart sink sink' text
+Ends allows sink sink' (ends.Refused refusal) = allows (Refused refusal) × (sink' ≡ sink)
 
 -- a first part of a text was written, and then there was no memory for the rest; or the first bytes of that part alone
-abbrev pub IsCut : List ℕ → Option (List ℕ) → Option (List ℕ) → ℕ → ℕ → End → Type 0
-IsCut text taken taken' before now ends.Done = ⊥
-IsCut text taken taken' before now ends.Unsound = ⊥
-IsCut text taken taken' before now ends.WriteFault = TakesSome taken taken' text × Rose before now
-IsCut text taken taken' before now (ends.Refused Memory) = (taken' ≡ and_then_told taken text) × (now ≡ before)
-IsCut text taken taken' before now (ends.Refused refusal) = ⊥
+abbrev pub IsCut : List ℕ → SinkState → SinkState → End → Type 0
+IsCut text sink sink' ends.Done = ⊥
+IsCut text sink sink' ends.Unsound = ⊥
+IsCut text sink sink' ends.WriteFault = TookPart sink sink' text
+IsCut text sink sink' (ends.Refused Memory) = TookWhole sink sink' text
+IsCut text sink sink' (ends.Refused refusal) = ⊥
 
 -- a command that allows these outcomes, of which some may be cut off, ended so, and left the sink so
-abbrev pub EndsOrIsCut : (Outcome → Type 0) → Option (List ℕ) → Option (List ℕ) → ℕ → ℕ → End → Type 0
-EndsOrIsCut allows taken taken' before now end =
-    Ends allows taken taken' before now end ⊎ ((text : List ℕ) × allows (Cut text) × IsCut text taken taken' before now end)
+abbrev pub EndsOrIsCut : (Outcome → Type 0) → SinkState → SinkState → End → Type 0
+EndsOrIsCut allows sink sink' end = Ends allows sink sink' end ⊎ ((text : List ℕ) × allows (Cut text) × IsCut text sink sink' end)
 
--- a command that needs no links ended so over its files, and left the names selected and the sink so
-abbrev pub EndsBatch : Content → BatchCommand → Names → Names → ℕ → ℕ → Option (List ℕ) → Option (List ℕ) → ℕ → ℕ → End → Type 0
-EndsBatch content command names names' before now taken taken' out_before out_now end =
-    EndsOrIsCut (Runs content (batch_steps command) names names' before now) taken taken' out_before out_now end
+-- a command that goes these steps over its files ended so, and left the files and the sink so
+abbrev pub EndsSteps : Steps → FilesState → FilesState → SinkState → SinkState → End → Type 0
+EndsSteps steps files files' sink sink' end = EndsOrIsCut (Runs steps files files') sink sink' end
 
--- a command that selects no more files ended so, whatever the files are, and whichever names were selected before
-abbrev pub EndsUnread : Steps → Option (List ℕ) → Option (List ℕ) → ℕ → ℕ → End → Type 0
-EndsUnread steps taken taken' out_before out_now end =
-    (content : Content) (names : Names) (count : ℕ) → EndsOrIsCut (Runs content steps names names count count) taken taken' out_before out_now end
+-- so does a command that needs no links
+abbrev pub EndsBatch : BatchCommand → FilesState → FilesState → SinkState → SinkState → End → Type 0
+EndsBatch command files files' sink sink' end = EndsSteps (batch_steps command) files files' sink sink' end
 
--- so does playing a game by the script of that name
-abbrev pub PlaysNamed : Content → GameFile → List ℕ → Names → Names → ℕ → ℕ → Option (List ℕ) → Option (List ℕ) → ℕ → ℕ → End → Type 0
-PlaysNamed content game name names names' before now taken taken' out_before out_now end =
-    EndsOrIsCut (Runs content (play_steps game name) names names' before now) taken taken' out_before out_now end
-
--- so does judging the log of that name by a game
-abbrev pub JudgesNamed : Content → GameFile → List ℕ → Names → Names → ℕ → ℕ → Option (List ℕ) → Option (List ℕ) → ℕ → ℕ → End → Type 0
-JudgesNamed content game name names names' before now taken taken' out_before out_now end =
-    EndsOrIsCut (Runs content (Reads (file Log name) (audit_steps game)) names names' before now) taken taken' out_before out_now end
+-- so does one that selects no more files, whatever the files are
+abbrev pub EndsUnread : Steps → SinkState → SinkState → End → Type 0
+EndsUnread steps sink sink' end = (files : FilesState) → EndsSteps steps files files sink sink' end
 
 -- how a command ends that runs a script
 abbrev pub script_end : {A : Type 0} → Result A ScriptFault → End
@@ -68,16 +55,16 @@ script_end (Err faults.Failed) = ends.WriteFault
 script_end (Err faults.Memory) = ends.Refused Memory
 
 -- the effect on the sink of writing a command's whole text
-abbrev pub WritesWhole : List ℕ → Option (List ℕ) → Option (List ℕ) → ℕ → ℕ → End → Type 0
-WritesWhole text taken taken' before now ends.Done = (taken' ≡ and_then_told taken text) × (now ≡ before)
-WritesWhole text taken taken' before now ends.Unsound = ⊥
-WritesWhole text taken taken' before now ends.WriteFault = TakesSome taken taken' text × Rose before now
-WritesWhole text taken taken' before now (ends.Refused Memory) = IsUntouched taken taken' before now
-WritesWhole text taken taken' before now (ends.Refused refusal) = ⊥
+abbrev pub WritesWhole : List ℕ → SinkState → SinkState → End → Type 0
+WritesWhole text sink sink' ends.Done = TookWhole sink sink' text
+WritesWhole text sink sink' ends.Unsound = ⊥
+WritesWhole text sink sink' ends.WriteFault = TookPart sink sink' text
+WritesWhole text sink sink' (ends.Refused Memory) = sink' ≡ sink
+WritesWhole text sink sink' (ends.Refused refusal) = ⊥
 
 -- what is left to do for a command that ended so: a refusal is written, and else nothing is
-abbrev pub Finishes : End → Option (List ℕ) → Option (List ℕ) → ℕ → ℕ → ℕ → Type 0
-Finishes ends.Done taken taken' before now code = (code ≡ 0) × IsUntouched taken taken' before now
-Finishes ends.Unsound taken taken' before now code = (code ≡ 9) × IsUntouched taken taken' before now
-Finishes ends.WriteFault taken taken' before now code = (code ≡ 4) × IsUntouched taken taken' before now
-Finishes (ends.Refused refusal) taken taken' before now code = Tells (Refused refusal) taken taken' before now code
+abbrev pub Finishes : End → SinkState → SinkState → ℕ → Type 0
+Finishes ends.Done sink sink' code = (code ≡ 0) × (sink' ≡ sink)
+Finishes ends.Unsound sink sink' code = (code ≡ 9) × (sink' ≡ sink)
+Finishes ends.WriteFault sink sink' code = (code ≡ 4) × (sink' ≡ sink)
+Finishes (ends.Refused refusal) sink sink' code = Tells (Refused refusal) sink sink' code

@@ -14,8 +14,6 @@ use Rattle.script_run.specs.declared.game_lines.GameLine.{GameLine as ScriptLine
 use Rattle.script_run.specs.ScriptLines.{BadLine}
 use Rattle.script_run.specs.HotelScripts.{script_of}
 use Rattle.script_run.specs.GameScripts.{game_script}
-use Rattle.tac_commands.specs.declared.code.Code.{Code}
-use Rattle.tac_commands.specs.declared.code.Code.TheVariants.{GameRefused, TextRefused}
 use Rattle.tac_commands.specs.declared.refusals.Refusal.{Refusal}
 use Rattle.tac_commands.specs.declared.refusals.Refusal.TheVariants.{GameLine, GameTooLong, TextLine, TextTooLong}
 use Rattle.tac_commands.specs.declared.file_kinds.FileKind.{FileKind}
@@ -24,10 +22,7 @@ use Rattle.tac_commands.specs.declared.file_kinds.FileKind.TheVariants.{Game, Ho
 -- the most bytes of such a file
 abbrev pub most_bytes : FileKind → ℕ
 most_bytes Game = GAME_BYTES
-most_bytes HotelScript = TEXT_BYTES
-most_bytes GameScript = TEXT_BYTES
-most_bytes Account = TEXT_BYTES
-most_bytes Log = TEXT_BYTES
+most_bytes kind = TEXT_BYTES
 
 -- what such a file holds: a game, the lines of a script, the last line first, an account, or the log of a game
 abbrev pub Value : FileKind → Type 0
@@ -77,15 +72,9 @@ text_refusal TooLong = TextTooLong
 -- what is written where a file of this kind has it
 abbrev pub refusal_of : FileKind → GameFault → Refusal
 refusal_of Game fault = game_refusal fault
-refusal_of HotelScript fault = text_refusal fault
-refusal_of GameScript fault = text_refusal fault
-refusal_of Account fault = text_refusal fault
-refusal_of Log fault = text_refusal fault
+refusal_of kind fault = text_refusal fault
 
 -- the code of that
-abbrev pub refused_code : FileKind → Code
-refused_code Game = GameRefused
-refused_code HotelScript = TextRefused
-refused_code GameScript = TextRefused
-refused_code Account = TextRefused
-refused_code Log = TextRefused
+abbrev pub refused_code : FileKind → ℕ
+refused_code Game = 2
+refused_code kind = 8

@@ -1,8 +1,8 @@
--- Reading a file of a command. The count of faults of the files goes from `before` to `now`: a read fault comes exactly where it rose.
--- Memory may be refused at any time.
+-- Reading a file of a command. A read fault comes exactly where the count of faults of the files rose. Memory may be refused at any time.
 use Rattle.std.specs.Prelude.{◌≡◌, ℕ, ◌⊎◌, List, Option, Ok, Err}
 use Rattle.tac_io.specs.Counts.{Rose}
 use Rattle.tac_io.specs.Reading.{IsFile}
+use Rattle.tac_io.specs.States.{FilesState}
 use Rattle.game_text.specs.declared.fault.GameFault.{GameFault}
 use Rattle.tac_commands.specs.declared.file_kinds.FileKind.{FileKind}
 use Rattle.tac_commands.specs.declared.refusals.Refusal.{Refusal}
@@ -22,8 +22,8 @@ abbrev pub HasFault : Content → FileKind → List ℕ → GameFault → Type 0
 HasFault content kind name fault = (bytes : List ℕ) × IsFile content name bytes × (read_as kind bytes ≡ Err fault)
 
 -- what is written in place of the value of that file: a read failed, memory was refused, or the file is refused
-abbrev pub IsNotRead : Content → FileKind → List ℕ → ℕ → ℕ → Refusal → Type 0
-IsNotRead content kind name before now refusal =
-    ((refusal ≡ ReadFault) × Rose before now)
-    ⊎ ((refusal ≡ Memory) × (now ≡ before))
-    ⊎ ((fault : GameFault) × (refusal ≡ refusal_of kind fault) × HasFault content kind name fault × (now ≡ before))
+abbrev pub IsNotRead : FilesState → FilesState → FileKind → List ℕ → Refusal → Type 0
+IsNotRead files files' kind name refusal =
+    ((refusal ≡ ReadFault) × Rose files.faults files'.faults)
+    ⊎ ((refusal ≡ Memory) × (files'.faults ≡ files.faults))
+    ⊎ ((fault : GameFault) × (refusal ≡ refusal_of kind fault) × HasFault files.content kind name fault × (files'.faults ≡ files.faults))

@@ -2,11 +2,13 @@ pub mod NumberedLines
 pub mod FlawTexts
 pub mod Codes
 pub mod FileKinds
+pub mod Services
 pub mod Commands
 pub mod Words
 pub mod Outcomes
 pub mod Steps
 pub mod Files
+pub mod Outsides
 pub mod Runs
 pub mod Cash
 pub mod Trials

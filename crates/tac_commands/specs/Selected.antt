@@ -1,19 +1,19 @@
 -- Which files a command selects, by its code.
 use Rattle.std.specs.Prelude.{◌≡◌, ◌≢◌, ℕ, ◌⊎◌, [], ◌∷◌, Option, Some, None}
+use Rattle.tac_io.specs.States.{FilesState}
 use Rattle.tac_io.specs.Told.{and_then_told}
 use Rattle.log_reader.specs.SoundLog.{IsSound}
 use Rattle.tac_commands.specs.declared.file_kinds.FileKind.{FileKind}
 use Rattle.tac_commands.specs.Allowed.{steps_of}
-use Rattle.tac_commands.specs.Codes.{number_of}
 use Rattle.tac_commands.specs.Commands.{Command}
 use Rattle.tac_commands.specs.FileKinds.{Value, refused_code}
-use Rattle.tac_commands.specs.Files.{Content, IsRead}
-use Rattle.tac_commands.specs.Runs.{Names}
+use Rattle.tac_commands.specs.Files.{IsRead}
+use Rattle.tac_commands.specs.Runs.{with_name}
 use Rattle.tac_commands.specs.Steps.{Steps, Reads, Audits, EndsWith}
 
 -- the codes with which a run may end at a file of a kind
 abbrev pub EndsAt : FileKind → ℕ → Type 0
-EndsAt kind code = (code ≡ 3) ⊎ (code ≡ 4) ⊎ (code ≡ 7) ⊎ (code ≡ number_of (refused_code kind))
+EndsAt kind code = (code ≡ 3) ⊎ (code ≡ 4) ⊎ (code ≡ 7) ⊎ (code ≡ refused_code kind)
 
 -- the codes with which a run may end at an audit; what the log has to be for 9 is said with the causes
 abbrev pub EndsAtAudit : ℕ → Type 0
@@ -22,16 +22,16 @@ EndsAtAudit code = (code ≡ 4) ⊎ (code ≡ 7) ⊎ (code ≡ 9)
 -- The files are selected in order, once each, up to the one, or to the audit, at which the run ended; a later file is selected only where those
 -- before it are there, within their limits, and good, and the logs that are audited before it are sound. At the last step the code is none of
 -- a file or of an audit.
-abbrev pub SelectsFiles : Content → Steps → Names → Names → ℕ → Type 0
-SelectsFiles content (Reads file next) names names' code =
-    ((names' ≡ and_then_told names (file.name ∷ [])) × EndsAt file.kind code)
-    ⊎ ((value : Value file.kind) × IsRead content file.kind file.name value × SelectsFiles content (next value) (and_then_told names (file.name ∷ [])) names' code)
-SelectsFiles content (Audits game log IsDue next) names names' code =
-    ((names' ≡ names) × EndsAtAudit code)
-    ⊎ (IsSound game log × SelectsFiles content next names names' code)
-SelectsFiles content (EndsWith allows) names names' code = (names' ≡ names) × (code ≢ 2) × (code ≢ 3) × (code ≢ 8) × (code ≢ 9)
+abbrev pub SelectsFiles : Steps → FilesState → FilesState → ℕ → Type 0
+SelectsFiles (Reads file next) files files' code =
+    ((files'.names ≡ and_then_told files.names (file.name ∷ [])) × EndsAt file.kind code)
+    ⊎ ((value : Value file.kind) × IsRead files.content file.kind file.name value × SelectsFiles (next value) (with_name files file.name) files' code)
+SelectsFiles (Audits game log IsDue next) files files' code =
+    ((files'.names ≡ files.names) × EndsAtAudit code)
+    ⊎ (IsSound game log × SelectsFiles next files files' code)
+SelectsFiles (EndsWith allows) files files' code = (files'.names ≡ files.names) × (code ≢ 2) × (code ≢ 3) × (code ≢ 8) × (code ≢ 9)
 
 -- so it is with the files of the command; without a command none is selected
-abbrev pub Selects : Content → Option Command → Names → Names → ℕ → Type 0
-Selects content None names names' code = names' ≡ names
-Selects content (Some command) names names' code = SelectsFiles content (steps_of command) names names' code
+abbrev pub Selects : Option Command → FilesState → FilesState → ℕ → Type 0
+Selects None files files' code = files'.names ≡ files.names
+Selects (Some command) files files' code = SelectsFiles (steps_of command) files files' code

@@ -1,5 +1,6 @@
 -- What the calls that make a table say of the pairs that they read.
 use Rattle.std.specs.Prelude.{◌≡◌, ℕ, List, [], ◌∷◌, ◌++◌, length}
+use Rattle.tac_io.specs.States.{FilesState}
 use Rattle.game_text.specs.Games.{GameFile}
 use Rattle.log_text.specs.LoggedGames.{LoggedGame}
 use Rattle.log_reader.specs.SoundLog.{IsSound}
@@ -11,7 +12,7 @@ use Rattle.tac_commands.specs.Allowed.{table_steps}
 use Rattle.tac_commands.specs.Files.{Content, IsRead}
 use Rattle.tac_commands.specs.FlawTexts.{unsound_text}
 use Rattle.tac_commands.specs.Outcomes.{Outcome, Unsound, Refused}
-use Rattle.tac_commands.specs.Runs.{Names, Runs}
+use Rattle.tac_commands.specs.Runs.{Runs}
 
 -- the outcome of a table that is not written
 abbrev pub outcome_of : TableFault → Outcome
@@ -32,15 +33,15 @@ pub record IsAdded (content : Content) (game_name log_name : List ℕ) (standing
   pub added : HasAdded standings after game log
 
 -- a table ends so at this pair, whichever games were played before and whatever comes after it
-abbrev pub EndsAtPair : Content → ℕ → List ℕ → List ℕ → Names → Names → ℕ → ℕ → TableFault → Type 0
-EndsAtPair content pair game_name log_name names names' before now fault =
+abbrev pub EndsAtPair : FilesState → FilesState → ℕ → List ℕ → List ℕ → TableFault → Type 0
+EndsAtPair files files' pair game_name log_name fault =
     (played : List (GameFile × LoggedGame)) (later : List (List ℕ × List ℕ)) → length played ≡ pair →
-    Runs content (table_steps played ((game_name, log_name) ∷ later)) names names' before now (outcome_of fault)
+    Runs (table_steps played ((game_name, log_name) ∷ later)) files files' (outcome_of fault)
 
 -- The standings are those of so many games of the first pairs, and a table goes on from here: what comes of the pairs that are left is what
 -- comes of all.
-pub record GoesOn (content : Content) (all left : List (List ℕ × List ℕ)) (count : ℕ) (names names' : Names) (before now : ℕ) (standings : Kept) : Type 0 where
+pub record GoesOn (all left : List (List ℕ × List ℕ)) (count : ℕ) (files files' : FilesState) (standings : Kept) : Type 0 where
   pub played : List (GameFile × LoggedGame)
   pub count_is : length played ≡ count
   pub stands : StandsFor standings played
-  pub goes_on : (names'' : Names) (after : ℕ) (outcome : Outcome) → Runs content (table_steps played left) names' names'' now after outcome → Runs content (table_steps [] all) names names'' before after outcome
+  pub goes_on : (last : FilesState) (outcome : Outcome) → Runs (table_steps played left) files' last outcome → Runs (table_steps [] all) files last outcome

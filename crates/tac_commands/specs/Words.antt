@@ -3,8 +3,6 @@ use Rattle.std.specs.Prelude.{◌≤◌, ⊤, length, string_len, All}
 use Rattle.tac_base.specs.declared.limits.TheConstants.{FILE_NAMES, MADE_REQUESTS, NAME_BYTES}
 use Rattle.tac_commands.specs.declared.words.BatchCommand.{BatchCommand as BatchAsked}
 use Rattle.tac_commands.specs.declared.words.BatchCommand.TheVariants as batch
-use Rattle.tac_commands.specs.declared.words.Asked.{Asked}
-use Rattle.tac_commands.specs.declared.words.Asked.TheVariants as asked
 
 -- each name has at most 1024 bytes, a script that is made has at most so many requests, and a table at most so many names
 abbrev pub IsShortBatch : BatchAsked → Type 0
@@ -18,8 +16,3 @@ IsShortBatch (batch.Play game script) = (length game.now ≤ NAME_BYTES) × (len
 IsShortBatch (batch.Trial seed count) = count ≤ MADE_REQUESTS
 IsShortBatch (batch.Audit game log) = (length game.now ≤ NAME_BYTES) × (length log.now ≤ NAME_BYTES)
 IsShortBatch (batch.Table names) = All (λ name. string_len name ≤ NAME_BYTES) names.now × (length names.now ≤ FILE_NAMES)
-
--- so it is in the commands that words ask for
-abbrev pub HasShortNames : Asked → Type 0
-HasShortNames (asked.Batch command) = IsShortBatch command
-HasShortNames (asked.Serve game port pace form) = length game.now ≤ NAME_BYTES

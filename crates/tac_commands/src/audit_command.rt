@@ -3,12 +3,14 @@ ghost use Rattle.std.specs.Prelude.{◌≡◌, ◌<◌, ◌≤◌, [], ◌∷◌
 ghost use Rattle.tac_base.specs.declared.limits.TheConstants.{FILE_NAMES, NAME_BYTES};
 ghost use Rattle.tac_commands.specs.Allowed.{audit_steps};
 ghost use Rattle.tac_commands.specs.Commands as commands;
-ghost use Rattle.tac_commands.specs.Ends.{EndsBatch, EndsUnread, JudgesNamed};
+ghost use Rattle.tac_commands.specs.declared.file_kinds.FileKind.TheVariants.{Log as LogKind};
+ghost use Rattle.tac_commands.specs.Ends.{EndsBatch, EndsSteps, EndsUnread};
+ghost use Rattle.tac_commands.specs.Steps.{Reads, file};
 ghost use Rattle.tac_commands.specs.FlawTexts as texts;
 
 use crate::ends::End;
 use crate::numbered_lines::{counted, numbered, plain};
-use crate::reading::{read_game_file, read_log_file};
+use crate::reading::read_value;
 use crate::refusals::Refusal;
 use game_text::Game;
 use log_audit::{Finding, Flaw, audit_log};
@@ -38,7 +40,7 @@ fn flaw_text(flaw: Flaw) -> Text
 
 /// Judges a log by its game, and writes what was found.
 fn judge<K: Sink>(alloc: Global, game: &Game, log: &Log, out: &mut K) -> End
-    ensures { EndsUnread (audit_steps game.now log.now) (K.taken out.old) (K.taken out.new) (K.faults out.old) (K.faults out.new) result }
+    ensures { EndsUnread (audit_steps game.now log.now) (K.state out.old) (K.state out.new) result }
 {
     let Ok(finding) = audit_log(alloc, game, log) else {
         return End::Refused(Refusal::Memory);
@@ -63,11 +65,10 @@ fn audit_by_file<F: Files, K: Sink>(
     files: &mut F,
     out: &mut K,
 ) -> End
-    requires { IfSome (F.names files.old) (λ names. (length names < FILE_NAMES) × (length name.now ≤ NAME_BYTES)) }
-    ensures { JudgesNamed (F.content files.old) game.now name.now (F.names files.old) (F.names files.new) (F.faults files.old) (F.faults files.new)
-        (K.taken out.old) (K.taken out.new) (K.faults out.old) (K.faults out.new) result }
+    requires { IfSome (F.state files.old).names (λ names. (length names < FILE_NAMES) × (length name.now ≤ NAME_BYTES)) }
+    ensures { EndsSteps (Reads (file LogKind name.now) (audit_steps game.now)) (F.state files.old) (F.state files.new) (K.state out.old) (K.state out.new) result }
 {
-    match read_log_file(alloc, files, name) {
+    match read_value::<Log, F>(alloc, files, name) {
         Ok(log) => judge(alloc, game, &log, out),
         Err(refusal) => End::Refused(refusal),
     }
@@ -81,11 +82,10 @@ pub(crate) fn audit_files<F: Files, K: Sink>(
     files: &mut F,
     out: &mut K,
 ) -> End
-    requires { IfSome (F.names files.old) (λ names. (names ≡ []) × (length game.now ≤ NAME_BYTES) × (length log.now ≤ NAME_BYTES)) }
-    ensures { EndsBatch (F.content files.old) (commands.Audit game.now log.now) (F.names files.old) (F.names files.new) (F.faults files.old) (F.faults files.new)
-        (K.taken out.old) (K.taken out.new) (K.faults out.old) (K.faults out.new) result }
+    requires { IfSome (F.state files.old).names (λ names. (names ≡ []) × (length game.now ≤ NAME_BYTES) × (length log.now ≤ NAME_BYTES)) }
+    ensures { EndsBatch (commands.Audit game.now log.now) (F.state files.old) (F.state files.new) (K.state out.old) (K.state out.new) result }
 {
-    match read_game_file(alloc, files, game) {
+    match read_value::<Game, F>(alloc, files, game) {
         Ok(game) => audit_by_file(alloc, &game, log, files, out),
         Err(refusal) => End::Refused(refusal),
     }

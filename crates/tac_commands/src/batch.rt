@@ -12,7 +12,7 @@ ghost use Rattle.tac_commands.specs.Words.{IsShortBatch};
 
 use crate::audit_command::audit_files;
 use crate::ends::End;
-use crate::reading::{read_account_file, read_game_file};
+use crate::reading::read_value;
 use crate::refusals::Refusal;
 use crate::script_commands::{hotel_by_file, play_files};
 use crate::table_command::table_files;
@@ -28,7 +28,7 @@ use tac_io::{Files, Sink, write_all};
 
 /// Writes the canonical text of a game.
 fn write_game<K: Sink>(alloc: Global, game: &Game, out: &mut K) -> End
-    ensures { Ends (Writes (λ text. text ≡ spelling game.now)) (K.taken out.old) (K.taken out.new) (K.faults out.old) (K.faults out.new) result }
+    ensures { Ends (Writes (λ text. text ≡ spelling game.now)) (K.state out.old) (K.state out.new) result }
 {
     let Ok(text) = print_game(alloc, game) else {
         return End::Refused(Refusal::Memory);
@@ -41,21 +41,21 @@ fn write_game<K: Sink>(alloc: Global, game: &Game, out: &mut K) -> End
 
 /// Writes the canonical text of the same game in version 2.
 fn write_upgraded<K: Sink>(alloc: Global, game: Game, out: &mut K) -> End
-    ensures { Ends (Writes (λ text. text ≡ spelling (upgraded game))) (K.taken out.old) (K.taken out.new) (K.faults out.old) (K.faults out.new) result }
+    ensures { Ends (Writes (λ text. text ≡ spelling (upgraded game))) (K.state out.old) (K.state out.new) result }
 {
     write_game(alloc, &game.upgraded(), out)
 }
 
 /// Writes the canonical text of the game that is made of a seed.
 fn make<K: Sink>(alloc: Global, seed: u64, out: &mut K) -> End
-    ensures { Ends (Writes (λ text. text ≡ spelling (made_game seed))) (K.taken out.old) (K.taken out.new) (K.faults out.old) (K.faults out.new) result }
+    ensures { Ends (Writes (λ text. text ≡ spelling (made_game seed))) (K.state out.old) (K.state out.new) result }
 {
     write_game(alloc, &make_game(seed), out)
 }
 
 /// Writes a best allocation of an account, with its certificate.
 fn write_solved<K: Sink>(alloc: Global, account: &Account, out: &mut K) -> End
-    ensures { Ends (Writes (IsSolvedText account.now)) (K.taken out.old) (K.taken out.new) (K.faults out.old) (K.faults out.new) result }
+    ensures { Ends (Writes (IsSolvedText account.now)) (K.state out.old) (K.state out.new) result }
 {
     let Ok(solved) = solve(alloc, account) else {
         return End::Refused(Refusal::Memory);
@@ -71,11 +71,10 @@ fn write_solved<K: Sink>(alloc: Global, account: &Account, out: &mut K) -> End
 
 /// Shows the game of the file of that name in its canonical text.
 fn show<F: Files, K: Sink>(alloc: Global, name: &str, files: &mut F, out: &mut K) -> End
-    requires { IfSome (F.names files.old) (λ names. (length names < FILE_NAMES) × (length name.now ≤ NAME_BYTES)) }
-    ensures { EndsBatch (F.content files.old) (commands.Show name.now) (F.names files.old) (F.names files.new) (F.faults files.old) (F.faults files.new)
-        (K.taken out.old) (K.taken out.new) (K.faults out.old) (K.faults out.new) result }
+    requires { IfSome (F.state files.old).names (λ names. (length names < FILE_NAMES) × (length name.now ≤ NAME_BYTES)) }
+    ensures { EndsBatch (commands.Show name.now) (F.state files.old) (F.state files.new) (K.state out.old) (K.state out.new) result }
 {
-    match read_game_file(alloc, files, name) {
+    match read_value::<Game, F>(alloc, files, name) {
         Ok(game) => write_game(alloc, &game, out),
         Err(refusal) => End::Refused(refusal),
     }
@@ -83,11 +82,10 @@ fn show<F: Files, K: Sink>(alloc: Global, name: &str, files: &mut F, out: &mut K
 
 /// Shows the game of the file of that name in the canonical text of its version 2.
 fn upgrade<F: Files, K: Sink>(alloc: Global, name: &str, files: &mut F, out: &mut K) -> End
-    requires { IfSome (F.names files.old) (λ names. (length names < FILE_NAMES) × (length name.now ≤ NAME_BYTES)) }
-    ensures { EndsBatch (F.content files.old) (commands.Upgrade name.now) (F.names files.old) (F.names files.new) (F.faults files.old) (F.faults files.new)
-        (K.taken out.old) (K.taken out.new) (K.faults out.old) (K.faults out.new) result }
+    requires { IfSome (F.state files.old).names (λ names. (length names < FILE_NAMES) × (length name.now ≤ NAME_BYTES)) }
+    ensures { EndsBatch (commands.Upgrade name.now) (F.state files.old) (F.state files.new) (K.state out.old) (K.state out.new) result }
 {
-    match read_game_file(alloc, files, name) {
+    match read_value::<Game, F>(alloc, files, name) {
         Ok(game) => write_upgraded(alloc, game, out),
         Err(refusal) => End::Refused(refusal),
     }
@@ -95,11 +93,10 @@ fn upgrade<F: Files, K: Sink>(alloc: Global, name: &str, files: &mut F, out: &mu
 
 /// Solves the account of the file of that name.
 fn solve_file<F: Files, K: Sink>(alloc: Global, name: &str, files: &mut F, out: &mut K) -> End
-    requires { IfSome (F.names files.old) (λ names. (length names < FILE_NAMES) × (length name.now ≤ NAME_BYTES)) }
-    ensures { EndsBatch (F.content files.old) (commands.Solve name.now) (F.names files.old) (F.names files.new) (F.faults files.old) (F.faults files.new)
-        (K.taken out.old) (K.taken out.new) (K.faults out.old) (K.faults out.new) result }
+    requires { IfSome (F.state files.old).names (λ names. (length names < FILE_NAMES) × (length name.now ≤ NAME_BYTES)) }
+    ensures { EndsBatch (commands.Solve name.now) (F.state files.old) (F.state files.new) (K.state out.old) (K.state out.new) result }
 {
-    match read_account_file(alloc, files, name) {
+    match read_value::<Account, F>(alloc, files, name) {
         Ok(account) => write_solved(alloc, &account, out),
         Err(refusal) => End::Refused(refusal),
     }
@@ -107,17 +104,16 @@ fn solve_file<F: Files, K: Sink>(alloc: Global, name: &str, files: &mut F, out: 
 
 /// Runs a command that needs no links. It selects its files in order, up to one that is not read or to a log that is not sound; no name was selected before,
 /// each name has at most 1024 bytes, and the counts of a trial and of a table are within their limits. A refusal is left for `finish` to write.
-pub fn run_batch<R: Threads + Sync, F: Files, K: Sink>(
+pub(crate) fn run_batch<R: Threads + Sync, F: Files, K: Sink>(
     rt: &R,
     alloc: Global,
     command: BatchCommand<'_>,
     files: &mut F,
     out: &mut K,
 ) -> End
-    requires names { IfSome (F.names files.old) (λ names. names ≡ []) }
+    requires names { IfSome (F.state files.old).names (λ names. names ≡ []) }
     requires short { IsShortBatch command }
-    ensures { EndsBatch (F.content files.old) (seen_batch command.entry) (F.names files.old) (F.names files.new) (F.faults files.old) (F.faults files.new)
-        (K.taken out.old) (K.taken out.new) (K.faults out.old) (K.faults out.new) result }
+    ensures { EndsBatch (seen_batch command.entry) (F.state files.old) (F.state files.new) (K.state out.old) (K.state out.new) result }
 {
     match command {
         BatchCommand::Hotel { script } => hotel_by_file(alloc, script, files, out),

@@ -22,7 +22,7 @@ pub enum End {
 
 /// Prints the refusal, if a command ended so, and gives the code. After a write that failed nothing is written.
 pub fn finish<K: Sink>(out: &mut K, end: End) -> Code
-    ensures { Finishes end (K.taken out.old) (K.taken out.new) (K.faults out.old) (K.faults out.new) (number_of result) }
+    ensures { Finishes end (K.state out.old) (K.state out.new) (number_of result) }
 {
     match end {
         End::Done => Code::Success,

@@ -1,11 +1,12 @@
 // The files that commands read.
-ghost use Rattle.std.specs.Prelude.{◌≡◌, ◌<◌, ◌≤◌, [], ◌∷◌, length, IfOk, IfErr, IfSome, OnOk};
+ghost use Rattle.std.specs.Prelude.{◌≡◌, ◌<◌, ◌≤◌, ◌⊎◌, [], ◌∷◌, length, Ok, Err, IfOk, IfErr, IfSome, OnOk};
 ghost use Rattle.tac_base.specs.declared.limits.TheConstants.{FILE_NAMES, NAME_BYTES};
 ghost use Rattle.tac_io.specs.Reading.{IsFile};
 ghost use Rattle.tac_io.specs.Told.{and_then_told};
-ghost use Rattle.tac_commands.specs.FileKinds.{most_bytes};
+ghost use Rattle.game_text.specs.declared.fault.GameFault.{GameFault};
+ghost use Rattle.tac_commands.specs.declared.refusals.Refusal.TheVariants.{Memory};
+ghost use Rattle.tac_commands.specs.FileKinds.{most_bytes, read_as, refusal_of};
 ghost use Rattle.tac_commands.specs.Files.{IsNotRead, IsRead};
-ghost use Rattle.tac_commands.specs.declared.file_kinds.FileKind.TheVariants.{Account as AccountKind, Game as GameKind, Log as LogKind};
 
 use crate::file_kinds::FileKind;
 use crate::refusals::Refusal;
@@ -21,13 +22,13 @@ pub(crate) fn read_bytes<F: Files>(
     name: &str,
     kind: FileKind,
 ) -> Result<Vec<u8>, Refusal>
-    requires { IfSome (F.names files.old) (λ names. (length names < FILE_NAMES) × (length name.now ≤ NAME_BYTES)) }
-    ensures whole { IfOk result (λ bytes. IsFile (F.content files.old) name.now bytes.items) }
+    requires { IfSome (F.state files.old).names (λ names. (length names < FILE_NAMES) × (length name.now ≤ NAME_BYTES)) }
+    ensures whole { IfOk result (λ bytes. IsFile (F.state files.old).content name.now bytes.items) }
     ensures within { IfOk result (λ bytes. length bytes.items ≤ most_bytes kind) }
-    ensures quiet { OnOk result (F.faults files.new ≡ F.faults files.old) }
-    ensures unread { IfErr result (IsNotRead (F.content files.old) kind name.now (F.faults files.old) (F.faults files.new)) }
-    ensures names { F.names files.new ≡ and_then_told (F.names files.old) (name.now ∷ []) }
-    ensures content { F.content files.new ≡ F.content files.old }
+    ensures quiet { OnOk result ((F.state files.new).faults ≡ (F.state files.old).faults) }
+    ensures unread { IfErr result (IsNotRead (F.state files.old) (F.state files.new) kind name.now) }
+    ensures names { (F.state files.new).names ≡ and_then_told (F.state files.old).names (name.now ∷ []) }
+    ensures content { (F.state files.new).content ≡ (F.state files.old).content }
 {
     match read_file(alloc, files, name, kind.most_bytes()) {
         Ok(bytes) => Ok(bytes),
@@ -37,71 +38,103 @@ pub(crate) fn read_bytes<F: Files>(
     }
 }
 
-/// The game of the file of that name, or what is written in its place. The file is selected once. Fewer than 128 names were selected before,
+/// What a file that is read whole holds.
+pub trait FileValue: Sized + Drop {
+    ghost use Rattle.tac_commands.specs.declared.file_kinds.FileKind.{FileKind};
+    ghost use Rattle.tac_commands.specs.FileKinds.{Value};
+
+    // the kind of such a file
+    ghost kind: { FileKind };
+
+    // the value, as the definition of reading gives it
+    ghost seen: { Self → Value kind };
+
+    /// The kind of such a file.
+    fn kind() -> FileKind
+        ensures { result ≡ kind };
+
+    /// The value that the bytes of such a file hold, or what is written in its place.
+    fn read(alloc: Global, bytes: &[u8]) -> Result<Self, Refusal>
+        ensures value { IfOk result (λ value. read_as kind bytes.now ≡ Ok (seen value)) }
+        ensures refused { IfErr result (λ refusal. (refusal ≡ Memory) ⊎ ((fault : GameFault) × (refusal ≡ refusal_of kind fault) × (read_as kind bytes.now ≡ Err fault))) };
+}
+
+impl FileValue for Game {
+    ghost use Rattle.tac_commands.specs.declared.file_kinds.FileKind.TheVariants.{Game as GameKind};
+
+    ghost kind = { GameKind };
+
+    ghost seen = { λ game. game };
+
+    fn kind() -> FileKind {
+        FileKind::Game
+    }
+
+    fn read(_alloc: Global, bytes: &[u8]) -> Result<Game, Refusal> {
+        match read_game(bytes) {
+            Ok(game) => Ok(game),
+            Err(fault) => Err(FileKind::Game.refusal(fault)),
+        }
+    }
+}
+
+impl FileValue for Account {
+    ghost use Rattle.tac_commands.specs.declared.file_kinds.FileKind.TheVariants.{Account as AccountKind};
+
+    ghost kind = { AccountKind };
+
+    ghost seen = { λ account. account };
+
+    fn kind() -> FileKind {
+        FileKind::Account
+    }
+
+    fn read(_alloc: Global, bytes: &[u8]) -> Result<Account, Refusal> {
+        match read_account(bytes) {
+            Ok(account) => Ok(account),
+            Err(fault) => Err(FileKind::Account.refusal(fault)),
+        }
+    }
+}
+
+impl FileValue for Log {
+    ghost use Rattle.tac_commands.specs.declared.file_kinds.FileKind.TheVariants.{Log as LogKind};
+
+    ghost kind = { LogKind };
+
+    ghost seen = { λ log. log };
+
+    fn kind() -> FileKind {
+        FileKind::Log
+    }
+
+    fn read(alloc: Global, bytes: &[u8]) -> Result<Log, Refusal> {
+        match read_log(alloc, bytes) {
+            Ok(log) => Ok(log),
+            // A log has one reason for a bad line.
+            Err(LogFault::Line { line }) => Err(Refusal::TextLine { line, reason: 1 }),
+            Err(LogFault::TooLong) => Err(Refusal::TextTooLong),
+            Err(LogFault::Memory) => Err(Refusal::Memory),
+        }
+    }
+}
+
+/// The value of the file of that name, or what is written in its place. The file is selected once. Fewer than 128 names were selected before,
 /// and the name has at most 1024 bytes.
-pub fn read_game_file<F: Files>(alloc: Global, files: &mut F, name: &str) -> Result<Game, Refusal>
-    requires { IfSome (F.names files.old) (λ names. (length names < FILE_NAMES) × (length name.now ≤ NAME_BYTES)) }
-    ensures game { IfOk result (λ game. IsRead (F.content files.old) GameKind name.now game) }
-    ensures quiet { OnOk result (F.faults files.new ≡ F.faults files.old) }
-    ensures unread { IfErr result (IsNotRead (F.content files.old) GameKind name.now (F.faults files.old) (F.faults files.new)) }
-    ensures names { F.names files.new ≡ and_then_told (F.names files.old) (name.now ∷ []) }
-    ensures content { F.content files.new ≡ F.content files.old }
-{
-    let bytes = match read_bytes(alloc, files, name, FileKind::Game) {
-        Ok(bytes) => bytes,
-        Err(refusal) => return Err(refusal),
-    };
-    match read_game(bytes.as_slice()) {
-        Ok(game) => Ok(game),
-        Err(fault) => Err(FileKind::Game.refusal(fault)),
-    }
-}
-
-/// The account of the file of that name, or what is written in its place.
-pub(crate) fn read_account_file<F: Files>(
+pub fn read_value<T: FileValue, F: Files>(
     alloc: Global,
     files: &mut F,
     name: &str,
-) -> Result<Account, Refusal>
-    requires { IfSome (F.names files.old) (λ names. (length names < FILE_NAMES) × (length name.now ≤ NAME_BYTES)) }
-    ensures account { IfOk result (λ account. IsRead (F.content files.old) AccountKind name.now account) }
-    ensures quiet { OnOk result (F.faults files.new ≡ F.faults files.old) }
-    ensures unread { IfErr result (IsNotRead (F.content files.old) AccountKind name.now (F.faults files.old) (F.faults files.new)) }
-    ensures names { F.names files.new ≡ and_then_told (F.names files.old) (name.now ∷ []) }
-    ensures content { F.content files.new ≡ F.content files.old }
+) -> Result<T, Refusal>
+    requires { IfSome (F.state files.old).names (λ names. (length names < FILE_NAMES) × (length name.now ≤ NAME_BYTES)) }
+    ensures value { IfOk result (λ value. IsRead (F.state files.old).content T.kind name.now (T.seen value)) }
+    ensures quiet { OnOk result ((F.state files.new).faults ≡ (F.state files.old).faults) }
+    ensures unread { IfErr result (IsNotRead (F.state files.old) (F.state files.new) T.kind name.now) }
+    ensures names { (F.state files.new).names ≡ and_then_told (F.state files.old).names (name.now ∷ []) }
+    ensures content { (F.state files.new).content ≡ (F.state files.old).content }
 {
-    let bytes = match read_bytes(alloc, files, name, FileKind::Account) {
-        Ok(bytes) => bytes,
-        Err(refusal) => return Err(refusal),
-    };
-    match read_account(bytes.as_slice()) {
-        Ok(account) => Ok(account),
-        Err(fault) => Err(FileKind::Account.refusal(fault)),
-    }
-}
-
-/// The log of the file of that name, or what is written in its place.
-pub(crate) fn read_log_file<F: Files>(
-    alloc: Global,
-    files: &mut F,
-    name: &str,
-) -> Result<Log, Refusal>
-    requires { IfSome (F.names files.old) (λ names. (length names < FILE_NAMES) × (length name.now ≤ NAME_BYTES)) }
-    ensures log { IfOk result (λ log. IsRead (F.content files.old) LogKind name.now log) }
-    ensures quiet { OnOk result (F.faults files.new ≡ F.faults files.old) }
-    ensures unread { IfErr result (IsNotRead (F.content files.old) LogKind name.now (F.faults files.old) (F.faults files.new)) }
-    ensures names { F.names files.new ≡ and_then_told (F.names files.old) (name.now ∷ []) }
-    ensures content { F.content files.new ≡ F.content files.old }
-{
-    let bytes = match read_bytes(alloc, files, name, FileKind::Log) {
-        Ok(bytes) => bytes,
-        Err(refusal) => return Err(refusal),
-    };
-    match read_log(alloc, bytes.as_slice()) {
-        Ok(log) => Ok(log),
-        // A log has one reason for a bad line.
-        Err(LogFault::Line { line }) => Err(Refusal::TextLine { line, reason: 1 }),
-        Err(LogFault::TooLong) => Err(Refusal::TextTooLong),
-        Err(LogFault::Memory) => Err(Refusal::Memory),
+    match read_bytes(alloc, files, name, T::kind()) {
+        Ok(bytes) => T::read(alloc, bytes.as_slice()),
+        Err(refusal) => Err(refusal),
     }
 }

@@ -31,7 +31,7 @@ pub enum Refusal {
 impl Refusal {
     /// The code that goes with it.
     pub(crate) fn code(&self) -> Code
-        ensures value { result ≡ outcomes.refusal_code self.now }
+        ensures value { number_of result ≡ (outcomes.refusal_end self.now).0 }
         ensures no_write_fault { number_of result ≢ 4 }
     {
         match self {
@@ -46,7 +46,7 @@ impl Refusal {
 
     /// The line that is written.
     pub(crate) fn text(&self) -> Text
-        ensures { result ≡ outcomes.refusal_text self.now }
+        ensures { result ≡ (outcomes.refusal_end self.now).1 }
     {
         match self {
             Refusal::Usage => plain(b"usage\n"),

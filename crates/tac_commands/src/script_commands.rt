@@ -2,12 +2,13 @@
 ghost use Rattle.std.specs.Prelude.{◌≡◌, ◌<◌, ◌≤◌, [], ◌∷◌, length, IfSome};
 ghost use Rattle.tac_base.specs.declared.limits.TheConstants.{FILE_NAMES, NAME_BYTES};
 ghost use Rattle.tac_commands.specs.Commands as commands;
-ghost use Rattle.tac_commands.specs.Ends.{EndsBatch, PlaysNamed};
+ghost use Rattle.tac_commands.specs.Allowed.{play_steps};
+ghost use Rattle.tac_commands.specs.Ends.{EndsBatch, EndsSteps};
 ghost use Rattle.tac_commands.specs.Ends as ends;
 
 use crate::ends::End;
 use crate::file_kinds::FileKind;
-use crate::reading::{read_bytes, read_game_file};
+use crate::reading::{read_bytes, read_value};
 use crate::refusals::Refusal;
 use game_text::Game;
 use script_run::{ScriptFault, play, run_hotel_script, script_law};
@@ -37,9 +38,8 @@ pub(crate) fn hotel_by_file<F: Files, K: Sink>(
     files: &mut F,
     out: &mut K,
 ) -> End
-    requires { IfSome (F.names files.old) (λ names. (length names < FILE_NAMES) × (length name.now ≤ NAME_BYTES)) }
-    ensures { EndsBatch (F.content files.old) (commands.Hotel name.now) (F.names files.old) (F.names files.new) (F.faults files.old) (F.faults files.new)
-        (K.taken out.old) (K.taken out.new) (K.faults out.old) (K.faults out.new) result }
+    requires { IfSome (F.state files.old).names (λ names. (length names < FILE_NAMES) × (length name.now ≤ NAME_BYTES)) }
+    ensures { EndsBatch (commands.Hotel name.now) (F.state files.old) (F.state files.new) (K.state out.old) (K.state out.new) result }
 {
     match read_bytes(alloc, files, name, FileKind::HotelScript) {
         Ok(script) => script_end(run_hotel_script(alloc, script.as_slice(), out)),
@@ -56,9 +56,8 @@ fn play_by_file<R: Threads + Sync, F: Files, K: Sink>(
     files: &mut F,
     out: &mut K,
 ) -> End
-    requires { IfSome (F.names files.old) (λ names. (length names < FILE_NAMES) × (length name.now ≤ NAME_BYTES)) }
-    ensures { PlaysNamed (F.content files.old) game.now name.now (F.names files.old) (F.names files.new) (F.faults files.old) (F.faults files.new)
-        (K.taken out.old) (K.taken out.new) (K.faults out.old) (K.faults out.new) result }
+    requires { IfSome (F.state files.old).names (λ names. (length names < FILE_NAMES) × (length name.now ≤ NAME_BYTES)) }
+    ensures { EndsSteps (play_steps game.now name.now) (F.state files.old) (F.state files.new) (K.state out.old) (K.state out.new) result }
 {
     script_law(game);
     match read_bytes(alloc, files, name, FileKind::GameScript) {
@@ -76,11 +75,10 @@ pub(crate) fn play_files<R: Threads + Sync, F: Files, K: Sink>(
     files: &mut F,
     out: &mut K,
 ) -> End
-    requires { IfSome (F.names files.old) (λ names. (names ≡ []) × (length game.now ≤ NAME_BYTES) × (length script.now ≤ NAME_BYTES)) }
-    ensures { EndsBatch (F.content files.old) (commands.Play game.now script.now) (F.names files.old) (F.names files.new) (F.faults files.old) (F.faults files.new)
-        (K.taken out.old) (K.taken out.new) (K.faults out.old) (K.faults out.new) result }
+    requires { IfSome (F.state files.old).names (λ names. (names ≡ []) × (length game.now ≤ NAME_BYTES) × (length script.now ≤ NAME_BYTES)) }
+    ensures { EndsBatch (commands.Play game.now script.now) (F.state files.old) (F.state files.new) (K.state out.old) (K.state out.new) result }
 {
-    match read_game_file(alloc, files, game) {
+    match read_value::<Game, F>(alloc, files, game) {
         Ok(game) => play_by_file(rt, alloc, &game, script, files, out),
         Err(refusal) => End::Refused(refusal),
     }

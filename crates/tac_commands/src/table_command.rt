@@ -18,7 +18,7 @@ ghost use Rattle.tac_commands.specs.TableRuns.{EndsAtPair, GoesOn, HasAdded, IsA
 
 use crate::ends::End;
 use crate::numbered_lines::counted;
-use crate::reading::{read_game_file, read_log_file};
+use crate::reading::read_value;
 use crate::refusals::Refusal;
 use game_text::Game;
 use log_audit::{Finding, audit_log};
@@ -69,20 +69,20 @@ fn add_pair<F: Files>(
     pair: u8,
     files: &mut F,
 ) -> Result<Standings, TableFault>
-    requires names { IfSome (F.names files.old) (λ names. (length names + 1 < FILE_NAMES) × (length game.now ≤ NAME_BYTES) × (length log.now ≤ NAME_BYTES)) }
+    requires names { IfSome (F.state files.old).names (λ names. (length names + 1 < FILE_NAMES) × (length game.now ≤ NAME_BYTES) × (length log.now ≤ NAME_BYTES)) }
     requires few { standings.games < 64 }
-    ensures added { IfOk result (λ after. IsAdded (F.content files.old) game.now log.now standings after) }
+    ensures added { IfOk result (λ after. IsAdded (F.state files.old).content game.now log.now standings after) }
     ensures games { IfOk result (λ after. after.games ≡ standings.games + 1) }
-    ensures names { OnOk result (F.names files.new ≡ and_then_told (and_then_told (F.names files.old) (game.now ∷ [])) (log.now ∷ [])) }
-    ensures quiet { OnOk result (F.faults files.new ≡ F.faults files.old) }
-    ensures content { F.content files.new ≡ F.content files.old }
-    ensures fault { IfErr result (EndsAtPair (F.content files.old) pair game.now log.now (F.names files.old) (F.names files.new) (F.faults files.old) (F.faults files.new)) }
+    ensures names { OnOk result ((F.state files.new).names ≡ and_then_told (and_then_told (F.state files.old).names (game.now ∷ [])) (log.now ∷ [])) }
+    ensures quiet { OnOk result ((F.state files.new).faults ≡ (F.state files.old).faults) }
+    ensures content { (F.state files.new).content ≡ (F.state files.old).content }
+    ensures fault { IfErr result (EndsAtPair (F.state files.old) (F.state files.new) pair game.now log.now) }
 {
-    let game = match read_game_file(alloc, files, game) {
+    let game = match read_value::<Game, F>(alloc, files, game) {
         Ok(game) => game,
         Err(refusal) => return Err(TableFault::Refused(refusal)),
     };
-    let log = match read_log_file(alloc, files, log) {
+    let log = match read_value::<Log, F>(alloc, files, log) {
         Ok(log) => log,
         Err(refusal) => return Err(TableFault::Refused(refusal)),
     };
@@ -95,13 +95,12 @@ fn add_pairs<F: Files>(
     names: &[String],
     files: &mut F,
 ) -> Result<Standings, TableFault>
-    requires none { IfSome (F.names files.old) (λ selected. selected ≡ []) }
+    requires none { IfSome (F.state files.old).names (λ selected. selected ≡ []) }
     requires short { All (λ name. string_len name ≤ NAME_BYTES) names.now }
     requires few { length names.now ≤ FILE_NAMES }
-    ensures all { IfOk result (GoesOn (F.content files.old) (paired (map (λ name. string_bytes name) names.now)) [] (length names.now / 2)
-        (F.names files.old) (F.names files.new) (F.faults files.old) (F.faults files.new)) }
-    ensures fault { IfErr result (λ fault. Runs (F.content files.old) (table_steps [] (paired (map (λ name. string_bytes name) names.now)))
-        (F.names files.old) (F.names files.new) (F.faults files.old) (F.faults files.new) (outcome_of fault)) }
+    ensures all { IfOk result (GoesOn (paired (map (λ name. string_bytes name) names.now)) [] (length names.now / 2) (F.state files.old) (F.state files.new)) }
+    ensures fault { IfErr result (λ fault. Runs (table_steps [] (paired (map (λ name. string_bytes name) names.now)))
+        (F.state files.old) (F.state files.new) (outcome_of fault)) }
 {
     let mut standings = Standings::begin(alloc);
     for pair in 0..names.len() / 2 {
@@ -115,7 +114,7 @@ fn add_pairs<F: Files>(
 /// Writes the standings.
 fn write_standings<K: Sink>(alloc: Global, standings: &Standings, out: &mut K) -> End
     ensures { (played : List (GameFile × LoggedGame)) → StandsFor standings.now played
-        → Ends (Writes (IsPrinted played [])) (K.taken out.old) (K.taken out.new) (K.faults out.old) (K.faults out.new) result }
+        → Ends (Writes (IsPrinted played [])) (K.state out.old) (K.state out.new) result }
 {
     let mut text = Vec::new(alloc);
     let Ok(()) = print_standings(standings, &mut text) else {
@@ -129,7 +128,7 @@ fn write_standings<K: Sink>(alloc: Global, standings: &Standings, out: &mut K) -
 
 /// Writes that the log of a pair is not sound.
 fn write_unsound<K: Sink>(pair: u8, out: &mut K) -> End
-    ensures { Ends (λ outcome. outcome ≡ outcomes.Unsound (texts.unsound_text pair)) (K.taken out.old) (K.taken out.new) (K.faults out.old) (K.faults out.new) result }
+    ensures { Ends (λ outcome. outcome ≡ outcomes.Unsound (texts.unsound_text pair)) (K.state out.old) (K.state out.new) result }
 {
     match write_all(out, counted(b"unsound", u32::from(pair)).as_slice()) {
         Ok(()) => End::Unsound,
@@ -144,11 +143,10 @@ pub(crate) fn table_files<F: Files, K: Sink>(
     files: &mut F,
     out: &mut K,
 ) -> End
-    requires none { IfSome (F.names files.old) (λ selected. selected ≡ []) }
+    requires none { IfSome (F.state files.old).names (λ selected. selected ≡ []) }
     requires short { All (λ name. string_len name ≤ NAME_BYTES) names.now }
     requires few { length names.now ≤ FILE_NAMES }
-    ensures { EndsBatch (F.content files.old) (commands.Table (paired (map (λ name. string_bytes name) names.now))) (F.names files.old) (F.names files.new) (F.faults files.old) (F.faults files.new)
-        (K.taken out.old) (K.taken out.new) (K.faults out.old) (K.faults out.new) result }
+    ensures { EndsBatch (commands.Table (paired (map (λ name. string_bytes name) names.now))) (F.state files.old) (F.state files.new) (K.state out.old) (K.state out.new) result }
 {
     match add_pairs(alloc, names, files) {
         Ok(standings) => write_standings(alloc, &standings, out),

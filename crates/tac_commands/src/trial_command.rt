@@ -79,7 +79,7 @@ fn write_trial<K: Sink>(
     sheet: &Sheet,
     out: &mut K,
 ) -> End
-    ensures { WritesWhole (trials.trial_text seed count played sheet.now) (K.taken out.old) (K.taken out.new) (K.faults out.old) (K.faults out.new) result }
+    ensures { WritesWhole (trials.trial_text seed count played sheet.now) (K.state out.old) (K.state out.new) result }
 {
     let Ok(text) = trial_text(alloc, seed, count, played, sheet) else {
         return End::Refused(Refusal::Memory);
@@ -119,7 +119,7 @@ pub(crate) fn trial<R: Threads + Sync, K: Sink>(
     out: &mut K,
 ) -> End
     requires { count ≤ MADE_REQUESTS }
-    ensures { Ends (Writes (IsTrial seed count)) (K.taken out.old) (K.taken out.new) (K.faults out.old) (K.faults out.new) result }
+    ensures { Ends (Writes (IsTrial seed count)) (K.state out.old) (K.state out.new) result }
 {
     let Ok(script) = make_script(alloc, seed, count) else {
         return End::Refused(Refusal::Memory);

@@ -1,16 +1,16 @@
-// The words of a command line.
+// The words of a command that needs no links.
 ghost use Rattle.std.specs.Prelude.{◌≡◌, ◌+◌, ◌≤◌, ◌^◌, length, map, string_bytes, string_len, MatchOption, Some, None, All, IfSome};
 ghost use Rattle.tac_base.specs.Numerals.{below, numeral};
 ghost use Rattle.tac_commands.specs.Commands as commands;
-ghost use Rattle.tac_commands.specs.Commands.{command_of, seen};
-ghost use Rattle.tac_commands.specs.Words.{HasShortNames};
+ghost use Rattle.tac_commands.specs.Commands.{batch_of, seen_batch};
+ghost use Rattle.tac_commands.specs.Words.{IsShortBatch};
 
-use tac_base::limits::{FILE_NAMES, MADE_REQUESTS, NAME_BYTES, PACE, PORT};
+use tac_base::limits::{FILE_NAMES, MADE_REQUESTS, NAME_BYTES};
 use tac_base::read_numeral;
 
 /// A command that needs no links, with its words: the names of its files, or numbers.
 #[derive(Clone, Copy)]
-pub enum BatchCommand<'a> {
+pub(crate) enum BatchCommand<'a> {
     /// One hotel, run by a script.
     Hotel { script: &'a str },
     /// The canonical text of a game.
@@ -33,48 +33,25 @@ pub enum BatchCommand<'a> {
     Table { names: &'a [String] },
 }
 
-/// The wire format of a served game.
-#[derive(Clone, Copy, Debug, PartialEq, Eq)]
-pub enum Form {
-    /// Request lines and reply lines of words.
-    Lines,
-    /// Request lines and reply lines that are JSON objects.
-    Json,
-}
-
-/// A command of the list, with its words.
-#[derive(Clone, Copy)]
-pub enum Asked<'a> {
-    /// One that needs no links.
-    Batch(BatchCommand<'a>),
-    /// A game over links: the name of its file, the port, 1 to 65535, the pace in milliseconds per tick, 1 to 60000, and the form of lines.
-    Serve {
-        game: &'a str,
-        port: u16,
-        pace: u16,
-        form: Form,
-    },
-}
-
 /// The command of a word and one more.
-fn command_with<'a>(word: &str, argument: &'a str) -> Option<Asked<'a>>
+fn batch_with<'a>(word: &str, argument: &'a str) -> Option<BatchCommand<'a>>
     requires { length argument.now ≤ NAME_BYTES }
-    ensures command { MatchOption result (commands.command_with word.now argument.now ≡ None)
-        (λ asked. commands.command_with word.now argument.now ≡ Some (seen asked)) }
-    ensures short { IfSome result HasShortNames }
+    ensures command { MatchOption result (commands.batch_with word.now argument.now ≡ None)
+        (λ asked. commands.batch_with word.now argument.now ≡ Some (seen_batch asked)) }
+    ensures short { IfSome result IsShortBatch }
 {
     if word == "hotel" {
-        Some(Asked::Batch(BatchCommand::Hotel { script: argument }))
+        Some(BatchCommand::Hotel { script: argument })
     } else if word == "show" {
-        Some(Asked::Batch(BatchCommand::Show { game: argument }))
+        Some(BatchCommand::Show { game: argument })
     } else if word == "upgrade" {
-        Some(Asked::Batch(BatchCommand::Upgrade { game: argument }))
+        Some(BatchCommand::Upgrade { game: argument })
     } else if word == "solve" {
-        Some(Asked::Batch(BatchCommand::Solve { account: argument }))
+        Some(BatchCommand::Solve { account: argument })
     } else if word == "worth" {
-        Some(Asked::Batch(BatchCommand::Worth { account: argument }))
+        Some(BatchCommand::Worth { account: argument })
     } else if word == "make" {
-        read_numeral(argument.as_bytes(), 20).map(|seed| Asked::Batch(BatchCommand::Make { seed }))
+        read_numeral(argument.as_bytes(), 20).map(|seed| BatchCommand::Make { seed })
     } else {
         None
     }
@@ -99,10 +76,10 @@ fn count_of(word: &str) -> Option<u32>
 }
 
 /// The trial of a seed and a count.
-fn trial_of<'a>(seed: Option<u64>, count: Option<u32>) -> Option<Asked<'a>>
+fn trial_of<'a>(seed: Option<u64>, count: Option<u32>) -> Option<BatchCommand<'a>>
     requires { IfSome count (λ count. count ≤ MADE_REQUESTS) }
-    ensures command { MatchOption result (commands.trial_of seed count ≡ None) (λ asked. commands.trial_of seed count ≡ Some (seen asked)) }
-    ensures short { IfSome result HasShortNames }
+    ensures command { MatchOption result (commands.trial_of seed count ≡ None) (λ asked. commands.trial_of seed count ≡ Some (seen_batch asked)) }
+    ensures short { IfSome result IsShortBatch }
 {
     let Some(seed) = seed else {
         return None;
@@ -110,27 +87,27 @@ fn trial_of<'a>(seed: Option<u64>, count: Option<u32>) -> Option<Asked<'a>>
     let Some(count) = count else {
         return None;
     };
-    Some(Asked::Batch(BatchCommand::Trial { seed, count }))
+    Some(BatchCommand::Trial { seed, count })
 }
 
 /// The command of a word and two more.
-fn command_with_two<'a>(word: &str, first: &'a str, second: &'a str) -> Option<Asked<'a>>
+fn batch_with_two<'a>(word: &str, first: &'a str, second: &'a str) -> Option<BatchCommand<'a>>
     requires first { length first.now ≤ NAME_BYTES }
     requires second { length second.now ≤ NAME_BYTES }
-    ensures command { MatchOption result (commands.command_with_two word.now first.now second.now ≡ None)
-        (λ asked. commands.command_with_two word.now first.now second.now ≡ Some (seen asked)) }
-    ensures short { IfSome result HasShortNames }
+    ensures command { MatchOption result (commands.batch_with_two word.now first.now second.now ≡ None)
+        (λ asked. commands.batch_with_two word.now first.now second.now ≡ Some (seen_batch asked)) }
+    ensures short { IfSome result IsShortBatch }
 {
     if word == "play" {
-        Some(Asked::Batch(BatchCommand::Play {
+        Some(BatchCommand::Play {
             game: first,
             script: second,
-        }))
+        })
     } else if word == "audit" {
-        Some(Asked::Batch(BatchCommand::Audit {
+        Some(BatchCommand::Audit {
             game: first,
             log: second,
-        }))
+        })
     } else if word == "trial" {
         trial_of(seed_of(first), count_of(second))
     } else {
@@ -138,137 +115,40 @@ fn command_with_two<'a>(word: &str, first: &'a str, second: &'a str) -> Option<A
     }
 }
 
-/// The number of a word, at least 1 and at most a limit.
-fn number_of(word: &str, most: u16) -> Option<u16>
-    ensures { result ≡ commands.positive_to most word.now }
-{
-    match read_numeral(word.as_bytes(), 10) {
-        Some(number) if 1 <= number && number <= u64::from(most) => Some(number as u16),
-        _ => None,
-    }
-}
-
-/// The service of a game at a port with a pace, in a form of lines.
-fn service_of<'a>(
-    game: &'a str,
-    port: Option<u16>,
-    pace: Option<u16>,
-    form: Form,
-) -> Option<Asked<'a>>
-    requires { length game.now ≤ NAME_BYTES }
-    ensures command { MatchOption result (commands.service_of game.now port pace form ≡ None) (λ asked. commands.service_of game.now port pace form ≡ Some (seen asked)) }
-    ensures short { IfSome result HasShortNames }
-{
-    let Some(port) = port else {
-        return None;
-    };
-    let Some(pace) = pace else {
-        return None;
-    };
-    Some(Asked::Serve {
-        game,
-        port,
-        pace,
-        form,
-    })
-}
-
-/// The command of a word and three more.
-fn command_with_three<'a>(
-    word: &str,
-    first: &'a str,
-    second: &str,
-    third: &str,
-) -> Option<Asked<'a>>
-    requires { length first.now ≤ NAME_BYTES }
-    ensures command { MatchOption result (commands.command_with_three word.now first.now second.now third.now ≡ None)
-        (λ asked. commands.command_with_three word.now first.now second.now third.now ≡ Some (seen asked)) }
-    ensures short { IfSome result HasShortNames }
-{
-    if word == "serve" {
-        service_of(
-            first,
-            number_of(second, PORT),
-            number_of(third, PACE),
-            Form::Lines,
-        )
-    } else {
-        None
-    }
-}
-
-/// The command of a word and four more: the service of a game in JSON.
-fn command_with_four<'a>(
-    word: &str,
-    first: &'a str,
-    second: &str,
-    third: &str,
-    fourth: &str,
-) -> Option<Asked<'a>>
-    requires { length first.now ≤ NAME_BYTES }
-    ensures command { MatchOption result (commands.command_with_four word.now first.now second.now third.now fourth.now ≡ None)
-        (λ asked. commands.command_with_four word.now first.now second.now third.now fourth.now ≡ Some (seen asked)) }
-    ensures short { IfSome result HasShortNames }
-{
-    if word == "serve" && fourth == "json" {
-        service_of(
-            first,
-            number_of(second, PORT),
-            number_of(third, PACE),
-            Form::Json,
-        )
-    } else {
-        None
-    }
-}
-
 /// The table of the games and logs of these names, in turn.
-fn table_of(names: &[String]) -> Option<Asked<'_>>
+fn table_of(names: &[String]) -> Option<BatchCommand<'_>>
     requires { All (λ name. string_len name ≤ NAME_BYTES) names.now }
     ensures command { MatchOption result (commands.table_of (map (λ name. string_bytes name) names.now) ≡ None)
-        (λ asked. commands.table_of (map (λ name. string_bytes name) names.now) ≡ Some (seen asked)) }
-    ensures short { IfSome result HasShortNames }
+        (λ asked. commands.table_of (map (λ name. string_bytes name) names.now) ≡ Some (seen_batch asked)) }
+    ensures short { IfSome result IsShortBatch }
 {
     if 0 < names.len() && names.len() <= FILE_NAMES && names.len() % 2 == 0 {
-        Some(Asked::Batch(BatchCommand::Table { names }))
+        Some(BatchCommand::Table { names })
     } else {
         None
     }
 }
 
 /// The command of a word and those after it, by their number.
-fn command_by_count<'a>(word: &str, others: &'a [String]) -> Option<Asked<'a>>
+fn batch_by_count<'a>(word: &str, others: &'a [String]) -> Option<BatchCommand<'a>>
     requires { All (λ other. string_len other ≤ NAME_BYTES) others.now }
-    ensures command { MatchOption result (commands.command_by_count word.now (map (λ other. string_bytes other) others.now) ≡ None)
-        (λ asked. commands.command_by_count word.now (map (λ other. string_bytes other) others.now) ≡ Some (seen asked)) }
-    ensures short { IfSome result HasShortNames }
+    ensures command { MatchOption result (commands.batch_by_count word.now (map (λ other. string_bytes other) others.now) ≡ None)
+        (λ asked. commands.batch_by_count word.now (map (λ other. string_bytes other) others.now) ≡ Some (seen_batch asked)) }
+    ensures short { IfSome result IsShortBatch }
 {
     match others {
-        [argument] => command_with(word, argument.as_str()),
-        [first, second] => command_with_two(word, first.as_str(), second.as_str()),
-        [first, second, third] => command_with_three(
-            word,
-            first.as_str(),
-            second.as_str(),
-            third.as_str(),
-        ),
-        [first, second, third, fourth] => command_with_four(
-            word,
-            first.as_str(),
-            second.as_str(),
-            third.as_str(),
-            fourth.as_str(),
-        ),
+        [argument] => batch_with(word, argument.as_str()),
+        [first, second] => batch_with_two(word, first.as_str(), second.as_str()),
         _ => None,
     }
 }
 
-/// The command of the words, if they are one of the list.
-pub fn command_asked(words: &[String]) -> Option<Asked<'_>>
+/// The command that the words ask for, if they ask for one that needs no links.
+pub(crate) fn batch_asked(words: &[String]) -> Option<BatchCommand<'_>>
     requires { All (λ word. string_len word ≤ NAME_BYTES) words.now }
-    ensures command { MatchOption result (command_of (map (λ word. string_bytes word) words.now) ≡ None)
-        (λ asked. command_of (map (λ word. string_bytes word) words.now) ≡ Some (seen asked)) }
-    ensures short { IfSome result HasShortNames }
+    ensures command { MatchOption result (batch_of (map (λ word. string_bytes word) words.now) ≡ None)
+        (λ asked. batch_of (map (λ word. string_bytes word) words.now) ≡ Some (seen_batch asked)) }
+    ensures short { IfSome result IsShortBatch }
 {
     let [word, others @ ..] = words else {
         return None;
@@ -276,6 +156,6 @@ pub fn command_asked(words: &[String]) -> Option<Asked<'_>>
     if word.as_str() == "table" {
         table_of(others)
     } else {
-        command_by_count(word.as_str(), others)
+        batch_by_count(word.as_str(), others)
     }
 }

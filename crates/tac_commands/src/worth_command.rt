@@ -6,7 +6,7 @@ ghost use Rattle.tac_commands.specs.Commands as commands;
 ghost use Rattle.tac_commands.specs.Ends.{Ends, EndsBatch};
 
 use crate::ends::End;
-use crate::reading::read_account_file;
+use crate::reading::read_value;
 use crate::refusals::Refusal;
 use game_text::Account;
 use good_worth::{print_worths, worth};
@@ -29,7 +29,7 @@ fn worths_text(alloc: Global, account: &Account) -> Result<Vec<u8>, Memory>
 
 /// Writes the worths of an account.
 fn write_worths<K: Sink>(alloc: Global, account: &Account, out: &mut K) -> End
-    ensures { Ends (Writes (IsValued account.now)) (K.taken out.old) (K.taken out.new) (K.faults out.old) (K.faults out.new) result }
+    ensures { Ends (Writes (IsValued account.now)) (K.state out.old) (K.state out.new) result }
 {
     let Ok(text) = worths_text(alloc, account) else {
         return End::Refused(Refusal::Memory);
@@ -47,11 +47,10 @@ pub(crate) fn worth_file<F: Files, K: Sink>(
     files: &mut F,
     out: &mut K,
 ) -> End
-    requires { IfSome (F.names files.old) (λ names. (length names < FILE_NAMES) × (length name.now ≤ NAME_BYTES)) }
-    ensures { EndsBatch (F.content files.old) (commands.Worth name.now) (F.names files.old) (F.names files.new) (F.faults files.old) (F.faults files.new)
-        (K.taken out.old) (K.taken out.new) (K.faults out.old) (K.faults out.new) result }
+    requires { IfSome (F.state files.old).names (λ names. (length names < FILE_NAMES) × (length name.now ≤ NAME_BYTES)) }
+    ensures { EndsBatch (commands.Worth name.now) (F.state files.old) (F.state files.new) (K.state out.old) (K.state out.new) result }
 {
-    match read_account_file(alloc, files, name) {
+    match read_value::<Account, F>(alloc, files, name) {
         Ok(account) => write_worths(alloc, &account, out),
         Err(refusal) => End::Refused(refusal),
     }

@@ -1,15 +1,15 @@
 // The law of the logs that commands write.
 ghost use Rattle.std.specs.Prelude.{◌≡◌, ◌≤◌, ◌⊎◌, ◌++◌, ℕ, List, codes, length, Ok};
 ghost use Rattle.tac_base.specs.declared.limits.TheConstants.{TEXT_BYTES};
+ghost use Rattle.tac_io.specs.States.{FilesState};
 ghost use Rattle.game_text.specs.Games.{GameFile};
 ghost use Rattle.log_text.specs.LoggedGames.{LoggedGame};
 ghost use Rattle.tac_commands.specs.Allowed.{audit_steps};
 ghost use Rattle.tac_commands.specs.declared.file_kinds.FileKind.TheVariants.{Log};
 ghost use Rattle.tac_commands.specs.declared.refusals.Refusal.TheVariants.{Memory};
 ghost use Rattle.tac_commands.specs.FileKinds.{read_as};
-ghost use Rattle.tac_commands.specs.Files.{Content};
 ghost use Rattle.tac_commands.specs.Outcomes.{Outcome, Done, Refused};
-ghost use Rattle.tac_commands.specs.Runs.{Names, Runs};
+ghost use Rattle.tac_commands.specs.Runs.{Runs};
 ghost use Rattle.tac_commands.specs.SoundTexts.{EndsInSoundLog};
 
 use game_log::one_game;
@@ -19,8 +19,8 @@ pub fn written_log_law()
     // As a file of its own, the log is read as that very log, where it has at most 67,108,864 bytes.
     ensures read { (game : GameFile) (log : LoggedGame) (before text : List ℕ) → EndsInSoundLog game log before (before ++ text) → length text ≤ TEXT_BYTES → read_as Log text ≡ Ok log }
     // An audit by the game then says that it is sound, unless memory was refused.
-    ensures audited { (game : GameFile) (log : LoggedGame) (before text : List ℕ) (content : Content) (names names' : Names) (first last : ℕ) (outcome : Outcome) →
-        EndsInSoundLog game log before text → Runs content (audit_steps game log) names names' first last outcome →
+    ensures audited { (game : GameFile) (log : LoggedGame) (before text : List ℕ) (files files' : FilesState) (outcome : Outcome) →
+        EndsInSoundLog game log before text → Runs (audit_steps game log) files files' outcome →
         (outcome ≡ Done (codes "sound\n")) ⊎ (outcome ≡ Refused Memory) }
     // Whatever stands before them, and however long they are: the same bytes tell of one head, the same histories and one cash history.
     ensures one { (game other_game : GameFile) (log other : LoggedGame) (before other_before text : List ℕ) →

@@ -1,6 +1,6 @@
 -- The answers of a link's lines are those of its bytes, however its reads cut them.
-use Rattle.std.proofs.Common.{zero, suc, ◌≡◌, ℕ, ◌+◌, ◌-◌, ◌<◌, ◌≤◌, List, [], ◌∷◌, ◌++◌, length, refl, ap, sym, ◌∙◌, true, false, Bool, arith, length-append, append_assoc, append-nil}
-use Rattle.std.specs.Prelude.{◌==◌, ◌^◌, None, Some, if◌then◌else◌}
+use Rattle.std.proofs.Common.{zero, suc, ◌≡◌, ℕ, ◌+◌, ◌-◌, ◌<◌, ◌≤◌, List, [], ◌∷◌, ◌++◌, length, refl, ap, sym, ◌∙◌, true, false, Bool, arith, length-append, append_assoc, append-nil, subst}
+use Rattle.std.specs.Prelude.{◌==◌, ◌^◌, None, Some, IfSome, if◌then◌else◌}
 use Rattle.std.specs.declared.option.Option.{Option}
 use Rattle.std.proofs.lemmas.Bool.Decides.{nat_tests}
 use Rattle.tac_io.specs.AllAnswers.{all_answers, ended_line}
@@ -8,6 +8,8 @@ use Rattle.tac_io.specs.AnswersInTurn.{answers_left, IsFirst, IsInTurn}
 use Rattle.tac_io.specs.HeldBytes.{Held}
 use Rattle.tac_io.specs.LineAnswers.{Answers, IsNext}
 use Rattle.tac_io.specs.LineText.{has_end, Begins}
+use Rattle.tac_io.specs.States.{LinkState}
+use Rattle.tac_io.specs.Told.{before_told, IsAtEnd}
 use Rattle.tac_io.proofs.LineEnds.{neither}
 use Rattle.tac_io.specs.declared.line_got.LineGot.{LineGot}
 use Rattle.tac_io.specs.declared.line_got.LineGot.TheVariants.{Line, TooLong, End, Failed, Budget}
@@ -64,18 +66,19 @@ line_first held new left left' more line count gave le b =
     ap (all_answers [] (2 ^ 26 - count + length held.unread)) bytes
     ∙ all_answers-line [] line (new.unread ++ left') (2 ^ 26 - count + length held.unread) (2 ^ 26 - (count + length more) + length new.unread) b.first (omega (arith, size, le))
 
-next_is_first : (held new : Held) (taken taken' : Option (List ℕ)) (left left' : List ℕ) (count count' : ℕ) (got : LineGot) → Answers held new taken taken' (Some left) (Some left') count count' got → count' ≤ 2 ^ 26
-    → IsFirst got new.line (answers_left held left count) (answers_left new left' count')
-next_is_first held new taken taken' left left' count count' got answers le = first got answers.next
+next_is_first : (held new : Held) (before after : LinkState) (left left' : List ℕ) (count count' : ℕ) (got : LineGot) → before.left ≡ Some left → after.left ≡ Some left'
+    → Answers held new before after count count' got → count' ≤ 2 ^ 26 → IsFirst got new.line (answers_left held left count) (answers_left new left' count')
+next_is_first held new before after left left' count count' got had has answers le =
+    first got (subst (λ l. IsNext got (held.unread ++ answers.more) new (IsAtEnd l) count') has answers.next)
   where
     gave : left ≡ answers.more ++ left'
-    gave = some_inj left (answers.more ++ left') answers.gave
+    gave = some_inj left (answers.more ++ left') (sym had ∙ answers.gave.1 ∙ ap (before_told answers.more) has)
 
     within : count + length answers.more ≤ 2 ^ 26
     within = omega (arith, answers.counted, le)
 
-    after : (line : List ℕ) → Begins (held.unread ++ answers.more) line new.unread → answers_left held left count ≡ ended_line line ∷ answers_left new left' count'
-    after line b = line_first held new left left' answers.more line count gave within b ∙ ap (λ n. ended_line line ∷ answers_left new left' n) (sym answers.counted)
+    behind : (line : List ℕ) → Begins (held.unread ++ answers.more) line new.unread → answers_left held left count ≡ ended_line line ∷ answers_left new left' count'
+    behind line b = line_first held new left left' answers.more line count gave within b ∙ ap (λ n. ended_line line ∷ answers_left new left' n) (sym answers.counted)
 
     size : length (held.unread ++ answers.more) ≡ length held.unread + length answers.more
     size = length-append held.unread answers.more
@@ -84,8 +87,8 @@ next_is_first held new taken taken' left left' count count' got answers le = fir
     bytes = ap (λ l. held.unread ++ l) gave ∙ sym (append_assoc held.unread answers.more left')
 
     first : (got : LineGot) → IsNext got (held.unread ++ answers.more) new (left' ≡ []) count' → IsFirst got new.line (answers_left held left count) (answers_left new left' count')
-    first Line next = after new.line next.0 ∙ ap (λ line. line ∷ answers_left new left' count') (short_line new.line next.1)
-    first TooLong next = after next.0 next.1 ∙ ap (λ line. line ∷ answers_left new left' count') (long_line next.0 next.2)
+    first Line next = behind new.line next.0 ∙ ap (λ line. line ∷ answers_left new left' count') (short_line new.line next.1)
+    first TooLong next = behind next.0 next.1 ∙ ap (λ line. line ∷ answers_left new left' count') (long_line next.0 next.2)
     first End next =
         ap (all_answers [] (2 ^ 26 - count + length held.unread)) (bytes ∙ ap (λ l. (held.unread ++ answers.more) ++ l) next.2 ∙ append-nil (held.unread ++ answers.more))
         ∙ all_answers-end [] (held.unread ++ answers.more) (2 ^ 26 - count + length held.unread) next.0 (omega (arith, size, next.1, answers.counted))
@@ -94,8 +97,12 @@ next_is_first held new taken taken' left left' count count' got answers le = fir
         ap (all_answers [] (2 ^ 26 - count + length held.unread)) bytes
         ∙ all_answers-budget [] (held.unread ++ answers.more) left' (2 ^ 26 - count + length held.unread) next.0 (omega (arith, size, next.1, answers.counted))
 
-pub in_turn : (held new : Held) (taken taken' left left' : Option (List ℕ)) (count count' : ℕ) (got : LineGot) → Answers held new taken taken' left left' count count' got → count' ≤ 2 ^ 26
-    → IsInTurn held new left left' count count' got
-in_turn held new taken taken' None left' count count' got answers le = tt
-in_turn held new taken taken' (Some left) None count count' got answers le = tt
-in_turn held new taken taken' (Some left) (Some left') count count' got answers le = next_is_first held new taken taken' left left' count count' got answers le
+pub in_turn : (held new : Held) (before after : LinkState) (count count' : ℕ) (got : LineGot) → Answers held new before after count count' got → count' ≤ 2 ^ 26
+    → IsInTurn held new before after count count' got
+in_turn held new before after count count' got answers le = by_left before.left after.left refl refl
+  where
+    by_left : (left left' : Option (List ℕ)) → before.left ≡ left → after.left ≡ left'
+        → IfSome left (λ bytes. IfSome left' (λ rest. IsFirst got new.line (answers_left held bytes count) (answers_left new rest count')))
+    by_left None left' had has = tt
+    by_left (Some left) None had has = tt
+    by_left (Some left) (Some left') had has = next_is_first held new before after left left' count count' got had has answers le

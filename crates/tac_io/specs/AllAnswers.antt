@@ -1,5 +1,5 @@
 -- All answers that a link's lines give in turn, by its bytes alone.
-use Rattle.std.specs.Prelude.{zero, suc, ℕ, ◌+◌, ◌-◌, ◌==◌, ◌++◌, List, [], ◌∷◌, length, nat_le, if◌then◌else◌}
+use Rattle.std.specs.Prelude.{zero, suc, ℕ, ◌==◌, ◌++◌, List, [], ◌∷◌, length, nat_le, if◌then◌else◌}
 use Rattle.tac_base.specs.declared.limits.TheConstants.{LINE_BYTES}
 use Rattle.tac_io.specs.declared.line_got.LineGot.{LineGot}
 use Rattle.tac_io.specs.declared.line_got.LineGot.TheVariants.{Line, TooLong, End, Budget}

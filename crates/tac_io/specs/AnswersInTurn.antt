@@ -1,8 +1,8 @@
 -- What one answer of the lines of a link takes from those that are still to come.
 use Rattle.std.specs.Prelude.{⊤, ◌≡◌, ℕ, ◌+◌, ◌-◌, ◌++◌, List, [], ◌∷◌, length, IfSome}
-use Rattle.std.specs.declared.option.Option.{Option}
 use Rattle.tac_base.specs.declared.limits.TheConstants.{LINK_BYTES}
 use Rattle.tac_io.specs.HeldBytes.{Held}
+use Rattle.tac_io.specs.States.{LinkState}
 use Rattle.tac_io.specs.declared.line_got.LineGot.{LineGot}
 use Rattle.tac_io.specs.declared.line_got.LineGot.TheVariants.{Line, TooLong, End, Failed, Budget}
 use Rattle.tac_io.specs.AllAnswers.{all_answers}
@@ -20,6 +20,6 @@ IsFirst Failed line all others = ⊤
 IsFirst Budget line all others = all ≡ (Budget, []) ∷ []
 
 -- Where it is told what is left, the answer is the first of those to come, and then the others come.
-abbrev pub IsInTurn : Held → Held → Option (List ℕ) → Option (List ℕ) → ℕ → ℕ → LineGot → Type 0
-IsInTurn old new left left' count count' got =
-    IfSome left (λ bytes. IfSome left' (λ rest. IsFirst got new.line (answers_left old bytes count) (answers_left new rest count')))
+abbrev pub IsInTurn : Held → Held → LinkState → LinkState → ℕ → ℕ → LineGot → Type 0
+IsInTurn old new before after count count' got =
+    IfSome before.left (λ bytes. IfSome after.left (λ rest. IsFirst got new.line (answers_left old bytes count) (answers_left new rest count')))

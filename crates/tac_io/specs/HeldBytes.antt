@@ -1,7 +1,8 @@
 -- What the buffer of a link's lines holds.
 use Rattle.std.specs.Prelude.{◌≡◌, ℕ, List, ◌++◌, ◌≤◌, length, Result, MatchResult}
-use Rattle.std.specs.declared.option.Option.{Option}
-use Rattle.tac_io.specs.Told.{and_then_told, before_told, IsAtEnd}
+use Rattle.tac_io.specs.LinkCalls.{GaveBytes}
+use Rattle.tac_io.specs.States.{LinkState}
+use Rattle.tac_io.specs.Told.{IsAtEnd}
 
 -- the last line, and the bytes that no line has yet
 pub record Held : Type 0 where
@@ -9,16 +10,15 @@ pub record Held : Type 0 where
   pub unread : List ℕ
 
 -- A read put n more bytes behind those that are held, took them from the link and no others, and gave none only at the end.
-pub record Gives (old new : List ℕ) (taken taken' left left' : Option (List ℕ)) (n : ℕ) : Type 0 where
+pub record Gives (old new : List ℕ) (before after : LinkState) (n : ℕ) : Type 0 where
   pub more : List ℕ
   pub held : new ≡ old ++ more
   pub count : length more ≡ n
-  pub told : taken' ≡ and_then_told taken more
-  pub gave : left ≡ before_told more left'
-  pub end : n ≡ 0 → IsAtEnd left
+  pub gave : GaveBytes more before after
+  pub end : n ≡ 0 → IsAtEnd before.left
 
 -- A read gave at most so many bytes, or failed and changed nothing.
-abbrev pub Fills : {E : Type 0} → List ℕ → List ℕ → Option (List ℕ) → Option (List ℕ) → Option (List ℕ) → Option (List ℕ) → ℕ → Result ℕ E → Type 0
-Fills old new taken taken' left left' most result = MatchResult result
-    (λ n. (n ≤ most) × (length new ≤ 1024) × Gives old new taken taken' left left' n)
-    (λ _. (new ≡ old) × (taken' ≡ taken) × (left' ≡ left))
+abbrev pub Fills : {E : Type 0} → List ℕ → List ℕ → LinkState → LinkState → ℕ → Result ℕ E → Type 0
+Fills old new before after most result = MatchResult result
+    (λ n. (n ≤ most) × (length new ≤ 1024) × Gives old new before after n)
+    (λ _. (new ≡ old) × (after.taken ≡ before.taken) × (after.left ≡ before.left))

@@ -1,5 +1,7 @@
 pub mod Counts
 pub mod Told
+pub mod States
+pub mod LinkCalls
 pub mod Reading
 pub mod Calls
 pub mod FileList

@@ -5,7 +5,9 @@ use Rattle.tac_base.specs.declared.limits.TheConstants.{LINE_BYTES, LINK_BYTES}
 use Rattle.tac_io.specs.Counts.{Rose}
 use Rattle.tac_io.specs.HeldBytes.{Held}
 use Rattle.tac_io.specs.LineText.{has_end, Begins}
-use Rattle.tac_io.specs.Told.{and_then_told, before_told, IsAtEnd}
+use Rattle.tac_io.specs.LinkCalls.{GaveBytes}
+use Rattle.tac_io.specs.States.{LinkState}
+use Rattle.tac_io.specs.Told.{IsAtEnd}
 use Rattle.tac_io.specs.declared.line_got.LineGot.{LineGot}
 use Rattle.tac_io.specs.declared.line_got.LineGot.TheVariants.{Line, TooLong, End, Failed, Budget}
 
@@ -19,12 +21,11 @@ IsNext Failed bytes held at_end count = (has_end bytes ≡ false) × (count < LI
 IsNext Budget bytes held at_end count = (has_end bytes ≡ false) × (count ≡ LINK_BYTES)
 
 -- What comes next in the bytes that were held and, after them, those that the call took, `more`.
-pub record Answers (old new : Held) (taken taken' left left' : Option (List ℕ)) (count count' : ℕ) (got : LineGot) : Type 0 where
+pub record Answers (old new : Held) (before after : LinkState) (count count' : ℕ) (got : LineGot) : Type 0 where
   pub more : List ℕ
-  pub told : taken' ≡ and_then_told taken more
-  pub gave : left ≡ before_told more left'
+  pub gave : GaveBytes more before after
   pub counted : count' ≡ count + length more
-  pub next : IsNext got (old.unread ++ more) new (IsAtEnd left') count'
+  pub next : IsNext got (old.unread ++ more) new (IsAtEnd after.left) count'
 
 -- `Failed` comes exactly where the count of faults rose.
 abbrev pub HasLineCause : ℕ → ℕ → LineGot → Type 0

@@ -1,5 +1,5 @@
 -- A link's lines, as their clauses show them.
-use Rattle.std.specs.Prelude.{ℕ}
+use Rattle.std.specs.Prelude.{◌≡◌, ℕ}
 use Rattle.std.specs.declared.option.Option.{Option}
 use Rattle.tac_io.specs.HeldBytes.{Held}
 use Rattle.tac_io.specs.declared.line_got.LineGot.{LineGot}
@@ -20,3 +20,7 @@ count_of s = s.taken
 -- the last answer, if there was one
 abbrev pub last_of : {L : Type 0} → Lines L → Option LineGot
 last_of s = s.last
+
+-- nothing was read, and the last line is the same
+abbrev pub KeepsPlace : {L : Type 0} → Lines L → Lines L → Type 0
+KeepsPlace before after = (held_of after ≡ held_of before) × (count_of after ≡ count_of before) × (last_of after ≡ last_of before)

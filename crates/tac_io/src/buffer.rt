@@ -3,6 +3,7 @@ ghost use Rattle.std.specs.Prelude.{◌≡◌, [], ◌+◌, ◌<◌, ◌≤◌, 
 ghost use Rattle.tac_io.specs.Counts.{HasCause};
 ghost use Rattle.tac_io.specs.HeldBytes.{Fills};
 ghost use Rattle.tac_io.specs.LineText.{has_end, Begins};
+ghost use Rattle.tac_io.specs.LinkCalls.{SendsNothing};
 ghost use Rattle.tac_io.specs.Told.{and_then_told, before_told, IsAtEnd};
 
 use crate::{Failed, Link};
@@ -52,15 +53,14 @@ fn read_at<L: Link>(link: &mut L, bytes: &mut [u8], at: usize, most: usize) -> R
     ensures count { IfOk result (λ n. (n ≤ most) × (at + n ≤ length bytes.old)) }
     ensures len { length bytes.new ≡ length bytes.old }
     ensures taken { MatchResult result
-        (λ n. L.taken link.new ≡ and_then_told (L.taken link.old) (take n (drop at bytes.new)))
-        (λ _. L.taken link.new ≡ L.taken link.old) }
+        (λ n. (L.state link.new).taken ≡ and_then_told (L.state link.old).taken (take n (drop at bytes.new)))
+        (λ _. (L.state link.new).taken ≡ (L.state link.old).taken) }
     ensures left { MatchResult result
-        (λ n. (L.left link.old ≡ before_told (take n (drop at bytes.new)) (L.left link.new))
-        × (n ≡ 0 → IsAtEnd (L.left link.old)))
-        (λ _. L.left link.new ≡ L.left link.old) }
-    ensures sent { L.sent link.new ≡ L.sent link.old }
-    ensures cause { HasCause (L.faults link.old) (L.faults link.new) result }
-    ensures write_faults { L.write_faults link.new ≡ L.write_faults link.old }
+        (λ n. ((L.state link.old).left ≡ before_told (take n (drop at bytes.new)) (L.state link.new).left)
+        × (n ≡ 0 → IsAtEnd (L.state link.old).left))
+        (λ _. (L.state link.new).left ≡ (L.state link.old).left) }
+    ensures cause { HasCause (L.state link.old).reads (L.state link.new).reads result }
+    ensures sent { SendsNothing (L.state link.old) (L.state link.new) }
 {
     let room = most.min(bytes.len() - at);
     link.read(&mut bytes[at..at + room])
@@ -126,10 +126,9 @@ impl Buffer {
     pub(crate) fn fill<L: Link>(&mut self, link: &mut L, most: usize) -> Result<usize, Failed>
         requires most { 0 < most }
         requires room { length self.old.unread < 1024 }
-        ensures bytes { Fills self.old.unread self.new.unread (L.taken link.old) (L.taken link.new) (L.left link.old) (L.left link.new) most result }
-        ensures sent { L.sent link.new ≡ L.sent link.old }
-        ensures cause { HasCause (L.faults link.old) (L.faults link.new) result }
-        ensures write_faults { L.write_faults link.new ≡ L.write_faults link.old }
+        ensures bytes { Fills self.old.unread self.new.unread (L.state link.old) (L.state link.new) most result }
+        ensures cause { HasCause (L.state link.old).reads (L.state link.new).reads result }
+        ensures sent { SendsNothing (L.state link.old) (L.state link.new) }
     {
         let len = self.to - self.from;
         self.bytes.copy_within(self.from..self.to, 0);

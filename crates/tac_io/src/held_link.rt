@@ -143,15 +143,13 @@ impl Link for HeldLink {
     ghost use Rattle.tac_io.specs.Counts.{HasCause};
     ghost use Rattle.tac_io.specs.HeldLink.{IsNextHeld, held_faults, held_hold, held_left, held_reads, held_room, held_sent, held_share, held_taken, held_write_faults};
 
-    ghost taken = { λ s. Some (held_taken s) };
-
-    ghost left = { λ s. Some (held_left s) };
-
-    ghost sent = { λ s. Some (held_sent s) };
-
-    ghost faults = { held_faults };
-
-    ghost write_faults = { held_write_faults };
+    ghost state = { λ s. record {
+      taken = Some (held_taken s);
+      left = Some (held_left s);
+      sent = Some (held_sent s);
+      reads = held_faults s;
+      writes = held_write_faults s;
+    } };
 
     fn read(&mut self, into: &mut [u8]) -> Result<usize, Failed>
         requires { 0 < length into.old }

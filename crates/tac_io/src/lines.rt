@@ -1,9 +1,8 @@
 // A link, line by line.
-ghost use Rattle.std.specs.Prelude.{◌≡◌, [], ◌<◌, ◌≤◌, OnOk, OnErr, length, true, false, MatchBool, Some, None};
+ghost use Rattle.std.specs.Prelude.{◌≡◌, [], ◌<◌, ◌≤◌, length, true, false, MatchBool, Some, None};
 ghost use Rattle.tac_base.specs.declared.limits.TheConstants.{LINK_BYTES};
-ghost use Rattle.tac_io.specs.Counts.{HasCause};
 ghost use Rattle.tac_io.specs.LineAnswers.{Answers, HasLineCause, IsDecided, IsKind};
-ghost use Rattle.tac_io.specs.Told.{TakesSome, and_then_told};
+ghost use Rattle.tac_io.specs.LinkCalls.{OnlySends, SendsNothing};
 
 use crate::buffer::Buffer;
 use crate::line_got::LineGot;
@@ -38,12 +37,11 @@ fn kind(long: bool, length: usize) -> LineGot
 // What comes next of a link.
 fn next_line<L: Link>(link: &mut L, buffer: &mut Buffer, taken: &mut u32) -> LineGot
     requires { taken.old ≤ LINK_BYTES }
-    ensures answer { Answers buffer.old buffer.new (L.taken link.old) (L.taken link.new) (L.left link.old) (L.left link.new) taken.old taken.new result }
+    ensures answer { Answers buffer.old buffer.new (L.state link.old) (L.state link.new) taken.old taken.new result }
     ensures budget { taken.new ≤ LINK_BYTES }
     ensures decided { IsDecided buffer.old.unread taken.old → link.new ≡ link.old }
-    ensures sent { L.sent link.new ≡ L.sent link.old }
-    ensures cause { HasLineCause (L.faults link.old) (L.faults link.new) result }
-    ensures write_faults { L.write_faults link.new ≡ L.write_faults link.old }
+    ensures cause { HasLineCause (L.state link.old).reads (L.state link.new).reads result }
+    ensures sent { SendsNothing (L.state link.old) (L.state link.new) }
 {
     let mut long = false;
     'bytes: loop {
@@ -66,12 +64,7 @@ fn next_line<L: Link>(link: &mut L, buffer: &mut Buffer, taken: &mut u32) -> Lin
 
 // Sends all bytes to a link.
 fn send_all<L: Link>(link: &mut L, bytes: &[u8]) -> Result<(), Failed>
-    ensures whole { OnOk result (L.sent link.new ≡ and_then_told (L.sent link.old) bytes.now) }
-    ensures failed { OnErr result (TakesSome (L.sent link.old) (L.sent link.new) bytes.now) }
-    ensures cause { HasCause (L.write_faults link.old) (L.write_faults link.new) result }
-    ensures taken { L.taken link.new ≡ L.taken link.old }
-    ensures left { L.left link.new ≡ L.left link.old }
-    ensures read_faults { L.faults link.new ≡ L.faults link.old }
+    ensures { OnlySends (L.state link.old) (L.state link.new) bytes.now result }
 {
     let mut done = 0;
     while done < bytes.len() {
@@ -95,7 +88,7 @@ pub struct Lines<L> {
 impl<L: Link> Lines<L> {
     ghost use Rattle.tac_io.specs.AnswersInTurn.{IsInTurn};
     ghost use Rattle.tac_io.specs.LineAnswers.{goes_on};
-    ghost use Rattle.tac_io.specs.Lines.{count_of, held_of, last_of, link_of};
+    ghost use Rattle.tac_io.specs.Lines.{KeepsPlace, count_of, held_of, last_of, link_of};
 
     /// The lines of a link, none of which was read.
     pub fn new(link: L) -> Lines<L>
@@ -118,18 +111,14 @@ impl<L: Link> Lines<L> {
     pub fn next(&mut self) -> LineGot
         requires { goes_on (last_of self.old) ≡ true }
         ensures answer { Answers (held_of self.old) (held_of self.new)
-            (L.taken (link_of self.old)) (L.taken (link_of self.new))
-            (L.left (link_of self.old)) (L.left (link_of self.new))
-            (count_of self.old) (count_of self.new) result }
+            (L.state (link_of self.old)) (L.state (link_of self.new)) (count_of self.old) (count_of self.new) result }
         ensures in_turn { IsInTurn (held_of self.old) (held_of self.new)
-            (L.left (link_of self.old)) (L.left (link_of self.new))
-            (count_of self.old) (count_of self.new) result }
+            (L.state (link_of self.old)) (L.state (link_of self.new)) (count_of self.old) (count_of self.new) result }
         ensures last { last_of self.new ≡ Some result }
         ensures budget { count_of self.new ≤ LINK_BYTES }
         ensures decided { IsDecided (held_of self.old).unread (count_of self.old) → link_of self.new ≡ link_of self.old }
-        ensures sent { L.sent (link_of self.new) ≡ L.sent (link_of self.old) }
-        ensures cause { HasLineCause (L.faults (link_of self.old)) (L.faults (link_of self.new)) result }
-        ensures write_faults { L.write_faults (link_of self.new) ≡ L.write_faults (link_of self.old) }
+        ensures cause { HasLineCause (L.state (link_of self.old)).reads (L.state (link_of self.new)).reads result }
+        ensures sent { SendsNothing (L.state (link_of self.old)) (L.state (link_of self.new)) }
     {
         let got = next_line(&mut self.link, &mut self.buffer, &mut self.taken);
         self.last = Some(got);
@@ -148,15 +137,8 @@ impl<L: Link> Lines<L> {
     /// bytes. `Failed` comes exactly where the link counted a fault of a write in this call. Then
     /// some of the first bytes were sent, or none, but not all.
     pub fn send(&mut self, bytes: &[u8]) -> Result<(), Failed>
-        ensures whole { OnOk result (L.sent (link_of self.new) ≡ and_then_told (L.sent (link_of self.old)) bytes.now) }
-        ensures failed { OnErr result (TakesSome (L.sent (link_of self.old)) (L.sent (link_of self.new)) bytes.now) }
-        ensures cause { HasCause (L.write_faults (link_of self.old)) (L.write_faults (link_of self.new)) result }
-        ensures taken { L.taken (link_of self.new) ≡ L.taken (link_of self.old) }
-        ensures left { L.left (link_of self.new) ≡ L.left (link_of self.old) }
-        ensures read_faults { L.faults (link_of self.new) ≡ L.faults (link_of self.old) }
-        ensures held { held_of self.new ≡ held_of self.old }
-        ensures count { count_of self.new ≡ count_of self.old }
-        ensures last { last_of self.new ≡ last_of self.old }
+        ensures sends { OnlySends (L.state (link_of self.old)) (L.state (link_of self.new)) bytes.now result }
+        ensures place { KeepsPlace self.old self.new }
     {
         send_all(&mut self.link, bytes)
     }

@@ -78,15 +78,13 @@ impl Files for MemFiles {
     ghost use Rattle.tac_io.specs.Counts.{HasCause};
     ghost use Rattle.tac_io.specs.MemFiles.{files_calls, files_content, files_left, files_most, files_names, files_selected, files_share};
 
-    ghost content = { λ s. Some (files_content s) };
-
-    ghost names = { λ s. Some (files_names s) };
-
-    ghost selected = { files_selected };
-
-    ghost left = { λ s. Some (files_left s) };
-
-    ghost faults = { λ s. (files_calls s).faults };
+    ghost state = { λ s. record {
+      content = Some (files_content s);
+      names = Some (files_names s);
+      selected = files_selected s;
+      left = Some (files_left s);
+      faults = (files_calls s).faults;
+    } };
 
     fn select(&mut self, name: &str) -> Result<(), Failed>
         requires { (length (files_names self.old) < FILE_NAMES) × (length name.now ≤ NAME_BYTES) }

@@ -80,15 +80,13 @@ impl Link for MemLink {
     ghost use Rattle.tac_io.specs.Counts.{HasCause};
     ghost use Rattle.tac_io.specs.MemLink.{link_left, link_most, link_reads, link_room, link_sent, link_share, link_taken, link_writes};
 
-    ghost taken = { λ s. Some (link_taken s) };
-
-    ghost left = { λ s. Some (link_left s) };
-
-    ghost sent = { λ s. Some (link_sent s) };
-
-    ghost faults = { λ s. (link_reads s).faults };
-
-    ghost write_faults = { λ s. (link_writes s).faults };
+    ghost state = { λ s. record {
+      taken = Some (link_taken s);
+      left = Some (link_left s);
+      sent = Some (link_sent s);
+      reads = (link_reads s).faults;
+      writes = (link_writes s).faults;
+    } };
 
     fn read(&mut self, into: &mut [u8]) -> Result<usize, Failed>
         requires { 0 < length into.old }

@@ -43,13 +43,12 @@ impl<L: Link + Send + Drop> Links for MemLinks<L> {
 
     type Link = L;
 
-    ghost listens = { links_listens };
-
-    ghost ports = { λ s. Some (links_ports s) };
-
-    ghost pending = { λ s. Some (links_pending s) };
-
-    ghost faults = { λ s. (links_calls s).faults };
+    ghost state = { λ s. record {
+      listens = links_listens s;
+      ports = Some (links_ports s);
+      pending = Some (links_pending s);
+      faults = (links_calls s).faults;
+    } };
 
     fn listen(&mut self, port: u16) -> Result<(), Failed>
         requires { links_ports self.old ≡ [] }

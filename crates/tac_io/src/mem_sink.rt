@@ -57,9 +57,7 @@ impl Sink for MemSink {
     ghost use Rattle.tac_io.specs.Counts.{HasCause};
     ghost use Rattle.tac_io.specs.MemSink.{sink_bytes, sink_calls, sink_most, sink_room, sink_share};
 
-    ghost taken = { λ s. Some (sink_bytes s) };
-
-    ghost faults = { λ s. (sink_calls s).faults };
+    ghost state = { λ s. record { taken = Some (sink_bytes s); faults = (sink_calls s).faults } };
 
     fn write(&mut self, piece: &[u8]) -> Result<usize, Failed>
         ensures fails { IsErr result ↔ (IsNextToFail (sink_calls self.old) ⊎ (sink_share self.old (length piece.now) ≡ 0)) }

@@ -82,11 +82,11 @@ impl Ticker for MemTicker {
 
     ghost lapse_tick = { λ lapse. lapse };
 
-    ghost paced = { λ s. Some (ticker_pace s) };
-
-    ghost waited = { λ s. Some (ticker_waited s) };
-
-    ghost faults = { λ s. (ticker_calls s).faults };
+    ghost state = { λ s. record {
+      paced = Some (ticker_pace s);
+      waited = Some (ticker_waited s);
+      faults = (ticker_calls s).faults;
+    } };
 
     fn pace(&mut self, milliseconds: u16)
         ensures pace { ticker_pace self.new ≡ Some milliseconds }

@@ -58,14 +58,14 @@ pub fn read_file<F: Files>(
     name: &str,
     limit: usize,
 ) -> Result<Vec<u8>, FileFault>
-    requires { IfSome (F.names files.old) (λ names.
+    requires { IfSome (F.state files.old).names (λ names.
         (length names < FILE_NAMES) × (length name.now ≤ NAME_BYTES)) }
-    ensures whole { IfOk result (λ bytes. IsFile (F.content files.old) name.now bytes.items) }
+    ensures whole { IfOk result (λ bytes. IsFile (F.state files.old).content name.now bytes.items) }
     ensures within { IfOk result (λ bytes. length bytes.items ≤ limit) }
-    ensures long { IsErrOf result FileFault.TooLong → IsTooLong (F.content files.old) name.now limit }
-    ensures names { F.names files.new ≡ and_then_told (F.names files.old) (name.now ∷ []) }
-    ensures content { F.content files.new ≡ F.content files.old }
-    ensures cause { HasFileCause (F.faults files.old) (F.faults files.new) result }
+    ensures long { IsErrOf result FileFault.TooLong → IsTooLong (F.state files.old).content name.now limit }
+    ensures names { (F.state files.new).names ≡ and_then_told (F.state files.old).names (name.now ∷ []) }
+    ensures content { (F.state files.new).content ≡ (F.state files.old).content }
+    ensures cause { HasFileCause (F.state files.old).faults (F.state files.new).faults result }
 {
     files.select(name)?;
     let mut bytes = Vec::new(alloc);
@@ -106,17 +106,17 @@ fn make_room(bytes: &mut Vec<u8>, filled: usize, limit: usize) -> Result<(), All
 // Reads into the buffer from a place on.
 fn read_at<F: Files>(files: &mut F, bytes: &mut [u8], at: usize) -> Result<usize, Failed>
     requires room { at < length bytes.old }
-    requires selected { IsTrue (F.selected files.old) }
+    requires selected { IsTrue (F.state files.old).selected }
     ensures front { take at bytes.new ≡ take at bytes.old }
     ensures given { MatchResult result
         (λ n. (at + n ≤ length bytes.new)
-        × (F.left files.old ≡ before_told (take n (drop at bytes.new)) (F.left files.new))
-        × (n ≡ 0 → IsAtEnd (F.left files.old)))
-        (λ _. F.left files.new ≡ F.left files.old) }
-    ensures selected { IsTrue (F.selected files.new) }
-    ensures names { F.names files.new ≡ F.names files.old }
-    ensures content { F.content files.new ≡ F.content files.old }
-    ensures cause { HasCause (F.faults files.old) (F.faults files.new) result }
+        × ((F.state files.old).left ≡ before_told (take n (drop at bytes.new)) (F.state files.new).left)
+        × (n ≡ 0 → IsAtEnd (F.state files.old).left))
+        (λ _. (F.state files.new).left ≡ (F.state files.old).left) }
+    ensures selected { IsTrue (F.state files.new).selected }
+    ensures names { (F.state files.new).names ≡ (F.state files.old).names }
+    ensures content { (F.state files.new).content ≡ (F.state files.old).content }
+    ensures cause { HasCause (F.state files.old).faults (F.state files.new).faults result }
 {
     files.read(&mut bytes[at..])
 }

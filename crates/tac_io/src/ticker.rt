@@ -1,10 +1,10 @@
 // A ticker of the outside.
-ghost use Rattle.std.specs.Prelude.{◌≡◌, ◌∷◌, [], ◌<◌, List, Bool, ℕ, length, IfSome, MatchResult, is_err};
+ghost use Rattle.std.specs.Prelude.{◌≡◌, ◌∷◌, [], ◌<◌, ℕ, length, IfSome, MatchResult, is_err};
 ghost use Rattle.std.specs.Option.{option_map};
-ghost use Rattle.std.specs.declared.option.Option.{Option};
 ghost use Rattle.std.specs.declared.option.Option.TheVariants.{Some};
 ghost use Rattle.tac_base.specs.declared.limits.TheConstants.{TICKS};
 ghost use Rattle.tac_io.specs.Counts.{HasCause};
+ghost use Rattle.tac_io.specs.States.{TickerState};
 ghost use Rattle.tac_io.specs.Told.{and_then_told};
 
 use std::rt::Clock;
@@ -25,41 +25,33 @@ pub trait Ticker {
     /// The tick of a lapse.
     ghost lapse_tick: { Self.Lapse → ℕ };
 
-    /// The pace, if one was set, in milliseconds from a tick to the next, where it is told.
-    ghost paced: { Self → Option (Option ℕ) };
-
-    /// The ticks that were waited for, in order, each with whether it lapsed, where they are told.
-    ghost waited: { Self → Option (List (ℕ × Bool)) };
-
-    /// The count of faults, which never falls and stays at its last value.
-    ghost faults: { Self → ℕ };
+    /// The pace, if one was set, and the ticks that were waited for, each with whether it lapsed,
+    /// where they are told; and the count of faults, which never falls and stays at its last value.
+    ghost state: { Self → TickerState };
 
     /// Sets the pace, in milliseconds from a tick to the next.
     fn pace(&mut self, milliseconds: u16)
-        ensures paced { paced self.new ≡ option_map (λ _. Some milliseconds) (paced self.old) }
-        ensures waited { waited self.new ≡ waited self.old }
-        ensures faults { faults self.new ≡ faults self.old };
+        ensures { state self.new
+            ≡ record (state self.old) { paced = option_map (λ _. Some milliseconds) (state self.old).paced } };
 
     /// Waits for a tick. A lapse is a fault: the wait failed, and the tick's time may be over or
     /// still to come.
     fn wait<R: Wait + Clock>(&mut self, rt: &R, tick: Tick) -> Result<Self::Due, Self::Lapse>
-        requires { IfSome (waited self.old) (λ ticks. length ticks < TICKS) }
+        requires { IfSome (state self.old).waited (λ ticks. length ticks < TICKS) }
         ensures tick { MatchResult result
             (λ due. due_tick due ≡ tick)
             (λ lapse. lapse_tick lapse ≡ tick) }
-        ensures waited { waited self.new
-            ≡ and_then_told (waited self.old) ((tick, is_err result) ∷ []) }
-        ensures paced { paced self.new ≡ paced self.old }
-        ensures cause { HasCause (faults self.old) (faults self.new) result };
+        ensures waited { (state self.new).waited
+            ≡ and_then_told (state self.old).waited ((tick, is_err result) ∷ []) }
+        ensures paced { (state self.new).paced ≡ (state self.old).paced }
+        ensures cause { HasCause (state self.old).faults (state self.new).faults result };
 
     /// Takes a tick that lapsed as due.
     fn late(&mut self, lapse: Self::Lapse) -> Self::Due
         ensures tick { due_tick result ≡ lapse_tick lapse }
-        ensures waited { waited self.new ≡ waited self.old }
-        ensures paced { paced self.new ≡ paced self.old }
-        ensures faults { faults self.new ≡ faults self.old };
+        ensures same { state self.new ≡ state self.old };
 
     /// How many waits lapsed so far.
     fn faults(&self) -> u64
-        ensures { result ≡ faults self.now };
+        ensures { result ≡ (state self.now).faults };
 }

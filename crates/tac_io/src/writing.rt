@@ -9,9 +9,9 @@ use crate::{Failed, Sink};
 /// `Failed` comes exactly where the sink counted a fault in this call. Then some of the first
 /// bytes were written, or none, but not all.
 pub fn write_all<K: Sink>(sink: &mut K, bytes: &[u8]) -> Result<(), Failed>
-    ensures whole { OnOk result (K.taken sink.new ≡ and_then_told (K.taken sink.old) bytes.now) }
-    ensures failed { OnErr result (TakesSome (K.taken sink.old) (K.taken sink.new) bytes.now) }
-    ensures cause { HasCause (K.faults sink.old) (K.faults sink.new) result }
+    ensures whole { OnOk result ((K.state sink.new).taken ≡ and_then_told (K.state sink.old).taken bytes.now) }
+    ensures failed { OnErr result (TakesSome (K.state sink.old).taken (K.state sink.new).taken bytes.now) }
+    ensures cause { HasCause (K.state sink.old).faults (K.state sink.new).faults result }
 {
     let mut done = 0;
     while done < bytes.len() {

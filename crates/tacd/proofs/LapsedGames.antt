@@ -1,9 +1,9 @@
 -- The code of a game whose log was written.
-use Rattle.std.proofs.Common.{◌≡◌, ℕ, ◌<◌, Bool, true, false, List, zero, suc, refl, sym, subst, arith, Option}
+use Rattle.std.proofs.Common.{◌≡◌, ℕ, ◌<◌, Bool, true, false, List, zero, suc, refl, sym, subst, arith}
 use Rattle.std.specs.Prelude.{◌==◌, MatchBool, nat_lt}
 use Rattle.std.proofs.lemmas.Bool.Decides.{nat_tests}
-use Rattle.tac_io.specs.Counts.{Rose}
-use Rattle.tac_io.specs.Told.{and_then_told, TakesSome}
+use Rattle.tac_io.specs.States.{SinkState}
+use Rattle.game_log.specs.Taken.{TookWhole, TookPart}
 use Rattle.game_text.specs.Games.{GameFile}
 use Rattle.line_protocol.specs.Heads.{head_of}
 use Rattle.tacd.specs.declared.answer.Played.{Played}
@@ -18,43 +18,43 @@ abbrev missed : Played → ℕ
 missed played = missed_of (head_of played.head)
 
 -- the game's log was not written whole: whether ticks lapsed or not
-cut_off : (game : GameFile) (played : Played) (text : List ℕ) (taken taken' : Option (List ℕ)) (before now code count : ℕ) → IsLogOf game played text → missed played ≡ count →
-    (code == 4) ≡ true → TakesSome taken taken' text × Rose before now → (o : Outcome) × PlayedAllows game played o × Tells o taken taken' before now code
-cut_off game played text taken taken' before now code zero log is four told =
-    (Done text, (log, is), subst (λ b. MatchBool b (TakesSome taken taken' text × Rose before now) ((code ≡ 0) × (taken' ≡ and_then_told taken text) × (now ≡ before))) (sym four) told)
-cut_off game played text taken taken' before now code (suc n) log is four told =
-    (Lapsed text, (log, omega (arith, is)), subst (λ b. MatchBool b (TakesSome taken taken' text × Rose before now) ((code ≡ 6) × (taken' ≡ and_then_told taken text) × (now ≡ before))) (sym four) told)
+cut_off : (game : GameFile) (played : Played) (text : List ℕ) (sink sink' : SinkState) (code count : ℕ) → IsLogOf game played text → missed played ≡ count →
+    (code == 4) ≡ true → TookPart sink sink' text → (o : Outcome) × PlayedAllows game played o × Tells o sink sink' code
+cut_off game played text sink sink' code zero log is four told =
+    (Done text, (log, is), subst (λ b. MatchBool b (TookPart sink sink' text) ((code ≡ 0) × TookWhole sink sink' text)) (sym four) told)
+cut_off game played text sink sink' code (suc n) log is four told =
+    (Lapsed text, (log, omega (arith, is)), subst (λ b. MatchBool b (TookPart sink sink' text) ((code ≡ 6) × TookWhole sink sink' text)) (sym four) told)
 
-kept_by : (b : Bool) (game : GameFile) (played : Played) (text : List ℕ) (taken taken' : Option (List ℕ)) (before now code : ℕ) → IsLogOf game played text → (code ≡ 0 → missed played ≡ 0) →
-    (code == 4) ≡ b → MatchBool b (TakesSome taken taken' text × Rose before now) ((code ≡ 0) × (taken' ≡ and_then_told taken text) × (now ≡ before)) →
-    (o : Outcome) × PlayedAllows game played o × Tells o taken taken' before now code
-kept_by true game played text taken taken' before now code log none four told = cut_off game played text taken taken' before now code (missed played) log refl four told
-kept_by false game played text taken taken' before now code log none four told =
-    (Done text, (log, none told.0), subst (λ b. MatchBool b (TakesSome taken taken' text × Rose before now) ((code ≡ 0) × (taken' ≡ and_then_told taken text) × (now ≡ before))) (sym four) told)
+kept_by : (b : Bool) (game : GameFile) (played : Played) (text : List ℕ) (sink sink' : SinkState) (code : ℕ) → IsLogOf game played text → (code ≡ 0 → missed played ≡ 0) →
+    (code == 4) ≡ b → MatchBool b (TookPart sink sink' text) ((code ≡ 0) × TookWhole sink sink' text) →
+    (o : Outcome) × PlayedAllows game played o × Tells o sink sink' code
+kept_by true game played text sink sink' code log none four told = cut_off game played text sink sink' code (missed played) log refl four told
+kept_by false game played text sink sink' code log none four told =
+    (Done text, (log, none told.0), subst (λ b. MatchBool b (TookPart sink sink' text) ((code ≡ 0) × TookWhole sink sink' text)) (sym four) told)
 
 -- the code stays where it is not 0, or no tick lapsed
-kept : (game : GameFile) (played : Played) (taken taken' : Option (List ℕ)) (before now code : ℕ) (outcome : Outcome) → LogAllows game played outcome → Tells outcome taken taken' before now code →
-    (code ≡ 0 → missed played ≡ 0) → (o : Outcome) × PlayedAllows game played o × Tells o taken taken' before now code
-kept game played taken taken' before now code (Done text) log told none = kept_by (code == 4) game played text taken taken' before now code log none refl told
-kept game played taken taken' before now code (Lapsed text) log told none = absurd log
-kept game played taken taken' before now code (Unsound text) log told none = absurd log
-kept game played taken taken' before now code (Cut text) first told none = (Cut text, first, told)
-kept game played taken taken' before now code (Refused refusal) log told none = absurd log
+kept : (game : GameFile) (played : Played) (sink sink' : SinkState) (code : ℕ) (outcome : Outcome) → LogAllows game played outcome → Tells outcome sink sink' code →
+    (code ≡ 0 → missed played ≡ 0) → (o : Outcome) × PlayedAllows game played o × Tells o sink sink' code
+kept game played sink sink' code (Done text) log told none = kept_by (code == 4) game played text sink sink' code log none refl told
+kept game played sink sink' code (Lapsed text) log told none = absurd log
+kept game played sink sink' code (Unsound text) log told none = absurd log
+kept game played sink sink' code (Cut text) first told none = (Cut text, first, told)
+kept game played sink sink' code (Refused refusal) log told none = absurd log
 
 -- code 6 stands in the place of 0 where a tick lapsed
-lapsed : (game : GameFile) (played : Played) (taken taken' : Option (List ℕ)) (before now : ℕ) (outcome : Outcome) → LogAllows game played outcome → Tells outcome taken taken' before now 0 →
-    0 < missed played → (o : Outcome) × PlayedAllows game played o × Tells o taken taken' before now 6
-lapsed game played taken taken' before now (Done text) log told some = (Lapsed text, (log, some), (refl, told.1, told.2))
-lapsed game played taken taken' before now (Lapsed text) log told some = absurd log
-lapsed game played taken taken' before now (Unsound text) log told some = absurd log
-lapsed game played taken taken' before now (Cut text) first told some = let is = told.0 in absurd (omega (arith, is))
-lapsed game played taken taken' before now (Refused refusal) log told some = absurd log
+lapsed : (game : GameFile) (played : Played) (sink sink' : SinkState) (outcome : Outcome) → LogAllows game played outcome → Tells outcome sink sink' 0 →
+    0 < missed played → (o : Outcome) × PlayedAllows game played o × Tells o sink sink' 6
+lapsed game played sink sink' (Done text) log told some = (Lapsed text, (log, some), (refl, told.1))
+lapsed game played sink sink' (Lapsed text) log told some = absurd log
+lapsed game played sink sink' (Unsound text) log told some = absurd log
+lapsed game played sink sink' (Cut text) first told some = let is = told.0 in absurd (omega (arith, is))
+lapsed game played sink sink' (Refused refusal) log told some = absurd log
 
 -- so it is with the code that is given
-pub by_code : (game : GameFile) (played : Played) (taken taken' : Option (List ℕ)) (before now count : ℕ) (code : Code) (outcome : Outcome) → LogAllows game played outcome →
-    Tells outcome taken taken' before now (number_of code) → missed played ≡ count → (o : Outcome) × PlayedAllows game played o × Tells o taken taken' before now (number_of (lapsed_code code count))
-by_code game played taken taken' before now zero Success outcome log told is = kept game played taken taken' before now 0 outcome log told (λ none. is)
-by_code game played taken taken' before now (suc n) Success outcome log told is =
+pub by_code : (game : GameFile) (played : Played) (sink sink' : SinkState) (count : ℕ) (code : Code) (outcome : Outcome) → LogAllows game played outcome →
+    Tells outcome sink sink' (number_of code) → missed played ≡ count → (o : Outcome) × PlayedAllows game played o × Tells o sink sink' (number_of (lapsed_code code count))
+by_code game played sink sink' zero Success outcome log told is = kept game played sink sink' 0 outcome log told (λ none. is)
+by_code game played sink sink' (suc n) Success outcome log told is =
     let test : nat_lt 0 (suc n) ≡ true = grind (arith, nat_tests) in
-    rw test (lapsed game played taken taken' before now outcome log told (omega (arith, is)))
-by_code game played taken taken' before now count code outcome log told is = kept game played taken taken' before now (number_of code) outcome log told (λ none. absurd (omega (arith, none)))
+    rw test (lapsed game played sink sink' outcome log told (omega (arith, is)))
+by_code game played sink sink' count code outcome log told is = kept game played sink sink' (number_of code) outcome log told (λ none. absurd (omega (arith, none)))

@@ -18,15 +18,14 @@ use Rattle.score_sheet.specs.Settlement.{cash_of}
 use Rattle.line_protocol.specs.declared.asking.Request.{Request}
 use Rattle.line_protocol.specs.declared.asking.RequestFault.{RequestFault}
 use Rattle.line_protocol.specs.declared.saying.Said.{Said}
-use Rattle.game_run.specs.LinkStates.{LinkState}
+use Rattle.tac_io.specs.States.{LinkState, LinksState, TickerState}
 use Rattle.game_run.specs.PlayedGame.{IsLegalGame}
 use Rattle.tacd.specs.declared.answer.Played.{Played}
 use Rattle.tac_commands.specs.Outcomes.{Outcome}
-use Rattle.tac_commands.specs.Commands.{Command, Serve, OffService, OnService}
-use Rattle.tac_commands.specs.Files.{Content}
+use Rattle.tac_commands.specs.Outsides.{Outside}
+use Rattle.tac_commands.specs.Services.{Service}
 use Rattle.tac_commands.specs.Cash.{IsCashOfPosts}
-use Rattle.tac_commands.specs.Telling.{Tells}
-use Rattle.tacd.specs.Service.{LinksState, TickerState, ServesGame, ServeAllows, answers_by, texts_by}
+use Rattle.tacd.specs.Service.{ServesGame, ServeAllows, answers_by, texts_by}
 
 -- the order of the entries does not matter
 reversed : (history : List Entry) (party : ℕ) → dollars (all_trades (reverse history)) party ≡ dollars (all_trades history) party
@@ -78,19 +77,14 @@ HasCash played = IfSome played (λ p. IsCashOfPosts p.closed)
 no_game : (played : Option Played) → played ≡ None → HasCash played
 no_game played none = subst HasCash (sym none) tt
 
-module _ {L : Type 0} (state : L → LinkState) (links links' : LinksState L) (ticker ticker' : TickerState) (ended : Vec L) where
-  in_game : (may_answer : List ℕ → Result Request RequestFault → Type 0) (text : Said → List ℕ) (game : GameFile) (port pace : ℕ) (played : Option Played) (outcome : Outcome) → ServesGame state may_answer text game port pace links links' ticker ticker' played ended outcome → HasCash played
-  in_game may_answer text game port pace (Some played) outcome plays = cash_of_posts game played.closed plays.0.end.played.played.legal_game
-  in_game may_answer text game port pace None outcome plays = tt
+module _ {L : Type 0} (state : L → LinkState) where
+  in_game : (may_answer : List ℕ → Result Request RequestFault → Type 0) (text : Said → List ℕ) (game : GameFile) (port pace : ℕ) (links links' : LinksState L) (ticker ticker' : TickerState)
+      (played : Option Played) (ended : Vec L) (outcome : Outcome) → ServesGame state may_answer text game port pace links links' ticker ticker' played ended outcome → HasCash played
+  in_game may_answer text game port pace links links' ticker ticker' (Some played) ended outcome plays = cash_of_posts game played.closed plays.0.played.played.legal_game
+  in_game may_answer text game port pace links links' ticker ticker' None ended outcome plays = tt
 
-  in_service : (may_answer : List ℕ → Result Request RequestFault → Type 0) (text : Said → List ℕ) (content : Content) (name : List ℕ) (port pace before now : ℕ) (played : Option Played) (outcome : Outcome) →
-      ServeAllows state may_answer text content name port pace before now links links' ticker ticker' played ended outcome → HasCash played
-  in_service may_answer text content name port pace before now played outcome (inl serves) = in_game may_answer text serves.0 port pace played outcome serves.2
-  in_service may_answer text content name port pace before now played outcome (inr refuses) = no_game played refuses.5
-
-  pub cash_served : (command : Option Command) (content : Content) (before now out_before out_now code : ℕ) (taken taken' : Option (List ℕ)) (played : Option Played) → OffService command (played ≡ None) →
-      OnService command (λ name port pace form. (outcome : Outcome) × ServeAllows state (answers_by form) (texts_by form) content name port pace before now links links' ticker ticker' played ended outcome × Tells outcome taken taken' out_before out_now code) →
-      HasCash played
-  cash_served (Some (Serve name port pace form)) content before now out_before out_now code taken taken' played off on =
-      in_service (answers_by form) (texts_by form) content name port pace before now played on.0 on.1
-  cash_served command content before now out_before out_now code taken taken' played off on = no_game played off
+  pub in_service : (service : Service) (before after : Outside L) (played : Option Played) (ended : Vec L) (outcome : Outcome) →
+      ServeAllows state service before after played ended outcome → HasCash played
+  in_service service before after played ended outcome (inl serves) =
+      in_game (answers_by service.form) (texts_by service.form) serves.0 service.port service.pace before.links after.links before.ticker after.ticker played ended outcome serves.2
+  in_service service before after played ended outcome (inr refuses) = no_game played refuses.6

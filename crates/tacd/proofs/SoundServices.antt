@@ -34,9 +34,9 @@ use Rattle.log_reader.specs.SoundLog.{seatings, IsService, IsSoundHead}
 use Rattle.clock_events.specs.Clocking.{WaitsForAll}
 use Rattle.game_log.specs.ShownGames.{IsShowable}
 use Rattle.game_log.specs.ScoredGames.{IsSheetOf}
-use Rattle.game_run.specs.Admission.{free_seats, seats_given}
-use Rattle.game_run.specs.LinkRuns.{RunsLink}
-use Rattle.game_run.specs.LinkStates.{LinkState}
+use Rattle.game_run.specs.Admission.{free_seats, seats_given, CameTo}
+use Rattle.game_run.specs.LinkRuns.{IsSeated}
+use Rattle.tac_io.specs.States.{LinkState, LinksState, TickerState}
 use Rattle.game_run.specs.Outcomes.{IsPlayed, IsEnd}
 use Rattle.game_run.specs.PlayedGame.{parts_of, IsAbsent, IsPlayedBy}
 use Rattle.game_run.proofs.SeatPlaces.{seat_was_free}
@@ -46,7 +46,8 @@ use Rattle.tac_commands.specs.Outcomes.{Outcome, Done, Lapsed, Unsound, Cut, Ref
 use Rattle.tac_commands.specs.SoundTexts.{told_of, EndsInSoundLog}
 use Rattle.tac_commands.proofs.SoundLogs.{text_is, ends_soundly}
 use Rattle.tacd.specs.declared.answer.Played.{Played}
-use Rattle.tacd.specs.Service.{IsLogOf, PlayedAllows, IsSoundLogOf, TellsSoundly}
+use Rattle.tacd.specs.Service.{IsLogOf, PlayedAllows}
+use Rattle.tacd.specs.SoundLogs.{IsSoundLogOf, TellsSoundly}
 use Rattle.tacd.proofs.SeatedOnce.{is_taken, taken_after, given_once, same_kept}
 
 -- ---- who has no part has no entry
@@ -126,8 +127,8 @@ few_links verdicts pending n may is = dite (dec_le (length verdicts) 64) (λ low
     let many = length-take-le n verdicts (omega (arith, lt)) in
     let few = may lt in absurd (omega (arith, is, many, few)))
 
-few_missed : (waited waited' : Option (List (ℕ × Bool))) (missed : ℕ) → WaitsForAll waited waited' missed → missed ≤ 54
-few_missed waited waited' missed all =
+few_missed : (ticker ticker' : TickerState) (missed : ℕ) → WaitsForAll ticker ticker' missed → missed ≤ 54
+few_missed ticker ticker' missed all =
     let many : length all.waits ≡ 54 = sym (length-map all.waits (λ (w : ℕ × Bool). w.0)) ∙ ap length all.all_ticks in
     let few = count_by-le-length (λ (w : ℕ × Bool). w.1) all.waits in
     let lapses = all.lapses in
@@ -144,7 +145,7 @@ module _ {L : Type 0} (state : L → LinkState) (may_answer : List ℕ → Resul
 
   once : (agent : ℕ) → agent ≤ 7 → seatings verdicts agent ≤ 1
   once agent low =
-      let given = given_once (RunsLink may_answer text game closed ends) (λ seats a before after runs. seat_was_free seats runs.2.line a runs.2.seat) (free_seats game) (map state played.given) verdicts (map state links)
+      let given = given_once (CameTo (IsSeated may_answer text game closed ends)) (λ seats a before after sits. seat_was_free seats sits.line a sits.seat) (free_seats game) (map state played.given) verdicts (map state links)
       agent (omega (arith, low)) played.admitted in
       omega (arith, given)
 
@@ -164,23 +165,23 @@ module _ {L : Type 0} (state : L → LinkState) (may_answer : List ℕ → Resul
   }
 
 -- a game that was played over links, with a sheet of it
-served_soundly : {L : Type 0} (state : L → LinkState) (may_answer : List ℕ → Result Request RequestFault → Type 0) (text : Said → List ℕ) (game : GameFile) (pending pending' : Option (List L))
-    (waited waited' : Option (List (ℕ × Bool))) (lapses lapses' : ℕ) (end : GameEnd L) (sheet : List Scored) (told : List ℕ) → IsEnd state may_answer text game pending pending' waited waited' lapses lapses' end →
+served_soundly : {L : Type 0} (state : L → LinkState) (may_answer : List ℕ → Result Request RequestFault → Type 0) (text : Said → List ℕ) (game : GameFile) (port : ℕ)
+    (links links' : LinksState L) (ticker ticker' : TickerState) (end : GameEnd L) (sheet : List Scored) (told : List ℕ) → IsEnd state may_answer text game port links links' ticker ticker' end →
     IsShowable game (head_of end.head) end.closed → IsSheetOf game end.closed sheet → told ≡ logged_text (told_of (head_of end.head) end.closed sheet) → EndsInSoundLog game (told_of (head_of end.head) end.closed sheet) [] told
-served_soundly state may_answer text game pending pending' waited waited' lapses lapses' end sheet told is shown scores due =
+served_soundly state may_answer text game port links links' ticker ticker' end sheet told is shown scores due =
     ends_soundly game (head_of end.head) end.closed sheet [] told (lawful game is.verdicts is.ends end.closed is.played.played) scores
     (subst (λ (h : Head). IsSoundHead (told_of h end.closed sheet) h) (sym is.head)
-    (service state may_answer text game pending pending' is.verdicts is.ends end.closed end.links.items is.played is.missed sheet (few_missed waited waited' is.missed is.waits)))
+    (service state may_answer text game links.pending links'.pending is.verdicts is.ends end.closed end.links.items is.played is.missed sheet (few_missed ticker ticker' is.missed is.waits)))
     shown due
 
-module _ {L : Type 0} (state : L → LinkState) (may_answer : List ℕ → Result Request RequestFault → Type 0) (text : Said → List ℕ) (game : GameFile) (pending pending' : Option (List L))
-    (waited waited' : Option (List (ℕ × Bool))) (lapses lapses' : ℕ) (played : Played) (ended : Vec L)
-    (is : IsEnd state may_answer text game pending pending' waited waited' lapses lapses' (record { closed = played.closed; head = played.head; links = ended }))
+module _ {L : Type 0} (state : L → LinkState) (may_answer : List ℕ → Result Request RequestFault → Type 0) (text : Said → List ℕ) (game : GameFile) (port : ℕ)
+    (links links' : LinksState L) (ticker ticker' : TickerState) (played : Played) (ended : Vec L)
+    (is : IsEnd state may_answer text game port links links' ticker ticker' (record { closed = played.closed; head = played.head; links = ended }))
     (shown : IsShowable game (head_of played.head) played.closed) where
   log_soundly : (told : List ℕ) → IsLogOf game played told → IsSoundLogOf game played told
   log_soundly told log = (
     log.sheet,
-    served_soundly state may_answer text game pending pending' waited waited' lapses lapses' (record { closed = played.closed; head = played.head; links = ended }) log.sheet told is shown log.scores
+    served_soundly state may_answer text game port links links' ticker ticker' (record { closed = played.closed; head = played.head; links = ended }) log.sheet told is shown log.scores
         (log.due ∙ text_is (head_of played.head) played.closed log.sheet),
   )
 

@@ -1,1 +1,2 @@
+pub mod SoundLogs
 pub mod Service

@@ -31,15 +31,7 @@ impl<'a, R: rt::Files<File = File>> HostFiles<'a, R> {
 impl<'a, R: rt::Files<File = File>> Files for HostFiles<'a, R> {
     ghost use Rattle.std.specs.Prelude.{None, is_some};
 
-    ghost content = { λ _. None };
-
-    ghost names = { λ _. None };
-
-    ghost selected = { λ s. is_some s.file };
-
-    ghost left = { λ _. None };
-
-    ghost faults = { λ s. s.faults };
+    ghost state = { λ s. record { content = None; names = None; selected = is_some s.file; left = None; faults = s.faults } };
 
     fn select(&mut self, name: &str) -> Result<(), Failed> {
         match File::open(self.rt, name) {

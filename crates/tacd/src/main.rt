@@ -3,7 +3,6 @@
 
 mod answer;
 mod host_files;
-mod running;
 mod serve_command;
 #[cfg(test)]
 mod serve_tests;

@@ -3,12 +3,13 @@ ghost use Rattle.std.specs.Prelude.{◌≡◌, ◌<◌, ◌≤◌, ◌∷◌, []
 ghost use Rattle.tac_base.specs.declared.limits.TheConstants.{FILE_NAMES, NAME_BYTES};
 ghost use Rattle.tac_io.specs.Told.{and_then_told};
 ghost use Rattle.tac_commands.specs.Codes.{number_of};
+ghost use Rattle.tac_commands.specs.Commands.{seen_service};
 ghost use Rattle.tac_commands.specs.Ends.{EndsOrIsCut};
 ghost use Rattle.tac_commands.specs.Telling.{Tells};
 ghost use Rattle.tac_commands.specs.Outcomes.{Outcome};
 ghost use Rattle.tacd.specs.Service as service;
-ghost use Rattle.tacd.specs.Service.{LogAllows, first_part, PlayedAllows, ServeAllows, ServesGame, answers_by, links_state, missed_of, texts_by, ticker_state};
-ghost use Rattle.game_run.specs.LinkStates.{link_state};
+ghost use Rattle.tac_commands.specs.Outsides.{outside_of};
+ghost use Rattle.tacd.specs.Service.{LogAllows, first_part, PlayedAllows, Serves, ServesGame, missed_of};
 ghost use Rattle.line_protocol.specs.Heads.{head_of};
 ghost use Rattle.game_log.specs.Written.{Writes};
 
@@ -23,12 +24,12 @@ use std::alloc::Global;
 use std::sync::Wait;
 use std::thread::Threads;
 use std::time::Clock;
-use tac_commands::{Code, End, Form, Refusal, finish, read_game_file};
+use tac_commands::{Code, End, Form, Refusal, Service, finish, read_value};
 use tac_io::{Failed, Files, Links, Sink, Ticker};
 
 /// Writes the first part of the log of a game that was played.
 fn write_first<K: Sink>(out: &mut K, played: &Played) -> Result<(), Failed>
-    ensures { Writes (first_part played.now) (K.taken out.old) (K.taken out.new) (K.faults out.old) (K.faults out.new) result }
+    ensures { Writes (first_part played.now) (K.state out.old) (K.state out.new) result }
 {
     write_play_part(out, &played.head, &played.closed)
 }
@@ -41,7 +42,7 @@ fn write_log<R: Threads + Sync, K: Sink>(
     played: &Played,
     out: &mut K,
 ) -> End
-    ensures { EndsOrIsCut (LogAllows game.now played.now) (K.taken out.old) (K.taken out.new) (K.faults out.old) (K.faults out.new) result }
+    ensures { EndsOrIsCut (LogAllows game.now played.now) (K.state out.old) (K.state out.new) result }
 {
     match write_first(out, played) {
         Ok(()) => match write_scores(rt, alloc, game, &played.closed, out) {
@@ -81,7 +82,7 @@ fn finish_played<R: Threads + Sync, K: Sink>(
     played: &Played,
     out: &mut K,
 ) -> Code
-    ensures { (outcome : Outcome) × PlayedAllows game.now played.now outcome × Tells outcome (K.taken out.old) (K.taken out.new) (K.faults out.old) (K.faults out.new) (number_of result) }
+    ensures { (outcome : Outcome) × PlayedAllows game.now played.now outcome × Tells outcome (K.state out.old) (K.state out.new) (number_of result) }
 {
     let end = write_log(rt, alloc, game, played, out);
     let code = finish(out, end);
@@ -106,13 +107,13 @@ fn serve_game<
     links: &mut N,
     ticker: &mut T,
 ) -> Answer<N::Link>
-    requires ports { IfSome (N.ports links.old) (λ ports. ports ≡ []) }
-    requires ticks { IfSome (T.waited ticker.old) (λ ticks. ticks ≡ []) }
+    requires ports { IfSome (N.state links.old).ports (λ ports. ports ≡ []) }
+    requires ticks { IfSome (T.state ticker.old).waited (λ ticks. ticks ≡ []) }
     ensures { (outcome : Outcome)
-        × ServesGame (link_state N.Link.taken N.Link.left N.Link.sent N.Link.faults N.Link.write_faults) (D.may_answer dialect.now) (D.text dialect.now)
-        game.now port pace (links_state N.ports N.pending N.faults links.old) (links_state N.ports N.pending N.faults links.new)
-        (ticker_state T.paced T.waited T.faults ticker.old) (ticker_state T.paced T.waited T.faults ticker.new) result.played result.ended outcome
-        × Tells outcome (K.taken out.old) (K.taken out.new) (K.faults out.old) (K.faults out.new) result.code }
+        × ServesGame N.Link.state (D.may_answer dialect.now) (D.text dialect.now)
+        game.now port pace (N.state links.old) (N.state links.new)
+        (T.state ticker.old) (T.state ticker.new) result.played result.ended outcome
+        × Tells outcome (K.state out.old) (K.state out.new) result.code }
 {
     ticker.pace(pace);
     match run_game(rt, alloc, game, port, dialect, links, ticker) {
@@ -147,7 +148,7 @@ fn serve_game<
     }
 }
 
-/// Serves the game of the file of that name over links, at a port, with a pace in milliseconds and in a form of lines, and writes its log.
+/// Serves the game of a file over links, and writes its log.
 pub(crate) fn serve<
     R: Threads + Sync + Wait + Clock,
     F: Files,
@@ -157,34 +158,28 @@ pub(crate) fn serve<
 >(
     rt: &R,
     alloc: Global,
-    name: &str,
-    port: u16,
-    pace: u16,
-    form: Form,
+    service: Service<'_>,
     files: &mut F,
     out: &mut K,
     links: &mut N,
     ticker: &mut T,
 ) -> Answer<N::Link>
-    requires names { IfSome (F.names files.old) (λ names. (length names < FILE_NAMES) × (length name.now ≤ NAME_BYTES)) }
-    requires ports { IfSome (N.ports links.old) (λ ports. ports ≡ []) }
-    requires ticks { IfSome (T.waited ticker.old) (λ ticks. ticks ≡ []) }
-    ensures outcome { (outcome : Outcome)
-        × ServeAllows (link_state N.Link.taken N.Link.left N.Link.sent N.Link.faults N.Link.write_faults) (answers_by form) (texts_by form)
-        (F.content files.old) name.now port pace (F.faults files.old) (F.faults files.new)
-        (links_state N.ports N.pending N.faults links.old) (links_state N.ports N.pending N.faults links.new)
-        (ticker_state T.paced T.waited T.faults ticker.old) (ticker_state T.paced T.waited T.faults ticker.new) result.played result.ended outcome
-        × Tells outcome (K.taken out.old) (K.taken out.new) (K.faults out.old) (K.faults out.new) result.code }
-    ensures names { F.names files.new ≡ and_then_told (F.names files.old) (name.now ∷ []) }
+    requires names { IfSome (F.state files.old).names (λ names. (length names < FILE_NAMES) × (length service.game.now ≤ NAME_BYTES)) }
+    requires ports { IfSome (N.state links.old).ports (λ ports. ports ≡ []) }
+    requires ticks { IfSome (T.state ticker.old).waited (λ ticks. ticks ≡ []) }
+    ensures outcome { Serves N.Link.state (seen_service service.entry)
+        (outside_of (F.state files.old) (K.state out.old) (N.state links.old) (T.state ticker.old))
+        (outside_of (F.state files.new) (K.state out.new) (N.state links.new) (T.state ticker.new)) result }
+    ensures names { (F.state files.new).names ≡ and_then_told (F.state files.old).names (service.entry.game.now ∷ []) }
 {
-    match read_game_file(alloc, files, name) {
-        Ok(game) => match form {
+    match read_value::<Game, F>(alloc, files, service.game) {
+        Ok(game) => match service.form {
             Form::Lines => serve_game(
                 rt,
                 alloc,
                 &game,
-                port,
-                pace,
+                service.port,
+                service.pace,
                 &LineDialect,
                 out,
                 links,
@@ -194,8 +189,8 @@ pub(crate) fn serve<
                 rt,
                 alloc,
                 &game,
-                port,
-                pace,
+                service.port,
+                service.pace,
                 &JsonDialect::new(alloc),
                 out,
                 links,

@@ -39,7 +39,7 @@ fn serve_by<R: Threads + Sync + Wait + Clock, L: Link + Send + Drop, T: Ticker +
     faults: Faults,
     ticker: &mut T,
 ) -> Result<Ran<L>, Fail>
-    requires { IfSome (T.waited ticker.old) (λ ticks. ticks ≡ []) }
+    requires { IfSome (T.state ticker.old).waited (λ ticks. ticks ≡ []) }
 {
     let game = plain_game(alloc, FIRST_CLIENT)?;
     let files = [("game", game.as_bytes())];
@@ -291,11 +291,7 @@ impl Ticker for PacedTicker {
 
     ghost lapse_tick = { λ lapse. lapse };
 
-    ghost paced = { λ _. None };
-
-    ghost waited = { λ _. None };
-
-    ghost faults = { λ s. s.lapses };
+    ghost state = { λ s. record { paced = None; waited = None; faults = s.lapses } };
 
     fn pace(&mut self, milliseconds: u16) {
         self.pace = Some(milliseconds);

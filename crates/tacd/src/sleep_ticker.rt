@@ -65,11 +65,7 @@ impl Ticker for SleepTicker {
 
     ghost lapse_tick = { λ lapse. lapse.tick };
 
-    ghost paced = { λ _. None };
-
-    ghost waited = { λ _. None };
-
-    ghost faults = { λ s. s.faults };
+    ghost state = { λ s. record { paced = None; waited = None; faults = s.faults } };
 
     fn pace(&mut self, milliseconds: u16) {
         self.pace = Duration::from_millis(u64::from(milliseconds));

@@ -27,9 +27,7 @@ impl<W: Write> StdSink<W> {
 impl<W: Write> Sink for StdSink<W> {
     ghost use Rattle.std.specs.Prelude.{None};
 
-    ghost taken = { λ _. None };
-
-    ghost faults = { λ s. s.faults };
+    ghost state = { λ s. record { taken = None; faults = s.faults } };
 
     fn write(&mut self, piece: &[u8]) -> Result<usize, Failed>
         ensures bytes { Takes None None result piece.now }

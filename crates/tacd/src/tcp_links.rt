@@ -34,15 +34,7 @@ impl<S> TcpLink<S> {
 impl<S: Read + Write> Link for TcpLink<S> {
     ghost use Rattle.std.specs.Prelude.{None};
 
-    ghost taken = { λ _. None };
-
-    ghost left = { λ _. None };
-
-    ghost sent = { λ _. None };
-
-    ghost faults = { λ s. s.faults };
-
-    ghost write_faults = { λ s. s.write_faults };
+    ghost state = { λ s. record { taken = None; left = None; sent = None; reads = s.faults; writes = s.write_faults } };
 
     fn read(&mut self, into: &mut [u8]) -> Result<usize, Failed>
         ensures bytes { Reads None None result into.new }
@@ -110,13 +102,7 @@ impl<'a, R: Net<Listener = TcpListener, Stream = TcpStream>> Links for TcpLinks<
 
     type Link = TcpLink<TcpStream>;
 
-    ghost listens = { λ s. is_some s.listener };
-
-    ghost ports = { λ _. None };
-
-    ghost pending = { λ _. None };
-
-    ghost faults = { λ s. s.faults };
+    ghost state = { λ s. record { listens = is_some s.listener; ports = None; pending = None; faults = s.faults } };
 
     fn listen(&mut self, port: u16) -> Result<(), Failed> {
         // Where the machine has no addresses of version 6, those of version 4 alone are listened at.

@@ -53,7 +53,7 @@ pub(crate) fn run_over<R: Threads + Sync + Wait + Clock, L: Link + Send + Drop, 
     ticker: &mut T,
     faults: Faults,
 ) -> Result<Ran<L>, Fail>
-    requires { IfSome (T.waited ticker.old) (λ ticks. ticks ≡ []) }
+    requires { IfSome (T.state ticker.old).waited (λ ticks. ticks ≡ []) }
 {
     let mut held = Vec::new(alloc);
     for (name, bytes) in files {

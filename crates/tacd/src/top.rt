@@ -1,22 +1,24 @@
 // The top call.
 ghost use Rattle.std.specs.Prelude.{◌≡◌, ◌≤◌, [], None, map, string_bytes, string_len, All, IfSome};
 ghost use Rattle.tac_base.specs.declared.limits.TheConstants.{NAME_BYTES};
-ghost use Rattle.game_run.specs.LinkStates.{link_state};
 ghost use Rattle.tac_commands.specs.Causes.{ClockFaultExactly, GameRefusedExactly, IsComplete, LinkFaultExactly, ReadFaultExactly, TextRefusedExactly, UnsoundExactly, UsageExactly, WriteFaultExactly};
 ghost use Rattle.tac_commands.specs.Cash.{IsCashOfPosts};
-ghost use Rattle.tac_commands.specs.Commands.{OffService, OnService, command_of};
+ghost use Rattle.tac_commands.specs.Commands.{command_of};
+ghost use Rattle.tac_commands.specs.Services.{service_of};
 ghost use Rattle.tac_commands.specs.Allowed.{Allows};
 ghost use Rattle.tac_commands.specs.Telling.{Tells};
 ghost use Rattle.tac_commands.specs.Outcomes.{Outcome};
 ghost use Rattle.tac_commands.specs.Selected.{Selects};
-ghost use Rattle.tacd.specs.Service.{ServeAllows, answers_by, links_state, texts_by, ticker_state};
+ghost use Rattle.tac_commands.specs.Outsides.{outside_of};
+ghost use Rattle.tacd.specs.Service.{Serves};
 
-use crate::answer::Answer;
-use crate::running::run;
+use crate::answer::{Answer, coded};
+use crate::serve_command::serve;
 use std::alloc::Global;
 use std::rt::Clock;
 use std::sync::Wait;
 use std::thread::Threads;
+use tac_commands::{run_words, service_asked};
 use tac_io::{Files, Links, Sink, Ticker};
 
 /// Runs the command of the words of a command line after the program's name, over the files, the
@@ -30,35 +32,39 @@ pub fn tac<R: Threads + Sync + Wait + Clock, F: Files, K: Sink, N: Links, T: Tic
     links: &mut N,
     ticker: &mut T,
 ) -> Answer<N::Link>
-    requires names { IfSome (F.names files.old) (λ names. names ≡ []) }
+    requires names { IfSome (F.state files.old).names (λ names. names ≡ []) }
     requires short { All (λ word. string_len word ≤ NAME_BYTES) words.now }
-    requires ports { IfSome (N.ports links.old) (λ ports. ports ≡ []) }
-    requires ticks { IfSome (T.waited ticker.old) (λ ticks. ticks ≡ []) }
+    requires ports { IfSome (N.state links.old).ports (λ ports. ports ≡ []) }
+    requires ticks { IfSome (T.state ticker.old).waited (λ ticks. ticks ≡ []) }
     // The outcome is one that the words and the files allow, and the files that were selected are those that it tells of.
     ensures outcome { (outcome : Outcome)
-        × Allows (F.content files.old) (command_of (map (λ word. string_bytes word) words.now)) (F.names files.old) (F.names files.new) (F.faults files.old) (F.faults files.new) outcome
-        × Tells outcome (K.taken out.old) (K.taken out.new) (K.faults out.old) (K.faults out.new) result.code }
+        × Allows (command_of (map (λ word. string_bytes word) words.now)) (F.state files.old) (F.state files.new) outcome
+        × Tells outcome (K.state out.old) (K.state out.new) result.code }
     // A game over links: what its log tells is what was played, and what each link asked and was sent.
-    ensures service { OnService (command_of (map (λ word. string_bytes word) words.now)) (λ name port pace form. (outcome : Outcome)
-        × ServeAllows (link_state N.Link.taken N.Link.left N.Link.sent N.Link.faults N.Link.write_faults) (answers_by form) (texts_by form)
-        (F.content files.old) name port pace (F.faults files.old) (F.faults files.new)
-        (links_state N.ports N.pending N.faults links.old) (links_state N.ports N.pending N.faults links.new)
-        (ticker_state T.paced T.waited T.faults ticker.old) (ticker_state T.paced T.waited T.faults ticker.new) result.played result.ended outcome
-        × Tells outcome (K.taken out.old) (K.taken out.new) (K.faults out.old) (K.faults out.new) result.code) }
+    ensures service { IfSome (service_of (map (λ word. string_bytes word) words.now)) (λ service. Serves N.Link.state service
+        (outside_of (F.state files.old) (K.state out.old) (N.state links.old) (T.state ticker.old))
+        (outside_of (F.state files.new) (K.state out.new) (N.state links.new) (T.state ticker.new)) result) }
     // The cash of each agent in the sheet of that game is the sum of its nets over all posts of its cash history.
     ensures cash { IfSome result.played (λ played. IsCashOfPosts played.closed) }
-    ensures others { OffService (command_of (map (λ word. string_bytes word) words.now)) ((links.new ≡ links.old) × (ticker.new ≡ ticker.old) × (result.ended.items ≡ []) × (result.played ≡ None)) }
+    ensures others { service_of (map (λ word. string_bytes word) words.now) ≡ None → (links.new ≡ links.old) × (ticker.new ≡ ticker.old) × (result.ended.items ≡ []) × (result.played ≡ None) }
     ensures usage { UsageExactly (command_of (map (λ word. string_bytes word) words.now)) result.code }
-    ensures read_fault { ReadFaultExactly (F.faults files.old) (F.faults files.new) result.code }
-    ensures write_fault { WriteFaultExactly (K.faults out.old) (K.faults out.new) result.code }
-    ensures link_fault { LinkFaultExactly (N.faults links.old) (N.faults links.new) result.code }
-    ensures clock_fault { ClockFaultExactly (T.faults ticker.old) (T.faults ticker.new) result.code }
-    ensures game_refused { GameRefusedExactly (F.content files.old) (command_of (map (λ word. string_bytes word) words.now)) (F.faults files.old) (F.faults files.new) result.code }
-    ensures text_refused { TextRefusedExactly (F.content files.old) (command_of (map (λ word. string_bytes word) words.now)) (F.faults files.old) (F.faults files.new) result.code }
-    ensures unsound { UnsoundExactly (F.content files.old) (command_of (map (λ word. string_bytes word) words.now)) (F.faults files.old) (F.faults files.new) result.code }
-    ensures complete { IsComplete (F.content files.old) (command_of (map (λ word. string_bytes word) words.now)) (F.faults files.old) (F.faults files.new) (K.faults out.old) (K.faults out.new)
-        (N.faults links.old) (N.faults links.new) (T.faults ticker.old) (T.faults ticker.new) result.code }
-    ensures names { Selects (F.content files.old) (command_of (map (λ word. string_bytes word) words.now)) (F.names files.old) (F.names files.new) result.code }
+    ensures read_fault { ReadFaultExactly (F.state files.old) (F.state files.new) result.code }
+    ensures write_fault { WriteFaultExactly (K.state out.old) (K.state out.new) result.code }
+    ensures link_fault { LinkFaultExactly (N.state links.old) (N.state links.new) result.code }
+    ensures clock_fault { ClockFaultExactly (T.state ticker.old) (T.state ticker.new) result.code }
+    ensures game_refused { GameRefusedExactly (command_of (map (λ word. string_bytes word) words.now)) (F.state files.old) (F.state files.new) result.code }
+    ensures text_refused { TextRefusedExactly (command_of (map (λ word. string_bytes word) words.now)) (F.state files.old) (F.state files.new) result.code }
+    ensures unsound { UnsoundExactly (command_of (map (λ word. string_bytes word) words.now)) (F.state files.old) (F.state files.new) result.code }
+    ensures complete { IsComplete (command_of (map (λ word. string_bytes word) words.now))
+        (outside_of (F.state files.old) (K.state out.old) (N.state links.old) (T.state ticker.old))
+        (outside_of (F.state files.new) (K.state out.new) (N.state links.new) (T.state ticker.new)) result.code }
+    ensures names { Selects (command_of (map (λ word. string_bytes word) words.now)) (F.state files.old) (F.state files.new) result.code }
 {
-    run(rt, alloc, words, files, out, links, ticker)
+    match service_asked(words) {
+        Some(service) => serve(rt, alloc, service, files, out, links, ticker),
+        None => {
+            let code = run_words(rt, alloc, words, files, out);
+            coded(alloc, code)
+        }
+    }
 }

@@ -4,6 +4,7 @@ use Rattle.tac_io.specs.LineAnswers.{goes_on}
 use Rattle.tac_io.specs.Counts.{Rose}
 use Rattle.tac_io.specs.Lines.{link_of}
 use Rattle.tac_io.specs.Told.{and_then_told, TakesSome}
+use Rattle.tac_io.proofs.Tellings.{gave_nothing}
 use Rattle.floor.specs.Desks.{desk_caller}
 use Rattle.agent_gate.specs.Welcome.{welcome_text}
 use Rattle.agent_gate.proofs.DeskTurns.{made_none}
@@ -13,31 +14,30 @@ use Rattle.agent_gate.proofs.session.run_session.Goals as goal
 pub returns-in_default-clause-session : goal.returns-in_default-clause-session
 returns-in_default-clause-session g c =
     let agent : c.unwrap-agent.result ≡ desk_caller c.args.desk = IfOk-at_ok (λ made. made ≡ c.get.result) c.unwrap-agent.ensures c.new.ensures.value ∙ (c.get.ensures.value ∙ c.caller.ensures) in
-    session.session_as _ _ _ _ _ _ _ _ _ _ _ _ _ _ _ _ _ _ _ (ap (λ l. g.L.Link.left l) c.into_link.ensures ∙ c.welcome.ensures.left) (ap (λ l. g.L.Link.taken l) c.into_link.ensures ∙ c.welcome.ensures.taken)
-    (ap (λ l. g.L.Link.sent l) c.into_link.ensures) refl
-    (session.ends_at_once _ _ _ _ _ _ _ _ _ _ (made_none c.args.desk c.requires.no_calls.0 c.requires.no_calls.1)
-    (subst (λ a. TakesSome (g.L.Link.sent (link_of c.args.lines)) (g.L.Link.sent (link_of c.welcome.new.lines)) (welcome_text c.args.game.now a)) agent c.in_default.ensures.failed))
+    session.session_as _ _ _ _ _ _ _ _ _ _ _ _ _ (ap (λ l. g.L.Link.state l) c.into_link.ensures) refl
+    (session.ends_at_once _ _ _ _ _ _ _ _ (gave_nothing (g.L.Link.state (link_of c.args.lines)) (g.L.Link.state (link_of c.welcome.new.lines)) c.welcome.ensures.sends.2.0 c.welcome.ensures.sends.2.1) (made_none c.args.desk c.requires.no_calls.0 c.requires.no_calls.1)
+    (subst (λ a. TakesSome (g.L.Link.state (link_of c.args.lines)).sent (g.L.Link.state (link_of c.welcome.new.lines)).sent (welcome_text c.args.game.now a)) agent c.in_default.ensures.sends.0))
 
 pub returns-in_default-clause-cause : goal.returns-in_default-clause-cause
 returns-in_default-clause-cause g c = (
-  ap (λ l. g.L.Link.faults l) c.into_link.ensures ∙ c.welcome.ensures.read_faults,
-  subst (λ l. Rose (g.L.Link.write_faults (link_of c.args.lines)) (g.L.Link.write_faults l)) (sym c.into_link.ensures) c.in_default.ensures.cause,
+  ap (λ l. (g.L.Link.state l).reads) c.into_link.ensures ∙ c.welcome.ensures.sends.2.2,
+  subst (λ l. Rose (g.L.Link.state (link_of c.args.lines)).writes (g.L.Link.state l).writes) (sym c.into_link.ensures) c.in_default.ensures.sends.1,
 )
 
 pub loop-answered-init : goal.loop-answered-init
 loop-answered-init g c =
     let agent : c.unwrap-agent.result ≡ desk_caller c.args.desk = IfOk-at_ok (λ made. made ≡ c.get.result) c.unwrap-agent.ensures c.new.ensures.value ∙ (c.get.ensures.value ∙ c.caller.ensures) in record {
-      going = session.under_way_at_first _ _ _ _ _ _ _ _ _ _ _ _ _ _ c.welcome.ensures.held c.welcome.ensures.count c.welcome.ensures.taken c.welcome.ensures.left
+      going = session.under_way_at_first _ _ _ _ _ _ _ _ _ _ c.welcome.ensures.place.0 c.welcome.ensures.place.1 (gave_nothing (g.L.Link.state (link_of c.args.lines)) (g.L.Link.state (link_of c.welcome.new.lines)) c.welcome.ensures.sends.2.0 c.welcome.ensures.sends.2.1)
           (made_none c.args.desk c.requires.no_calls.0 c.requires.no_calls.1)
-          (c.in-Ok.ensures.whole ∙ ap (λ a. and_then_told (g.L.Link.sent (link_of c.args.lines)) (welcome_text c.args.game.now a)) agent);
-      goes_on = ap goes_on c.welcome.ensures.last ∙ c.requires.goes_on;
-      quiet = c.welcome.ensures.read_faults;
-      write_quiet = c.in-Ok.ensures.cause;
+          (c.in-Ok.ensures.sends.0 ∙ ap (λ a. and_then_told (g.L.Link.state (link_of c.args.lines)).sent (welcome_text c.args.game.now a)) agent);
+      goes_on = ap goes_on c.welcome.ensures.place.2 ∙ c.requires.goes_on;
+      quiet = c.welcome.ensures.sends.2.2;
+      write_quiet = c.in-Ok.ensures.sends.1;
     }
 
 pub loop-answered-preserved : goal.loop-answered-preserved
 loop-answered-preserved g c = record {
-  going = session.goes_on _ _ _ _ _ _ _ _ _ _ _ _ _ _ _ _ c.loop-answered.invariant.going _ _ _ _ _ _ tt c.in_default-turn.ensures.turn c.turn.ensures.same;
+  going = session.goes_on _ _ _ _ _ _ _ _ _ _ _ _ c.loop-answered.invariant.going _ _ _ _ tt c.in_default-turn.ensures.turn c.turn.ensures.same;
   goes_on = c.in_default-turn.ensures.goes_on;
   quiet = c.in_default-turn.ensures.cause.0 ∙ c.loop-answered.invariant.quiet;
   write_quiet = c.in_default-turn.ensures.cause.1 ∙ c.loop-answered.invariant.write_quiet;
@@ -45,11 +45,11 @@ loop-answered-preserved g c = record {
 
 pub returns-in-Err-clause-session : goal.returns-in-Err-clause-session
 returns-in-Err-clause-session g c =
-    session.session_as _ _ _ _ _ _ _ _ _ _ _ _ _ _ _ _ _ _ _ (ap (λ l. g.L.Link.left l) c.into_link-in-Err.ensures) (ap (λ l. g.L.Link.taken l) c.into_link-in-Err.ensures) (ap (λ l. g.L.Link.sent l) c.into_link-in-Err.ensures)
-    c.whole.ensures (session.ends _ _ _ _ _ _ _ _ _ _ _ _ _ _ _ _ c.loop-answered.invariant.going _ _ _ _ _ _ c.in-Err.cause c.in-Err.ensures.turn c.turn.ensures.same c.loop-answered-test.true)
+    session.session_as _ _ _ _ _ _ _ _ _ _ _ _ _ (ap (λ l. g.L.Link.state l) c.into_link-in-Err.ensures)
+    c.whole.ensures (session.ends _ _ _ _ _ _ _ _ _ _ _ _ c.loop-answered.invariant.going _ _ _ _ c.in-Err.cause c.in-Err.ensures.turn c.turn.ensures.same c.loop-answered-test.true)
 
 pub returns-clause-session : goal.returns-clause-session
 returns-clause-session g c =
     let full : c.loop-answered.answered ≡ 65536 = omega arith in
-    session.session_as _ _ _ _ _ _ _ _ _ _ _ _ _ _ _ _ _ _ _ (ap (λ l. g.L.Link.left l) c.into_link-2.ensures) (ap (λ l. g.L.Link.taken l) c.into_link-2.ensures) (ap (λ l. g.L.Link.sent l) c.into_link-2.ensures)
-    (sym full) (session.ends_full _ _ _ _ _ _ _ _ _ _ _ _ _ _ _ _ c.loop-answered.invariant.going full)
+    session.session_as _ _ _ _ _ _ _ _ _ _ _ _ _ (ap (λ l. g.L.Link.state l) c.into_link-2.ensures)
+    (sym full) (session.ends_full _ _ _ _ _ _ _ _ _ _ _ _ c.loop-answered.invariant.going full)

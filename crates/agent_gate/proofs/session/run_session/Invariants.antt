@@ -7,9 +7,9 @@ use Rattle.agent_gate.proofs.session.run_session.Given as goal
 abbrev pub invariant-loop-answered : goal.invariant-loop-answered
 invariant-loop-answered g l = record {
   going : IsUnderWay (g.D.Dialect.may_answer l.fn.dialect) (g.D.Dialect.text l.fn.dialect) l.fn.game
-      (held_of l.fn.lines) (count_of l.fn.lines) (g.L.Link.taken (link_of l.fn.lines)) (g.L.Link.left (link_of l.fn.lines)) (g.L.Link.sent (link_of l.fn.lines)) l.fn.desk
-      (held_of l.lines) (count_of l.lines) (g.L.Link.taken (link_of l.lines)) (g.L.Link.left (link_of l.lines)) (g.L.Link.sent (link_of l.lines)) l.desk l.answered;
+      (held_of l.fn.lines) (count_of l.fn.lines) (g.L.Link.state (link_of l.fn.lines)) l.fn.desk
+      (held_of l.lines) (count_of l.lines) (g.L.Link.state (link_of l.lines)) l.desk l.answered;
   goes_on : goes_on (last_of l.lines) ≡ true;
-  quiet : g.L.Link.faults (link_of l.lines) ≡ g.L.Link.faults (link_of l.fn.lines);
-  write_quiet : g.L.Link.write_faults (link_of l.lines) ≡ g.L.Link.write_faults (link_of l.fn.lines);
+  quiet : (g.L.Link.state (link_of l.lines)).reads ≡ (g.L.Link.state (link_of l.fn.lines)).reads;
+  write_quiet : (g.L.Link.state (link_of l.lines)).writes ≡ (g.L.Link.state (link_of l.fn.lines)).writes;
 }

@@ -4,9 +4,8 @@ use Rattle.floor.specs.Keeping.{calls_of_good}
 use Rattle.floor.proofs.CallLists.{none_listed}
 use Rattle.game_text.specs.Schedule.{calls_at, ticks}
 use Rattle.tac_io.specs.Told.{and_then_told}
-use Rattle.clock_events.specs.Clocking.{HasMissedCause}
 use Rattle.clock_events.proofs.TickCalls.{tick_done}
-use Rattle.clock_events.proofs.Waits.{WaitsFor, missed_more, one_at_most, waits_for_more, waits_for_none}
+use Rattle.clock_events.proofs.Waits.{WaitsFor, one_at_most, waits_for_all, waits_for_more, waits_for_none}
 use Rattle.clock_events.proofs.clock.run_clock.Goals as goal
 
 pub loop-number-init : goal.loop-number-init
@@ -15,9 +14,7 @@ loop-number-init g c = record {
   boards = search rules;
   same = search rules;
   few = omega arith;
-  waited = waits_for_none _;
-  paced = search rules;
-  cause = record { rose = λ some. absurd (omega (arith, some)); same = λ none. search rules };
+  waits = waits_for_none _;
 }
 
 pub loop-number-preserved : goal.loop-number-preserved
@@ -27,7 +24,9 @@ loop-number-preserved g c =
     let same : c.loop-number.number + 1 - 1 ≡ c.loop-number.number = omega arith in
     let first : 1 ≤ c.loop-number.number = omega arith in
     let last : c.loop-number.number ≤ 54 = omega arith in
-    let waits = waits_for_more _ _ _ c.loop-number.number c.loop-number.missed c.wait_for-due.result.1 first last before.waited (subst (λ t. g.T.Ticker.waited c.wait_for-due.new.ticker ≡ and_then_told (g.T.Ticker.waited c.loop-number.ticker) ((t, c.wait_for-due.result.1) ∷ [])) tick c.wait_for-due.ensures.waited) in
+    let waits = waits_for_more _ _ _ c.loop-number.number c.loop-number.missed c.wait_for-due.result.1 first last before.waits
+    (subst (λ t. (g.T.Ticker.state c.wait_for-due.new.ticker).waited ≡ and_then_told (g.T.Ticker.state c.loop-number.ticker).waited ((t, c.wait_for-due.result.1) ∷ [])) tick c.wait_for-due.ensures.waited)
+    c.wait_for-due.ensures.paced c.wait_for-due.ensures.cause in
     let one = one_at_most c.wait_for-due.result.1 in
     let count = c.from-missed.ensures in
     let few = before.few in
@@ -36,11 +35,8 @@ loop-number-preserved g c =
       boards = c.clock_tick.ensures.boards ∙ before.boards;
       same = (c.clock_tick.ensures.same.0 ∙ before.same.0, c.clock_tick.ensures.same.1 ∙ before.same.1);
       few = omega (arith, one, count, few);
-      waited = subst (λ k. WaitsFor (g.T.Ticker.waited c.args.ticker.now) (g.T.Ticker.waited c.wait_for-due.new.ticker) k (c.loop-number.missed + c.from-missed.result)) (sym same)
-          (subst (λ k. WaitsFor (g.T.Ticker.waited c.args.ticker.now) (g.T.Ticker.waited c.wait_for-due.new.ticker) c.loop-number.number (c.loop-number.missed + k)) (sym count) waits);
-      paced = c.wait_for-due.ensures.paced ∙ before.paced;
-      cause = subst (λ k. HasMissedCause (g.T.Ticker.faults c.args.ticker.now) (g.T.Ticker.faults c.wait_for-due.new.ticker) (c.loop-number.missed + k)) (sym count)
-          (missed_more _ _ _ c.loop-number.missed c.wait_for-due.result.1 before.cause c.wait_for-due.ensures.cause);
+      waits = subst (λ k. WaitsFor (g.T.Ticker.state c.args.ticker.now) (g.T.Ticker.state c.wait_for-due.new.ticker) k (c.loop-number.missed + c.from-missed.result)) (sym same)
+          (subst (λ k. WaitsFor (g.T.Ticker.state c.args.ticker.now) (g.T.Ticker.state c.wait_for-due.new.ticker) c.loop-number.number (c.loop-number.missed + k)) (sym count) waits);
     }
 
 pub returns-clause-calls : goal.returns-clause-calls
@@ -51,3 +47,6 @@ returns-clause-made g c good low = c.loop-number.desk.listed.each good low ∙ a
 
 pub returns-clause-whole : goal.returns-clause-whole
 returns-clause-whole g c = returns-clause-made g c
+
+pub returns-clause-waits : goal.returns-clause-waits
+returns-clause-waits g c = waits_for_all _ _ _ _ c.loop-number.invariant.waits (omega arith)

@@ -3,7 +3,6 @@ use Rattle.std.specs.List.{flat_map}
 use Rattle.floor.specs.Answers.{IsSameDesk}
 use Rattle.floor.specs.Desks.{boards_of, calls_of}
 use Rattle.game_text.specs.Schedule.{calls_at, ticks}
-use Rattle.clock_events.specs.Clocking.{HasMissedCause}
 use Rattle.clock_events.proofs.Waits.{WaitsFor}
 use Rattle.clock_events.proofs.clock.run_clock.Given as goal
 
@@ -13,7 +12,5 @@ invariant-loop-number g l = record {
   boards : boards_of l.desk ≡ boards_of l.initial.desk;
   same : IsSameDesk l.initial.desk l.desk;
   few : l.missed < l.number;
-  waited : WaitsFor (g.T.Ticker.waited l.fn.ticker) (g.T.Ticker.waited l.ticker) (l.number - 1) l.missed;
-  paced : g.T.Ticker.paced l.ticker ≡ g.T.Ticker.paced l.fn.ticker;
-  cause : HasMissedCause (g.T.Ticker.faults l.fn.ticker) (g.T.Ticker.faults l.ticker) l.missed;
+  waits : WaitsFor (g.T.Ticker.state l.fn.ticker) (g.T.Ticker.state l.ticker) (l.number - 1) l.missed;
 }

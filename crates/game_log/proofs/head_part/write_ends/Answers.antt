@@ -5,13 +5,13 @@ use Rattle.game_log.proofs.head_part.write_ends.Goals as goal
 
 pub returns-in_err-write_piece : goal.returns-in_err-write_piece
 returns-in_err-write_piece g c =
-    failed_next end_line c.args.ends.now c.loop-end.end-index c.end-item.result _ _ _ _ _ _ _ c.from_residual.result
+    failed_next end_line c.args.ends.now c.loop-end.end-index c.end-item.result _ _ _ _ c.from_residual.result
     (omega arith) (sym c.end-item.is) (c.as_slice.ensures.value ∙ c.end_line.ensures) c.loop-end.invariant c.in_err-write_piece.ensures c.from_residual.ensures.0
 
 pub loop-end-preserved : goal.loop-end-preserved
 loop-end-preserved g c =
-    wrote_next end_line c.args.ends.now c.loop-end.end-index c.end-item.result _ _ _ _ _ _ _
+    wrote_next end_line c.args.ends.now c.loop-end.end-index c.end-item.result _ _ _ _
     (omega arith) (sym c.end-item.is) (c.as_slice.ensures.value ∙ c.end_line.ensures) c.loop-end.invariant c.in_ok-write_piece.ensures
 
 pub returns : goal.returns
-returns g c = wrote_all end_line c.args.ends.now c.loop-end.end-index _ _ _ _ (omega arith) c.loop-end.invariant
+returns g c = wrote_all end_line c.args.ends.now c.loop-end.end-index _ _ (omega arith) c.loop-end.invariant

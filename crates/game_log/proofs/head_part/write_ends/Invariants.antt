@@ -3,4 +3,4 @@ use Rattle.game_log.proofs.Writing.{WroteUpTo}
 use Rattle.game_log.proofs.head_part.write_ends.Given as goal
 
 abbrev pub invariant-loop-end : goal.invariant-loop-end
-invariant-loop-end g l = WroteUpTo end_line l.ends l.end-index (g.K.Sink.taken l.fn.sink) (g.K.Sink.taken l.sink) (g.K.Sink.faults l.fn.sink) (g.K.Sink.faults l.sink)
+invariant-loop-end g l = WroteUpTo end_line l.ends l.end-index (g.K.Sink.state l.fn.sink) (g.K.Sink.state l.sink)

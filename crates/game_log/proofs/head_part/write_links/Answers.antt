@@ -17,7 +17,7 @@ returns-in_err-write_piece g c =
     let verdicts = c.args.verdicts.now in
     let place = c.loop-place.place in
     let verdict = c.index-verdicts-place.result in
-    failed_next link_line (enumerate_from 0 verdicts) place (place, verdict) _ _ _ _ _ _ _ c.from_residual.result
+    failed_next link_line (enumerate_from 0 verdicts) place (place, verdict) _ _ _ _ c.from_residual.result
     (omega (arith, length-enumerate_from 0 verdicts)) (numbered verdicts place verdict (omega arith) c.index-verdicts-place.is)
     (c.as_slice.ensures.value ∙ c.link_line.ensures) c.loop-place.invariant c.in_err-write_piece.ensures c.from_residual.ensures.0
 
@@ -26,9 +26,9 @@ loop-place-preserved g c =
     let verdicts = c.args.verdicts.now in
     let place = c.loop-place.place in
     let verdict = c.index-verdicts-place.result in
-    wrote_next link_line (enumerate_from 0 verdicts) place (place, verdict) _ _ _ _ _ _ _
+    wrote_next link_line (enumerate_from 0 verdicts) place (place, verdict) _ _ _ _
     (omega (arith, length-enumerate_from 0 verdicts)) (numbered verdicts place verdict (omega arith) c.index-verdicts-place.is)
     (c.as_slice.ensures.value ∙ c.link_line.ensures) c.loop-place.invariant c.in_ok-write_piece.ensures
 
 pub returns : goal.returns
-returns g c = wrote_all link_line (enumerate_from 0 c.args.verdicts.now) c.loop-place.place _ _ _ _ (omega (arith, length-enumerate_from 0 c.args.verdicts.now)) c.loop-place.invariant
+returns g c = wrote_all link_line (enumerate_from 0 c.args.verdicts.now) c.loop-place.place _ _ (omega (arith, length-enumerate_from 0 c.args.verdicts.now)) c.loop-place.invariant

@@ -4,4 +4,4 @@ use Rattle.game_log.proofs.Writing.{WroteUpTo}
 use Rattle.game_log.proofs.head_part.write_links.Given as goal
 
 abbrev pub invariant-loop-place : goal.invariant-loop-place
-invariant-loop-place g l = WroteUpTo link_line (enumerate_from 0 l.verdicts) l.place (g.K.Sink.taken l.fn.sink) (g.K.Sink.taken l.sink) (g.K.Sink.faults l.fn.sink) (g.K.Sink.faults l.sink)
+invariant-loop-place g l = WroteUpTo link_line (enumerate_from 0 l.verdicts) l.place (g.K.Sink.state l.fn.sink) (g.K.Sink.state l.sink)

@@ -10,7 +10,7 @@ returns-in-Ok-clause-text g c =
     let auction = c.args.auction.now in
     let line = c.as_slice.ensures.value ∙ c.auction_line-line.ensures.value
     ∙ ap (λ (good : ℕ). auction_line good c.len.result) c.good.ensures ∙ ap (auction_line auction.setup.good) c.len.ensures.value in
-    writes_both _ _ (auction_line auction.setup.good (length auction.history)) (flat_map entry_text auction.history) _ _ _ _ _ _ c.write_entries.result
+    writes_both _ _ (auction_line auction.setup.good (length auction.history)) (flat_map entry_text auction.history) _ _ _ c.write_entries.result
     line refl c.in-Ok.ensures c.write_entries.ensures.text
 
 pub returns-in-Err-clause-text : goal.returns-in-Err-clause-text
@@ -18,7 +18,7 @@ returns-in-Err-clause-text g c =
     let auction = c.args.auction.now in
     let line = c.as_slice.ensures.value ∙ c.auction_line-line.ensures.value
     ∙ ap (λ (good : ℕ). auction_line good c.len.result) c.good.ensures ∙ ap (auction_line auction.setup.good) c.len.ensures.value in
-    fails_both _ (auction_line auction.setup.good (length auction.history)) (flat_map entry_text auction.history) _ _ _ _ line c.in-Err.ensures
+    fails_both _ (auction_line auction.setup.good (length auction.history)) (flat_map entry_text auction.history) _ _ line c.in-Err.ensures
 
 pub returns-in-Ok-clause-known : goal.returns-in-Ok-clause-known
 returns-in-Ok-clause-known g c =

@@ -7,7 +7,7 @@ use Rattle.game_log.proofs.play_part.write_auctions.Goals as goal
 
 pub returns-in_err-write_auction-clause-text : goal.returns-in_err-write_auction-clause-text
 returns-in_err-write_auction-clause-text g c =
-    failed_next kept_text c.args.auctions.now c.loop-auction.auction-index c.auction-item.result _ _ _ _ _ _ _ c.from_residual.result
+    failed_next kept_text c.args.auctions.now c.loop-auction.auction-index c.auction-item.result _ _ _ _ c.from_residual.result
     (omega arith) (sym c.auction-item.is) refl c.loop-auction.invariant.wrote c.in_err-write_auction.ensures.text c.from_residual.ensures.0
 
 pub loop-auction-preserved : goal.loop-auction-preserved
@@ -18,7 +18,7 @@ loop-auction-preserved g c =
     let within : place < length auctions = omega arith in
     let is = sym c.auction-item.is in
     record {
-      wrote = wrote_next kept_text auctions place auction _ _ _ _ _ _ _ within is refl c.loop-auction.invariant.wrote c.in_ok-write_auction.ensures.text;
+      wrote = wrote_next kept_text auctions place auction _ _ _ _ within is refl c.loop-auction.invariant.wrote c.in_ok-write_auction.ensures.text;
       known = all_next IsAuction auctions place auction within c.loop-auction.invariant.known (subst IsAuction c.auction-item.is c.in_ok-write_auction.ensures.known);
     }
 

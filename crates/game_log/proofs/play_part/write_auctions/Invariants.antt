@@ -7,6 +7,6 @@ use Rattle.game_log.proofs.play_part.write_auctions.Given as goal
 
 abbrev pub invariant-loop-auction : goal.invariant-loop-auction
 invariant-loop-auction g l = record {
-  wrote : WroteUpTo kept_text l.auctions l.auction-index (g.K.Sink.taken l.fn.sink) (g.K.Sink.taken l.sink) (g.K.Sink.faults l.fn.sink) (g.K.Sink.faults l.sink);
+  wrote : WroteUpTo kept_text l.auctions l.auction-index (g.K.Sink.state l.fn.sink) (g.K.Sink.state l.sink);
   known : AllByRecursion IsAuction (take l.auction-index l.auctions);
 }

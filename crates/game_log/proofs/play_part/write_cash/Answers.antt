@@ -16,13 +16,13 @@ pub returns-in-Ok-clause-text : goal.returns-in-Ok-clause-text
 returns-in-Ok-clause-text g c =
     let cash = c.args.cash.now in
     let line = c.as_slice.ensures.value ∙ c.cash_line.ensures ∙ ap cash_line c.board-count.ensures.count in
-    writes_both _ _ (cash_line (length cash)) (flat_map cash_entry_line cash) _ _ _ _ _ _ c.write_cash_entries.result line refl c.in-Ok.ensures c.write_cash_entries.ensures.text
+    writes_both _ _ (cash_line (length cash)) (flat_map cash_entry_line cash) _ _ _ c.write_cash_entries.result line refl c.in-Ok.ensures c.write_cash_entries.ensures.text
 
 pub returns-in-Err-clause-text : goal.returns-in-Err-clause-text
 returns-in-Err-clause-text g c =
     let cash = c.args.cash.now in
     let line = c.as_slice.ensures.value ∙ c.cash_line.ensures ∙ ap cash_line c.board-count.ensures.count in
-    fails_both _ (cash_line (length cash)) (flat_map cash_entry_line cash) _ _ _ _ line c.in-Err.ensures
+    fails_both _ (cash_line (length cash)) (flat_map cash_entry_line cash) _ _ line c.in-Err.ensures
 
 -- an entry of a legal history has a reply that goes with its call
 legal_fits : (caller : ℕ) (call : CashCall) (reply : CashReply) (before : List CashEntry) → IsFit caller call → reply ≡ reply_of before call → FitsCall caller call reply

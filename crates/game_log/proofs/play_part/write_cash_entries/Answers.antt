@@ -9,7 +9,7 @@ pub returns-in_err-write_cash_entry-clause-text : goal.returns-in_err-write_cash
 returns-in_err-write_cash_entry-clause-text g c =
     let within : c.loop-position.position < length c.args.cash.now = omega arith in
     let item = item_at c.args.cash.now c.loop-position.position within in
-    failed_next cash_entry_line c.args.cash.now c.loop-position.position item.0 _ _ _ _ _ _ _ c.from_residual.result
+    failed_next cash_entry_line c.args.cash.now c.loop-position.position item.0 _ _ _ _ c.from_residual.result
     within item.2 refl c.loop-position.invariant.wrote (c.in_err-write_cash_entry.ensures.text item.0 item.1) c.from_residual.ensures.0
 
 pub loop-position-preserved : goal.loop-position-preserved
@@ -17,7 +17,7 @@ loop-position-preserved g c =
     let within : c.loop-position.position < length c.args.cash.now = omega arith in
     let item = item_at c.args.cash.now c.loop-position.position within in
     record {
-      wrote = wrote_next cash_entry_line c.args.cash.now c.loop-position.position item.0 _ _ _ _ _ _ _ within item.2 refl c.loop-position.invariant.wrote (c.in_ok-write_cash_entry.ensures.text item.0 item.1);
+      wrote = wrote_next cash_entry_line c.args.cash.now c.loop-position.position item.0 _ _ _ _ within item.2 refl c.loop-position.invariant.wrote (c.in_ok-write_cash_entry.ensures.text item.0 item.1);
       known = all_next AreEntryNumbers c.args.cash.now c.loop-position.position item.0 within c.loop-position.invariant.known
           (subst AreEntryNumbers (sym item.2) (c.in_ok-write_cash_entry.ensures.known item.0 item.1));
     }

@@ -7,6 +7,6 @@ use Rattle.game_log.proofs.play_part.write_cash_entries.Given as goal
 
 abbrev pub invariant-loop-position : goal.invariant-loop-position
 invariant-loop-position g l = record {
-  wrote : WroteUpTo cash_entry_line l.cash l.position (g.K.Sink.taken l.fn.sink) (g.K.Sink.taken l.sink) (g.K.Sink.faults l.fn.sink) (g.K.Sink.faults l.sink);
+  wrote : WroteUpTo cash_entry_line l.cash l.position (g.K.Sink.state l.fn.sink) (g.K.Sink.state l.sink);
   known : AllByRecursion AreEntryNumbers (take l.position l.cash);
 }

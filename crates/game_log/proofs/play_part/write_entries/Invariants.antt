@@ -7,6 +7,6 @@ use Rattle.game_log.proofs.play_part.write_entries.Given as goal
 
 abbrev pub invariant-loop-position : goal.invariant-loop-position
 invariant-loop-position g l = record {
-  wrote : WroteUpTo entry_text l.auction.history l.position (g.K.Sink.taken l.fn.sink) (g.K.Sink.taken l.sink) (g.K.Sink.faults l.fn.sink) (g.K.Sink.faults l.sink);
+  wrote : WroteUpTo entry_text l.auction.history l.position (g.K.Sink.state l.fn.sink) (g.K.Sink.state l.sink);
   known : AllByRecursion AreNumbers (take l.position l.auction.history);
 }

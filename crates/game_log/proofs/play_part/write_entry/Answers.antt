@@ -30,14 +30,14 @@ pub returns-in-Ok-clause-text : goal.returns-in-Ok-clause-text
 returns-in-Ok-clause-text g c e found =
     let history = c.args.auction.now.history in
     let line = c.as_slice.ensures.value ∙ c.entry_line-line.ensures ∙ shown_line history c.args.position e c.in-Some.entry.now found c.in-Some.ensures in
-    writes_both _ _ (entry_line e.caller e.call e.reply) (flat_map trade_line e.trades) _ _ _ _ _ _ c.write_trades.result
+    writes_both _ _ (entry_line e.caller e.call e.reply) (flat_map trade_line e.trades) _ _ _ c.write_trades.result
     line (ap (flat_map trade_line) (shown_trades history c.args.position e c.trades_of.result.now found c.trades_of.ensures)) c.in-Ok.ensures c.write_trades.ensures.text
 
 pub returns-in-Err-clause-text : goal.returns-in-Err-clause-text
 returns-in-Err-clause-text g c e found =
     let history = c.args.auction.now.history in
     let line = c.as_slice.ensures.value ∙ c.entry_line-line.ensures ∙ shown_line history c.args.position e c.in-Some.entry.now found c.in-Some.ensures in
-    fails_both _ (entry_line e.caller e.call e.reply) (flat_map trade_line e.trades) _ _ _ _ line c.in-Err.ensures
+    fails_both _ (entry_line e.caller e.call e.reply) (flat_map trade_line e.trades) _ _ line c.in-Err.ensures
 
 -- what is shown of an entry has the entry's numbers
 shown_numbers : (history : List Entry) (position : ℕ) (e : Entry) (shown : StoredEntry) (trades : List Trade) → slice_get history position ≡ Some e → IsShown history position (Some shown) → trades ≡ e.trades → IsNumber shown.caller → IsCall shown.call → IsReply shown.reply → AllByRecursion AreTradeNumbers trades → AreNumbers e

@@ -14,10 +14,9 @@ returns-in-Ok-clause-text g c =
     let game = c.args.closed.now in
     let goods = sym (ap (λ (game : ClosedGame). goods_of game.auctions) c.closed.view_is) ∙ c.closed.invariant in
     let auctions = ap (flat_map kept_text) (c.as_slice.ensures.value ∙ ap (λ (game : ClosedGame). game.auctions) c.closed.view_is) in
-    let taken = g.K.Sink.taken in
-    let faults = g.K.Sink.faults in
-    subst (λ (t : List ℕ). Writes t (taken c.args.sink.now) (taken c.write_cash.new.sink) (faults c.args.sink.now) (faults c.write_cash.new.sink) c.write_cash.result) (in_order game goods) (
-    writes_both _ _ (flat_map kept_text game.auctions) (cash_text game.cash) _ _ _ _ _ _ c.write_cash.result
+    let sink = g.K.Sink.state in
+    subst (λ (t : List ℕ). Writes t (sink c.args.sink.now) (sink c.write_cash.new.sink) c.write_cash.result) (in_order game goods) (
+    writes_both _ _ (flat_map kept_text game.auctions) (cash_text game.cash) _ _ _ c.write_cash.result
     auctions (ap (λ (game : ClosedGame). cash_text game.cash) c.closed.view_is) c.in-Ok.ensures.text c.write_cash.ensures.text
     )
 
@@ -26,10 +25,9 @@ returns-in-Err-clause-text g c =
     let game = c.args.closed.now in
     let goods = sym (ap (λ (game : ClosedGame). goods_of game.auctions) c.closed.view_is) ∙ c.closed.invariant in
     let auctions = ap (flat_map kept_text) (c.as_slice.ensures.value ∙ ap (λ (game : ClosedGame). game.auctions) c.closed.view_is) in
-    let taken = g.K.Sink.taken in
-    let faults = g.K.Sink.faults in
-    subst (λ (t : List ℕ). Writes t (taken c.args.sink.now) (taken c.write_auctions.new.sink) (faults c.args.sink.now) (faults c.write_auctions.new.sink) (Err c.in-Err.failed)) (in_order game goods) (
-    fails_both _ (flat_map kept_text game.auctions) (cash_text game.cash) _ _ _ _ auctions c.in-Err.ensures.text
+    let sink = g.K.Sink.state in
+    subst (λ (t : List ℕ). Writes t (sink c.args.sink.now) (sink c.write_auctions.new.sink) (Err c.in-Err.failed)) (in_order game goods) (
+    fails_both _ (flat_map kept_text game.auctions) (cash_text game.cash) _ _ auctions c.in-Err.ensures.text
     )
 
 pub returns-in-Ok-clause-known : goal.returns-in-Ok-clause-known

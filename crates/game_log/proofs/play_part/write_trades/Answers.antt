@@ -5,5 +5,5 @@ use Rattle.game_log.proofs.play_part.write_trades.Goals as goal
 
 pub returns-in_err-write_piece-clause-text : goal.returns-in_err-write_piece-clause-text
 returns-in_err-write_piece-clause-text g c =
-    failed_next trade_line c.args.trades.now c.loop-trade.trade-index c.trade-item.result _ _ _ _ _ _ _ c.from_residual.result
+    failed_next trade_line c.args.trades.now c.loop-trade.trade-index c.trade-item.result _ _ _ _ c.from_residual.result
     (omega arith) (sym c.trade-item.is) (c.as_slice.ensures.value ∙ c.trade_line.ensures) c.loop-trade.invariant c.in_err-write_piece.ensures c.from_residual.ensures.0

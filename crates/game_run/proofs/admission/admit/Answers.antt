@@ -7,15 +7,15 @@ use Rattle.game_run.proofs.admission.admit.Goals as goal
 
 pub returns-in_err-listen-clause-taken : goal.returns-in_err-listen-clause-taken
 returns-in_err-listen-clause-taken g c =
-    subst (λ pending. AreTaken (λ l. record { taken = g.N.Link.Link.taken l; left = g.N.Link.Link.left l; sent = g.N.Link.Link.sent l; reads = g.N.Link.Link.faults l; writes = g.N.Link.Link.write_faults l })
-    c.args.game.now (g.N.Links.pending c.args.links.now) pending c.args.arrivals.now) (sym c.listen.ensures.pending) (none_taken _ c.args.game.now _ c.args.arrivals.now c.requires.none.0 c.requires.none.1 c.requires.free)
+    subst (λ pending. AreTaken g.N.Link.Link.state
+    c.args.game.now (g.N.Links.state c.args.links.now).pending pending c.args.arrivals.now) (sym c.listen.ensures.pending) (none_taken _ c.args.game.now _ c.args.arrivals.now c.requires.none.0 c.requires.none.1 c.requires.free)
 
 pub loop-seated-init : goal.loop-seated-init
 loop-seated-init g c =
     let arrivals = c.args.arrivals.now in
     record {
-      taken = subst (λ pending. AreTaken (λ l. record { taken = g.N.Link.Link.taken l; left = g.N.Link.Link.left l; sent = g.N.Link.Link.sent l; reads = g.N.Link.Link.faults l; writes = g.N.Link.Link.write_faults l })
-          c.args.game.now (g.N.Links.pending c.args.links.now) pending arrivals) (sym c.listen.ensures.pending) (none_taken _ c.args.game.now _ arrivals c.requires.none.0 c.requires.none.1 c.requires.free);
+      taken = subst (λ pending. AreTaken g.N.Link.Link.state
+          c.args.game.now (g.N.Links.state c.args.links.now).pending pending arrivals) (sym c.listen.ensures.pending) (none_taken _ c.args.game.now _ arrivals c.requires.none.0 c.requires.none.1 c.requires.free);
       gate = c.new-gate.ensures ∙ ap (seats_given c.args.game.now) (sym c.requires.none.0);
       seated = ap (count_by is_seated) (sym c.requires.none.0);
       listens = c.in_ok-listen.ensures.listens;

@@ -6,6 +6,6 @@ pub returns-in-None : goal.returns-in-None
 returns-in-None g c =
     let none = sym c.seat.ensures ∙ c.in-None.is in (
       c.first_verdict-verdict.ensures.seats ∙ no_seat_changed _ _ none,
-      turned_away (λ l. record { taken = g.L.Link.taken l; left = g.L.Link.left l; sent = g.L.Link.sent l; reads = g.L.Link.faults l; writes = g.L.Link.write_faults l }) _ _ _ c.first_verdict-verdict.new.lines _ none
+      turned_away g.L.Link.state _ _ _ c.first_verdict-verdict.new.lines _ none
           (rw c.new-lines.ensures.link at c.first_verdict-verdict.ensures.read) c.turn_away-link.ensures,
     )

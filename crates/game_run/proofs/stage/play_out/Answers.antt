@@ -7,7 +7,7 @@ use Rattle.std.proofs.lemmas.List.Sorted.{IsPermutation-refl}
 use Rattle.floor.specs.Closing.{IsBorneOut}
 use Rattle.floor.specs.Desks.{desk_ids, desk_caller}
 use Rattle.floor.specs.Floors.{floor_ids}
-use Rattle.game_run.specs.Seatings.{eight_of, played_end, played_link, AreEightPlayed, AreTakenPlayed}
+use Rattle.game_run.specs.Seatings.{eight_of, played_end, played_link, AreTakenPlayed}
 use Rattle.game_run.proofs.AgentParts.{new_desk, eight_ready, clock_ready}
 use Rattle.game_run.proofs.PlayedPlaces.{eight_agents, all_back, played_through}
 use Rattle.game_run.proofs.stage.play_out.Goals as goal
@@ -31,16 +31,16 @@ run_all-played-requires-clause-clock g c κs within =
     clock_ready ids e clock c.args.stage.desks.items c.args.lines.items desks_are c.places-places.ensures.lines c.requires.stage.floor.fresh c.requires.readable
 
 pub add_eight-requires-clause-agents : goal.add_eight-requires-clause-agents
-unfolding AreTakenPlayed AreEightPlayed
+unfolding AreTakenPlayed
 add_eight-requires-clause-agents g c =
     let clock = c.unwrap-clock.result in let e = c.places-places.result in let ids = floor_ids c.args.stage.floor in
     let desks_are : c.args.stage.desks.items ≡ map (λ p. p.desk) (eight_of e) ++ clock ∷ [] = c.pop.ensures.items ∙ ap (λ o. c.pop.new.self.items ++ option_to_list o) c.unwrap-clock.ensures ∙ ap (λ l. l ++ clock ∷ []) c.places-places.ensures.desks in
     let p = c.run_all-played.result.0 in let clock' = c.run_all-played.result.1.desk in
     let fresh = new_desk ids e clock c.args.stage.desks.items c.args.lines.items desks_are c.places-places.ensures.lines c.requires.stage.floor.fresh c.requires.readable in
-    eight_agents (λ l. record { taken = g.L.Link.taken l; left = g.L.Link.left l; sent = g.L.Link.sent l; reads = g.L.Link.faults l; writes = g.L.Link.write_faults l }) (g.D.Dialect.may_answer c.args.dialect.now) (g.D.Dialect.text c.args.dialect.now) c.args.game.now e p clock clock' ids fresh c.run_all-played.ensures.played
+    eight_agents g.L.Link.state (g.D.Dialect.may_answer c.args.dialect.now) (g.D.Dialect.text c.args.dialect.now) c.args.game.now e p clock clock' ids fresh c.run_all-played.ensures.played
 
 pub close-requires : goal.close-requires
-unfolding AreTakenPlayed AreEightPlayed
+unfolding AreTakenPlayed
 close-requires g c =
     let clock = c.unwrap-clock.result in let e = c.places-places.result in let ids = floor_ids c.args.stage.floor in
     let desks_are : c.args.stage.desks.items ≡ map (λ p. p.desk) (eight_of e) ++ clock ∷ [] = c.pop.ensures.items ∙ ap (λ o. c.pop.new.self.items ++ option_to_list o) c.unwrap-clock.ensures ∙ ap (λ l. l ++ clock ∷ []) c.places-places.ensures.desks in
@@ -48,11 +48,11 @@ close-requires g c =
     let fresh = new_desk ids e clock c.args.stage.desks.items c.args.lines.items desks_are c.places-places.ensures.lines c.requires.stage.floor.fresh c.requires.readable in
     let desks_back : c.push_reserved.new.self.items ≡ map (λ q. q.desk) (eight_of p) ++ clock' ∷ [] =
     c.push_reserved.ensures.items ∙ ap (λ l. l ++ clock' ∷ []) (c.add_eight.ensures.gathers.desks ∙ ap (λ l. l ++ map (λ q. q.desk) (eight_of p)) c.requires.stage.ending.desks.0) in
-    let back = all_back (λ l. record { taken = g.L.Link.taken l; left = g.L.Link.left l; sent = g.L.Link.sent l; reads = g.L.Link.faults l; writes = g.L.Link.write_faults l }) (g.D.Dialect.may_answer c.args.dialect.now) (g.D.Dialect.text c.args.dialect.now) c.args.game.now e p clock clock' ids fresh c.run_all-played.ensures.played c.run_all-played.ensures.same in
+    let back = all_back g.L.Link.state (g.D.Dialect.may_answer c.args.dialect.now) (g.D.Dialect.text c.args.dialect.now) c.args.game.now e p clock clock' ids fresh c.run_all-played.ensures.played c.run_all-played.ensures.same in
     (ap (map (λ d. desk_ids d)) desks_back ∙ back.0, subst (IsPermutation _) (sym (ap (map (λ d. desk_caller d)) desks_back ∙ back.1)) (IsPermutation-refl _))
 
 pub returns-clause-through : goal.returns-clause-through
-unfolding AreTakenPlayed AreEightPlayed
+unfolding AreTakenPlayed
 returns-clause-through g c =
     let clock = c.unwrap-clock.result in let e = c.places-places.result in let ids = floor_ids c.args.stage.floor in
     let desks_are : c.args.stage.desks.items ≡ map (λ p. p.desk) (eight_of e) ++ clock ∷ [] = c.pop.ensures.items ∙ ap (λ o. c.pop.new.self.items ++ option_to_list o) c.unwrap-clock.ensures ∙ ap (λ l. l ++ clock ∷ []) c.places-places.ensures.desks in
@@ -61,7 +61,7 @@ returns-clause-through g c =
     let desks_back : c.push_reserved.new.self.items ≡ map (λ q. q.desk) (eight_of p) ++ clock' ∷ [] =
     c.push_reserved.ensures.items ∙ ap (λ l. l ++ clock' ∷ []) (c.add_eight.ensures.gathers.desks ∙ ap (λ l. l ++ map (λ q. q.desk) (eight_of p)) c.requires.stage.ending.desks.0) in
     let setups = c.close.ensures.setups ∙ ap (map (λ s. s.setup)) c.requires.stage.floor.starts in
-    played_through (λ l. record { taken = g.L.Link.taken l; left = g.L.Link.left l; sent = g.L.Link.sent l; reads = g.L.Link.faults l; writes = g.L.Link.write_faults l }) (g.D.Dialect.may_answer c.args.dialect.now) (g.D.Dialect.text c.args.dialect.now) c.args.game.now e p clock clock' ids fresh c.run_all-played.ensures.played c.close.result setups
+    played_through g.L.Link.state (g.D.Dialect.may_answer c.args.dialect.now) (g.D.Dialect.text c.args.dialect.now) c.args.game.now e p clock clock' ids fresh c.run_all-played.ensures.played c.close.result setups
     (subst (All (IsBorneOut c.close.result)) desks_back c.close.ensures.borne_out) c.args.lines.items c.add_eight.new.self.links.items c.add_eight.new.self.ends.items c.places-places.ensures.lines
     (c.add_eight.ensures.gathers.links ∙ ap (λ l. l ++ map played_link (eight_of p)) c.requires.stage.ending.links.0)
     (c.add_eight.ensures.gathers.ends ∙ ap (λ l. l ++ filter_map played_end (eight_of p)) c.requires.stage.ending.ends.0)

@@ -6,5 +6,5 @@ use Rattle.tac_commands.proofs.audit_command.audit_files.Goals as goal
 
 pub returns-in-Ok : goal.returns-in-Ok
 returns-in-Ok g c =
-    ends_later (g.F.Files.content c.args.files.now) (g.F.Files.content c.read_game_file.new.files) (file Game c.args.game.now) (λ game. Reads (file Log c.args.log.now) (audit_steps game)) _ _ _ _ _ _ _ _ _ _ c.audit_by_file.result
-    c.in-Ok.game c.in-Ok.ensures.game c.in-Ok.ensures.content c.in-Ok.ensures.names c.in-Ok.ensures.quiet c.audit_by_file.ensures
+    ends_later (g.F.Files.state c.args.files.now) (g.F.Files.state c.read_value.new.files) (file Game c.args.game.now) (λ game. Reads (file Log c.args.log.now) (audit_steps game)) c.in-Ok.game
+    c.in-Ok.ensures.value c.in-Ok.ensures.content c.in-Ok.ensures.names c.in-Ok.ensures.quiet (g.F.Files.state c.audit_by_file.new.files) _ _ c.audit_by_file.result c.audit_by_file.ensures

@@ -6,7 +6,7 @@ use Rattle.tac_commands.proofs.reading.read_bytes.Goals as goal
 
 pub returns-in-Err-TooLong-clause-unread : goal.returns-in-Err-TooLong-clause-unread
 returns-in-Err-TooLong-clause-unread g c =
-    let content = g.F.Files.content c.args.files.now in
+    let content = (g.F.Files.state c.args.files.now).content in
     let name = c.args.name.now in
     let long = c.in-Err-TooLong.ensures.long (ap Err c.in-Err-TooLong.field-0-is) in
     inr (inr (

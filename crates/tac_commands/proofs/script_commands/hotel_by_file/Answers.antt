@@ -5,9 +5,9 @@ use Rattle.tac_commands.proofs.script_commands.hotel_by_file.Goals as goal
 
 pub returns-in-Ok : goal.returns-in-Ok
 returns-in-Ok g c =
-    let content = g.F.Files.content c.args.files.now in
+    let files = g.F.Files.state c.args.files.now in
     let name = c.args.name.now in
     rw c.script_end.ensures (
-    hotel_ran content name c.as_slice.result.now _ _ _ _ _ _ _ _ (subst (λ (bytes : List ℕ). IsFile content name bytes) (sym c.as_slice.ensures.value) c.in-Ok.ensures.whole)
+    hotel_ran files (g.F.Files.state c.read_bytes.new.files) name c.as_slice.result.now _ _ (subst (λ (bytes : List ℕ). IsFile files.content name bytes) (sym c.as_slice.ensures.value) c.in-Ok.ensures.whole)
     c.in-Ok.ensures.names c.in-Ok.ensures.quiet c.run_hotel_script.result c.run_hotel_script.ensures
     )

@@ -6,7 +6,6 @@ use Rattle.tac_commands.proofs.table_command.add_pairs.Given as goal
 abbrev pub invariant-loop-pair : goal.invariant-loop-pair
 invariant-loop-pair g l =
     let pairs : List (List ℕ × List ℕ) = paired (map (λ name. string_bytes name) l.names) in
-    GoesOn (g.F.Files.content l.fn.files) pairs (drop l.pair pairs) l.pair (g.F.Files.names l.fn.files) (g.F.Files.names l.files) (g.F.Files.faults l.fn.files) (g.F.Files.faults l.files) l.standings
-    × (g.F.Files.content l.files ≡ g.F.Files.content l.fn.files)
+    GoesOn pairs (drop l.pair pairs) l.pair (g.F.Files.state l.fn.files) (g.F.Files.state l.files) l.standings
     × (l.standings.games ≡ l.pair)
-    × IfSome (g.F.Files.names l.files) (λ selected. length selected ≡ 2 * l.pair)
+    × IfSome (g.F.Files.state l.files).names (λ selected. length selected ≡ 2 * l.pair)

@@ -8,11 +8,11 @@ invariant-loop-bytes g l = record {
   within : l.filled ≤ vec_len l.bytes;
   limited : vec_len l.bytes ≤ l.limit + 1;
   going : l.filled ≤ l.limit;
-  reading : IsReading (g.F.Files.content l.fn.files) l.name (take l.filled l.bytes.items) (g.F.Files.left l.files);
-  selected : IsTrue (g.F.Files.selected l.files);
-  names : g.F.Files.names l.files ≡ and_then_told (g.F.Files.names l.fn.files) (l.name ∷ []);
-  content : g.F.Files.content l.files ≡ g.F.Files.content l.fn.files;
-  quiet : g.F.Files.faults l.files ≡ g.F.Files.faults l.fn.files;
+  reading : IsReading (g.F.Files.state l.fn.files).content l.name (take l.filled l.bytes.items) (g.F.Files.state l.files).left;
+  selected : IsTrue (g.F.Files.state l.files).selected;
+  names : (g.F.Files.state l.files).names ≡ and_then_told (g.F.Files.state l.fn.files).names (l.name ∷ []);
+  content : (g.F.Files.state l.files).content ≡ (g.F.Files.state l.fn.files).content;
+  quiet : (g.F.Files.state l.files).faults ≡ (g.F.Files.state l.fn.files).faults;
 }
 
 abbrev pub decreases-loop-bytes : goal.decreases-loop-bytes

@@ -7,6 +7,6 @@ pub loop-done-preserved : goal.loop-done-preserved
 loop-done-preserved g c = record {
   within = omega (arith, c.in_ok-done.ensures.bytes.1, c.split_at.ensures.back_len);
   taken = and_then_told-take _ _ _ _ _ _ c.loop-done.invariant.taken
-      (c.in_ok-done.ensures.bytes.2 ∙ ap (λ rest. and_then_told (g.K.Sink.taken c.loop-done.sink) (take c.in_ok-done.field-0 rest)) c.split_at.ensures.back);
+      (c.in_ok-done.ensures.bytes.2 ∙ ap (λ rest. and_then_told (g.K.Sink.state c.loop-done.sink).taken (take c.in_ok-done.field-0 rest)) c.split_at.ensures.back);
   quiet = c.in_ok-done.ensures.cause ∙ c.loop-done.invariant.quiet;
 }

@@ -5,8 +5,8 @@ use Rattle.tac_io.proofs.writing.write_all.Given as goal
 abbrev pub invariant-loop-done : goal.invariant-loop-done
 invariant-loop-done g l = record {
   within : l.done ≤ length l.bytes;
-  taken : g.K.Sink.taken l.sink ≡ and_then_told (g.K.Sink.taken l.fn.sink) (take l.done l.bytes);
-  quiet : g.K.Sink.faults l.sink ≡ g.K.Sink.faults l.fn.sink;
+  taken : (g.K.Sink.state l.sink).taken ≡ and_then_told (g.K.Sink.state l.fn.sink).taken (take l.done l.bytes);
+  quiet : (g.K.Sink.state l.sink).faults ≡ (g.K.Sink.state l.fn.sink).faults;
 }
 
 abbrev pub decreases-loop-done : goal.decreases-loop-done

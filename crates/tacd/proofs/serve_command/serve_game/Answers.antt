@@ -1,16 +1,15 @@
-use Rattle.std.proofs.Common.{◌∙◌}
 use Rattle.tacd.proofs.SoundServices.{tells_soundly}
 use Rattle.tacd.proofs.serve_command.serve_game.Goals as goal
 
 pub returns-in-Ok : goal.returns-in-Ok
 returns-in-Ok g c =
     let told = c.finish_played-code.ensures in
-    let end = rw (c.pace.ensures.waited, c.pace.ensures.faults) at c.in-Ok.ensures.played in (
+    let end = rw c.pace.ensures at c.in-Ok.ensures.played in (
       told.0,
       (
-        record { end = end; ports = c.in-Ok.ensures.cause.0; no_fault = c.in-Ok.ensures.cause.1; paced = c.in-Ok.ensures.paced ∙ c.pace.ensures.paced },
+        end,
         told.1,
-        tells_soundly _ _ _ c.args.game.now _ _ _ _ _ _ (record { head = c.in-Ok.field-0.head; closed = c.in-Ok.field-0.closed }) c.in-Ok.field-0.links end c.log_ranges.ensures told.0 told.1,
+        tells_soundly _ _ _ c.args.game.now _ _ _ _ _ (record { head = c.in-Ok.field-0.head; closed = c.in-Ok.field-0.closed }) c.in-Ok.field-0.links end c.log_ranges.ensures told.0 told.1,
       ),
       rw c.number.ensures told.2,
     )

@@ -1,0 +1,11 @@
+-- What is told of all that a command may ask of the outside.
+use Rattle.tac_io.specs.States.{FilesState, SinkState, LinksState, TickerState}
+
+pub record Outside (L : Type 0) : Type 0 where
+  pub files : FilesState
+  pub out : SinkState
+  pub links : LinksState L
+  pub ticker : TickerState
+
+abbrev pub outside_of : {L : Type 0} → FilesState → SinkState → LinksState L → TickerState → Outside L
+outside_of files out links ticker = record { files = files; out = out; links = links; ticker = ticker }

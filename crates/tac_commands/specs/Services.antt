@@ -1,0 +1,32 @@
+-- Which words of a command line ask for the service of a game.
+use Rattle.std.specs.Prelude.{ℕ, ◌&&◌, nat_le, List, [], ◌∷◌, Option, Some, None, if◌then◌else◌, codes}
+use Rattle.std.specs.Str.{bytes_eq}
+use Rattle.tac_base.specs.declared.limits.TheConstants.{PACE, PORT}
+use Rattle.tac_base.specs.Numerals.{numeral}
+use Rattle.tac_commands.specs.declared.services.Form.{Form}
+use Rattle.tac_commands.specs.declared.services.Form.TheVariants.{Lines, Json}
+
+-- the name of a game's file, a port, 1 to 65535, a pace, 1 to 60000 milliseconds a tick, and a form of lines
+pub record Service : Type 0 where
+  pub game : List ℕ
+  pub port : ℕ
+  pub pace : ℕ
+  pub form : Form
+
+-- a number, at least 1 and at most a limit
+abbrev pub positive_to : ℕ → Option ℕ → Option ℕ
+positive_to most None = None
+positive_to most (Some n) = if nat_le 1 n && nat_le n most then Some n else None
+
+-- a service that has a port and a pace
+abbrev pub service_with : List ℕ → Option ℕ → Option ℕ → Form → Option Service
+service_with game (Some port) (Some pace) form = Some (record { game = game; port = port; pace = pace; form = form })
+service_with game port pace form = None
+
+-- serve GAME PORT PACE, for a game in lines of words, and serve GAME PORT PACE json
+abbrev pub service_of : List (List ℕ) → Option Service
+service_of (word ∷ game ∷ port ∷ pace ∷ []) =
+    if bytes_eq word (codes "serve") then service_with game (positive_to PORT (numeral 10 port)) (positive_to PACE (numeral 10 pace)) Lines else None
+service_of (word ∷ game ∷ port ∷ pace ∷ form ∷ []) =
+    if bytes_eq word (codes "serve") && bytes_eq form (codes "json") then service_with game (positive_to PORT (numeral 10 port)) (positive_to PACE (numeral 10 pace)) Json else None
+service_of words = None

@@ -1,0 +1,40 @@
+// The words of a command that needs no links, run.
+ghost use Rattle.std.specs.Prelude.{◌≡◌, ◌≤◌, [], map, string_bytes, string_len, None, All, IfSome};
+ghost use Rattle.tac_base.specs.declared.limits.TheConstants.{NAME_BYTES};
+ghost use Rattle.tac_commands.specs.Allowed.{Allows};
+ghost use Rattle.tac_commands.specs.Codes.{number_of};
+ghost use Rattle.tac_commands.specs.Commands.{batch_of, service_or_batch};
+ghost use Rattle.tac_commands.specs.Outcomes.{Outcome};
+ghost use Rattle.tac_commands.specs.Telling.{Tells};
+
+use crate::batch::run_batch;
+use crate::code::Code;
+use crate::ends::{End, finish};
+use crate::refusals::Refusal;
+use crate::words::batch_asked;
+use std::alloc::Global;
+use std::thread::Threads;
+use tac_base::limits::NAME_BYTES;
+use tac_io::{Files, Sink};
+
+/// Runs the command that the words ask for, one that needs no links, and gives its code; where they ask for none, the usage is written.
+pub fn run_words<R: Threads + Sync, F: Files, K: Sink>(
+    rt: &R,
+    alloc: Global,
+    words: &[String],
+    files: &mut F,
+    out: &mut K,
+) -> Code
+    requires names { IfSome (F.state files.old).names (λ names. names ≡ []) }
+    requires short { All (λ word. string_len word ≤ NAME_BYTES) words.now }
+    ensures { (outcome : Outcome) × Allows (service_or_batch None (batch_of (map (λ word. string_bytes word) words.now))) (F.state files.old) (F.state files.new) outcome
+        × Tells outcome (K.state out.old) (K.state out.new) (number_of result) }
+{
+    match batch_asked(words) {
+        Some(command) => {
+            let end = run_batch(rt, alloc, command, files, out);
+            finish(out, end)
+        }
+        None => finish(out, End::Refused(Refusal::Usage)),
+    }
+}

@@ -1,0 +1,133 @@
+// The service of a game, as the words of a command line ask for it.
+ghost use Rattle.std.specs.Prelude.{◌≡◌, ◌≤◌, [], ◌∷◌, length, map, string_bytes, string_len, MatchOption, Some, None, All, IfSome};
+ghost use Rattle.tac_base.specs.declared.limits.TheConstants.{NAME_BYTES};
+ghost use Rattle.tac_base.specs.Numerals.{numeral};
+ghost use Rattle.tac_commands.specs.Commands.{seen_service};
+ghost use Rattle.tac_commands.specs.Services as services;
+ghost use Rattle.tac_commands.specs.Services.{service_of};
+
+use tac_base::limits::{NAME_BYTES, PACE, PORT};
+use tac_base::read_numeral;
+
+/// The wire format of a served game.
+#[derive(Clone, Copy, Debug, PartialEq, Eq)]
+pub enum Form {
+    /// Request lines and reply lines of words.
+    Lines,
+    /// Request lines and reply lines that are JSON objects.
+    Json,
+}
+
+/// A game over links: the name of its file, the port, 1 to 65535, the pace in milliseconds per tick, 1 to 60000, and the form of lines.
+#[derive(Clone, Copy)]
+pub struct Service<'a> {
+    pub game: &'a str,
+    pub port: u16,
+    pub pace: u16,
+    pub form: Form,
+}
+
+/// The number of a word, at least 1 and at most a limit.
+fn number_of(word: &str, most: u16) -> Option<u16>
+    ensures { result ≡ services.positive_to most (numeral 10 word.now) }
+{
+    match read_numeral(word.as_bytes(), 10) {
+        Some(number) if 1 <= number && number <= u64::from(most) => Some(number as u16),
+        _ => None,
+    }
+}
+
+/// The service of a game that has a port and a pace, in a form of lines.
+fn service_with<'a>(
+    game: &'a str,
+    port: Option<u16>,
+    pace: Option<u16>,
+    form: Form,
+) -> Option<Service<'a>>
+    requires { length game.now ≤ NAME_BYTES }
+    ensures service { MatchOption result (services.service_with game.now port pace form ≡ None)
+        (λ service. services.service_with game.now port pace form ≡ Some (seen_service service)) }
+    ensures short { IfSome result (λ service. length service.game.now ≤ NAME_BYTES) }
+{
+    let Some(port) = port else {
+        return None;
+    };
+    let Some(pace) = pace else {
+        return None;
+    };
+    Some(Service {
+        game,
+        port,
+        pace,
+        form,
+    })
+}
+
+/// The service of a word and three more, in lines of words.
+fn service_in_lines<'a>(word: &str, game: &'a str, port: &str, pace: &str) -> Option<Service<'a>>
+    requires { length game.now ≤ NAME_BYTES }
+    ensures service { MatchOption result (service_of (word.now ∷ game.now ∷ port.now ∷ pace.now ∷ []) ≡ None)
+        (λ service. service_of (word.now ∷ game.now ∷ port.now ∷ pace.now ∷ []) ≡ Some (seen_service service)) }
+    ensures short { IfSome result (λ service. length service.game.now ≤ NAME_BYTES) }
+{
+    if word == "serve" {
+        service_with(
+            game,
+            number_of(port, PORT),
+            number_of(pace, PACE),
+            Form::Lines,
+        )
+    } else {
+        None
+    }
+}
+
+/// The service of a word and four more, in JSON.
+fn service_in_json<'a>(
+    word: &str,
+    game: &'a str,
+    port: &str,
+    pace: &str,
+    form: &str,
+) -> Option<Service<'a>>
+    requires { length game.now ≤ NAME_BYTES }
+    ensures service { MatchOption result (service_of (word.now ∷ game.now ∷ port.now ∷ pace.now ∷ form.now ∷ []) ≡ None)
+        (λ service. service_of (word.now ∷ game.now ∷ port.now ∷ pace.now ∷ form.now ∷ []) ≡ Some (seen_service service)) }
+    ensures short { IfSome result (λ service. length service.game.now ≤ NAME_BYTES) }
+{
+    if word == "serve" && form == "json" {
+        service_with(
+            game,
+            number_of(port, PORT),
+            number_of(pace, PACE),
+            Form::Json,
+        )
+    } else {
+        None
+    }
+}
+
+/// The service that the words ask for, if they ask for one.
+pub fn service_asked(words: &[String]) -> Option<Service<'_>>
+    requires { All (λ word. string_len word ≤ NAME_BYTES) words.now }
+    ensures service { MatchOption result (service_of (map (λ word. string_bytes word) words.now) ≡ None)
+        (λ service. service_of (map (λ word. string_bytes word) words.now) ≡ Some (seen_service service)) }
+    ensures short { IfSome result (λ service. length service.game.now ≤ NAME_BYTES) }
+{
+    match words {
+        [word, game, port, pace] => service_in_lines(
+            word.as_str(),
+            game.as_str(),
+            port.as_str(),
+            pace.as_str(),
+        ),
+        [word, game, port, pace, form] => service_in_json(
+            word.as_str(),
+            game.as_str(),
+            port.as_str(),
+            pace.as_str(),
+            form.as_str(),
+        ),
+        _ => None,
+    }
+}
