@@ -32,6 +32,8 @@ def cases(bad, port):
         ("a port that is taken", ["serve", GAME, str(port), "1"], 5, {}),
         ("little memory", ["serve", GAME, "65534", "1"], 7, {"preexec_fn": little_memory}),
         ("a bad account", ["solve", bad], 8, {}),
+        ("the greatest port and pace, and the longest name", ["serve", "n" * 1024, "65535", "60000"], 3, {}),
+        ("a name that is too long", ["serve", "n" * 1025, "65535", "60000"], 1, {}),
     ]
 
 
@@ -41,7 +43,7 @@ def main():
     program = parser.parse_args().program
     if not program.exists():
         return 0
-    different = 0
+    count = different = 0
     with tempfile.TemporaryDirectory() as folder, socket.socket() as taken:
         bad = pathlib.Path(folder) / "bad"
         bad.write_text("neither a game nor an account\n")
@@ -50,10 +52,11 @@ def main():
         for name, words, due, how in cases(str(bad), taken.getsockname()[1]):
             how = {"stdout": subprocess.DEVNULL, **how}
             status = subprocess.run([program, *words], stdin=subprocess.DEVNULL, timeout=60, **how).returncode
+            count += 1
             if status != due:
                 different += 1
                 print(f"{name}: {due} was due, and it ended with {status}")
-    print(f"statuses: {8 - different} of 8 as due")
+    print(f"statuses: {count - different} of {count} as due")
     return 1 if different else 0
 
 

@@ -621,6 +621,7 @@ fn other_words_and_bad_files_are_refused(rt: HostRuntime) -> Result<(), Fail> {
         ("audit game script", "", 4, 3, "fault read\n"),
         ("audit game script", "", 0, 8, "text 1 1\n"),
         ("hotel other", "", 0, 3, "fault read\n"),
+        ("serve other 65535 60000", "", 0, 3, "fault read\n"),
         ("hotel script", "close\n", 1, 3, "fault read\n"),
         ("hotel script", "close\n", 2, 3, "fault read\n"),
         ("hotel script", "close\n", 3, 3, "fault read\n"),
