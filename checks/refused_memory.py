@@ -6,15 +6,15 @@ first part of its text, maybe more of it, and then that line. It is run after `r
 crates/tacd/out/tacd; of a command with more than MOST growths (2000) some in between are left out, evenly. It wants a C compiler. It ends
 with 0 where each run ended as it has to."""
 import argparse
+import contextlib
 import os
 import pathlib
 import shutil
-import socket
 import subprocess
 import sys
 import tempfile
-import threading
-import time
+
+from eight_agents import EightAgents, free_port
 
 HERE = pathlib.Path(__file__).resolve().parent
 EXAMPLES = HERE.parent / "examples"
@@ -23,31 +23,15 @@ SCRIPT = str(EXAMPLES / "three_agents.script")
 ACCOUNT = str(EXAMPLES / "one_seat.account")
 
 
-def agent(port, seat, ended):
-    """Takes a seat, asks for one seat on a flight, and reads to the end."""
-    while not ended.is_set():
-        try:
-            with socket.create_connection(("127.0.0.1", port), 10) as link:
-                link.sendall(f"hello seat{seat}\nbid 0 ((1 400))\ncash\nquit\n".encode())
-                while link.recv(4096):
-                    pass
-            return
-        except OSError:
-            time.sleep(0.01)
+def lines_of(seat):
+    """What an agent sends that takes a seat and asks for one on a flight."""
+    return f"hello seat{seat}\nbid 0 ((1 400))\ncash\nquit\n"
 
 
 def ran(program, words, environment, port=None):
     """The status and the text of one run, with eight agents where there is a port."""
-    ended = threading.Event()
-    agents = [threading.Thread(target=agent, args=(port, seat, ended)) for seat in range(8)] if port else []
-    for one in agents:
-        one.start()
-    try:
+    with EightAgents(port, lines_of) if port else contextlib.nullcontext():
         done = subprocess.run([program, *words], env={**os.environ, **environment}, stdin=subprocess.DEVNULL, stdout=subprocess.PIPE, timeout=60)
-    finally:
-        ended.set()
-        for one in agents:
-            one.join()
     return done.returncode, done.stdout
 
 
@@ -56,12 +40,6 @@ def is_cut(text, whole, may_be_cut):
     if text == b"memory\n":
         return True
     return may_be_cut and text.endswith(b"memory\n") and (whole is None or whole.startswith(text[: -len(b"memory\n")]))
-
-
-def free_port():
-    with socket.socket() as probe:
-        probe.bind(("", 0))
-        return probe.getsockname()[1]
 
 
 def tried(program, shim, name, words, most, may_be_cut=False, served=False):

@@ -1,0 +1,84 @@
+#!/usr/bin/env python3
+"""Runs the program where the tests stop: a long script, its log, a table of all 64 pairs, and a served game with live quotes.
+
+A contract allows the status 7 and the line `memory` wherever memory may be refused, so that a program that says so for no cause keeps its
+contracts; these runs have memory enough, and 7 is wrong in each. It is run after `rt ci`, which leaves the program at crates/tacd/out/tacd. It
+ends with 0 where each run ended as it has to, with 1 where one did not, and says nothing and ends with 0 where there is no program."""
+import argparse
+import pathlib
+import subprocess
+import sys
+import tempfile
+
+from eight_agents import EightAgents, free_port
+
+TOP = pathlib.Path(__file__).resolve().parent.parent
+GAME = str(TOP / "examples" / "first.game")
+CALLS = 1024  # that an agent may make in one auction
+
+
+def long_script():
+    """All requests that eight agents can make in 28 auctions, of which nothing comes: 229,376."""
+    return "".join(f"{agent} own {good}\n" for _ in range(CALLS) for good in range(28) for agent in range(8))
+
+
+def lines_of(seat):
+    """What an agent sends that bids in each hotel and asks for its quotes."""
+    return f"hello seat{seat}\n" + "".join(f"bid {good} ((1 {100 + seat}))\nquote {good}\n" for good in range(8, 16)) + "quit\n"
+
+
+def ran(program, words):
+    return subprocess.run([program, *words], stdin=subprocess.DEVNULL, stdout=subprocess.PIPE, timeout=120)
+
+
+def served(program, game):
+    """A served game of eight agents: what the program left, and whether each agent was sent its last line."""
+    port = free_port()
+    with EightAgents(port, lines_of) as agents:
+        done = ran(program, ["serve", game, str(port), "5"])
+    return done, all(agents.sent.get(seat, b"").endswith(b"bye\n") for seat in range(8))
+
+
+def log_in(text):
+    """The log that the text of a play ends with."""
+    return text[text.index(b"taclog 1\n"):]
+
+
+def shown(program, folder):
+    """Each run by its name, and whether it ended as it has to."""
+    script, log, other, live = (folder / name for name in ("script", "log", "other", "live"))
+    script.write_text(long_script())
+    played = ran(program, ["play", GAME, script])
+    yield "a script of 229,376 requests", played.returncode == 0
+    log.write_bytes(log_in(played.stdout))
+    yield "its log has more than 1,000,000 bytes", log.stat().st_size > 1_000_000
+    yield "the audit of that log", ran(program, ["audit", GAME, log]).stdout == b"sound\n"
+    script.write_text("0 bid 0 ((1 400))\n")
+    other.write_bytes(log_in(ran(program, ["play", GAME, script]).stdout))
+    table = ran(program, ["table", *[GAME, other] * 64])
+    yield "a table of 64 games", table.returncode == 0 and table.stdout.startswith(b"table 64\n")
+    upgraded = ran(program, ["upgrade", GAME]).stdout
+    live.write_bytes(upgraded.replace(b"\nquotes minute\n", b"\nquotes live\n"))
+    done, are_heard = served(program, live)
+    yield "a served game with live quotes", done.returncode == 0 and are_heard
+    log.write_bytes(done.stdout)
+    yield "the audit of its log", ran(program, ["audit", live, log]).stdout == b"sound\n"
+
+
+def main():
+    parser = argparse.ArgumentParser(description=__doc__, formatter_class=argparse.RawDescriptionHelpFormatter)
+    parser.add_argument("program", nargs="?", type=pathlib.Path, default=TOP / "crates" / "tacd" / "out" / "tacd")
+    program = parser.parse_args().program
+    if not program.exists():
+        return 0
+    with tempfile.TemporaryDirectory() as folder:
+        runs = list(shown(program.resolve(), pathlib.Path(folder)))
+    for name, is_due in runs:
+        if not is_due:
+            print(f"{name}: not as due")
+    print(f"large runs: {sum(is_due for _, is_due in runs)} of {len(runs)} as due")
+    return 0 if all(is_due for _, is_due in runs) else 1
+
+
+if __name__ == "__main__":
+    sys.exit(main())
