@@ -1,3 +1,5 @@
+ghost use Rattle.std.specs.Prelude.{◌≡◌};
+
 use crate::printing::print_said;
 use crate::reading::read_line;
 use agent_gate::Dialect;
@@ -14,13 +16,15 @@ pub struct JsonDialect {
 
 impl JsonDialect {
     /// The dialect, which reads with memory of this allocator.
-    pub fn new(alloc: Global) -> Self {
+    pub fn new(alloc: Global) -> Self
+        ensures { result.alloc ≡ alloc }
+    {
         JsonDialect { alloc }
     }
 }
 
 impl Dialect for JsonDialect {
-    ghost use Rattle.std.specs.Prelude.{◌≡◌, ◌⊎◌, Err};
+    ghost use Rattle.std.specs.Prelude.{◌⊎◌, Err};
     ghost use Rattle.line_protocol.specs.declared.asking.RequestFault.TheVariants.{Memory};
     ghost use Rattle.json_dialect.specs.JsonRequests.{asks_json};
     ghost use Rattle.json_dialect.specs.JsonReplies.{json_text};
