@@ -3,6 +3,7 @@ ghost use Rattle.std.specs.List.{list_all};
 ghost use Rattle.game_text.specs.Flights as flights;
 ghost use Rattle.game_text.specs.Games as games;
 ghost use Rattle.text_forms.specs.Rows as rows;
+ghost use Rattle.tac_base.specs.declared.limits.TheConstants.{FLIGHT_DRAWS};
 
 use crate::numbers::{dollars_at, is_due, signed_at};
 use std::alloc::AllocError;
@@ -109,7 +110,9 @@ fn flight_of(good: u8, line: &[u8]) -> Result<FlightLine, Reason>
 
 /// The flight of the least first price, with bound 10 and draws 0.
 impl Default for FlightLine {
-    fn default() -> Self {
+    fn default() -> Self
+        ensures { result ≡ record { first = 250; bound = pos 10; draws = replicate FLIGHT_DRAWS 0 } }
+    {
         FlightLine::new(250, 10, &[0; FLIGHT_DRAWS])
     }
 }

@@ -6,7 +6,7 @@ use std::marker::Model;
 use tac_base::{Party, Trade};
 
 /// How many units of one good each party holds: the agents 0..7, then the house. Who sells more than it holds has less than 0.
-#[derive(Clone, Debug, Drop)]
+#[derive(Debug, Drop)]
 pub struct GoodBook {
     holdings: [i32; 9],
 }
