@@ -16,6 +16,7 @@ import sys
 
 ROOT = os.path.dirname(os.path.dirname(os.path.abspath(__file__)))
 PAGE = os.path.join(ROOT, "docs", "READING.md")
+LIMITS = "tac_base.specs.declared.limits.TheConstants"
 NAME = re.compile(r"[A-Za-z_][A-Za-z0-9_']*(?:\.[A-Za-z_][A-Za-z0-9_']*)*")
 WORDS = r"(?:(?:pub|abbrev|unfoldable) )*"
 # What only one part of the promise needs, by crate or module, with its heading.
@@ -170,6 +171,19 @@ def reached(modules, given, start):
     return found
 
 
+def limits_in(modules, found, start):
+    """The limits that these definitions or the clauses themselves name: each with its value and what it is."""
+    named = set(name for path, name in start if path == LIMITS)
+    for path, names in found.items():
+        for name in names:
+            targets = [modules[path].target(word) for word in NAME.findall("\n".join(modules[path].definitions[name]))]
+            named |= set(target[1] for target in targets if target and target[0] == LIMITS)
+    with open(os.path.join(ROOT, "crates", "tac_base", "src", "limits.rt"), encoding="utf-8") as file:
+        all_of_them = re.findall(r"/// (.*)\npub const (\w+): \w+ = (\w+)(?: as \w+)?;", file.read())
+    rows = ["| limit | value | what it is |", "|---|---|---|"]
+    return rows + ["| `%s` | %s | %s |" % (name, value.replace("_", ",") if value[0].isdigit() else "`%s`" % value, about) for about, name, value in all_of_them if name in named]
+
+
 def line_count(modules, found):
     return sum(len(modules[path].definitions[name]) for path, names in found.items() for name in names)
 
@@ -234,6 +248,8 @@ def page(modules, given, clauses):
         "",
     ]
     text += table(modules, core, order)
+    limits = limits_in(modules, headline, clauses["service"])
+    text += ["", "The limits that these definitions and those of the next three headings name, from `crates/tac_base/src/limits.rt`:", ""] + limits
     for heading, found in chosen.items():
         if found:
             text += ["", "## " + heading, "", "%d lines in %d modules." % (line_count(modules, found), len(found)), ""]
