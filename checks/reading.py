@@ -1,11 +1,11 @@
 #!/usr/bin/env python3
 """The page of what must be believed: docs/READING.md.
 
-    checks/reading.py            compares the page with what the clauses of `tac` reach, and fails where they differ
+    checks/reading.py            compares the page with what the clauses of `tac` reach, and fails if they differ
     checks/reading.py --write    writes the page
 
 From the clauses of `tac` (crates/tacd/src/top.rt) it follows every name through the modules of specs/ and counts the lines of the
-definitions that it meets, without comments, imports and blank lines. It fails too where a module with such a definition imports a module
+definitions that it meets, without comments, imports and blank lines. It also fails if a module with such a definition imports a module
 that has none: a reader would then open a file that says nothing of what is promised.
 """
 import argparse
@@ -19,7 +19,7 @@ PAGE = os.path.join(ROOT, "docs", "READING.md")
 LIMITS = "tac_base.specs.declared.limits.TheConstants"
 NAME = re.compile(r"[A-Za-z_][A-Za-z0-9_']*(?:\.[A-Za-z_][A-Za-z0-9_']*)*")
 WORDS = r"(?:(?:pub|abbrev|unfoldable) )*"
-# What only one part of the promise needs, by crate or module, with its heading.
+# The parts of the promise that need modules of their own: each with its heading and these crates and modules.
 PARTS = [
     ("The certificates of the scores: their lines in the log, and when they hold", ["bound_cert", "packages.Bounds", "packages.Features", "packages.Listing"]),
     ("For `serve .. json` alone", ["json_dialect"]),
@@ -234,17 +234,17 @@ def page(modules, given, clauses):
         "",
         "A proof says that the code meets its contract. Whether the contract says what a game is, a reader has to judge. This page lists every module of",
         "definitions that the top call `tac` (`crates/tacd/src/top.rt`) rests on, with the number of lines that it uses of each, without comments and imports.",
-        "They use types of the code in `src/`, which a name with `declared` in its import tells, and words of the toolchain's libraries, which are not counted;",
-        "no other module of `specs/` and no proof has to be read to know what is promised. What has to be trusted beside it is in the README. Each module",
-        "begins with a sentence on what it says, which stands here too. Modules lower in the table use those above them, but for those of the same crate, whose order is rough.",
+        "They use types of the code in `src/`, whose imports contain `declared`, and names of the toolchain's libraries, which are not counted;",
+        "no other module of `specs/` and no proof has to be read to know what is promised. The README says what else has to be trusted. Each module",
+        "begins with a sentence on what it says, which is repeated here. Modules lower in the table use those above them; within a crate the order is rough.",
         "",
-        "The page is made by `checks/reading.py --write`, which after each run of the gate compares it with the sources, and fails where a module listed here",
-        "imports one that is not.",
+        "`checks/reading.py --write` makes the page. Without `--write` it runs after the gate, compares the page with the sources, and fails if a module listed",
+        "here imports one that is not.",
         "",
         "## A game over links, in lines of words",
         "",
-        "The clause `service`: which game was played, that its 28 auctions and its cash went by the rules, that each agent's calls are those that its link asked,",
-        "that each score is the greatest utility there is, and which bytes were written, but for the lines of certificates. %d lines in %d modules." % (line_count(modules, core), len(core)),
+        "The clause `service`: which game was played, that its 28 auctions and its cash followed the rules, that each agent's calls are those that its link asked,",
+        "that each score is the greatest there is, and which bytes were written, except for the lines of certificates. %d lines in %d modules." % (line_count(modules, core), len(core)),
         "",
     ]
     text += table(modules, core, order)

@@ -14,12 +14,12 @@ use Rattle.floor.specs.Keeping.{count_readings}
 use Rattle.agent_gate.specs.Items.{Item}
 use Rattle.agent_gate.specs.Turns.{Turn, Called, CallDenied, CashRead, CashDenied, Quoted, Refused, Skipped, Left, call_of, item_of, said_of, made_at, cash_by, boards_shown, told_length}
 
--- what is said of a call at a good
+-- the statement about a call at a good
 abbrev pub said_of_outcome : Outcome → Said
 said_of_outcome (outcomes.At position reply) = said.At position reply
 said_of_outcome outcomes.Spent = said.Spent
 
--- what is said of a reading of the agent's cash
+-- the statement about a reading of the agent's cash
 abbrev pub said_of_reading : CashOutcome → Said
 said_of_reading (cash_outcomes.At position dollars) = said.Cash position dollars
 said_of_reading cash_outcomes.Spent = said.Spent
@@ -37,7 +37,7 @@ IsDue before (Refused fault) = ⊤
 IsDue before Skipped = ⊤
 IsDue before Left = ⊤
 
--- a turn was due, and the desk has what the turn left, and nothing else, besides what it had
+-- a turn was due, and the desk has what the turn left besides what it had, and nothing else
 pub record IsMade (turn : Turn) (before after : Desk) : Type 0 where
   pub due : IsDue before turn
   pub entries : (good : ℕ) → good < 28 → entries_at after good ≡ entries_at before good ++ made_at good (turn ∷ [])
@@ -45,7 +45,7 @@ pub record IsMade (turn : Turn) (before after : Desk) : Type 0 where
   pub boards : (good : ℕ) → good < 28 → boards_at after good ≡ boards_at before good ++ boards_shown good (turn ∷ [])
   pub seen : (good : ℕ) → good < 28 → (seen_at before good ≤ seen_at after good) × (told_length good turn ≤ seen_at after good)
 
--- such an item was answered so, and the desk made the turn
+-- the item was answered so, and the desk made the turn
 pub record TakesTurn (Asked : Item → Type 0) (before after : Desk) (said : Said) : Type 0 where
   pub turn : Turn
   pub asked : Asked (item_of turn)

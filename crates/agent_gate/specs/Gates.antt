@@ -20,12 +20,12 @@ greeted words = None
 abbrev pub greeting_of : List ℕ → Option (List ℕ)
 greeting_of line = greeted (words_of line)
 
--- what becomes of who asks for a seat
+-- the verdict on a greeting with a seat word, and what is left
 abbrev pub seat_verdict : List Bool → Option ℕ → Verdict
 seat_verdict taken None = WrongWord
 seat_verdict taken (Some seat) = if slice_index_or taken seat false then Taken else Seated seat
 
--- what becomes of who greets with a word
+-- the verdict on a greeting with any word
 abbrev pub word_verdict : Seats → Option (List ℕ) → Verdict
 word_verdict seats None = Syntax
 word_verdict seats (Some word) = seat_verdict seats.taken (position (bytes_eq word) seats.words)
@@ -34,7 +34,7 @@ word_verdict seats (Some word) = seat_verdict seats.taken (position (bytes_eq wo
 abbrev pub verdict_of : Seats → List ℕ → Verdict
 verdict_of seats line = word_verdict seats (greeting_of line)
 
--- the seats after a verdict: only one that seats an agent changes them
+-- the seats after a verdict: they change only if an agent is seated
 abbrev pub seats_after : Seats → Verdict → Seats
 seats_after seats (Seated agent) = record { words = seats.words; taken = slice_set seats.taken agent true }
 seats_after seats verdict = seats

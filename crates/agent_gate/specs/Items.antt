@@ -11,7 +11,7 @@ pub data Item : Type 0 where
   Asks : (asked : Result Request RequestFault) → Item
   Overlong : Item
 
--- what a line that was read asks: one that is not too long asks what may be answered to it
+-- the item of a line that was read: what the line may be read as, or that it is too long
 abbrev pub IsItem : (List ℕ → Result Request RequestFault → Type 0) → LineGot × List ℕ → Item → Type 0
 IsItem may_answer (Line, line) (Asks asked) = may_answer line asked
 IsItem may_answer (TooLong, line) Overlong = ⊤

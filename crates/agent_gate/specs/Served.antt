@@ -15,7 +15,7 @@ use Rattle.line_protocol.specs.declared.admission.Cause.TheVariants as causes
 use Rattle.agent_gate.specs.Items.{AreItems}
 use Rattle.agent_gate.specs.Turns.{Turn, item_of, said_of, has_left, AreLawful}
 
--- the line that tells something
+-- the line of a reply, with its end
 abbrev pub reply_line : (Said → List ℕ) → Turn → List ℕ
 reply_line text turn = text (said_of turn) ++ 10 ∷ []
 
@@ -27,14 +27,14 @@ session_text text welcome turns = welcome ++ flat_map (reply_line text) turns
 abbrev pub IsWhole : (Said → List ℕ) → List ℕ → List Turn → LinkState → LinkState → ℕ → Type 0
 IsWhole text welcome turns before after lines = (after.sent ≡ and_then_told before.sent (session_text text welcome turns)) × (lines ≡ length turns)
 
--- A write failed: in the welcome, and then nothing was asked; or in the line of the last turn.
+-- A write failed: in the welcome, so nothing was asked; or in the line of the last turn.
 abbrev pub IsCutOff : (Said → List ℕ) → List ℕ → List Turn → LinkState → LinkState → ℕ → Type 0
 IsCutOff text welcome turns before after lines =
     ((turns ≡ []) × TakesSome before.sent after.sent welcome × (lines ≡ 0))
     ⊎ ((answered : List Turn) × (last : Turn) × (turns ≡ answered ++ last ∷ [])
     × TakesSome (and_then_told before.sent (session_text text welcome answered)) after.sent (reply_line text last) × (lines ≡ length answered))
 
--- The causes of a session's end. `rest` is what comes next of the bytes that were taken, after the lines of the turns.
+-- The causes of a session's end. `rest` is the next answer that the link's bytes give after the lines of the turns.
 abbrev pub EndsBy : Cause → (Said → List ℕ) → List ℕ → List Turn → List (LineGot × List ℕ) → LinkState → LinkState → ℕ → Type 0
 EndsBy causes.Quit text welcome turns rest before after lines = (has_left turns ≡ true) × IsWhole text welcome turns before after lines
 EndsBy causes.End text welcome turns rest before after lines =
@@ -45,13 +45,13 @@ EndsBy causes.WriteFault text welcome turns rest before after lines = IsCutOff t
 EndsBy causes.Budget text welcome turns rest before after lines =
     (has_left turns ≡ false) × ((length turns ≡ SESSION_LINES) ⊎ ((length turns < SESSION_LINES) × (rest ≡ (gots.Budget, []) ∷ []))) × IsWhole text welcome turns before after lines
 
--- a fault of a read is why a session ends exactly where the count of the link's reads rose, and so of writes
+-- a session ends for a read fault exactly if the count of faults of the link's reads rose, and likewise for writes
 abbrev pub HasSessionCause : LinkState → LinkState → Cause → Type 0
 HasSessionCause before after causes.ReadFault = Rose before.reads after.reads × (after.writes ≡ before.writes)
 HasSessionCause before after causes.WriteFault = (after.reads ≡ before.reads) × Rose before.writes after.writes
 HasSessionCause before after cause = (after.reads ≡ before.reads) × (after.writes ≡ before.writes)
 
--- The turns of a session are what its bytes ask, each answered. `answers` is what comes of the bytes that were taken, line by line, after
+-- The turns of a session are what its bytes ask, each answered. `answers` is what the bytes taken give, line by line, after
 -- the lines that were read before the session.
 pub record IsServed (may_answer : List ℕ → Result Request RequestFault → Type 0) (text : Said → List ℕ) (welcome : List ℕ)
     (answers : List (LineGot × List ℕ)) (before after : LinkState) (turns : List Turn) (lines : ℕ) (cause : Cause) : Type 0 where

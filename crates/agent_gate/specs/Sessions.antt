@@ -17,7 +17,7 @@ use Rattle.agent_gate.specs.Turns.{Turn, made_at, cash_made, boards_shown}
 use Rattle.agent_gate.specs.Welcome.{welcome_text}
 use Rattle.agent_gate.specs.Served.{IsServed}
 
--- the entries of a desk that had made no call, and the boards that it saw besides, are those of the turns
+-- the desk's entries are those of the turns, and its boards are the ones that it had and those of the turns
 pub record AreMadeBy (turns : List Turn) (before after : Desk) : Type 0 where
   pub entries : entries_of after ≡ map (λ good. made_at good turns) all_goods
   pub cash : cash_of after ≡ cash_made (desk_caller before) turns

@@ -18,7 +18,7 @@ use Rattle.agent_gate.specs.Items.{IsItem}
 use Rattle.agent_gate.specs.Answering.{TakesTurn}
 use Rattle.agent_gate.specs.Served.{HasSessionCause}
 
--- why a session ends where no line comes
+-- why a session ends if no line comes
 abbrev pub cause_of : LineGot → Option Cause
 cause_of gots.Line = None
 cause_of gots.TooLong = None
@@ -35,7 +35,7 @@ abbrev pub IsAsked : (List ℕ → Result Request RequestFault → Type 0) → L
 IsAsked may_answer got line before after (Ok said) = Says may_answer got line before after said
 IsAsked may_answer got line before after (Err cause) = (cause_of got ≡ Some cause) × (after ≡ before)
 
--- The next of the lines' answers was taken, and a line was answered.
+-- The next answer was taken from those of the link's lines, and a line was answered.
 pub record TakesNext (may_answer : List ℕ → Result Request RequestFault → Type 0) (old new : Held)
     (link link' : LinkState) (count count' : ℕ) (before after : Desk) (result : Result Said Cause) : Type 0 where
   pub got : LineGot
@@ -43,7 +43,7 @@ pub record TakesNext (may_answer : List ℕ → Result Request RequestFault → 
   pub within : count' ≤ LINK_BYTES
   pub asked : IsAsked may_answer got new.line before after result
 
--- What came of a turn: its reply was sent whole, and it was `bye` where the agent left; or it was not sent whole; or no line came.
+-- The result of a turn: its reply was sent whole, and it was `bye` if the agent left; or it was not sent whole; or no line came.
 abbrev pub IsTurned : {T : Type 0} → (List ℕ → Result Request RequestFault → Type 0) → (Said → List ℕ) → LineGot → List ℕ → Desk → Desk
     → LinkState → LinkState → Result T Cause → Type 0
 IsTurned may_answer text got line before after link link' (Ok _) =
@@ -54,7 +54,7 @@ IsTurned may_answer text got line before after link link' (Err causes.WriteFault
     (said : Said) × Says may_answer got line before after said × TakesSome link.sent link'.sent (text said ++ 10 ∷ [])
 IsTurned may_answer text got line before after link link' (Err cause) = (cause_of got ≡ Some cause) × (after ≡ before) × (link'.sent ≡ link.sent)
 
--- A turn was taken, from the next of the lines' answers to the sending of the reply.
+-- A turn was taken, from the next answer of the link's lines to the sending of the reply.
 pub record HasTurn {T : Type 0} (may_answer : List ℕ → Result Request RequestFault → Type 0) (text : Said → List ℕ) (old new : Held)
     (link link' : LinkState) (count count' : ℕ) (before after : Desk) (result : Result T Cause) : Type 0 where
   pub got : LineGot
@@ -62,12 +62,12 @@ pub record HasTurn {T : Type 0} (may_answer : List ℕ → Result Request Reques
   pub within : count' ≤ LINK_BYTES
   pub turned : IsTurned may_answer text got new.line before after link link' result
 
--- a turn changes a count of faults only where it ends the session for it
+-- a turn changes a count of faults only if it ends the session for that fault
 abbrev pub HasTurnCause : {T : Type 0} → LinkState → LinkState → Result T Cause → Type 0
 HasTurnCause link link' (Ok _) = (link'.reads ≡ link.reads) × (link'.writes ≡ link.writes)
 HasTurnCause link link' (Err cause) = HasSessionCause link link' cause
 
--- how many replies were sent whole where a session ends so in the turn after so many
+-- how many replies were sent whole if a session ends so in the turn after this many
 abbrev pub count_whole : ℕ → Cause → ℕ
 count_whole before causes.Quit = before + 1
 count_whole before causes.End = before

@@ -20,11 +20,11 @@ use Rattle.agent_gate.specs.Items.{Item, Asks, Overlong}
 pub data Turn : Type 0 where
   -- a call of a good was made: its entry has the position; the post that is due to the entry, if one is, has the position `posted`
   Called : (request : Request) → (good : ℕ) → (position : ℕ) → (entry : Entry) → (posted : ℕ) → Turn
-  -- a call of a good was not made, since all that the agent may make there were made
+  -- a call of a good was not made, since the agent had used up its calls there
   CallDenied : (request : Request) → (good : ℕ) → Turn
   -- the agent's cash was read, at the position of the cash history
   CashRead : (position : ℕ) → (dollars : ℤ) → Turn
-  -- the cash was not read, since all readings that the agent may make were made
+  -- the cash was not read, since the agent had used up its readings
   CashDenied : Turn
   -- the board of a good was shown
   Quoted : (good : ℕ) → (board : Board) → Turn
@@ -35,9 +35,9 @@ pub data Turn : Type 0 where
   -- the agent left
   Left : Turn
 
--- ---- what is asked and said
+-- ---- what is asked and answered
 
--- what a turn is asked, and what is said to it
+-- what a turn is asked, and how it is answered
 abbrev pub asked_and_said : Turn → Item × Said
 asked_and_said (Called request good position entry posted) = (Asks (Ok request), said.At position entry.reply)
 asked_and_said (CallDenied request good) = (Asks (Ok request), said.Spent)
@@ -54,7 +54,7 @@ item_of turn = (asked_and_said turn).0
 abbrev pub said_of : Turn → Said
 said_of turn = (asked_and_said turn).1
 
--- the good and the call that a request makes, if it makes one
+-- the good and the call of a request, if it makes one
 abbrev pub call_of : Request → Option (ℕ × Call)
 call_of (requests.Bid good points) = Some (good, calls.Bid points)
 call_of (requests.Withdraw good) = Some (good, calls.Withdraw)
@@ -110,18 +110,18 @@ has_left turns = list_any is_leaving turns
 
 -- ---- the rule of turns
 
--- how long a good's history is at least, by what a turn told
+-- how long a good's history is at least, by what a turn was answered
 abbrev pub told_length : ℕ → Turn → ℕ
 told_length good (Called request g position entry posted) = if g == good then position + 1 else 0
 told_length good (Quoted g board) = if g == good then board.count else 0
 told_length good turn = 0
 
--- so long a history of a good goes on from all that was told of it
+-- this length of a good's history is not below anything that was answered of it
 abbrev pub GoesOn : ℕ → ℕ → List Turn → Type 0
 GoesOn good count past = All (λ turn. told_length good turn ≤ count) past
 
--- What a turn may be after those before it. The calls of an agent at each good and its readings are limited; a position or a count that is told
--- goes on from all that was told before.
+-- What a turn may be after those before it. The calls of an agent at each good and its readings are limited; a position or a count is not
+-- below any that was answered before.
 abbrev pub IsLawful : List Turn → Turn → Type 0
 IsLawful past (Called request good position entry posted) =
     (call_of request ≡ Some (good, entry.call)) × (good < 28) × (length (made_at good past) < AGENT_CALLS) × GoesOn good position past
@@ -131,6 +131,6 @@ IsLawful past CashDenied = count_by is_reading past ≡ CASH_READINGS
 IsLawful past (Quoted good board) = (good < 28) × GoesOn good board.count past
 IsLawful past turn = ⊤
 
--- each turn is lawful after those before it, and after the agent left there is none
+-- each turn is allowed after those before it, and after the agent left there is none
 abbrev pub AreLawful : List Turn → Type 0
 AreLawful turns = (n : ℕ) (turn : Turn) → slice_get turns n ≡ Some turn → IsLawful (take n turns) turn × (has_left (take n turns) ≡ false)

@@ -13,7 +13,7 @@ welcome_lines game agent = (codes "welcome " ++ decimal agent) ∷ lines_of_agen
 abbrev pub welcome_text : GameFile → ℕ → List ℕ
 welcome_text game agent = text_of (welcome_lines game agent)
 
--- the first bytes of a text were sent, and the text has those after them
+-- the first bytes of a text were sent, and the second text is what is left of it
 pub record MovesOn (before after : LinkState) (text text' : List ℕ) : Type 0 where
   pub first : List ℕ
   pub whole : text ≡ first ++ text'

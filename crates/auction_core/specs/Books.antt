@@ -16,7 +16,7 @@ Stands (Flight book) setup past = flights.StandsFor book setup past
 Stands (Hotel book) setup past = hotels.StandsFor book setup past
 Stands (Tickets book) setup past = tickets.StandsFor book setup past
 
--- how many units may still be traded by the calls of the clock alone
+-- how many units the calls of the clock alone may still trade
 abbrev pub units_left : Book → ℕ
 units_left (Flight book) = flights.units_left book
 units_left (Hotel book) = hotels.units_left book

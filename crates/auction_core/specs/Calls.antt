@@ -1,10 +1,10 @@
--- Which calls may be made of an auction.
+-- Which calls an auction may be asked.
 use Rattle.std.specs.Prelude.{⊤, ◌≤◌}
 use Rattle.tac_base.specs.declared.limits.TheConstants.{UPDATE_TICKS}
 use Rattle.tac_base.specs.declared.calls.Call.{Call}
 use Rattle.tac_base.specs.declared.calls.Call.TheVariants.{Bid, Withdraw, Own, Update, Publish, Close}
 
--- an update is one of the ticks 1..53, and every other call may be made by any caller
+-- an update is of one of the ticks 1..53; any caller may make every other call
 abbrev pub IsFit : Call → Type 0
 IsFit (Bid points) = ⊤
 IsFit Withdraw = ⊤

@@ -1,4 +1,4 @@
--- The laws of the auctions: what every call keeps, whoever makes it. Each speaks of an auction before the call and after it.
+-- The laws of the auctions: what every call preserves, whoever makes it. Each compares an auction before the call and after it.
 use Rattle.std.specs.Prelude.{◌≡◌, ℕ, ◌≤◌, ◌<◌, ◌==◌, min, ⊤, true, false, ◌&&◌, nat_le, List, [], ◌∷◌, All, length, reverse, filter, sum_by, count_by}
 use Rattle.tac_base.specs.declared.calls.Trade.{Trade}
 use Rattle.auction_rules.specs.declared.units.BidUnit.{BidUnit}
@@ -69,8 +69,8 @@ bought_at trades party price = sum_by (λ t. t.units) (filter (λ t. (t.buyer ==
 abbrev pub bid_at : List BidUnit → ℕ → ℕ → ℕ
 bid_at units party price = count_by (λ u. u.buys && ((u.agent == party) && nat_le price u.price)) units
 
--- Nobody pays more than it bid: at whatever price, an agent buys no more units at that price or more in a call than it has units that
--- bid so much, standing before the call, or, where it makes a new bid, new with that bid.
+-- Nobody pays more than it bid: at any given price, an agent buys no more units at that price or more in a call than it has units that
+-- bid so much, standing before the call, or, if it makes a new bid, new with that bid.
 abbrev pub ArePaid : Rules → List Entry → Type 0
 ArePaid rules [] = ⊤
 ArePaid rules (e ∷ past) =
@@ -79,7 +79,7 @@ ArePaid rules (e ∷ past) =
 abbrev pub NobodyOverpays : AuctionHistory → Type 0
 NobodyOverpays after = ArePaid after.setup.rules (past_of after)
 
--- where tickets show a bid and an ask, the bid is below the ask
+-- if tickets show a bid and an ask, the bid is below the ask
 abbrev pub IsApart : Rules → List Entry → Type 0
 IsApart TicketRules past = 0 < (board TicketRules past).bid → 0 < (board TicketRules past).ask → (board TicketRules past).bid < (board TicketRules past).ask
 IsApart rules past = ⊤

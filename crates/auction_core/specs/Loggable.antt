@@ -1,4 +1,4 @@
--- What is so of every entry of an auction, so that a log can show it.
+-- What holds of every entry of an auction, so that a log can show it.
 use Rattle.std.specs.Prelude.{◌≡◌, ℕ, ◌≤◌, ⊤, All, None, length}
 use Rattle.tac_base.specs.Bids.{fault_of, left_fault}
 use Rattle.tac_base.specs.declared.calls.Call.{Call}
@@ -12,7 +12,7 @@ use Rattle.game_text.specs.Accounts.{IsHolding}
 use Rattle.auction_rules.specs.History.{Entry}
 use Rattle.auction_rules.specs.Traded.{IsShort}
 
--- points are a bid, and an update is of one of the ticks 1..53, with a draw of 32 bits
+-- points are those of a bid, and an update is of one of the ticks 1..53, with a draw of 32 bits
 abbrev pub IsLoggableCall : Call → Type 0
 IsLoggableCall (Bid points) = fault_of points ≡ None
 IsLoggableCall (Update tick draw) = (1 ≤ tick) × (tick ≤ 53) × (draw ≤ 4294967295)
@@ -26,7 +26,7 @@ HasSmallNumbers (Sold units price) = units ≤ 255
 HasSmallNumbers (BelowQuote need at offered) = (need ≤ 255) × (offered ≤ 255)
 HasSmallNumbers reply = ⊤
 
--- a holding lies in -200000..200000, rooms are sold at 0..10000 dollars, and a bid has to have 10001 at most
+-- a holding lies in -200000..200000, rooms are sold at 0..10000 dollars, and the price that a bid has to offer is at most 10001
 abbrev pub IsToldInRange : Reply → Type 0
 IsToldInRange (Own holding left) = IsHolding holding
 IsToldInRange (Sold units price) = price ≤ BID_PRICE

@@ -26,7 +26,7 @@ rules_by game good Flight = FlightRules (first_price game good) (price_bound gam
 rules_by game good Hotel = HotelRules (rooms_of game good) game.live
 rules_by game good Ticket = TicketRules
 
--- what the agents have of a good at first, by its kind: some tickets, and else nothing
+-- what the agents have of a good at first, by its kind: the endowment of tickets, and none of the others
 abbrev pub endow_by : GameFile → ℕ → Kind → List ℤ
 endow_by game good Ticket = map (λ tickets. pos (slice_index_or tickets (good - 16) 0)) game.endow
 endow_by game good kind = replicate 8 (pos 0)
@@ -35,7 +35,7 @@ endow_by game good kind = replicate 8 (pos 0)
 abbrev pub setup_of : ℕ → GameFile → Setup
 setup_of good game = record { good = good; rules = rules_by game good (kind_of good); endow = endow_by game good (kind_of good) }
 
--- the kind of the goods that have the rules
+-- the kind of the goods that have these rules
 abbrev pub kind_by : Rules → Kind
 kind_by (FlightRules first bound) = Flight
 kind_by (HotelRules rooms live) = Hotel

@@ -32,11 +32,11 @@ pub record IsStored (entries : List StoredEntry) (trades : List Trade) : Type 0 
   pub whole : length trades ≡ count_trades entries
   pub some : length trades ≤ traded (all_trades (reverse (stored entries trades)))
 
--- how an entry is stored behind the trades of those before it
+-- how an entry is stored after the trades of those before it
 abbrev pub entry_behind : List Trade → ℕ → Call → Reply → List Trade → StoredEntry
 entry_behind before caller call reply trades = record { caller = caller; call = call; reply = reply; first_trade = length before; trades = length trades }
 
--- a stored entry shows the entry of a history at a position: its trades stand behind those of the entries before it
+-- a stored entry shows the entry of a history at a position: its trades come after those of the entries before it
 pub record Shows (history : List Entry) (position : ℕ) (entry : Entry) (shown : StoredEntry) : Type 0 where
   pub caller : shown.caller ≡ entry.caller
   pub call : shown.call ≡ entry.call
@@ -44,7 +44,7 @@ pub record Shows (history : List Entry) (position : ℕ) (entry : Entry) (shown 
   pub trades : shown.trades ≡ length entry.trades
   pub first_trade : shown.first_trade ≡ length (flat_map (λ e. e.trades) (take position history))
 
--- what is shown at a position: the entry that is there, and nothing exactly past the end
+-- what is shown at a position: the entry there, and None exactly past the end
 abbrev pub IsShown : List Entry → ℕ → Option StoredEntry → Type 0
 IsShown history position None = length history ≤ position
 IsShown history position (Some shown) = (entry : Entry) × (slice_get history position ≡ Some entry) × Shows history position entry shown

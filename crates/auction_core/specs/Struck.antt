@@ -1,4 +1,4 @@
--- What a caller is told of its entry.
+-- What a caller is answered of its entry.
 use Rattle.std.specs.Prelude.{length}
 use Rattle.auction_rules.specs.History.{Entry}
 use Rattle.auction_rules.specs.Effects.{nets}

@@ -12,7 +12,7 @@ use Rattle.auction_rules.specs.Standing.{stand}
 abbrev pub units_at : List BidUnit → ℕ → ℕ
 units_at units price = count_by (λ u. nat_le price u.price) units
 
--- the greatest price among the units that at least as many of them as there are rooms have or exceed; 0 where there are fewer units
+-- the greatest price of a unit such that at least as many units as there are rooms have that price or more; 0 if there are fewer units
 abbrev pub ask : ℕ → List BidUnit → ℕ
 ask rooms units = fold max 0 (map (λ u. u.price) (filter (λ u. nat_le rooms (units_at units u.price)) units))
 
@@ -22,7 +22,7 @@ publishes Publish = true
 publishes Close = true
 publishes call = false
 
--- the published price: the ask at the last admitted `Publish` or `Close`; where quotes are live, an admitted `Bid` publishes
+-- the published price: the ask at the last admitted `Publish` or `Close`; if quotes are live, an admitted `Bid` publishes
 -- too, the ask of the units that stand with it
 abbrev pub published : ℕ → Bool → List Entry → ℕ
 published rooms live [] = 0

@@ -9,16 +9,16 @@ use Rattle.auction_rules.specs.FlightRule.{price}
 use Rattle.auction_rules.specs.Standing.{stand}
 use Rattle.auction_rules.specs.Ask.{published}
 
--- the highest price of a buying unit, 0 where there is none
+-- the highest price of a buying unit, 0 if there is none
 abbrev pub highest_buy : List BidUnit → ℕ
 highest_buy units = fold max 0 (map (λ u. u.price) (filter (λ u. u.buys) units))
 
--- the least of the numbers, 0 where there is none
+-- the least of the numbers, 0 if there is none
 abbrev pub lowest : List ℕ → ℕ
 lowest [] = 0
 lowest (n ∷ ns) = fold min n ns
 
--- the lowest price of a selling unit, 0 where there is none
+-- the lowest price of a selling unit, 0 if there is none
 abbrev pub lowest_sell : List BidUnit → ℕ
 lowest_sell units = lowest (map (λ u. u.price) (filter (λ u. not u.buys) units))
 

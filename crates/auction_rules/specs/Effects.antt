@@ -40,6 +40,6 @@ all_trades past = flat_map (λ e. e.trades) past
 abbrev pub endowment : Setup → ℕ → ℤ
 endowment setup party = if party == house then pos 0 else slice_index_or setup.endow party (pos 0)
 
--- how many units of the good the party holds: those that it held at first, and the net units of all trades
+-- how many units of the good the party holds: those that it held at first, plus its net units over all trades
 abbrev pub holding : Setup → List Entry → ℕ → ℤ
 holding setup past party = endowment setup party +ℤ net_units (all_trades past) party

@@ -15,18 +15,18 @@ use Rattle.tac_base.specs.Goods.{house}
 use Rattle.auction_rules.specs.Units.{units_of, point_units, common_units}
 use Rattle.auction_rules.specs.History.{Entry, is_admission}
 
--- how far the price is led at a tick: 10 and the floor of t * (bound - 10) / 54, since the divisor is positive
+-- the drift at a tick: 10 plus the floor of t * (bound - 10) / 54, since the divisor is positive
 abbrev pub drift : ℤ → ℕ → ℤ
 drift bound tick = pos 10 +ℤ int_div_euclid (pos tick *ℤ (bound -ℤ pos 10)) (pos TICKS)
 
--- the interval's ends: from -10 to a positive drift, from a negative one to 10, and else from -10 to 10
+-- the interval's ends: from -10 to a positive drift, from a negative one to 10, and otherwise from -10 to 10
 abbrev pub low_end : ℤ → ℤ
 low_end x = if int_lt x (pos 0) then x else neg_ℤ (pos 10)
 
 abbrev pub high_end : ℤ → ℤ
 high_end x = if int_lt (pos 0) x then x else pos 10
 
--- the number of the interval that the draw names
+-- the number in the interval that the draw picks
 abbrev pub change : ℤ → ℤ → ℕ → ℤ
 change lo hi draw = lo +ℤ pos (draw % (unsigned_abs (hi -ℤ lo) + 1))
 
@@ -55,19 +55,19 @@ is_sale (Bid points) = true
 is_sale (Update tick draw) = true
 is_sale call = false
 
--- the units that a call looks at: those that stand, but of the caller of a bid the new ones
+-- the units that a call looks at: those that stand, but for the caller of a bid its new ones
 abbrev pub looked_at : List BidUnit → ℕ → ℕ → Call → List BidUnit
 looked_at standing position caller (Bid points) =
     filter (λ u. not (u.agent == caller)) standing ++ units_of (record { agent = caller; position = position; points = points })
 looked_at standing position caller call = standing
 
--- the bids that these units are of, the new one among them
+-- the bids of these units, including the new one
 abbrev pub bids_looked_at : List Placed → ℕ → ℕ → Call → List Placed
 bids_looked_at bids position caller (Bid points) =
     filter (λ bid. not (bid.agent == caller)) bids ++ record { agent = caller; position = position; points = points } ∷ []
 bids_looked_at bids position caller call = bids
 
--- one trade for each point at or above the current price that has a unit among those looked at; their units are numbered from an index
+-- one trade for each point at or above the current price that has a unit among those looked at; the points' units are numbered from an index
 abbrev pub point_trades : ℕ → ℕ → List BidUnit → Placed → ℕ → List Point → List Trade
 point_trades good current units bid from [] = []
 point_trades good current units bid from (point ∷ points) =
@@ -82,7 +82,7 @@ abbrev pub positions_below : ℕ → List ℕ
 positions_below zero = []
 positions_below (suc n) = positions_below n ++ n ∷ []
 
--- the trades of the bids, which were made below a position: by bid position, and then by point
+-- the trades of the bids made below a position: by bid position, and then by point
 abbrev pub flight_trades : ℕ → ℕ → List BidUnit → List Placed → ℕ → List Trade
 flight_trades good current units bids end =
     flat_map (λ position. flat_map (λ bid. point_trades good current units bid 0 bid.points) (filter (λ bid. bid.position == position) bids)) (positions_below end)

@@ -1,4 +1,4 @@
--- What a call has done, where it follows the rules.
+-- What a call has done, if it follows the rules.
 use Rattle.std.specs.Prelude.{◌≡◌, ℕ, List, ◌∷◌}
 use Rattle.tac_base.specs.declared.calls.Trade.{Trade}
 use Rattle.tac_base.specs.declared.calls.Call.{Call}

@@ -41,7 +41,7 @@ abbrev pub is_close : Call → Bool
 is_close Close = true
 is_close call = false
 
--- whether an admitted `Close` is in the past
+-- whether the past has an admitted `Close`
 abbrev pub is_closed : List Entry → Bool
 is_closed past = list_any (λ e. is_admission e.reply && is_close e.call) past
 
@@ -51,7 +51,7 @@ bid_after caller position (Bid points) earlier = Some (record { agent = caller; 
 bid_after caller position Withdraw earlier = None
 bid_after caller position call earlier = earlier
 
--- the agent's last admitted bid, and none where an admitted `Withdraw` of the agent comes later
+-- the agent's last admitted bid, and None if an admitted `Withdraw` of the agent comes later
 abbrev pub last_bid : ℕ → List Entry → Option Placed
 last_bid agent [] = None
 last_bid agent (e ∷ past) =

@@ -1,4 +1,4 @@
--- What the laws of the auctions say of trades and prices.
+-- Parties of trades, and prices of flights, for the laws of the auctions.
 use Rattle.std.specs.Prelude.{ℕ, ◌≢◌, ◌≤◌}
 use Rattle.tac_base.specs.declared.calls.Trade.{Trade}
 

@@ -1,4 +1,4 @@
--- The entry that the rules give for a call, and the histories that are made of such entries.
+-- The entry that the rules give for a call, and the histories that consist of such entries.
 use Rattle.std.specs.Prelude.{◌≡◌, ℕ, ◌+◌, ◌==◌, ◌≤◌, ⊤, if◌then◌else◌, List, [], ◌∷◌, length, reverse, Option, Some, None, count_by}
 use Rattle.std.specs.List.{filter_map, AllByRecursion}
 use Rattle.tac_base.specs.declared.calls.Trade.{Trade}

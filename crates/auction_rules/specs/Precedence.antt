@@ -9,7 +9,7 @@ precedes u v =
     nat_lt v.price u.price
     || ((u.price == v.price) && (nat_lt u.position v.position || ((u.position == v.position) && nat_lt u.index v.index)))
 
--- how many of the units precede one
+-- how many of the units precede this one
 abbrev pub predecessors : List BidUnit → BidUnit → ℕ
 predecessors units v = count_by (λ u. precedes u v) units
 

@@ -14,7 +14,7 @@ use Rattle.auction_rules.specs.History.{Entry, is_own, is_closed}
 use Rattle.auction_rules.specs.Standing.{stand}
 use Rattle.auction_rules.specs.BeatQuote.{need, quote_to_beat, offered, is_below_quote}
 
--- whether the caller is not one of those that may make the call: the clock updates, publishes and closes, agents do the rest
+-- whether the call is not one of the caller's: the clock updates, publishes and closes, agents do the rest
 abbrev pub is_wrong_caller : ℕ → Call → Bool
 is_wrong_caller caller (Bid points) = caller == clock
 is_wrong_caller caller Withdraw = caller == clock
@@ -46,7 +46,7 @@ meets_own points price = list_any (λ sell. not (buys_of sell.units) && nat_le s
 abbrev pub crosses_itself : List Point → Bool
 crosses_itself points = list_any (λ buy. buys_of buy.units && meets_own points buy.price) points
 
--- the refusals that a bid alone has
+-- the refusals that only a bid has
 abbrev pub bid_refusal : Rules → List Entry → ℕ → List Point → Option Reply
 bid_refusal (FlightRules first bound) past caller points = if sells points then Some Sell else None
 bid_refusal (HotelRules rooms live) past caller points =
@@ -56,7 +56,7 @@ bid_refusal (HotelRules rooms live) past caller points =
     else None
 bid_refusal TicketRules past caller points = if crosses_itself points then Some SelfCross else None
 
--- the refusals that one kind of call has
+-- the refusals that depend on the kind of call
 abbrev pub call_refusal : Rules → List Entry → ℕ → Call → Option Reply
 call_refusal rules past caller (Bid points) = bid_refusal rules past caller points
 call_refusal rules past caller Withdraw = if has_standing rules past caller then None else Some NoBid

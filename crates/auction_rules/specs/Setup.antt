@@ -2,7 +2,7 @@
 use Rattle.std.specs.Prelude.{ℕ, List, ℤ}
 use Rattle.auction_rules.specs.declared.rules.Rules.{Rules}
 
--- an auction's good, its rules, and how many units of it each agent holds at first
+-- an auction's good, its rules, and how many units of the good each agent holds at first
 pub record Setup : Type 0 where
   pub good : ℕ
   pub rules : Rules

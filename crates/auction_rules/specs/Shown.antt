@@ -11,6 +11,6 @@ shown_unit u = record { agent = u.agent; price = u.price; position = u.position;
 abbrev pub on_side : Bool → ShownUnit → BidUnit
 on_side buys u = record { agent = u.agent; buys = buys; price = u.price; position = u.position; index = u.index }
 
--- the units shown are those that stand, each once, in whatever order: however units are weighed, both weigh the same
+-- the units shown are those that stand, each once, in any order: under every weight of units, both have the same sum
 abbrev pub AreShown : List BidUnit → List ShownUnit → Type 0
 AreShown standing units = (weight : ShownUnit → ℕ) → sum_by weight units ≡ sum_by (λ u. weight (shown_unit u)) standing

@@ -12,14 +12,14 @@ use Rattle.auction_rules.specs.History.{Entry, is_admission, is_closed, last_bid
 use Rattle.auction_rules.specs.FlightRule.{price, price_after, is_sale, looked_at, flight_gone}
 use Rattle.auction_rules.specs.TicketMatch.{arriving, ticket_gone}
 
--- the units that an admitted call trades away, where `standing` are those that stand after the past
+-- the units that an admitted call trades away, if `standing` are those that stand after the past
 abbrev pub gone_by : Rules → List Entry → List BidUnit → ℕ → Call → List BidUnit
 gone_by (FlightRules first bound) past standing caller call =
     if is_sale call then flight_gone (price_after bound (price first bound past) call) (looked_at standing (length past) caller call) else []
 gone_by (HotelRules rooms live) past standing caller call = []
 gone_by TicketRules past standing caller call = ticket_gone standing (arriving (length past) caller call)
 
--- what stands where some units are gone: nothing after a closing, and else what is left of the last bids
+-- what stands if some units are gone: nothing after a closing, and otherwise what is left of the last bids
 abbrev pub left_standing : List Entry → List BidUnit → List BidUnit
 left_standing past gone = if is_closed past then [] else without (bid_units past) gone
 

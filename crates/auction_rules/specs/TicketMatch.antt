@@ -32,7 +32,7 @@ best units = find (λ u. list_all (λ v. not (goes_before v u)) units) units
 abbrev pub crosses : BidUnit → BidUnit → Bool
 crosses arriving standing = if arriving.buys then nat_le standing.price arriving.price else nat_le arriving.price standing.price
 
--- a unit that the arriving one trades with, where the prices cross
+-- a unit that the arriving one trades with, if the prices cross
 abbrev pub if_crossing : BidUnit → Option BidUnit → Option BidUnit
 if_crossing arriving None = None
 if_crossing arriving (Some standing) = if crosses arriving standing then Some standing else None
@@ -46,12 +46,12 @@ abbrev pub pair_with : BidUnit → Option BidUnit → List (BidUnit × BidUnit)
 pair_with arriving None = []
 pair_with arriving (Some standing) = (arriving, standing) ∷ []
 
--- the standing units but the one that was taken
+-- the standing units except the one that was taken
 abbrev pub not_taken : Option BidUnit → List BidUnit → List BidUnit
 not_taken None standing = standing
 not_taken (Some taken) standing = filter (λ u. not (same_unit u taken)) standing
 
--- the pairs of arriving and standing units, where the units arrive in order and none is taken twice
+-- the pairs of arriving and standing units, as the units arrive in order and none is taken twice
 abbrev pub pairs : List BidUnit → List BidUnit → List (BidUnit × BidUnit)
 pairs standing [] = []
 pairs standing (unit ∷ units) = pair_with unit (partner standing unit) ++ pairs (not_taken (partner standing unit) standing) units

@@ -7,13 +7,13 @@ use Rattle.tac_base.specs.declared.limits.TheConstants.{BID_UNITS, BID_PRICE}
 abbrev pub traded : List Trade → ℕ
 traded trades = sum_by (λ t. t.units) trades
 
--- a trade as a log can show it: of 1 to 16 units, each at a price of at most 10000 dollars
+-- a trade that a log can show: of 1 to 16 units, each at a price of at most 10000 dollars
 pub record IsShort (trade : Trade) : Type 0 where
   pub some : 1 ≤ trade.units
   pub few : trade.units ≤ BID_UNITS
   pub priced : trade.price ≤ BID_PRICE
 
--- each trade has a unit, and where `before` units could be traded, `after` are left to be traded later
+-- each trade has a unit, and if `before` units could be traded, `after` can be traded later
 pub record Spends (before after : ℕ) (trades : List Trade) : Type 0 where
   pub some : All (λ t. 1 ≤ t.units) trades
   pub few : traded trades + after ≤ before

@@ -6,7 +6,7 @@ use Rattle.tac_base.specs.Bids.{buys_of, size_of}
 use Rattle.auction_rules.specs.declared.units.Placed.{Placed}
 use Rattle.auction_rules.specs.declared.units.BidUnit.{BidUnit}
 
--- so many units: the first, and others like it with the indices that follow
+-- this many units: the first, and others like it with the indices that follow
 abbrev pub block : BidUnit → ℕ → List BidUnit
 block first zero = []
 block first (suc n) = block first n ++ record first { index = first.index + n } ∷ []
@@ -26,11 +26,11 @@ units_from agent position from (point ∷ points) =
 abbrev pub units_of : Placed → List BidUnit
 units_of bid = units_from bid.agent bid.position 0 bid.points
 
--- whether two sides are one
+-- whether two sides are the same
 abbrev pub same_side : Bool → Bool → Bool
 same_side b c = (b && c) || (not b && not c)
 
--- whether two units are one
+-- whether two units are the same
 abbrev pub same_unit : BidUnit → BidUnit → Bool
 same_unit u v =
     (u.agent == v.agent) && (same_side u.buys v.buys && ((u.price == v.price) && ((u.position == v.position) && (u.index == v.index))))

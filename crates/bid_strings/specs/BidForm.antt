@@ -45,12 +45,12 @@ abbrev pub verdict : List Point → Option BidFault → Result (List Point) BidF
 verdict points None = Ok points
 verdict points (Some fault) = Err fault
 
--- the bid of the points that a text has, where it has points
+-- the bid of the points of a text, if it has points
 abbrev pub judged : Option (List Point) → Result (List Point) BidFault
 judged None = Err Syntax
 judged (Some points) = verdict points (fault_of points)
 
--- what is wrong with points after a point with a fault
+-- what is wrong if a point has this fault: the form of the points after it comes first
 abbrev pub refusal : BidFault → Option (List Point) → BidFault
 refusal fault None = Syntax
 refusal fault (Some points) = fault

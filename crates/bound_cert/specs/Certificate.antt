@@ -14,12 +14,12 @@ is_within None claim = true
 is_within (Some bound) claim = int_le bound (pos claim)
 
 abbrev mutual
-  -- the part of a certificate below a split holds where the packages left are these
+  -- the part of a certificate holds, if these packages are left
   pub holds : AccountFile → ℕ → Narrowing → Tree → Bool
   holds account claim left (leaf prices) = is_within (leaf_bound account left prices) claim
   holds account claim left (split client feature children) = count_of children == values_of feature && all_hold account claim left client feature 0 children
 
-  -- the children of a split hold, of which the first is for the value
+  -- the children of a split hold, the first being for this value
   pub all_hold : AccountFile → ℕ → Narrowing → ℕ → ℕ → ℕ → Trees → Bool
   all_hold account claim left client feature value no_trees = true
   all_hold account claim left client feature value (more tree trees) =

@@ -14,13 +14,13 @@ abbrev pub refused : {A : Type 0} → Result A BadLine → Result A CertFault
 refused (Ok x) = Ok x
 refused (Err bad) = Err (fault_of bad)
 
--- a reading was refused so, unless memory was short
+-- a reading was refused so, unless memory was refused
 abbrev pub IsRefusal : {A : Type 0} → CertFault → Result A CertFault → Type 0
 IsRefusal (Line line reason) read = read ≡ Err (Line line reason)
 IsRefusal TooLong read = read ≡ Err TooLong
 IsRefusal Memory read = Unit {0}
 
--- what was returned, seen by a view, is what reading gives, unless memory was short
+-- what was returned, seen by a view, is what reading gives, unless memory was refused
 abbrev pub IsReading : {A B : Type 0} → (A → B) → Result A CertFault → Result B CertFault → Type 0
 IsReading view (Ok x) read = read ≡ Ok (view x)
 IsReading view (Err fault) read = IsRefusal fault read

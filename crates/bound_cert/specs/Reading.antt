@@ -17,7 +17,7 @@ use Rattle.bound_cert.specs.Trees.{Tree, leaf, split, Trees, no_trees, more}
 abbrev pub Step : Type 0 → Type 0
 Step A = Remaining → Result (A × Remaining) CertFault
 
--- so many trees, one after the other
+-- this many trees, one after the other
 abbrev pub forest_by : Step Tree → ℕ → Step Trees
 forest_by tree_at zero left = Ok (no_trees, left)
 forest_by tree_at (suc count) left = do
@@ -25,14 +25,14 @@ forest_by tree_at (suc count) left = do
   trees ← forest_by tree_at count tree.1
   Ok (more tree.0 trees.0, trees.1)
 
--- a node, and the children of a split, where these may have so many levels of splits less one
+-- a node, and below a split its children, each read by `tree_at`
 abbrev pub node_by : Step Tree → NodeLine → Step Tree
 node_by tree_at (Leaf prices) left = Ok (leaf prices, left)
 node_by tree_at (Split client feature) left = do
   trees ← forest_by tree_at (values_of feature) left
   Ok (split client feature trees.0, trees.1)
 
--- a node where no split may stand
+-- a node that has to be a leaf
 abbrev pub last_node : ℕ → NodeLine → Step Tree
 last_node number (Leaf prices) left = Ok (leaf prices, left)
 last_node number (Split client feature) left = Err (Line number 8)
@@ -44,7 +44,7 @@ node_line_in left = do
   node ← refused (at_line line.0.number (node_line_of line.0.bytes))
   Ok (line.0.number, node, line.1)
 
--- a tree of at most so many levels of splits
+-- a tree of at most this many levels of splits
 unfoldable pub tree_in : ℕ → Step Tree
 tree_in zero left = node_line_in left >>= λ node. last_node node.0 node.1 node.2
 tree_in (suc level) left = node_line_in left >>= λ node. node_by (tree_in level) node.1 node.2

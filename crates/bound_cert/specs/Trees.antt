@@ -19,11 +19,11 @@ abbrev pub count_of : Trees → ℕ
 count_of no_trees = 0
 count_of (more tree trees) = count_of trees + 1
 
--- a price for each good, none of which is above the highest
+-- a price for each good, none above the highest
 abbrev pub are_prices : List ℕ → Bool
 are_prices prices = length prices == 28 && list_all (λ price. nat_le price DUAL_PRICE) prices
 
--- a split names a client and a feature and has a child for each value of the feature, and at most so many splits stand above each leaf
+-- a split names a client and a feature and has a child for each value of the feature, and at most this many splits are above each leaf
 abbrev mutual
   pub is_tree : ℕ → Tree → Bool
   is_tree depth (leaf prices) = are_prices prices

@@ -16,6 +16,6 @@ view_step (CertNode-F.Split client feature children) = split client feature (tre
 abbrev pub tree_of : CertNode → Tree
 tree_of = fold-CertNode Tree view_step
 
--- the trees of several
+-- the trees of several parts
 abbrev pub forest_of : List CertNode → Trees
 forest_of nodes = trees_of (map tree_of nodes)

@@ -1,4 +1,4 @@
--- What a way leaves.
+-- What the splits on the way to a node leave.
 use Rattle.packages.specs.Bounds.{Narrowing}
 use Rattle.packages.specs.Features.{narrowed}
 use Rattle.bound_cert.specs.declared.ways.Way.{Way, Start, Turn'}

@@ -6,12 +6,12 @@ use Rattle.tac_io.specs.States.{TickerState}
 use Rattle.tac_io.specs.Told.{and_then_told}
 use Rattle.game_text.specs.Schedule.{ticks}
 
--- some tick lapsed exactly where the count of faults rose
+-- some tick lapsed exactly if the count of faults rose
 pub record HasMissedCause (faults faults' missed : ℕ) : Type 0 where
   pub rose : 0 < missed → Rose faults faults'
   pub same : missed ≡ 0 → faults' ≡ faults
 
--- the 54 ticks were waited for, in order and at the pace that was set, and so many of them lapsed
+-- the 54 ticks were waited for, in order and at the pace that was set, and this many of them lapsed
 pub record WaitsForAll (before after : TickerState) (missed : ℕ) : Type 0 where
   pub waits : List (ℕ × Bool)
   pub told : after.waited ≡ and_then_told before.waited waits

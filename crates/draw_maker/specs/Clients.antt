@@ -3,7 +3,7 @@ use Rattle.std.specs.Prelude.{ℕ, ◌+◌, ◌%◌, List, [], ◌∷◌, map, d
 use Rattle.tac_base.specs.Clients.{Preferences}
 use Rattle.draw_maker.specs.Words.{parts}
 
--- the days of arrival and departure, in the order of their ranks
+-- the days of arrival and departure, by rank
 abbrev pub trips : List (ℕ × ℕ)
 trips = (1, 2) ∷ (1, 3) ∷ (1, 4) ∷ (1, 5) ∷ (2, 3) ∷ (2, 4) ∷ (2, 5) ∷ (3, 4) ∷ (3, 5) ∷ (4, 5) ∷ []
 

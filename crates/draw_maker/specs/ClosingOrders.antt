@@ -2,7 +2,7 @@
 use Rattle.std.specs.Prelude.{ℕ, ◌+◌, ◌%◌, List, [], ◌∷◌, fold, swap}
 use Rattle.std.specs.List.{zip}
 
--- a draw for place i, counted from 0: the item there changes places with the one at place `word mod (i + 1)`
+-- a draw for place i, counted from 0: the item there is swapped with the one at place `word mod (i + 1)`
 abbrev pub exchanged : List ℕ → ℕ × ℕ → List ℕ
 exchanged order (i, word) = swap order i (word % (i + 1))
 

@@ -1,4 +1,4 @@
--- The game that is made from a number.
+-- The game made from a seed.
 use Rattle.std.specs.Prelude.{ℕ, List, false, map, replicate, take, drop}
 use Rattle.game_text.specs.SeatWords.{numbered_seats}
 use Rattle.game_text.specs.Games.{GameFile}

@@ -1,4 +1,4 @@
--- The game script that is made from a number, with so many requests.
+-- The game script made from a seed, with a given number of requests.
 use Rattle.std.specs.Prelude.{ℕ, ◌+◌, ◌*◌, ◌-◌, ◌/◌, ◌%◌, ◌==◌, if◌then◌else◌, List, [], ◌∷◌, ◌++◌, ℤ, pos, negsuc, decimal, codes, replicate, slice_index}
 use Rattle.std.specs.List.{flat_map, range_with_len}
 use Rattle.tac_base.specs.declared.bids.Point.{Point}
@@ -43,6 +43,6 @@ made_lines count i words = replicate (ticks_before count i - ticks_before count 
 abbrev pub request_words : ℕ → ℕ → List ℕ
 request_words seed i = next_words 5 (after (5 * i) (generator seed 55))
 
--- the text of so many requests
+-- the text of this many requests
 unfoldable pub made_script : ℕ → ℕ → List ℕ
 made_script seed count = text_of (flat_map (λ i. made_lines count i (request_words seed i)) (range_with_len 0 count))

@@ -15,7 +15,7 @@ use Rattle.auction_rules.specs.Standing.{stand, left_points}
 use Rattle.tac_base.specs.Bids.{size_of, left_fault}
 use Rattle.flight_auction.specs.declared.sales.StandingPoint.{StandingPoint}
 
--- ---- points that stand
+-- ---- standing points
 
 -- the points of an agent, each with the agent
 abbrev pub owned_by : ℕ → List Point → List StandingPoint
@@ -60,7 +60,7 @@ pub record FlightBook : Type 0 where
   pub standing : List StandingPoint
   pub closed : Bool
 
--- what is so of the fields of every flight: its price and its bound are in range, and what each agent has standing is within
+-- the invariant of every flight: its price and its bound are in range, and what each agent has standing is within
 -- the limits of a bid
 pub record IsSound (bound : ℤ) (price : ℕ) (standing : List StandingPoint) : Type 0 where
   pub bound_from : negsuc 9 ≤ℤ bound
@@ -74,11 +74,11 @@ pub record IsSound (bound : ℤ) (price : ℕ) (standing : List StandingPoint) :
 abbrev pub units_standing : List StandingPoint → ℕ
 units_standing standing = sum_by (λ s. size_of s.point) standing
 
--- how many units the house may still sell, where nobody bids anew
+-- how many units the house may still sell if nobody makes a new bid
 abbrev pub units_left : FlightBook → ℕ
 units_left book = units_standing book.standing
 
--- the bids that were made below a position, by their position
+-- the bids made below a position, by their position
 abbrev pub by_position : List Placed → ℕ → List Placed
 by_position bids end = flat_map (λ position. filter (λ bid. bid.position == position) bids) (positions_below end)
 
@@ -86,7 +86,7 @@ by_position bids end = flat_map (λ position. filter (λ bid. bid.position == po
 abbrev pub placed_bids : List Entry → List Placed
 placed_bids past = filter_map (λ agent. last_bid agent past) agents
 
--- the points of a bid that stand, where these units stand
+-- the points of a bid that stand, if these units stand
 abbrev pub standing_of : List BidUnit → Placed → List StandingPoint
 standing_of units bid = owned_by bid.agent (left_points units bid.agent bid.position 0 bid.points)
 

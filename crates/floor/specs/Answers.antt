@@ -28,9 +28,9 @@ use Rattle.floor.specs.Desks.{desk_ids, desk_caller, setup_at, entries_of, entri
 abbrev pub IsSameDesk : Desk → Desk → Type 0
 IsSameDesk before after = (desk_ids after ≡ desk_ids before) × (desk_caller after ≡ desk_caller before)
 
--- a call at a good was answered at a position: the desk has one entry more there, and at the other goods as before; its list of calls
--- goes on with this one; the post that is due to that entry was made; and the position is not below what the desk had seen there. The
--- entry is the one that the rules give after the entries before it, of which the desk's own are those that it had made
+-- a call at a good was answered at a position: the desk has one entry more there, and at the other goods as before; this call is appended
+-- to its list of calls; the post that is due to that entry was made; and the position is not below what the desk had seen there. The
+-- entry is the one that the rules give after the entries before it, among which the desk's own are those that it had made
 pub record IsAnswered (before after : Desk) (good : ℕ) (asked : Call) (position : ℕ) (answered : Reply) : Type 0 where
   pub entry : Entry
   pub caller : entry.caller ≡ desk_caller before
@@ -52,12 +52,12 @@ pub record IsAnswered (before after : Desk) (good : ℕ) (asked : Call) (positio
   pub legal : Legal setup (earlier ++ entry ∷ [])
   pub ruled : entry ≡ entry_of setup (reverse earlier) (desk_caller before) asked
 
--- an agent's call at a good is spent, and changes nothing, exactly where the desk made all its calls there before
+-- an agent's call at a good is spent, and changes nothing, exactly if the desk made all its calls there before
 abbrev pub IsOutcome : Desk → Desk → ℕ → Call → Outcome → Type 0
 IsOutcome before after good asked Spent = (length (entries_at before good) ≡ AGENT_CALLS) × (after ≡ before)
 IsOutcome before after good asked (At position reply) = (length (entries_at before good) < AGENT_CALLS) × IsAnswered before after good asked position reply
 
--- a bid that is not spent is taken, where no refusal of the rules applies to it after the entries before it
+-- a bid that is not spent is taken, if no refusal of the rules applies to it after the entries before it
 abbrev pub TakesLawfulBid : Desk → Desk → ℕ → Points → Outcome → Type 0
 TakesLawfulBid before after good points Spent = ⊤
 TakesLawfulBid before after good points (At position reply) = (told : IsAnswered before after good (Bid points) position reply)
@@ -72,7 +72,7 @@ pub record IsRead (before after : Desk) (position : ℕ) (entry : CashEntry) : T
   pub boards : boards_of after ≡ boards_of before
   pub same : IsSameDesk before after
 
--- a reading is spent, and changes nothing, exactly where the desk made all its readings before
+-- a reading is spent, and changes nothing, exactly if the desk made all its readings before
 abbrev pub IsCashOutcome : Desk → Desk → CashOutcome → Type 0
 IsCashOutcome before after cash_outcomes.Spent = (count_readings (cash_of before) ≡ CASH_READINGS) × (after ≡ before)
 IsCashOutcome before after (cash_outcomes.At position dollars) = (count_readings (cash_of before) < CASH_READINGS)

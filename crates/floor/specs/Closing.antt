@@ -1,4 +1,4 @@
--- What is so of a game whose calls are over.
+-- What holds of a game whose calls are over.
 use Rattle.std.specs.Prelude.{◌≡◌, ℕ, ◌≤◌, List, [], map, length, reverse, take, slice_get, Some, None}
 use Rattle.std.specs.List.{AllZip}
 use Rattle.tac_base.specs.declared.calls.Board.{Board}
@@ -18,7 +18,7 @@ use Rattle.floor.specs.declared.desk.Desk.{Desk}
 use Rattle.floor.specs.Desks.{desk_caller, entries_of, cash_of, boards_of}
 use Rattle.floor.specs.ClosedBoards.{board_of}
 
--- an auction that a lock gave back: its setup is that of its start, its history is legal, what the returned passes knew is so of the
+-- an auction that a lock gave back: its setup is that of its start, its history is legal, what the returned passes knew holds of the
 -- history, and callers without a pass have no entry
 pub record IsGivenBack (start : AuctionHistory) (passes : ℕ) (returned : List (Returned Entry)) (auction : AuctionHistory) : Type 0 where
   pub setup : auction.setup ≡ start.setup
@@ -26,11 +26,11 @@ pub record IsGivenBack (start : AuctionHistory) (passes : ℕ) (returned : List 
   pub known : AreKnown (board_of auction) (λ e. e.caller) auction.history returned
   pub nobody_else : (c : ℕ) → passes ≤ c → part (λ e. e.caller) auction.history c ≡ []
 
--- each board that was seen of a good is the board of as many first entries of its history as its count says
+-- each board that was seen of a good is that of the prefix of its history of the length that it states
 abbrev pub AreBoards : List AuctionHistory → List (List (ℕ × Board)) → Type 0
 AreBoards auctions boards = AllZip (λ auction seen. AreNotes (board_of auction) auction.history (length auction.history) seen) auctions boards
 
--- what a desk knew is so of the closed game: its own entries are its caller's part of each history, and its boards are of prefixes
+-- what a desk knew holds of the closed game: its own entries are its caller's part of each history, and its boards are of prefixes
 pub record IsBorneOut (closed : ClosedGame) (d : Desk) : Type 0 where
   pub entries : entries_of d ≡ map (λ auction. part (λ e. e.caller) auction.history (desk_caller d)) closed.auctions
   pub cash : cash_of d ≡ part (λ e. e.caller) closed.cash (desk_caller d)

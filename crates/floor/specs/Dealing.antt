@@ -24,7 +24,7 @@ module _ {S C R G E : Type 0} {K : Ghosts S C R G E} where
   AreFresh ids left hands = (caller : ℕ) (passes : List (Pass S C R G E K)) → get_elem? hands caller ≡ some passes → IsFresh ids caller (left caller) passes
 
 module _ {S C R G T D Q H : Type 0} {K : Ghosts S C R G Entry} {L : Ghosts T D Q H CashEntry} where
-  -- passes of auctions and a pass of the cash book are those of one desk that made no call and no reading
+  -- the passes of auctions and the pass of the cash book are those of one desk that made no call and no reading
   abbrev pub MakeDesk : List (Pass S C R G Entry K) → Pass T D Q H CashEntry L → Type 0
   MakeDesk passes cash = IsKept (caller_of cash) (map (λ p. caller_of p) passes) (map (λ p. left_of p) passes) (map (λ p. made_by p) passes) (left_of cash) (made_by cash) 0
       × AreInOrder (map (λ p. made_by p) passes) (map (λ p. noted_by p) passes) (map (λ p. seen_by p) passes)

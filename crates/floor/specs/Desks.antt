@@ -10,7 +10,7 @@ use Rattle.trade_ledger.specs.declared.cash_calls.CashEntry.{CashEntry}
 use Rattle.turn_lock.specs.Passes.{LockId, lock_of, caller_of, made_by, noted_by, seen_by}
 use Rattle.floor.specs.declared.desk.Desk.{Desk}
 
--- the locks that the desk has passes of: those of the auctions, in the order of goods, and that of the cash book
+-- the locks of the desk's passes: those of the auctions, in the order of goods, and that of the cash book
 abbrev pub desk_ids : Desk → List (LockId AuctionHistory) × LockId (List CashEntry)
 desk_ids d = (map (λ p. lock_of p) d.passes.items, lock_of d.cash)
 

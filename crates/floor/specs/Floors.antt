@@ -7,7 +7,7 @@ use Rattle.floor.specs.declared.floor.Floor.{Floor}
 use Rattle.floor.specs.declared.desk.Desk.{Desk}
 use Rattle.floor.specs.Desks.{desk_ids, desk_caller}
 
--- which locks the floor has: those of the auctions, in the order of goods, and that of the cash book
+-- the locks of the floor: those of the auctions, in the order of goods, and that of the cash book
 abbrev pub floor_ids : Floor → List (LockId AuctionHistory) × LockId (List CashEntry)
 floor_ids f = (map (λ lock. lock_id lock) f.auctions.items, lock_id f.cash)
 

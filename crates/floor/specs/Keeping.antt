@@ -1,4 +1,4 @@
--- What is so of every desk and every floor.
+-- The invariants of every desk and every floor.
 use Rattle.std.specs.Prelude.{◌≡◌, ℕ, ◌+◌, ◌==◌, ◌<◌, ◌≤◌, not, List, filter, map, length, replicate, count_by, sum_by, slice_index_or, [], ◌++◌, All}
 use Rattle.std.specs.List.Sorted.{IsStrictlyIncreasing}
 use Rattle.tac_base.specs.declared.limits.TheConstants.{CASH_READINGS}
@@ -12,7 +12,7 @@ use Rattle.trade_ledger.specs.declared.cash_calls.CashEntry.{CashEntry}
 use Rattle.trade_ledger.specs.CashHistory.{cash_cap}
 use Rattle.trade_ledger.specs.Posts.{HoldSame, is_post, posts_of, due_posts}
 
--- entries were added to those of the cash history, all at one position: one entry, or none
+-- entries were added to the cash history, all at one position: one entry, or none
 abbrev pub Adds : List (ℕ × CashEntry) → List (ℕ × CashEntry) → List CashEntry → Type 0
 Adds before after entries = (position : ℕ) × (after ≡ before ++ map (λ e. (position, e)) entries)
 
@@ -28,7 +28,7 @@ count_readings cash = count_by (λ p. not (is_post p.1.call)) cash
 abbrev pub count_entries : List (List (ℕ × Entry)) → ℕ
 count_entries entries = sum_by (λ row. length row) entries
 
--- The desk of a caller has a pass of the caller at each of 28 auctions. Calls made and turns left make up the cap. It counts its
+-- The desk of a caller has a pass of the caller at each of 28 auctions. Calls made plus turns left are the cap. It counts its
 -- readings, a limited number, of which the clock makes none; and each post that is due is made.
 pub record IsKept (caller : ℕ) (callers lefts : List ℕ) (entries : List (List (ℕ × Entry))) (cash_left : ℕ) (cash : List (ℕ × CashEntry)) (count : ℕ) : Type 0 where
   pub goods : length entries ≡ 28
@@ -40,13 +40,13 @@ pub record IsKept (caller : ℕ) (callers lefts : List ℕ) (entries : List (Lis
   pub clock_reads_nothing : caller ≡ clock → count ≡ 0
   pub posted : IsPosted entries cash
 
--- what was told of a good is in order: positions rise, and what was seen is above each, and not below the count of a board
+-- what was answered of a good is in order: positions rise, and what was seen is above each, and not below the count of a board
 pub record IsInOrder (entries : List (ℕ × Entry)) (boards : List (ℕ × Board)) (seen : ℕ) : Type 0 where
   pub rising : IsStrictlyIncreasing (map (λ p. p.0) entries)
   pub past : All (λ p. p.0 < seen) entries
   pub counts : All (λ b. b.0 ≤ seen) boards
 
--- so it is of each of the 28 goods
+-- the same holds for each of the 28 goods
 pub record AreInOrder (entries : List (List (ℕ × Entry))) (boards : List (List (ℕ × Board))) (seen : List ℕ) : Type 0 where
   pub goods : length entries ≡ 28
   pub each : (good : ℕ) → good < 28 → IsInOrder (slice_index_or entries good []) (slice_index_or boards good []) (slice_index_or seen good 0)
@@ -55,7 +55,7 @@ pub record AreInOrder (entries : List (List (ℕ × Entry))) (boards : List (Lis
 abbrev pub calls_of_good : List (ℕ × Call) → ℕ → List Call
 calls_of_good calls good = map (λ call. call.1) (filter (λ call. call.0 == good) calls)
 
--- a desk's list of its calls has those of its entries, of each of the 28 goods in order, and no others
+-- a desk's list of its calls has exactly those of its entries, for each of the 28 goods in order
 pub record AreListed (entries : List (List (ℕ × Entry))) (calls : List (ℕ × Call)) : Type 0 where
   pub goods : All (λ call. call.0 < 28) calls
   pub each : (good : ℕ) → good < 28 → map (λ p. p.1.call) (slice_index_or entries good []) ≡ calls_of_good calls good

@@ -1,4 +1,4 @@
--- What writing a piece that is first made in memory does to a sink, the scores of a game among them.
+-- The effect on a sink of writing a piece that is first built in memory, the scores of a game among them.
 use Rattle.std.specs.Prelude.{◌≡◌, ℕ, List, Result, Ok, Err}
 use Rattle.tac_io.specs.States.{SinkState}
 use Rattle.game_text.specs.Games.{GameFile}
@@ -17,7 +17,7 @@ WritesMade piece sink sink' (Ok done) = TookWhole sink sink' piece
 WritesMade piece sink sink' (Err Failed) = TookPart sink sink' piece
 WritesMade piece sink sink' (Err Memory) = sink' ≡ sink
 
--- the second part of the log was written with some sheet of the game, or not all of it, or there was no memory for it
+-- the second part of the log was written with some sheet of the game, or not all of it, or memory was refused for it
 abbrev pub WritesSheet : GameFile → ClosedGame → SinkState → SinkState → Result (Unit {0}) LogWriteFault → Type 0
 WritesSheet game closed sink sink' (Ok done) = (sheet : List Scored) × IsSheetOf game closed sheet × TookWhole sink sink' (sheet_part sheet)
 WritesSheet game closed sink sink' (Err Failed) = (sheet : List Scored) × IsSheetOf game closed sheet × TookPart sink sink' (sheet_part sheet)

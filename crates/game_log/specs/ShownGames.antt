@@ -1,4 +1,4 @@
--- What every game that was played keeps of the ranges of logs.
+-- What holds of the numbers of every game that was played, by the ranges of logs.
 use Rattle.std.specs.Prelude.{◌≤◌, ⊤, List, length}
 use Rattle.std.specs.List.{All}
 use Rattle.tac_base.specs.declared.limits.TheConstants.{CASH_ENTRIES}
@@ -11,12 +11,12 @@ use Rattle.log_text.specs.LoggedGames.{IsLoggedVerdict, IsLoggedHistory}
 use Rattle.game_log.specs.ScoredGames.{IsSheetOf}
 use Rattle.game_log.specs.LogRanges.{IsRangedScore}
 
--- each link that was given a seat has that of one of eight agents
+-- each verdict that seats a link names one of eight agents
 abbrev pub HasSeats : Head → Type 0
 HasSeats Play = ⊤
 HasSeats (Serve links ends missed) = All IsLoggedVerdict links
 
--- What the parts of a game keep of these ranges: the seats of the links, all of each history, of the cash history all but its posts, and of any
+-- The parts of a game that are in these ranges: the seats of the links, all of each history, of the cash history all but its posts, and of any
 -- sheet all but the lines of its certificates.
 pub record IsShowable (game : GameFile) (head : Head) (closed : ClosedGame) : Type 0 where
   pub seats : HasSeats head

@@ -1,4 +1,4 @@
--- What writing a piece of a text does to a sink.
+-- The effect on a sink of writing a piece of a text.
 use Rattle.std.specs.Prelude.{ℕ, List, Result, MatchResult}
 use Rattle.tac_io.specs.States.{SinkState}
 use Rattle.tac_io.specs.declared.failed.Failed.{Failed}

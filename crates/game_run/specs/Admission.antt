@@ -38,14 +38,14 @@ first_verdict seats got line = Lost
 abbrev pub BeginsWith : List ℕ → LineGot → List ℕ → Type 0
 BeginsWith bytes got line = (others : List (LineGot × List ℕ)) × (all_answers [] (LINK_BYTES) bytes ≡ (got, line) ∷ others)
 
--- what a link is sent that gets no seat
+-- what a link without a seat is sent
 abbrev pub refusal_line : Verdict → List ℕ
 refusal_line Syntax = codes "refused syntax\n"
 refusal_line WrongWord = codes "refused wrongword\n"
 refusal_line Taken = codes "refused taken\n"
 refusal_line verdict = []
 
--- the line was sent, or a fault of a write was counted and only its first bytes were
+-- the line was sent, or a fault of a write was counted and only its first bytes were sent
 abbrev pub IsSentOrCut : List ℕ → LinkState → LinkState → Type 0
 IsSentOrCut line before after =
     ((after.sent ≡ and_then_told before.sent line) × (after.writes ≡ before.writes))
@@ -76,7 +76,7 @@ pub record IsLost (before after : LinkState) : Type 0 where
       ⊎ ((all_answers [] (LINK_BYTES) bytes ≡ (gots.End, []) ∷ []) × Rose before.reads after.reads)
   pub quiet : SendsNothing before after
 
--- what became of a link by its verdict, where `Sits` is so of one with a seat
+-- what became of a link by its verdict, where `Sits` holds of one with a seat
 abbrev pub CameTo : (Seats → ℕ → LinkState → LinkState → Type 0) → Seats → Verdict → LinkState → LinkState → Type 0
 CameTo Sits seats (Seated agent) before after = Sits seats agent before after
 CameTo Sits seats Lost before after = IsLost before after
@@ -91,11 +91,11 @@ AreAdmitted Holds seats (before ∷ befores) (verdict ∷ verdicts) (after ∷ a
     Holds seats verdict before after × AreAdmitted Holds (seats_after seats verdict) befores verdicts afters
 AreAdmitted Holds seats befores verdicts afters = ⊥
 
--- another link may be taken: fewer came than are taken at most, and fewer than eight have a seat
+-- another link may be taken: fewer came than the limit, and fewer than eight have a seat
 abbrev pub MayGoOn : List Verdict → Type 0
 MayGoOn verdicts = (length verdicts < LINKS) × (count_by is_seated verdicts < 8)
 
--- links were taken as long as another might be, and one was there
+-- links were taken as long as another could be, and one was there
 pub record AreAllTaken {A : Type 0} (verdicts : List Verdict) (pending : Option (List A)) : Type 0 where
   pub no_more : (n : ℕ) → n < length verdicts → MayGoOn (take n verdicts)
   pub no_fewer : MayGoOn verdicts → IsAtEnd pending

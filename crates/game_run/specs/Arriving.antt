@@ -33,7 +33,7 @@ pub record IsAnswered (line : List ℕ) (before after : LinkState) : Type 0 wher
   pub read : ReadsNothing before after
   pub sent : IsSentOrCut line before after
 
--- what is so of a link without a seat
+-- what holds of a link without a seat
 abbrev pub IsTurnedAway : Seats → Verdict → LinkState → LinkState → Type 0
 IsTurnedAway = CameTo (λ seats agent before after. ⊥)
 
@@ -52,7 +52,7 @@ module _ {L : Type 0} (state : L → LinkState) where
     pub reads : (state (link_of lines)).reads ≡ before.reads
     pub more : goes_on (last_of lines) ≡ true
 
-  -- what is so of the lines of a link after its first line, before anything is sent
+  -- what holds of the lines of a link after its first line, before anything is sent
   abbrev pub IsFirstRead : Seats → Verdict → LinkState → Lines L → Type 0
   IsFirstRead seats (Seated agent) before lines = IsGreeted seats agent before lines
   IsFirstRead seats Lost before lines = IsLost before (state (link_of lines))
@@ -63,7 +63,7 @@ module _ {L : Type 0} (state : L → LinkState) where
   IsGreeting seats seats' before (greetings.Seated agent lines) = (seats' ≡ seats_after seats (Seated agent)) × IsGreeted seats agent before lines
   IsGreeting seats seats' before (greetings.Apart verdict link) = (seats' ≡ seats) × IsTurnedAway seats verdict before (state link)
 
--- the arrivals after one more
+-- the arrivals with one more
 abbrev pub Adds : {L : Type 0} → Greeting L → Arrivals L → Arrivals L → Bool → Type 0
 Adds (greetings.Seated agent lines) before after seated =
     (after.verdicts.items ≡ before.verdicts.items ++ Seated agent ∷ []) × (after.spots.items ≡ before.spots.items ++ Seat agent ∷ [])
@@ -79,12 +79,12 @@ module _ {L : Type 0} (state : L → LinkState) where
     pub greets : IsGreeting state seats seats' before greeting
     pub adds : Adds greeting old new seated
 
-  -- What is kept of a link at its spot: its seat, in which something of it sits, or itself.
+  -- What is kept of a link at its spot: its seat, in which its lines are, or the link itself.
   abbrev pub Keeps : {X : Type 0} → (Seats → ℕ → LinkState → X → Type 0) → List (Option X) → Seats → Verdict → LinkState → Spot L → Type 0
   Keeps {X} Sits places seats verdict before (Seat agent) = (x : X) × (verdict ≡ Seated agent) × (slice_get places agent ≡ Some (Some x)) × Sits seats agent before x
   Keeps Sits places seats verdict before (Apart link) = IsTurnedAway seats verdict before (state link)
 
-  -- Links were taken and read as long as another might be: each is kept at its spot, and a seat is taken where lines sit in it.
+  -- Links were taken and read as long as another could be: each is kept at its spot, and a seat is taken if it has lines.
   pub record AreKept (game : GameFile) (given : List LinkState) (arrivals : Arrivals L) : Type 0 where
     pub links : AreAdmitted (Keeps (IsGreeted state) arrivals.lines.items) (free_seats game) given arrivals.verdicts.items arrivals.spots.items
     pub seats : map (λ lines. is_some lines) arrivals.lines.items ≡ (seats_given game arrivals.verdicts.items).taken
@@ -92,7 +92,7 @@ module _ {L : Type 0} (state : L → LinkState) where
     pub wide : length arrivals.lines.items ≡ 8
     pub no_more : (n : ℕ) → n < length arrivals.verdicts.items → MayGoOn (take n arrivals.verdicts.items)
 
-  -- the same of the links that were still to be given
+  -- the same for the links that were still to be given
   pub record AreTaken (game : GameFile) (pending pending' : Option (List L)) (arrivals : Arrivals L) : Type 0 where
     pub given : List L
     pub from : pending ≡ before_told given pending'

@@ -6,13 +6,13 @@ use Rattle.game_run.specs.declared.crew.Played.{Played}
 use Rattle.game_run.specs.declared.ending.Ending.{Ending}
 use Rattle.game_run.specs.Seatings.{played_link, played_end}
 
--- so many more fit in
+-- there is room for this many more
 pub record HasRoom {L : Type 0} (ending : Ending L) (count : ℕ) : Type 0 where
   pub desks : vec_len ending.desks + count ≤ vec_capacity ending.desks
   pub ends : vec_len ending.ends + count ≤ vec_capacity ending.ends
   pub links : vec_len ending.links + count ≤ vec_capacity ending.links
 
--- so many were put in, in the room that there was
+-- this many were added, in the room that there was
 pub record TakesRoom {L : Type 0} (old new : Ending L) (count : ℕ) : Type 0 where
   pub desks : vec_len new.desks ≤ vec_len old.desks + count
   pub ends : vec_len new.ends ≤ vec_len old.ends + count
@@ -21,12 +21,12 @@ pub record TakesRoom {L : Type 0} (old new : Ending L) (count : ℕ) : Type 0 wh
   pub end_room : vec_capacity new.ends ≡ vec_capacity old.ends
   pub link_room : vec_capacity new.links ≡ vec_capacity old.links
 
--- these were added
+-- exactly these were added
 pub record Gathers {L : Type 0} (old new : Ending L) (played : List (Played L)) : Type 0 where
   pub desks : new.desks.items ≡ old.desks.items ++ map (λ p. p.desk) played
   pub ends : new.ends.items ≡ old.ends.items ++ filter_map played_end played
   pub links : new.links.items ≡ old.links.items ++ map played_link played
 
--- who played there is an agent
+-- whoever played there is an agent
 abbrev pub IsAgents : {L : Type 0} → Played L → Type 0
 IsAgents played = desk_caller played.desk < 8

@@ -21,7 +21,7 @@ use Rattle.agent_gate.specs.Welcome.{welcome_text}
 use Rattle.game_run.specs.Admission.{HasFirstLine}
 
 -- A link was seated by its first line, and then served as the agent, until its session ended. `bytes` are all that it gave. Its turns are
--- what its later lines ask; they are the agent's part of the histories.
+-- what its later lines ask, and are the agent's part of the histories.
 pub record IsSeated (may_answer : List ℕ → Result Request RequestFault → Type 0) (text : Said → List ℕ) (game : GameFile) (closed : ClosedGame)
     (ends : List (ℕ × Cause)) (seats : Seats) (agent : ℕ) (before after : LinkState) : Type 0 where
   pub cause : Cause

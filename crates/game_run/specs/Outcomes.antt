@@ -29,7 +29,7 @@ module _ {L : Type 0} (state : L → LinkState) where
     pub admitted : AreAdmitted (CameTo (IsSeated may_answer text game closed ends)) (free_seats game) (map state given) verdicts (map state links)
     pub played : IsPlayedBy game verdicts ends closed
 
-  -- The links were asked to listen at the port and failed, and no game was played: another could be taken.
+  -- The links were asked to listen at the port and failed, and no game was played: another link could be taken.
   pub record IsNotPlayed (game : GameFile) (port : ℕ) (links links' : LinksState L) (ended : List L) : Type 0 where
     pub given : List L
     pub from : links.pending ≡ before_told given links'.pending
@@ -51,7 +51,7 @@ module _ {L : Type 0} (state : L → LinkState) where
     pub no_fault : links'.faults ≡ links.faults
     pub waits : WaitsForAll ticker ticker' missed
 
-  -- why no game was played: the links failed, or there was no memory, and nothing was asked of them
+  -- why no game was played: the links failed, or memory was refused, and nothing was asked of them
   abbrev pub IsRunFault : GameFile → ℕ → LinksState L → LinksState L → RunFault L → Type 0
   IsRunFault game port links links' (Links ended) = IsNotPlayed game port links links' ended.items
   IsRunFault game port links links' Memory = links' ≡ links

@@ -15,7 +15,7 @@ use Rattle.line_protocol.specs.declared.admission.Cause.{Cause}
 use Rattle.line_protocol.specs.declared.admission.Verdict.{Verdict}
 use Rattle.game_run.specs.Admission.{seats_given}
 
--- the parts of a caller of all histories
+-- the parts of a caller in all histories
 abbrev pub parts_of : ClosedGame → ℕ → List (List (ℕ × Entry))
 parts_of closed caller = map (λ auction. part (λ e. e.caller) auction.history caller) closed.auctions
 

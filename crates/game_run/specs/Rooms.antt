@@ -6,7 +6,7 @@ use Rattle.game_run.specs.declared.arrivals.Arrivals.{Arrivals}
 use Rattle.game_run.specs.declared.run.Room.{Room}
 use Rattle.game_run.specs.Staging.{IsNewStage}
 
--- no link came, and there is room for all that are taken
+-- no link came, and there is room for all that may be taken
 pub record IsEmptyHall {L : Type 0} (arrivals : Arrivals L) : Type 0 where
   pub verdicts : (arrivals.verdicts.items ≡ []) × (vec_capacity arrivals.verdicts ≡ LINKS)
   pub spots : (arrivals.spots.items ≡ []) × (vec_capacity arrivals.spots ≡ LINKS)

@@ -1,4 +1,4 @@
--- Eight places, and what sits in them before and after the sessions.
+-- Eight places, and what is at them before and after the sessions.
 use Rattle.std.specs.Prelude.{◌≡◌, ℕ, ◌<◌, List, [], ◌∷◌, ◌++◌, Option, Some, None, Result, true, map, replicate, IfSome}
 use Rattle.std.specs.Option.{option_map}
 use Rattle.trade_ledger.specs.declared.cash_calls.CashEntry.{CashEntry}
@@ -33,19 +33,19 @@ four_of four = two_of four.first ++ two_of four.second
 abbrev pub eight_of : {X : Type 0} → Two (Two (Two X)) → List X
 eight_of eight = four_of eight.first ++ four_of eight.second
 
--- it is so of both of two
+-- it holds of both
 pub record AreBoth {X : Type 0} (Holds : X → Type 0) (two : Two X) : Type 0 where
   pub one : Holds two.first
   pub other : Holds two.second
 
--- it is so of both of two, each with what is left of it
+-- it holds of both, each with what is left of it
 pub record BothOver {X Y : Type 0} (Holds : X → Y → Type 0) (two : Two X) (over : Two Y) : Type 0 where
   pub one : Holds two.first over.first
   pub other : Holds two.second over.second
 
 -- ---- before the sessions
 
--- which locks a floor has: those of the auctions, in the order of goods, and that of the cash book
+-- the locks of a floor: those of the auctions, in the order of goods, and that of the cash book
 abbrev pub FloorIds : Type 0
 FloorIds = List (LockId AuctionHistory) × LockId (List CashEntry)
 
@@ -90,7 +90,7 @@ module _ {L : Type 0} (state : L → LinkState) (may_answer : List ℕ → Resul
   abbrev pub AreEightPlayed : Two (Two (Two (Place L))) → Two (Two (Two (Played L))) → Type 0
   AreEightPlayed places played = BothOver (BothOver (BothOver IsPlayedPlace)) places played
 
-  -- the same of places that were handed over
+  -- the same for places that were handed over
   unfoldable pub AreTakenPlayed : Option (Two (Two (Two (Place L)))) → Two (Two (Two (Played L))) → Type 0
   AreTakenPlayed places played = IfSome places (λ p. AreEightPlayed p played)
 

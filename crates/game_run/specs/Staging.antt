@@ -1,4 +1,4 @@
--- The room of a game, and what a game leaves at each agent's place.
+-- The memory of a game, and what a game leaves at each agent's place.
 use Rattle.std.specs.Prelude.{◌≡◌, ℕ, ◌-◌, ◌+◌, ◌<◌, List, [], ◌++◌, Option, Some, None, Result, Contains, false, length, filter, map, is_some, slice_index_or, vec_capacity}
 use mathlib.Core.Option.{some}
 use lib.ListN.{get_elem?}

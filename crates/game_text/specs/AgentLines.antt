@@ -1,4 +1,4 @@
--- What a game file says of the agents: what stands between the closing order and the last line.
+-- What a game file says of the agents: the lines between the closing order and the last line.
 use Rattle.std.specs.Prelude.{◌≡◌, ℕ, List, ◌++◌, Result, Ok, length}
 use Rattle.std.specs.List.{All}
 use Rattle.tac_base.specs.Clients.{Preferences, IsClient}

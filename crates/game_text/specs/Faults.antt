@@ -5,7 +5,7 @@ use Rattle.text_forms.specs.Lines.{number_of}
 use Rattle.game_text.specs.declared.fault.GameFault.{GameFault}
 use Rattle.game_text.specs.declared.fault.GameFault.TheVariants.{Line}
 
--- a bad line as it is shown
+-- a bad line as it is reported
 abbrev pub fault_of : BadLine → GameFault
 fault_of bad = Line bad.line (number_of bad.reason)
 

@@ -14,7 +14,7 @@ pub record FlightTerms : Type 0 where
   pub bound : ℤ
   pub draws : List ℕ
 
--- terms that lie in the ranges of the game
+-- terms in the ranges of the game
 pub record IsFlight (flight : FlightTerms) : Type 0 where
   pub first_low : 250 ≤ flight.first
   pub first_high : flight.first ≤ 400

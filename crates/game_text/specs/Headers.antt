@@ -7,7 +7,7 @@ use Rattle.text_forms.specs.Words.{words_of}
 use Rattle.text_forms.specs.Rows.{row}
 use Rattle.text_forms.specs.Steps.{◌>>=◌}
 
--- the version of the second word; where it is none, the line counts as one with a wrong first word
+-- the version of the second word; if it is none, the line counts as one with a wrong first word
 abbrev pub version_of : List ℕ → Result ℕ Reason
 version_of word =
     if bytes_eq word (codes "1") then Ok 1

@@ -63,7 +63,7 @@ quotes_text live = if live then codes "quotes live" else codes "quotes minute"
 
 -- ---- both lines
 
--- what a file of this version has of its nights
+-- what a file of this version says of its nights
 abbrev pub night_lines : ℕ → HotelNights → List (List ℕ)
 night_lines version nights = if version == 2 then rooms_text nights.rooms ∷ quotes_text nights.live ∷ [] else []
 

@@ -8,6 +8,6 @@ use Rattle.game_text.specs.Games.{GameFile}
 abbrev pub lines_of_agent : GameFile → ℕ → List (List ℕ)
 lines_of_agent game agent = endow_text agent (slice_index_or game.endow agent []) ∷ client_lines agent (slice_index_or game.clients agent [])
 
--- the line of a number of them, from 0
+-- one of these lines, by number from 0
 abbrev pub agent_line : GameFile → ℕ → ℕ → List ℕ
 agent_line game agent n = slice_index_or (lines_of_agent game agent) n []

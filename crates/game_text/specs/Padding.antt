@@ -1,4 +1,4 @@
--- A seat word of which the bytes and the length are known again.
+-- The bytes and the length of a seat word are determined by its padded form.
 use Rattle.std.proofs.Common.{◌≡◌, ℕ, ◌-◌, List, ◌++◌, length, take, sym, ap, arith}
 use Rattle.std.specs.Prelude.{replicate}
 use Rattle.std.proofs.lemmas.List.{length-take-le}

@@ -1,5 +1,5 @@
 -- The quiet game: flights stay at 300 dollars, nobody has a ticket at the start, the hotels close in rising order, and each client
--- would come on day 1 and leave on day 2, and gives 100 dollars for the better hotel and for the museum.
+-- prefers to come on day 1 and leave on day 2, with a value of 100 dollars for the better hotel and for the museum.
 use Rattle.std.specs.Prelude.{[], ◌∷◌, false, pos, replicate}
 use Rattle.tac_base.specs.declared.limits.TheConstants.{FLIGHT_DRAWS}
 use Rattle.tac_base.specs.Clients.{Preferences}

@@ -27,7 +27,7 @@ hotel_nights = 8 ∷ 9 ∷ 10 ∷ 11 ∷ 12 ∷ 13 ∷ 14 ∷ 15 ∷ []
 abbrev pub is_among : List ℕ → ℕ → Bool
 is_among goods good = list_any (λ other. other == good) goods
 
--- the hotel nights that are open after so many closings, in rising order
+-- the hotel nights that are open after this many closings, in rising order
 unfoldable pub open_after : List ℕ → ℕ → List ℕ
 open_after order turn = filter (λ good. not (is_among (take turn order) good)) hotel_nights
 

@@ -14,7 +14,7 @@ is_seat_byte b = (nat_le 97 b && nat_le b 122) || (nat_le 48 b && nat_le b 57)
 abbrev pub is_seat_word : List ℕ → Bool
 is_seat_word word = nat_lt 0 (length word) && nat_le (length word) 16 && list_all is_seat_byte word
 
--- a seat word of so many bytes with zeros after it
+-- a seat word of this length with zeros after it
 pub record IsPadded (bytes : List ℕ) (len : ℕ) : Type 0 where
   pub whole : length bytes ≡ 16
   pub few : len ≤ 16

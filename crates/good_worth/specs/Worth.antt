@@ -26,13 +26,13 @@ more account good = with_holding account good (one_more (held account good))
 abbrev pub less : AccountFile → ℕ → AccountFile
 less account good = with_holding account good (one_less (held account good))
 
--- the best total is so much greater with one unit more of a good
+-- the best total is this much greater with one unit more of a good
 pub record IsUp (account : AccountFile) (good dollars : ℕ) : Type 0 where
   pub before : ℕ
   pub is_before : IsBest account before
   pub is_after : IsBest (more account good) (before + dollars)
 
--- the best total is so much less with one unit less of a good
+-- the best total is this much less with one unit less of a good
 pub record IsDown (account : AccountFile) (good dollars : ℕ) : Type 0 where
   pub after : ℕ
   pub is_before : IsBest account (after + dollars)

@@ -46,7 +46,7 @@ AreMore account solutions = AreChanged (worth.more account) 28 solutions
 abbrev pub AreLess : AccountFile → List Solution → Type 0
 AreLess account solutions = AreChanged (worth.less account) 28 solutions
 
--- one more solution, which is that of the account
+-- one more solution, for the changed account
 pub record IsGrown (account : AccountFile) (old new : List Solution) : Type 0 where
   pub solution : Solution
   pub solves : Solves account solution
@@ -57,7 +57,7 @@ pub record AreWorths (account : AccountFile) (v : Valuation) : Type 0 where
   pub more : AreMore account v.more
   pub less : AreLess account v.less
 
--- solutions for each good, of which none with one unit more is worth less than the base, and none with one less is worth more
+-- solutions for each good: none with one unit more is worth less than the base, and none with one less is worth more
 pub record AreRanged (v : Valuation) : Type 0 where
   pub more_size : length v.more ≡ 28
   pub less_size : length v.less ≡ 28

@@ -38,7 +38,7 @@ pub record StandsFor (book : HotelBook) (setup : Setup) (past : List Entry) : Ty
   pub rules : setup.rules ≡ HotelRules book.rooms book.live
   pub kept : book ≡ hotel_book setup.good book.rooms book.live past
 
--- each bid is of the agent in whose place it is kept, from an agent on, and has at most 16 units
+-- each bid is of the agent at whose place it is kept, counted from an agent on, and has at most 16 units
 abbrev pub AreOwn : ℕ → List (Option Placed) → Type 0
 AreOwn from [] = ⊤
 AreOwn from (None ∷ bids) = AreOwn (suc from) bids
@@ -55,7 +55,7 @@ pub record IsKept (bids : List (Option Placed)) (closed : Bool) (units : List Sh
   pub shown : AreShown (standing bids closed) units
   pub priced : price ≤ BID_PRICE
 
--- a book with a bid in place of its agent's earlier one; where quotes are live, the ask of the units that then stand is published
+-- a book with a bid in place of its agent's earlier one; if quotes are live, the ask of the units that then stand is published
 abbrev pub with_bid : HotelBook → Placed → HotelBook
 with_bid book bid =
     let bids = slice_set book.bids bid.agent (Some bid) in
@@ -65,7 +65,7 @@ with_bid book bid =
 abbrev pub units_left : HotelBook → ℕ
 units_left book = if book.closed then 0 else STANDING_UNITS
 
--- the refusal of the bid of an agent that would win so many units, if there is one
+-- the refusal of the bid of an agent that would win this many units, if there is one
 abbrev pub open_refusal : ℕ → ℕ → List Point → Option Reply
 open_refusal won price points =
     if sells points then Some Sell
@@ -73,11 +73,11 @@ open_refusal won price points =
     then Some (BelowQuote (max 1 won) (price + 1) (offered points (price + 1)))
     else None
 
--- the same, where the hotel may be closed
+-- the same, if the hotel may be closed
 abbrev pub book_refusal : ℕ → ℕ → Bool → List Point → Option Reply
 book_refusal won price closed points = if closed then Some Closed else open_refusal won price points
 
--- what an agent buys that wins so many units, each at a price
+-- what an agent buys that wins this many units, each at a price
 abbrev pub winner_trade : ℕ → ℕ → (ℕ → ℕ) → ℕ → Option Trade
 winner_trade good price won agent = if won agent == 0 then None else Some (record { buyer = agent; seller = house; good = good; units = won agent; price = price })
 

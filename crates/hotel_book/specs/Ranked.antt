@@ -1,4 +1,4 @@
--- The units of a hotel in their order, and what the first of them give: the ask, and what each agent wins.
+-- The units of a hotel in their order, with the ask and each agent's winning number.
 use Rattle.std.specs.Prelude.{◌≡◌, ℕ, ◌-◌, ◌≤◌, ◌==◌, ⊤, Bool, true, false, List, [], ◌∷◌, All, map, take, count_by, slice_index_or}
 use Rattle.std.specs.List.{AllByRecursion}
 use Rattle.tac_base.specs.declared.units.Unit.{Unit as ShownUnit}
@@ -21,7 +21,7 @@ abbrev pub AreSorted : List ShownUnit → Type 0
 AreSorted [] = ⊤
 AreSorted (u ∷ units) = AllByRecursion (λ v. goes_first v u ≡ false) units × AreSorted units
 
--- the price of the unit that takes the last room, and 0 where a room is left
+-- the price of the unit that takes the last room, and 0 if a room is left
 abbrev pub last_price : ℕ → List ShownUnit → ℕ
 last_price rooms units = slice_index_or (map (λ u. u.price) units) (rooms - 1) 0
 

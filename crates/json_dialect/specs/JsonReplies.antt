@@ -1,4 +1,4 @@
--- The JSON text of what an agent is told. The texts are our own.
+-- The JSON text of what an agent is answered. The texts are our own.
 use Rattle.std.specs.Prelude.{ℕ, ℤ, List, [], ◌∷◌, ◌++◌, Bool, true, false, if◌then◌else◌, nat_lt, decimal, codes, map}
 use Rattle.std.specs.Fmt.{signed_decimal}
 use Rattle.std.specs.List.{concat, join_with_byte}
@@ -32,7 +32,7 @@ points_text points = concat (codes "[" ∷ join_with_byte 44 (map point_text poi
 abbrev pub own_members : ℤ → List Point → List ℕ
 own_members holding left = concat (codes "\"own\":" ∷ signed_decimal holding ∷ codes ",\"points\":" ∷ points_text left ∷ [])
 
--- what a hotel bid lacks
+-- the numbers of a hotel bid that is below the quote
 abbrev pub below_members : ℕ → ℕ → ℕ → List ℕ
 below_members need at offered = concat (codes "\"no\":\"belowquote\",\"need\":" ∷ decimal need ∷ codes ",\"price\":" ∷ decimal at ∷ codes ",\"offered\":" ∷ decimal offered ∷ [])
 
@@ -74,7 +74,7 @@ fault_text faults.NoSuchAuction = codes "{\"no\":\"auction\"}"
 fault_text (faults.Bid fault) = concat (codes "{\"no\":\"bid\",\"fault\":" ∷ decimal (fault_number fault) ∷ codes "}" ∷ [])
 fault_text faults.Memory = codes "{\"no\":\"memory\"}"
 
--- the object that tells something, without a line end
+-- the object of a reply, without a line end
 abbrev pub json_text : Said → List ℕ
 json_text (At position reply) = placed position (reply_members reply)
 json_text (Cash position dollars) = placed position (cash_members dollars)

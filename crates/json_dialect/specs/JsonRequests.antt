@@ -12,13 +12,13 @@ use Rattle.line_protocol.specs.declared.asking.RequestFault.{RequestFault}
 use Rattle.line_protocol.specs.declared.asking.RequestFault.TheVariants as faults
 use Rattle.line_protocol.specs.Requests.{◌>>=◌, good_of, with_points}
 
--- the value that serde_json reads in a line; bytes that are no UTF-8 have none
+-- the value that serde_json reads in a line; bytes that are not UTF-8 have none
 abbrev pub value_of : List ℕ → Option Data
 value_of line = if is_utf8 line then read line else None
 
 -- ---- numbers
 
--- a whole number, where a value is one of 64 bits
+-- a whole number, if the value is one of 64 bits
 abbrev pub whole : Data → Option ℤ
 whole value = option_and_then as_i64 (as_number value)
 
@@ -87,7 +87,7 @@ plain word =
     else if bytes_eq word (codes "quit") then Ok requests.Quit
     else Err faults.Syntax
 
--- what an object of so many members with the word at `do` asks: with no other key, with `auction` besides, or with `auction` and `points`
+-- what an object with this many members and this word at `do` asks: with no other key, with `auction` too, or with `auction` and `points`
 abbrev pub asked_by : List ℕ → ℕ → Option Data → Option Data → Result Request RequestFault
 asked_by word count auction points =
     if count == 1 then plain word

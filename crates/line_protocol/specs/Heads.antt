@@ -11,7 +11,7 @@ pub data Head : Type 0 where
   Play : Head
   Serve : (verdicts : List Verdict) → (ends : List (ℕ × Cause)) → (missed : ℕ) → Head
 
--- the head that a log's head holds, with plain lists
+-- the value of a log's head, with plain lists
 abbrev pub head_of : LogHead → Head
 head_of kept.Play = Play
 head_of (kept.Serve verdicts ends missed) = Serve verdicts.items ends.items missed

@@ -1,4 +1,4 @@
--- The ranges of what is read of a reply line.
+-- The ranges in which a reply line is read.
 use Rattle.std.specs.Prelude.{◌≡◌, ℕ, ◌^◌, ◌≤◌, ◌<◌, ⊤, List, None, unsigned_abs}
 use Rattle.tac_base.specs.declared.calls.Reply.{Reply}
 use Rattle.tac_base.specs.declared.calls.Reply.TheVariants.{Taken, Own, Sold, Done, Closed, WrongCall, NoBid, Sell, SelfCross, BelowQuote}
@@ -31,12 +31,12 @@ IsSaid (Fault fault) = ⊤
 IsSaid TooLong = ⊤
 IsSaid Bye = ⊤
 
--- a line tells this, in range
+-- the line is the text of this reply, in range
 pub record IsSaidText (line : List ℕ) (said : Said) : Type 0 where
   pub range : IsSaid said
   pub text : line ≡ said_text said
 
--- a text is that of a reply without its position, in range
+-- the text is that of a reply without its position, in range
 pub record IsReplyText (bytes : List ℕ) (reply : Reply) : Type 0 where
   pub range : IsReply reply
   pub text : bytes ≡ reply_text reply

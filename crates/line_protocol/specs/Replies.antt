@@ -1,4 +1,4 @@
--- The text of what an agent is told.
+-- The text of what an agent is answered.
 use Rattle.std.specs.Prelude.{ℕ, ◌≢◌, List, [], ◌∷◌, Bool, true, false, All, decimal, codes}
 use Rattle.std.specs.Fmt.{signed_decimal}
 use Rattle.std.specs.List.{join_with_byte}

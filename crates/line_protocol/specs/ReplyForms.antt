@@ -20,7 +20,7 @@ abbrev pub ◌>>=◌ : {A B : Type 0} → Option A → (A → Option B) → Opti
 None >>= f = None
 (Some x) >>= f = f x
 
--- a value after which no word is left
+-- a value, if no word is left
 abbrev pub ended : {A : Type 0} → A → List (List ℕ) → Option A
 ended value [] = Some value
 ended value (word ∷ words) = None
@@ -76,7 +76,7 @@ own_of [] = None
 own_of (holding ∷ []) = None
 own_of (holding ∷ word ∷ words) = holding_of holding >>= λ held. left_of (join_with_byte 32 (word ∷ words)) >>= λ left. Some (Own held left)
 
--- what stands after `no`
+-- what follows `no`
 abbrev pub refusal_of : List (List ℕ) → Option Reply
 refusal_of [] = None
 refusal_of (keyword ∷ words) =
@@ -119,7 +119,7 @@ quote_of count words =
     next_within SHOWN_PRICE words >>= λ bid. next_within SHOWN_PRICE bid.1 >>= λ ask. next_state ask.1 >>= λ closed.
     ended (Quote (record { count = count; bid = bid.0; ask = ask.0; closed = closed.0 })) closed.1
 
--- what stands after a position
+-- what follows a position
 abbrev pub placed_of : ℕ → List (List ℕ) → Option Said
 placed_of position [] = None
 placed_of position (keyword ∷ words) =
@@ -139,7 +139,7 @@ fault_at number =
 abbrev pub bid_fault_of : List (List ℕ) → Option Said
 bid_fault_of words = next_within 5 words >>= λ number. fault_at number.0 >>= λ fault. ended (Fault (faults.Bid fault)) number.1
 
--- what stands after `no` without a position
+-- what follows `no` without a position
 abbrev pub unplaced_of : List (List ℕ) → Option Said
 unplaced_of [] = None
 unplaced_of (keyword ∷ words) =
@@ -158,7 +158,7 @@ said_of_words (first ∷ words) =
     else if bytes_eq first (codes "no") then unplaced_of words
     else (place_of first >>= λ position. placed_of position words)
 
--- what a line tells
+-- what a line says
 unfoldable pub said_of : List ℕ → Option Said
 said_of line = said_of_words (words_of line)
 

@@ -9,7 +9,7 @@ use Rattle.line_protocol.specs.declared.asking.Request.TheVariants as requests
 use Rattle.line_protocol.specs.declared.asking.RequestFault.{RequestFault}
 use Rattle.line_protocol.specs.Requests.{◌>>=◌, good_of, with_points}
 
--- a line of a form, with its number and the bytes that stand in place of points
+-- a line of a form, with its number and the bytes in place of points
 pub data Form : Type 0 where
   BidForm : (number : ℕ) → (points : List ℕ) → Form
   WithdrawForm : (number : ℕ) → Form
@@ -43,7 +43,7 @@ form_text form = join_with_byte 32 (form_words form)
 abbrev pub HasForm : List ℕ → Type 0
 HasForm line = (form : Form) × IsForm form × (line ≡ form_text form)
 
--- the request of a form, where there is such an auction and the points are good
+-- the request of a form, if there is such an auction and the points are good
 abbrev pub answer_to : Form → Result Request RequestFault
 answer_to (BidForm number points) = good_of (Some number) >>= λ good. with_points good (judged (points_of points))
 answer_to (WithdrawForm number) = good_of (Some number) >>= λ good. Ok (requests.Withdraw good)

@@ -32,7 +32,7 @@ IsLowestPlace Holds (Some place) =
 
 -- ---- replays
 
--- each caller has had so many entries
+-- each caller has had this many entries
 abbrev pub AreCounts : List Entry → List ℕ → Type 0
 AreCounts history counts = (caller : ℕ) → caller ≤ clock → slice_index counts caller ≡ entries_of history caller
 
@@ -53,7 +53,7 @@ pub record IsStruck (setup : Setup) (history : List Entry) (position : ℕ) (aft
 abbrev pub calls_for : ℕ → List (ℕ × Call) → List Call
 calls_for good calls = map (λ entry. entry.1) (filter (λ entry. entry.0 == good) calls)
 
--- An entry, before which so many of the calls that are due were made: how many were made with it, and none where it is of the clock and
+-- An entry, before which this many of the calls that are due were made: how many were made with it, and None if it is of the clock and
 -- not the next one.
 abbrev pub IsFollowed : List Call → ℕ → ℕ → Call → Option ℕ → Type 0
 IsFollowed due made caller call None = (caller ≡ clock) × (slice_get due made ≡ Some call → ⊥)
@@ -61,13 +61,13 @@ IsFollowed due made caller call (Some next) = ((caller ≡ clock) × (slice_get 
 
 -- ---- cash
 
--- each party has so much after a cash history
+-- each party has this much after a cash history
 abbrev pub AreTotals : List CashEntry → List ℤ → Type 0
 AreTotals history totals = (party : ℕ) → party < 9 → slice_index_or totals party (pos 0) ≡ total_of history party
 
 -- ---- posts
 
--- where the place of an entry is among all places
+-- the index of an entry among all places
 abbrev pub place_at : ℕ → ℕ → ℕ
 place_at good position = good * AUCTION_ENTRIES + position
 
@@ -81,7 +81,7 @@ HasNamedEntry history named good position = (e : Entry) → slice_get history po
 
 -- ---- ends
 
--- An agent of which so many links have the seat, before which so many ends were due: how many are due with it, and none where it has a seat
+-- An agent whose seat this many links have, before which this many ends were due: how many are due with it, and None if it has a seat
 -- and the next end is not its own.
 abbrev pub IsEndFollowed : List ℕ → ℕ → ℕ → ℕ → Option ℕ → Type 0
 IsEndFollowed ended place agent seats None = (0 < seats) × (slice_get ended place ≡ Some agent → ⊥)

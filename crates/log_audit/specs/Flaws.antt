@@ -1,4 +1,4 @@
--- The flaws of a log. To each belongs a sentence on one place of the log. The log has the flaw where its sentence does not hold.
+-- The flaws of a log. Each is tied to a sentence on one place of the log: the log has the flaw if that sentence does not hold.
 use Rattle.std.specs.Prelude.{◌≡◌, ◌≢◌, ℕ, ◌<◌, ◌==◌, ◌&&◌, ◌⊎◌, ⊤, Bool, true, false, List, [], take, reverse, Some, slice_get}
 use Rattle.std.specs.List.{list_any}
 use Rattle.tac_base.specs.declared.calls.Nets.{Nets}
@@ -59,7 +59,7 @@ names good position (cash_calls.Read agent) = false
 abbrev pub is_posted : List CashEntry → ℕ → ℕ → Bool
 is_posted cash good position = list_any (λ e. names good position e.call) cash
 
--- an entry with a trade, of this caller, whose trades give the parties so much
+-- an entry with a trade, of this caller, whose trades give the parties these amounts
 pub record IsEarned (caller : ℕ) (nets : Nets) (e : Entry) : Type 0 where
   pub trades : e.trades ≢ []
   pub caller_is : caller ≡ e.caller

@@ -1,4 +1,4 @@
--- What a part of an audit finds, which looks for some kinds of flaws alone; for private clauses.
+-- The findings of a part of an audit, which looks for some kinds of flaws only; for private clauses.
 use Rattle.std.specs.Prelude.{ℕ, ◌<◌, ◌≤◌, Option, Some, None}
 use Rattle.game_text.specs.Games.{GameFile}
 use Rattle.log_text.specs.LoggedGames.{LoggedGame}

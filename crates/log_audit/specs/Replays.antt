@@ -1,4 +1,4 @@
--- What playing the histories of a log again gives; for private clauses.
+-- The result of playing the histories of a log again; for private clauses.
 use Rattle.std.specs.Prelude.{◌≡◌, ℕ, ◌<◌, List, map}
 use Rattle.std.specs.Global.{Vec}
 use Rattle.tac_base.specs.declared.calls.Nets.{Nets}

@@ -6,11 +6,11 @@ use Rattle.bound_cert.specs.declared.faults.CertFault.TheVariants as certs
 use Rattle.log_reader.specs.declared.fault.LogFault.{LogFault}
 use Rattle.log_reader.specs.declared.fault.LogFault.TheVariants.{Line, TooLong, Memory}
 
--- a bad line as it is told: by its number alone
+-- a bad line as it is reported: by its number alone
 abbrev pub fault_of : BadLine → LogFault
 fault_of bad = Line bad.line
 
--- The fault of a log whose certificate, behind the line of a number, has a fault. Where it ends too early or too late, the line before it
+-- The fault of a log whose certificate, after the line of its number, has a fault. If it ends too early or too late, the line before it
 -- is the bad one.
 abbrev pub fault_by : ℕ → CertFault → LogFault
 fault_by number (certs.Line line reason) = if reason == 7 then Line number else Line (number + line)
@@ -22,13 +22,13 @@ abbrev pub refused : {A : Type 0} → Result A BadLine → Result A LogFault
 refused (Ok x) = Ok x
 refused (Err bad) = Err (fault_of bad)
 
--- a reading was refused so, unless memory was short
+-- a reading was refused so, unless memory was refused
 abbrev pub IsRefusal : {A : Type 0} → LogFault → Result A LogFault → Type 0
 IsRefusal (Line line) read = read ≡ Err (Line line)
 IsRefusal TooLong read = read ≡ Err TooLong
 IsRefusal Memory read = ⊤
 
--- what was returned, seen by a view, is what reading gives, unless memory was short
+-- what was returned, seen by a view, is what reading gives, unless memory was refused
 abbrev pub IsReading : {A B : Type 0} → (A → B) → Result A LogFault → Result B LogFault → Type 0
 IsReading view (Ok x) read = read ≡ Ok (view x)
 IsReading view (Err fault) read = IsRefusal fault read

@@ -1,4 +1,4 @@
--- The numbers of a log's lines, and which line is one too many.
+-- The numbers of a log's lines, and when a line is one too many.
 use Rattle.std.specs.Prelude.{ℕ, ◌+◌, ◌≤◌, ⊤, if◌then◌else◌, List, Result, Ok}
 use Rattle.std.specs.List.{AllByRecursion}
 use Rattle.tac_base.specs.declared.limits.TheConstants.{TEXT_BYTES}
@@ -23,6 +23,6 @@ IsLowFault (certs.Line line reason) = line ≤ last_number
 IsLowFault certs.TooLong = ⊤
 IsLowFault certs.Memory = ⊤
 
--- the lines that are left, where the next one does not begin with a word
+-- the lines that are left, if the next one does not begin with a word
 abbrev pub nothing_begins : List ℕ → Remaining → Result Remaining BadLine
 nothing_begins word left = if begins word left then refused_line left else Ok left

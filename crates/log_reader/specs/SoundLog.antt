@@ -50,7 +50,7 @@ seatings verdicts agent = count_by (gives_seat agent) verdicts
 abbrev pub seated_agents : List Verdict → List ℕ
 seated_agents verdicts = filter (λ agent. nat_lt 0 (seatings verdicts agent)) agents
 
--- an agent has no entry, in the auction of no good and in the cash history
+-- an agent has no entry, in the auction of any good or in the cash history
 pub record IsAbsent (log : LoggedGame) (agent : ℕ) : Type 0 where
   pub calls : (good : ℕ) → good < 28 → list_any (λ e. e.caller == agent) (history_at log good) ≡ false
   pub cash : list_any (λ e. e.caller == agent) log.cash ≡ false
@@ -64,7 +64,7 @@ pub record IsService (log : LoggedGame) (verdicts : List Verdict) (ends : List (
   pub few_missed : missed ≤ TICKS
   pub absent : (agent : ℕ) → agent ≤ 7 → seatings verdicts agent ≡ 0 → IsAbsent log agent
 
--- of a game from a script the head says nothing more
+-- for a game from a script the head says nothing more
 abbrev pub IsSoundHead : LoggedGame → Head → Type 0
 IsSoundHead log Play = ⊤
 IsSoundHead log (Serve verdicts ends missed) = IsService log verdicts ends missed
@@ -73,7 +73,7 @@ IsSoundHead log (Serve verdicts ends missed) = IsService log verdicts ends misse
 
 -- The history of each good is legal by the game, and the clock's calls in it are those of the game's schedule. The cash history is legal,
 -- and it has exactly one post for each entry with a trade. Each agent's score is the one that is due to it, with a best allocation and a
--- certificate for it. And the head goes with all that.
+-- certificate for it. And the head agrees with all that.
 pub record IsSound (game : GameFile) (log : LoggedGame) : Type 0 where
   pub legal : (good : ℕ) → good < 28 → Legal (setup_of good game) (history_at log good)
   pub scheduled : (good : ℕ) → good < 28 → clock_calls_in (history_at log good) ≡ clock_calls game good

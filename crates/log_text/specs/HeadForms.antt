@@ -1,4 +1,4 @@
--- How the lines of a log's head are read. A log's fault tells a line alone, so a line that has not its form needs no reason.
+-- How the lines of a log's head are read. A log's fault names only a line, so a line of another form needs no reason.
 use Rattle.std.specs.Prelude.{ℕ, ◌+◌, ◌-◌, ◌&&◌, nat_le, if◌then◌else◌, List, [], ◌∷◌, ℤ, pos, Option, Some, None, Result, Ok, Err, decimal, codes, unsigned_abs, slice_index_or}
 use Rattle.std.specs.Str.{bytes_eq}
 use Rattle.text_forms.specs.declared.lines.Reason.{Reason}
@@ -12,7 +12,7 @@ use Rattle.line_protocol.specs.declared.admission.Cause.{Cause}
 use Rattle.line_protocol.specs.declared.admission.Cause.TheVariants.{Quit, End, ReadFault, WriteFault, Budget}
 use Rattle.line_protocol.specs.ReplyForms.{◌>>=◌}
 
--- what a line says, or that it has not its form
+-- what a line says, or that it does not have its form
 abbrev pub formed : {A : Type 0} → Option A → Result A Reason
 formed None = Err Spelling
 formed (Some value) = Ok value
@@ -21,7 +21,7 @@ formed (Some value) = Ok value
 abbrev pub is_text : List ℕ → List ℕ → Option (Unit {0})
 is_text text line = if bytes_eq line text then Some tt else None
 
--- one digit, at most that of a number
+-- one digit, at most this number
 abbrev pub digit_of : ℕ → List ℕ → Option ℕ
 digit_of most [] = None
 digit_of most (digit ∷ []) = if nat_le 48 digit && nat_le digit (48 + most) then Some (digit - 48) else None
@@ -35,7 +35,7 @@ numbers_by (Ok numbers) = Some numbers
 abbrev pub numbers_of : List ℕ → List Column → List ℕ → Option (List ℤ)
 numbers_of keyword columns line = numbers_by (row keyword columns line)
 
--- the number at a place of them
+-- the number at a place among them
 abbrev pub number_at : List ℤ → ℕ → ℕ
 number_at numbers place = unsigned_abs (slice_index_or numbers place (pos 0))
 

@@ -41,7 +41,7 @@ begins word left = begins_in word left.lines
 abbrev pub refused_line : {A : Type 0} → Remaining → Result A BadLine
 refused_line left = due_of left >>= λ line. Err (record { line = line.0.number; reason = TextEnd })
 
--- parts that are numbered from a number, as long as the next line begins with a word; not more than so many may stand there
+-- parts that are numbered from a number, as long as the next line begins with a word; at most this many are allowed
 unfoldable pub as_long_as : {A : Type 0} → List ℕ → (ℕ → Remaining → Result (A × Remaining) BadLine) → ℕ → ℕ → Remaining → Result (List A × Remaining) BadLine
 as_long_as word step zero from left = if begins word left then refused_line left else Ok ([], left)
 as_long_as word step (suc room) from left =
@@ -93,7 +93,7 @@ cash_in left = do
 
 -- ---- the sheet
 
--- A certificate that was read of a block that follows the line of a number. Where the block ends too early or too late, the line before
+-- A certificate that was read from the block after the line of its number. If the block ends too early or too late, the line before
 -- it is the bad one.
 abbrev pub cert_by : ℕ → Result Tree CertFault → Result Tree BadLine
 cert_by number (Ok tree) = Ok tree
@@ -102,7 +102,7 @@ cert_by number (Err (certs.Line line reason)) =
 cert_by number (Err certs.TooLong) = Err (record { line = number; reason = TextEnd })
 cert_by number (Err certs.Memory) = Err (record { line = number; reason = TextEnd })
 
--- the certificate of the lines of a block, where so many are left
+-- the certificate of the lines of a block, if enough lines are left
 abbrev pub block_by : ℕ → Option (List ℕ × Remaining) → Result (Tree × Remaining) BadLine
 block_by number None = Err (record { line = number; reason = TextEnd })
 block_by number (Some block) = cert_by number (cert_of block.0) >>= λ tree. Ok (tree, block.1)

@@ -64,7 +64,7 @@ auction_text good history = auction_line good (length history) ++ flat_map entry
 
 -- ---- the cash history
 
--- a post shows the entry of an auction that it is of, and what each party gained; a reading shows what was answered
+-- a post shows the entry of its auction, and what each party gained; a reading shows what was answered
 abbrev pub cash_call_text : CashCall → List ℕ
 cash_call_text (Post good position nets) = codes " post" ++ then_number good ++ then_number position ++ flat_map then_signed nets.dollars
 cash_call_text (Read agent) = codes " read ="

@@ -1,4 +1,4 @@
--- Which games a log tells apart, and what it tells of them.
+-- Which games have different logs, and what a log shows of them.
 use Rattle.std.specs.Prelude.{◌≡◌, ℕ, ◌^◌, ◌<◌, ⊤, List, ℤ, None, unsigned_abs, length, map}
 use Rattle.std.specs.List.{AllByRecursion}
 use Rattle.tac_base.specs.declared.calls.Call.{Call}
@@ -20,7 +20,7 @@ use Rattle.auction_core.specs.Auctions.{AuctionHistory}
 use Rattle.auction_core.specs.ClosedGame.{ClosedGame, all_goods}
 use Rattle.line_protocol.specs.Heads.{Head, Play, Serve}
 
--- numbers of 64 bits, which all that are shown are
+-- numbers of 64 bits, which all shown numbers are
 abbrev pub IsNumber : ℕ → Type 0
 IsNumber n = n < 2 ^ 64
 

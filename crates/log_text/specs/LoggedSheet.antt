@@ -1,4 +1,4 @@
--- Which sheets a log tells apart.
+-- Which sheets have different texts.
 use Rattle.std.specs.Prelude.{◌≡◌, ℕ, ⊤, List, length, slice_index}
 use Rattle.std.specs.List.{AllByRecursion}
 use Rattle.packages.specs.declared.travel_packages.Package.{Package}
@@ -29,7 +29,7 @@ pub record IsKnownScore (scored : Scored) : Type 0 where
   pub packages : AllByRecursion IsShownPackage scored.allocation
   pub certificate : IsCertificate scored.tree
 
--- the same, with a certificate of no more lines than can be counted
+-- the same, if the certificate has no more lines than can be counted
 pub record IsShownScore (scored : Scored) : Type 0 where
   pub known : IsKnownScore scored
   pub lines : IsNumber (length (tree_lines scored.tree))

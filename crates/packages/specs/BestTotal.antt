@@ -17,7 +17,7 @@ total_of [] ps = 0
 total_of (client ∷ clients) [] = 0
 total_of (client ∷ clients) (p ∷ ps) = utility_of client p + total_of clients ps
 
--- a package for each of the eight clients, which use no more of any good than there is
+-- a package for each of the eight clients, which together use no more of any good than there is
 pub record IsFeasible (account : AccountFile) (allocation : List Package) : Type 0 where
   pub eight : length allocation ≡ 8
   pub lawful : All IsPackage allocation

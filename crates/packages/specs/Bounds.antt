@@ -36,12 +36,12 @@ greater None b = b
 greater (Some a) None = Some a
 greater (Some a) (Some b) = Some (int_max a b)
 
--- the greatest number of a list, which an empty one lacks
+-- the greatest number of a list, None if it is empty
 abbrev pub greatest : List ℤ → Option ℤ
 greatest [] = None
 greatest (n ∷ ns) = greater (Some n) (greatest ns)
 
--- the sum of two numbers, where both are there
+-- the sum of two numbers, if both are there
 abbrev pub plus : Option ℤ → Option ℤ → Option ℤ
 plus None b = None
 plus (Some a) None = None
@@ -51,11 +51,11 @@ plus (Some a) (Some b) = Some (a +ℤ b)
 abbrev pub best_margin : Preferences → List ℕ → (Package → Bool) → Option ℤ
 best_margin client prices left = greatest (map (margin_of client prices) (filter left packages))
 
--- the sum of the greatest margins of clients, of which the first has the number
+-- the sum of the greatest margins of clients, the first of which has this number
 abbrev pub margins : Narrowing → List ℕ → ℕ → List Preferences → Option ℤ
 margins left prices number [] = Some (pos 0)
 margins left prices number (client ∷ clients) = plus (best_margin client prices (left number)) (margins left prices (number + 1) clients)
 
--- the leaf bound, which lacks where some client has no package left
+-- the leaf bound, None if some client has no package left
 abbrev pub leaf_bound : AccountFile → Narrowing → List ℕ → Option ℤ
 leaf_bound account left prices = plus (Some (pos (stock_value account.holdings prices))) (margins left prices 0 account.clients)

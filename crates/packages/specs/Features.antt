@@ -1,4 +1,4 @@
--- The four features of a package, and what is left to a client whose package has a given value.
+-- The four features of a package, and the packages left to a client by the value of a feature.
 use Rattle.std.specs.Prelude.{ℕ, zero, suc, ◌+◌, ◌-◌, ◌*◌, ◌==◌, ◌&&◌, ◌||◌, not, slice_index, if◌then◌else◌}
 use Rattle.packages.specs.declared.travel_packages.Package.{Package}
 use Rattle.packages.specs.declared.travel_packages.Package.TheVariants.{None, Trip}

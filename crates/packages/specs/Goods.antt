@@ -3,9 +3,9 @@ use Rattle.std.specs.Prelude.{ℕ, ◌+◌, ◌-◌, ◌/◌, ◌%◌, nat_lt, i
 use Rattle.tac_base.specs.Goods.{inbound_flight, outbound_flight, hotel_night, ticket_night}
 
 pub data Thing : Type 0 where
-  -- a seat in on a day, 1..4
+  -- an inbound seat on a day, 1..4
   inbound : ℕ → Thing
-  -- a seat out on a day, 2..5
+  -- an outbound seat on a day, 2..5
   outbound : ℕ → Thing
   -- a room of a hotel, 0..1, on a night, 1..4
   room : ℕ → ℕ → Thing
@@ -19,7 +19,7 @@ good_of (outbound day) = outbound_flight day
 good_of (room hotel night) = hotel_night hotel night
 good_of (ticket kind night) = ticket_night kind night
 
--- what the good of a number is
+-- the good of a number
 abbrev pub thing_of : ℕ → Thing
 thing_of good =
     if nat_lt good (outbound_flight 2) then inbound (good + 1)

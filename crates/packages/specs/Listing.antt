@@ -5,7 +5,7 @@ use Rattle.packages.specs.declared.travel_packages.Package.{Package}
 use Rattle.packages.specs.declared.travel_packages.Package.TheVariants.{None, Trip}
 use Rattle.packages.specs.Packages.{are_apart}
 
--- the days of arrival and departure, in the order of their ranks
+-- the days of arrival and departure, by rank
 abbrev pub trips : List (ℕ × ℕ)
 trips = (1, 2) ∷ (1, 3) ∷ (1, 4) ∷ (1, 5) ∷ (2, 3) ∷ (2, 4) ∷ (2, 5) ∷ (3, 4) ∷ (3, 5) ∷ (4, 5) ∷ []
 
@@ -15,7 +15,7 @@ triples =
     let numbers : List ℕ = 0 ∷ 1 ∷ 2 ∷ 3 ∷ 4 ∷ [] in
     flat_map (λ a. flat_map (λ b. map (λ c. a ∷ b ∷ c ∷ []) numbers) numbers) numbers
 
--- the nights of a stay that the three tickets may have, the stay's first night being 1, where the latest is the given one
+-- the nights that the three tickets may have in a stay whose first night is 1, if the latest is the given one
 abbrev pub nights_to : ℕ → List (List ℕ)
 nights_to latest = filter (λ nights. are_apart nights && fold max 0 nights == latest) triples
 
@@ -24,7 +24,7 @@ abbrev pub numbers_to : ℕ → List ℕ
 numbers_to zero = 0 ∷ []
 numbers_to (suc n) = numbers_to n ++ suc n ∷ []
 
--- the nights for the tickets in a stay of so many nights
+-- the nights for the tickets in a stay of this many nights
 abbrev pub nights_within : ℕ → List (List ℕ)
 nights_within length = flat_map nights_to (numbers_to length)
 

@@ -44,7 +44,7 @@ use_of p good = used p (thing_of good)
 abbrev pub distance : ℕ → ℕ → ℕ
 distance a b = (a - b) + (b - a)
 
--- the value of a ticket type, where it has a night
+-- the value of a ticket type, if it has a night
 abbrev pub fun_of : List ℕ → List ℕ → ℕ → ℕ
 fun_of values nights kind = if slice_index nights kind == 0 then 0 else slice_index values kind
 

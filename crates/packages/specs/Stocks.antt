@@ -1,4 +1,4 @@
--- How many of a good there are to use.
+-- How many units of a good can be used.
 use Rattle.std.specs.Prelude.{ℕ, ℤ, pos, negsuc, List, slice_index_or}
 
 -- the greater of a number and 0: an agent that is short of a good has none

@@ -1,4 +1,4 @@
--- The texts of certificates, and when one is refused at a line.
+-- The texts of certificates, and when a text is refused as one at a line.
 use Rattle.std.specs.Prelude.{◌≡◌, ℕ, List, Err}
 use Rattle.bound_cert.specs.declared.faults.CertFault.TheVariants.{Line}
 use Rattle.bound_cert.specs.Reading.{cert_of}

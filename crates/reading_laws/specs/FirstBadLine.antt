@@ -1,8 +1,8 @@
--- The first bad line of a text, by what the texts of a kind are.
+-- The first bad line of a text, defined by the texts of its kind.
 use Rattle.std.specs.Prelude.{◌≡◌, ℕ, ◌-◌, List, [], ◌∷◌, ◌++◌, take}
 use Rattle.text_forms.specs.Words.{parts_of}
 
--- the lines of a text that was cut at its line ends, each with its line end; what stands after the last line end, if only nothing, counts as a line
+-- the lines of a text that was cut at its line ends, each with its line end; what follows the last line end counts as a line, even if empty
 abbrev pub with_ends : List (List ℕ) → List (List ℕ)
 with_ends [] = []
 with_ends (rest ∷ []) = rest ∷ []
@@ -11,7 +11,7 @@ with_ends (line ∷ next ∷ parts) = (line ++ 10 ∷ []) ∷ with_ends (next �
 abbrev pub lines_of : List ℕ → List (List ℕ)
 lines_of text = with_ends (parts_of 10 text)
 
--- the first so many lines are those of a text of the kind
+-- the first lines, this many, are those of a text of the kind
 abbrev pub Begins : (List ℕ → Type 0) → List ℕ → ℕ → Type 0
 Begins IsText text count = (other : List ℕ) × IsText other × (take count (lines_of other) ≡ take count (lines_of text))
 

@@ -1,4 +1,4 @@
--- The texts of games and of accounts, and when one is refused at a line.
+-- The texts of games and of accounts, and when a text is refused as one at a line.
 use Rattle.std.specs.Prelude.{◌≡◌, ℕ, List, Err}
 use Rattle.game_text.specs.declared.fault.GameFault.TheVariants.{Line}
 use Rattle.game_text.specs.Accounts.{AccountFile, IsAccount, IsAccountText, account_of}

@@ -1,4 +1,4 @@
--- The texts of logs, and when one is refused at a line.
+-- The texts of logs, and when a text is refused as one at a line.
 use Rattle.std.specs.Prelude.{◌≡◌, ◌≤◌, ℕ, List, [], ◌∷◌, ◌++◌, Err, length, map, take}
 use Rattle.std.specs.List.{All}
 use Rattle.tac_base.specs.declared.limits.TheConstants.{TEXT_BYTES}
@@ -22,10 +22,10 @@ IsLogText text = (log : LoggedGame) × IsLogged log × All (λ scored. IsShort s
 abbrev pub IsRefusedLogAt : List ℕ → ℕ → Type 0
 IsRefusedLogAt text line = log_of text ≡ Err (Line line)
 
--- these lines, each with its line end, begin with a certificate of so many lines
+-- these lines, each with its line end, begin with a certificate of this many lines
 abbrev pub BeginWithCertificate : ℕ → List (List ℕ) → Type 0
 BeginWithCertificate count lines = (tree : Tree) × IsCertificate tree × IsShort tree × (length (tree_lines tree) ≡ count) × (take count lines ≡ map (λ line. line ++ 10 ∷ []) (tree_lines tree))
 
--- after each line that says how long a certificate is there is one of as many lines
+-- each line that says how long a certificate is has one of as many lines after it
 abbrev pub HasCertificates : List ℕ → Type 0
 HasCertificates text = (before after : List (List ℕ)) (agent count : ℕ) → lines_of text ≡ before ++ (cert_line agent count ++ 10 ∷ []) ∷ after → BeginWithCertificate count after

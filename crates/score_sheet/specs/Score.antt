@@ -6,7 +6,7 @@ abbrev pub lacking : ℤ → ℕ
 lacking (pos n) = 0
 lacking (negsuc n) = n + 1
 
--- how many tickets an agent is short: of each of the goods 16..27 what it lacks
+-- how many tickets an agent is short: the sum over the goods 16..27 of what it lacks
 abbrev pub short_of : List ℤ → ℕ
 short_of holdings = sum_by lacking (drop 16 holdings)
 

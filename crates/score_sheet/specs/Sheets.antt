@@ -21,7 +21,7 @@ pub record Scored : Type 0 where
 abbrev pub account_of : GameFile → Settlement → ℕ → AccountFile
 account_of game settlement agent = record { clients = slice_index_or game.clients agent []; holdings = slice_index_or settlement.holdings agent [] }
 
--- the score of an agent with this account, which has gained so much cash
+-- the score of an agent with this account and this cash
 pub record IsScored (account : AccountFile) (gained : ℤ) (scored : Scored) : Type 0 where
   pub cash : scored.cash ≡ gained
   pub short : scored.short ≡ short_of account.holdings

@@ -1,4 +1,4 @@
--- A certificate's tree as a list of plain numbers, by which a proof tells trees apart; no contract speaks of it.
+-- A certificate's tree as a list of plain numbers, by which proofs distinguish trees; no contract mentions it.
 use Rattle.std.specs.Prelude.{◌≡◌, ◌⊎◌, ℕ, List, [], ◌∷◌, refl}
 use mathlib.Core.Logic.{inl, inr}
 use mathlib.Core.Path.{◌∙◌}
@@ -20,7 +20,7 @@ abbrev mutual
   all_steps no_trees rest = inr (inr (inl tt)) ∷ rest
   all_steps (more tree trees) rest = steps tree (all_steps trees (inr (inr (inr tt)) ∷ rest))
 
--- the tree that steps build on those built before
+-- the tree that the steps build on those built before
 abbrev pub built : List Step → List Tree → List Trees → Tree
 built [] [] forests = leaf []
 built [] (tree ∷ trees) forests = tree

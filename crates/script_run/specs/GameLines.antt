@@ -9,7 +9,7 @@ use Rattle.script_run.specs.declared.fault.ScriptReason.TheVariants.{Form}
 use Rattle.script_run.specs.declared.game_lines.GameLine.{GameLine}
 use Rattle.script_run.specs.declared.game_lines.GameLine.TheVariants.{Tick, Asks}
 
--- what an agent asks, where it is no longer than a request line may be: a request, or one that is refused
+-- what an agent asks, if it is no longer than a request line may be: a request, or one that is refused
 abbrev pub asks_of : Option ℕ → List ℕ → Result GameLine ScriptReason
 asks_of None request = Err Form
 asks_of (Some agent) request = if nat_lt LINE_BYTES (length request) then Err Form else Ok (Asks agent (request_of request))

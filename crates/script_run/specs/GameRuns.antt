@@ -18,7 +18,7 @@ pub record HasRun (game : GameFile) (lines : List GameLine) (run : GameRun) : Ty
   pub counted : Counts lines run.counts
   pub text : run.text.items ≡ replies game lines
 
--- a line after others was played, or is bad, or there was no memory for its text
+-- a line after others was played, or is bad, or memory was refused for its text
 abbrev pub Steps : GameFile → List GameLine → ℕ → List ℕ → GameRun → Result (Unit {0}) ScriptFault → Type 0
 Steps game lines number line run (Ok done) = (asked : GameLine) × (judge lines line ≡ Ok asked) × HasRun game (asked ∷ lines) run
 Steps game lines number line run (Err (Line line_number reason)) = (why : ScriptReason) × (line_number ≡ number) × (reason ≡ number_of why) × (judge lines line ≡ Err why)
@@ -26,7 +26,7 @@ Steps game lines number line run (Err TooLong) = ⊥
 Steps game lines number line run (Err Failed) = ⊥
 Steps game lines number line run (Err Memory) = ⊤
 
--- the lines of a script were played, or the first bad one is told
+-- the lines of a script were played, or the first bad one is reported
 abbrev pub PlaysLines : GameFile → List ℕ → Result GameRun ScriptFault → Type 0
 PlaysLines game script (Ok run) = (lines : List GameLine) × (game_script script ≡ Ok lines) × HasRun game lines run
 PlaysLines game script (Err (Line line reason)) = game_script script ≡ Err (line, reason)

@@ -1,4 +1,4 @@
--- Game scripts: which are played.
+-- Which game scripts are played.
 use Rattle.std.specs.Prelude.{ℕ, ◌==◌, ◌&&◌, Bool, true, false, nat_le, if◌then◌else◌, List, count_by, Result, Ok, Err}
 use Rattle.std.specs.List.{list_any}
 use Rattle.tac_base.specs.declared.limits.TheConstants.{TICKS, SESSION_LINES}
@@ -41,7 +41,7 @@ lines_of lines agent = count_by (is_of agent) lines
 abbrev pub has_quit : List GameLine → ℕ → Bool
 has_quit lines agent = list_any (quits agent) lines
 
--- A line after others, where its agent has not ended its session, and where there are not too many, of ticks or of lines of its
+-- A line after others, if its agent has not ended its session, and if there are not too many, of ticks or of lines of its
 -- agent.
 abbrev pub limited : List GameLine → GameLine → Result GameLine ScriptReason
 limited lines Tick = if nat_le TICKS (ticks_of lines) then Err TooMany else Ok Tick

@@ -22,7 +22,7 @@ use Rattle.line_protocol.specs.declared.asking.RequestFault.{RequestFault}
 use Rattle.line_protocol.specs.declared.saying.Said.{Said}
 use Rattle.line_protocol.specs.declared.saying.Said.TheVariants as said
 
--- how far a game has come: the past of each good, the newest entry first; the cash history, the oldest entry first; and how many
+-- the progress of a game: the past of each good, the newest entry first; the cash history, the oldest entry first; and how many
 -- ticks were made
 pub record GameState : Type 0 where
   pub pasts : List (List Entry)
@@ -64,19 +64,19 @@ reads agent (cash_calls.Read reader) = reader == agent
 abbrev pub readings_of : List CashEntry → ℕ → ℕ
 readings_of cash agent = count_by (λ e. reads agent e.call) cash
 
--- an agent's call in the auction of a good: it has so many there
+-- an agent's call in the auction of a good, of which it has a limited number there
 abbrev pub call_turn : GameFile → ℕ → ℕ → Call → GameState → Said × GameState
 call_turn game agent good call state =
     if nat_le AGENT_CALLS (entries_of (past_at state.pasts good) agent) then (said.Spent, state)
     else (said.At (length (past_at state.pasts good)) (entry_at game state.pasts agent good call).reply, called game agent good call state)
 
--- an agent's reading: it has so many
+-- an agent's reading, of which it has a limited number
 abbrev pub cash_turn : ℕ → GameState → Said × GameState
 cash_turn agent state =
     if nat_le CASH_READINGS (readings_of state.cash agent) then (said.Spent, state)
     else (said.Cash (length state.cash) (total_of state.cash agent), record { pasts = state.pasts; cash = state.cash ++ reading_of state.cash agent ∷ []; ticks = state.ticks })
 
--- what an agent is told, and the game after it
+-- what an agent is answered, and the game after it
 abbrev pub turn : GameFile → ℕ → Result Request RequestFault → GameState → Said × GameState
 turn game agent (Ok (requests.Bid good points)) state = call_turn game agent good (calls.Bid points) state
 turn game agent (Ok (requests.Withdraw good)) state = call_turn game agent good calls.Withdraw state
@@ -93,7 +93,7 @@ abbrev pub clocked : GameFile → List (ℕ × Call) → GameState → GameState
 clocked game [] state = state
 clocked game ((good, call) ∷ calls) state = clocked game calls (called game clock good call state)
 
--- the calls of the next tick are made, where one is left
+-- the calls of the next tick are made, if one is left
 abbrev pub ticked : GameFile → GameState → GameState
 ticked game state =
     if nat_le TICKS state.ticks then state

@@ -10,7 +10,7 @@ use Rattle.game_log.specs.Taken.{TookWhole, TookPart}
 use Rattle.script_run.specs.HotelScripts.{script_of, hotel_out}
 use Rattle.script_run.specs.HotelRuns.{HasRun}
 
--- the most bytes of a script, under another name
+-- the limit of a script's bytes, by another name
 abbrev pub longest_script : ℕ
 longest_script = TEXT_BYTES
 
@@ -26,7 +26,7 @@ pub record IsBad (script : List ℕ) (line reason : ℕ) : Type 0 where
   pub within : length script ≤ TEXT_BYTES
   pub bad : script_of script ≡ Err (line, reason)
 
--- no line was run yet, or there was no memory to begin
+-- no line was run yet, or memory was refused at the start
 abbrev pub Begins : Result HotelRun ScriptFault → Type 0
 Begins (Ok run) = HasRun [] run
 Begins (Err (Line line reason)) = ⊥
@@ -34,7 +34,7 @@ Begins (Err TooLong) = ⊥
 Begins (Err Failed) = ⊥
 Begins (Err Memory) = ⊤
 
--- the lines of a script were run, or the first bad one is told
+-- the lines of a script were run, or the first bad one is reported
 abbrev pub RunsLines : List ℕ → Result HotelRun ScriptFault → Type 0
 RunsLines script (Ok run) = (lines : List HotelLine) × (script_of script ≡ Ok lines) × HasRun lines run
 RunsLines script (Err (Line line reason)) = script_of script ≡ Err (line, reason)
@@ -42,7 +42,7 @@ RunsLines script (Err TooLong) = ⊥
 RunsLines script (Err Failed) = ⊥
 RunsLines script (Err Memory) = ⊤
 
--- what was answered and written of a script: its whole text, or the first bytes of it where a write failed, or nothing
+-- what was answered and written for a script: its whole text, or the first bytes of it if a write failed, or nothing
 abbrev pub RunsScript : List ℕ → SinkState → SinkState → Result (Unit {0}) ScriptFault → Type 0
 RunsScript script sink sink' (Ok done) = (text : List ℕ) × IsOut script text × TookWhole sink sink' text
 RunsScript script sink sink' (Err (Line line reason)) = IsBad script line reason × (sink' ≡ sink)

@@ -12,7 +12,7 @@ use Rattle.script_run.specs.ScriptLines.{number_of}
 use Rattle.script_run.specs.HotelScripts.{judge, one_hotel, script_past, hotel_out}
 use Rattle.script_run.specs.LineCounts.{Counts}
 
--- an auction with the entry of a call more
+-- an auction with one more entry, that of a call
 abbrev pub called : AuctionHistory → ℕ × Call → AuctionHistory
 called before call = record { setup = before.setup; history = before.history ++ entry_of before.setup (reverse before.history) call.0 call.1 ∷ [] }
 
@@ -26,7 +26,7 @@ pub record HasRun (lines : List HotelLine) (run : HotelRun) : Type 0 where
 abbrev pub Runs : HotelRun → Type 0
 Runs run = (lines : List HotelLine) × HasRun lines run
 
--- a line after others was run, or is bad, or there was no memory for its text
+-- a line after others was run, or is bad, or memory was refused for its text
 abbrev pub Steps : List HotelLine → List ℕ → HotelRun → Result (Unit {0}) ScriptFault → Type 0
 Steps lines line run (Ok done) = (asked : HotelLine) × (judge lines line ≡ Ok asked) × HasRun (asked ∷ lines) run
 Steps lines line run (Err (Line number reason)) = (why : ScriptReason) × (number ≡ length lines + 1) × (reason ≡ number_of why) × (judge lines line ≡ Err why)

@@ -1,4 +1,4 @@
--- Hotel scripts: which are run, and what is written of their run.
+-- Which hotel scripts are run, and what is written of their run.
 use Rattle.std.specs.Prelude.{ℕ, ◌==◌, nat_le, if◌then◌else◌, List, [], ◌∷◌, ◌++◌, length, map, count_by, replicate, pos, Result, Ok, Err, false}
 use Rattle.std.specs.List.{flat_map}
 use Rattle.tac_base.specs.declared.limits.TheConstants.{AUCTION_ENTRIES}
@@ -18,14 +18,14 @@ use Rattle.script_run.specs.Replies.{reply_line}
 abbrev pub lines_of : List HotelLine → ℕ → ℕ
 lines_of lines caller = count_by (λ line. (asked line).0 == caller) lines
 
--- a line after others, where there are not too many: of the script, or of its caller
+-- a line after others, if there are not too many: of the script, or of its caller
 abbrev pub limited : List HotelLine → HotelLine → Result HotelLine ScriptReason
 limited lines line =
     if nat_le AUCTION_ENTRIES (length lines) then Err TooMany
     else if nat_le (cap (asked line).0) (lines_of lines (asked line).0) then Err TooManyOfCaller
     else Ok line
 
--- what was read of a line after others, where it may stand there
+-- what was read of a line after others, if it is allowed there
 abbrev pub judged : List HotelLine → Result HotelLine ScriptReason → Result HotelLine ScriptReason
 judged lines (Err reason) = Err reason
 judged lines (Ok line) = limited lines line

@@ -1,4 +1,4 @@
--- What is so of every game that is played by a script.
+-- What holds of every game that is played by a script.
 use Rattle.std.specs.Prelude.{◌≡◌, ℕ, ◌<◌, ◌≤◌, ⊤, List, [], map, slice_index_or, Result, Ok, Err}
 use Rattle.tac_base.specs.declared.calls.Call.{Call}
 use Rattle.tac_base.specs.Goods.{clock}

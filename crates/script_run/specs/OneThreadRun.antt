@@ -15,7 +15,7 @@ use Rattle.script_run.specs.declared.game_lines.GameLine.TheVariants.{Tick, Asks
 use Rattle.script_run.specs.declared.play_count.PlayCount.{PlayCount}
 use Rattle.script_run.specs.GameStates.{GameState, opening, turn, ticked}
 
--- the line that tells an agent something
+-- the line that answers an agent
 abbrev pub told_line : ℕ → Said → List ℕ
 told_line agent said = decimal agent ++ codes " " ++ said_text said ++ codes "\n"
 
@@ -37,7 +37,7 @@ abbrev pub replies : GameFile → List GameLine → List ℕ
 replies game [] = []
 replies game (line ∷ lines) = replies game lines ++ line_text game line (played game lines)
 
--- so many ticks more
+-- this many more ticks
 abbrev pub ticked_often : GameFile → ℕ → GameState → GameState
 ticked_often game zero state = state
 ticked_often game (suc n) state = ticked game (ticked_often game n state)

@@ -1,4 +1,4 @@
--- What a contract sees of a game that is played, and what is so of every such game.
+-- What a contract sees of a game that is being played, and the invariant of every such game.
 use Rattle.std.specs.Prelude.{◌≡◌, ℕ, ◌≤◌, List, map, reverse}
 use Rattle.tac_base.specs.declared.limits.TheConstants.{TICKS}
 use Rattle.game_text.specs.Games.{GameFile}
@@ -10,7 +10,7 @@ use Rattle.auction_core.specs.Auctions.{AuctionHistory}
 use Rattle.auction_core.specs.ClosedGame.{all_goods}
 use Rattle.script_run.specs.GameStates.{GameState}
 
--- a game, and how far it has come
+-- a game, and its progress
 pub record SeenGame : Type 0 where
   pub game : GameFile
   pub state : GameState

@@ -1,4 +1,4 @@
--- What playing a game script does to a sink, and what is known of the game.
+-- The effect of playing a game script on a sink, and what is known of the game.
 use Rattle.std.specs.Prelude.{◌≡◌, ℕ, ◌<◌, ◌≤◌, ◌⊎◌, List, length, Result, Ok, Err}
 use Rattle.tac_io.specs.States.{SinkState}
 use Rattle.game_text.specs.Games.{GameFile}
@@ -21,7 +21,7 @@ pub record IsBadScript (script : List ℕ) (line reason : ℕ) : Type 0 where
   pub within : length script ≤ TEXT_BYTES
   pub bad : game_script script ≡ Err (line, reason)
 
--- the text of a game by a script, with some sheet of the game, whose numbers are those that a log can show
+-- the text of a game by a script, with some sheet of the game, whose numbers a log can show
 pub record IsPlayOut (game : GameFile) (script text : List ℕ) : Type 0 where
   pub lines : List GameLine
   pub good : IsGoodScript script lines
@@ -43,7 +43,7 @@ pub record IsCount (game : GameFile) (script : List ℕ) (count : PlayCount) : T
   pub is : count ≡ count_of (whole_game game lines)
 
 -- What was answered and written of a game: its whole text; or nothing, since a line is bad, or the script too long; or, where a
--- write failed, the first bytes of the text, but not all. Where there was no memory nothing was written, or all but the sheet.
+-- write failed, the first bytes of the text, but not all. If memory was refused, nothing was written, or all but the sheet.
 abbrev pub PlaysScript : GameFile → List ℕ → SinkState → SinkState → Result PlayCount ScriptFault → Type 0
 PlaysScript game script sink sink' (Ok count) = (text : List ℕ) × IsPlayOut game script text × IsCount game script count × TookWhole sink sink' text
 PlaysScript game script sink sink' (Err (Line line reason)) = IsBadScript script line reason × (sink' ≡ sink)

@@ -1,4 +1,4 @@
--- A game that was played to its end, and what writing it and its sheet does to a sink.
+-- A game that was played to its end, and the effect on a sink of writing it and its sheet.
 use Rattle.std.specs.Prelude.{◌≡◌, ℕ, ◌<◌, ◌⊎◌, ⊤, List, ◌++◌, length, Result, Ok, Err}
 use Rattle.tac_io.specs.States.{SinkState}
 use Rattle.game_text.specs.Games.{GameFile}
@@ -36,7 +36,7 @@ PlaysToEnd game script (Err Memory) = ⊤
 abbrev pub first_text : Played → List ℕ
 first_text played = played.replies.items ++ play_part Play played.closed
 
--- the whole text of the game was written with some sheet of it, or not all of it, or all but the sheet where there was no memory for it
+-- the whole text of the game was written with some sheet of it, or not all of it, or all but the sheet if memory was refused for it
 abbrev pub WritesPlayed : GameFile → Played → SinkState → SinkState → Result (Unit {0}) ScriptFault → Type 0
 WritesPlayed game played sink sink' (Ok done) = (sheet : List Scored) × IsSheetOf game played.closed sheet × TookWhole sink sink' (first_text played ++ sheet_part sheet)
 WritesPlayed game played sink sink' (Err (Line line reason)) = ⊥

@@ -11,14 +11,14 @@ use Rattle.script_run.specs.declared.play_count.PlayCount.{PlayCount}
 use Rattle.script_run.specs.PlayOuts.{IsBadScript}
 use Rattle.script_run.specs.QuietGames.{IsSummary}
 
--- a game was played, or its script is bad or too long, or there was no memory
+-- a game was played, or its script is bad or too long, or memory was refused
 abbrev pub PlaysQuietly : GameFile → List ℕ → Result (PlayCount × List Scored) QuietFault → Type 0
 PlaysQuietly game script (Ok played) = IsSummary game script played.0 played.1
 PlaysQuietly game script (Err (Line line reason)) = IsBadScript script line reason
 PlaysQuietly game script (Err TooLong) = TEXT_BYTES < length script
 PlaysQuietly game script (Err Memory) = ⊤
 
--- a fault that comes where nothing is written, and what it is told as
+-- a fault that comes when nothing is written, and what it is reported as
 abbrev pub IsQuietFault : ScriptFault → Type 0
 IsQuietFault (faults.Line line reason) = ⊤
 IsQuietFault faults.TooLong = ⊤

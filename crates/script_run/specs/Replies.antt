@@ -1,9 +1,9 @@
--- The line that tells what an auction answered.
+-- The line that reports what an auction answered.
 use Rattle.std.specs.Prelude.{ℕ, List, ◌++◌, codes}
 use Rattle.tac_base.specs.declared.calls.Reply.{Reply}
 use Rattle.line_protocol.specs.declared.saying.Said.TheVariants.{At}
 use Rattle.line_protocol.specs.Replies.{said_text}
 
--- the line of the reply to the call at a position, as an agent is told it
+-- the line of the reply to the call at a position, as an agent is sent it
 abbrev pub reply_line : ℕ → Reply → List ℕ
 reply_line position reply = said_text (At position reply) ++ codes "\n"

@@ -18,7 +18,7 @@ abbrev pub BadLine : Type 0
 BadLine = ℕ × ℕ
 
 module _ {Line : Type 0} where
-  -- what follows of a good line, or the reason with the line's number
+  -- what follows a good line, or the reason with the line's number
   abbrev pub at_line : ℕ → Result Line ScriptReason → (Line → Result (List Line) BadLine) → Result (List Line) BadLine
   at_line number (Err reason) follows = Err (number, number_of reason)
   at_line number (Ok line) follows = follows line

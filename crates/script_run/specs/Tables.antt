@@ -1,4 +1,4 @@
--- The counts that are kept beside a game that is played.
+-- The counts that are kept beside a game that is being played.
 use Rattle.std.specs.Prelude.{◌≡◌, ℕ, ◌+◌, ◌≤◌, ◌==◌, List, length, sum_by, count_by, take, slice_index}
 use Rattle.tac_base.specs.declared.limits.TheConstants.{TICKS, AGENT_CALLS, CASH_READINGS}
 use Rattle.tac_base.specs.declared.calls.Call.{Call}
@@ -20,7 +20,7 @@ made pasts caller = sum_by (λ past. entries_of past caller) pasts
 abbrev pub due : GameFile → ℕ → ℕ
 due game ticks = sum_by (λ tick. length (schedule.calls_at game tick)) (take ticks schedule.ticks)
 
--- the clock may make the calls that are left of its tick: each good then has at most one call for each tick, and all goods no more
+-- the clock may make the remaining calls of its tick: each good then has at most one call for each tick, and all goods no more
 -- calls than the schedule
 pub record HasClockRoom (game : GameFile) (state : GameState) (left : List (ℕ × Call)) : Type 0 where
   pub each : (good : ℕ) → entries_of (past_at state.pasts good) clock + count_by (λ call. call.0 == good) left ≤ state.ticks

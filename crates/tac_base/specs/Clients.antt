@@ -8,7 +8,7 @@ pub record Preferences : Type 0 where
   pub premium : ℕ
   pub values : List ℕ
 
--- preferences that lie in the ranges of the game
+-- preferences in the ranges of the game
 pub record IsClient (wants : Preferences) : Type 0 where
   pub arrives_first : 1 ≤ wants.arrive
   pub arrives_last : wants.arrive ≤ 4

@@ -12,11 +12,11 @@ abbrev pub value_from : ℕ → List ℕ → ℕ
 value_from n [] = n
 value_from n (digit ∷ digits) = value_from (n * 10 + (digit - 48)) digits
 
--- the number of a numeral of at most so many digits
+-- the number of a numeral of at most this many digits
 unfoldable pub numeral : ℕ → List ℕ → Option ℕ
 numeral digits word = if is_numeral word && nat_le (length word) digits then Some (value_from 0 word) else None
 
--- the opposite of a number above 0
+-- the negative of a number above 0
 abbrev pub opposite : ℕ → Option ℤ
 opposite zero = None
 opposite (suc n) = Some (negsuc n)

@@ -33,13 +33,13 @@ use Rattle.tac_commands.specs.SoundTexts.{told_of, EndsInSoundLog}
 use Rattle.tac_commands.specs.Steps.{Steps, Reads, Audits, EndsWith, file}
 use Rattle.tac_commands.specs.Trials.{trial_text}
 
--- a text that is due is written, or memory was refused
+-- the text that is due is written, or memory was refused
 abbrev pub Writes : (List ℕ → Type 0) → Outcome → Type 0
 Writes IsDue (Done text) = IsDue text
 Writes IsDue (Refused Memory) = ⊤
 Writes IsDue outcome = ⊥
 
--- the same of a text whose first part is written alone where memory was refused for the rest
+-- the same for a text whose first part is written alone if memory was refused for the rest
 abbrev pub WritesInParts : (List ℕ → Type 0) → (List ℕ → Type 0) → Outcome → Type 0
 WritesInParts IsDue IsFirst (Done text) = IsDue text
 WritesInParts IsDue IsFirst (Cut text) = IsFirst text
@@ -57,8 +57,8 @@ abbrev pub IsTrial : ℕ → ℕ → List ℕ → Type 0
 IsTrial seed count text =
     (played : PlayCount) × (sheet : List Scored) × IsSummary (made_game seed) (made_script seed count) played sheet × (text ≡ trial_text seed count played sheet)
 
--- What the two numbers of a good say: what one unit more adds to the best total, and what one unit less takes from it, in dollars and so never
--- below 0; nothing is lost of a good that is not held, and one that is owed gains nothing by one more.
+-- What the two numbers of a good say: what one unit more adds to the best total, and what one unit less takes from it, in dollars and never
+-- below 0; one unit less of a good that is not held takes nothing, and one unit more of one that is owed adds nothing.
 pub record AreWorthsOf (account : AccountFile) (v : Valuation) (good : ℕ) : Type 0 where
   pub up : IsUp account good (up_at v good)
   pub down : IsDown account good (down_at v good)
@@ -85,12 +85,12 @@ pub record IsFlawText (game : GameFile) (log : LoggedGame) (text : List ℕ) : T
 abbrev pub play_steps : GameFile → List ℕ → Steps
 play_steps game script = Reads (file GameScript script) (λ lines. EndsWith (PlayAllows game lines))
 
--- a log is judged by its game: it is sound, or its first flaw is told
+-- a log is judged by its game: it is sound, or its first flaw is reported
 abbrev pub audit_steps : GameFile → LoggedGame → Steps
 audit_steps game log = Audits game log (IsFlawText game log) (EndsWith (Writes (λ text. text ≡ codes "sound\n")))
 
 -- Pairs of a game and its log are read and audited in turn, after those of the games that were played before them, and then the standings of
--- all are written. The first log that is not sound is told by how many pairs stand before it.
+-- all are written. The first log that is not sound is reported by the number of pairs before it.
 abbrev pub table_steps : List (GameFile × LoggedGame) → List (List ℕ × List ℕ) → Steps
 table_steps played [] = EndsWith (Writes (IsPrinted played []))
 table_steps played (pair ∷ pairs) =
@@ -120,8 +120,8 @@ batch_steps (Audit name log_name) = Reads (file Game name) (λ game. Reads (file
 -- the standings of the teams of several games whose logs are sound
 batch_steps (Table pairs) = table_steps [] pairs
 
--- How the service of a game may end whose file is good: its log is written, whole or without its sheet; or the links failed, or there was no
--- memory for the game. What the log tells, and what became of the links, is said where the service is.
+-- How the service of a game with a good file may end: its log is written, whole or without its sheet; or the links failed, or memory was
+-- refused for the game. What the log says, and what became of the links, is defined with the service.
 abbrev pub IsServiceEnd : Outcome → Type 0
 IsServiceEnd (Done text) = ⊤
 IsServiceEnd (Lapsed text) = ⊤
@@ -136,7 +136,7 @@ abbrev pub steps_of : Command → Steps
 steps_of (Batch command) = batch_steps command
 steps_of (Serve service) = Reads (file Game service.game) (λ _. EndsWith IsServiceEnd)
 
--- The outcome, and the names that were selected, are those of the command, if there is one; without a command the usage is written.
+-- The outcome, and the names that were selected, are those of the command, if there is one; otherwise the usage is written.
 abbrev pub Allows : Option Command → FilesState → FilesState → Outcome → Type 0
 Allows None files files' outcome = (outcome ≡ Refused Usage) × AreUnasked files files'
 Allows (Some command) files files' outcome = Runs (steps_of command) files files' outcome

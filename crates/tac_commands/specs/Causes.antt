@@ -1,5 +1,5 @@
--- When each code comes. A write that failed goes before every other cause, so code 4 may stand in the place of each other code;
--- where memory is refused the code is 7.
+-- When each code comes. A failed write takes precedence over every other cause, so code 4 may replace each other code;
+-- if memory is refused the code is 7.
 use Rattle.std.specs.Prelude.{◌≡◌, ℕ, ◌-◌, ◌^◌, ◌<◌, ◌⊎◌, ⊤, List, Option, Some, None, Ok, Err, IfSome}
 use Rattle.tac_io.specs.Counts.{Rose}
 use Rattle.tac_io.specs.States.{FilesState, SinkState, LinksState, TickerState}
@@ -17,22 +17,22 @@ pub record IsQuiet (before now : ℕ) : Type 0 where
   pub same : now ≡ before
   pub below : before < 2 ^ 64 - 1
 
--- 1 comes exactly where the words are no command of the list
+-- 1 comes exactly if the words are no command
 pub record UsageExactly (command : Option Command) (code : ℕ) : Type 0 where
   pub only : code ≡ 1 → command ≡ None
   pub always : command ≡ None → (code ≡ 1) ⊎ (code ≡ 4)
 
--- 3 comes exactly where the count of faults of the files rose
+-- 3 comes exactly if the count of faults of the files rose
 pub record ReadFaultExactly (files files' : FilesState) (code : ℕ) : Type 0 where
   pub only : code ≡ 3 → Rose files.faults files'.faults
   pub always : files.faults < files'.faults → (code ≡ 3) ⊎ (code ≡ 4)
 
--- 4 comes exactly where the count of faults of the sink rose
+-- 4 comes exactly if the count of faults of the sink rose
 pub record WriteFaultExactly (sink sink' : SinkState) (code : ℕ) : Type 0 where
   pub only : code ≡ 4 → Rose sink.faults sink'.faults
   pub always : sink.faults < sink'.faults → code ≡ 4
 
--- the bytes of the file of that name, where files are told
+-- the bytes of the file of that name, if they are known
 abbrev pub told_file : Content → List ℕ → Option (List ℕ)
 told_file None name = None
 told_file (Some files) name = files name
@@ -58,7 +58,7 @@ HasRefused content code (Reads file next) =
 HasRefused content code (Audits game log IsDue next) = IsSound game log × HasRefused content code next
 HasRefused content code (EndsWith allows) = ⊥
 
--- all files that are read are there and good; behind a log that is not sound none is read
+-- all files that are read are there and good; after a log that is not sound none is read
 abbrev pub AreGood : Content → Steps → Type 0
 AreGood content (Reads file next) = (value : Value file.kind) × Holds content file value × AreGood content (next value)
 AreGood content (Audits game log IsDue next) = IsSound game log → AreGood content next
@@ -80,12 +80,12 @@ abbrev pub HasRefusedText : Content → Option Command → Type 0
 HasRefusedText content None = ⊥
 HasRefusedText content (Some command) = HasRefused content 8 (steps_of command)
 
--- 2 comes exactly where a game file is read and refused
+-- 2 comes exactly if a game file is read and refused
 pub record GameRefusedExactly (command : Option Command) (files files' : FilesState) (code : ℕ) : Type 0 where
   pub only : code ≡ 2 → IfSome files.content (λ _. HasRefusedGame files.content command)
   pub always : HasRefusedGame files.content command → IsQuiet files.faults files'.faults → (code ≡ 2) ⊎ (code ≡ 4) ⊎ (code ≡ 7)
 
--- 8 comes exactly where a script, an account or a log is read and refused
+-- 8 comes exactly if a script, an account or a log is read and refused
 pub record TextRefusedExactly (command : Option Command) (files files' : FilesState) (code : ℕ) : Type 0 where
   pub only : code ≡ 8 → IfSome files.content (λ _. HasRefusedText files.content command)
   pub always : HasRefusedText files.content command → IsQuiet files.faults files'.faults → (code ≡ 8) ⊎ (code ≡ 4) ⊎ (code ≡ 7)
@@ -100,12 +100,12 @@ abbrev pub HasUnsoundLog : Content → Option Command → Type 0
 HasUnsoundLog content None = ⊥
 HasUnsoundLog content (Some command) = HasUnsound content (steps_of command)
 
--- 9 comes exactly where the files up to a log were read and accepted, memory sufficed and the log is not sound
+-- 9 comes exactly if the files up to a log were read and accepted, memory sufficed and the log is not sound
 pub record UnsoundExactly (command : Option Command) (files files' : FilesState) (code : ℕ) : Type 0 where
   pub only : code ≡ 9 → IfSome files.content (λ _. HasUnsoundLog files.content command)
   pub always : HasUnsoundLog files.content command → IsQuiet files.faults files'.faults → (code ≡ 9) ⊎ (code ≡ 4) ⊎ (code ≡ 7)
 
--- the code is 0, 7 or 9, and it is 9 exactly where a log that the command audits is not sound, unless memory was refused
+-- the code is 0, 7 or 9, and it is 9 exactly if a log that the command audits is not sound, unless memory was refused
 pub record IsGoodEnd (content : Content) (command : Option Command) (code : ℕ) : Type 0 where
   pub one_of : (code ≡ 0) ⊎ (code ≡ 7) ⊎ (code ≡ 9)
   pub only : code ≡ 9 → HasUnsoundLog content command
@@ -118,16 +118,16 @@ pub record IsFaultless {L : Type 0} (before after : Outside L) : Type 0 where
   pub links : IsQuiet before.links.faults after.links.faults
   pub ticker : IsQuiet before.ticker.faults after.ticker.faults
 
--- so it is where the words are a command, its files are good and no call of the outside failed
+-- the same, if the words are a command, its files are good and no call of the outside failed
 pub record IsComplete {L : Type 0} (command : Option Command) (before after : Outside L) (code : ℕ) : Type 0 where
   pub good : IsReady before.files.content command → IsFaultless before after → IsGoodEnd before.files.content command code
 
--- 5 comes exactly where the count of faults of the links rose
+-- 5 comes exactly if the count of faults of the links rose
 pub record LinkFaultExactly {L : Type 0} (links links' : LinksState L) (code : ℕ) : Type 0 where
   pub only : code ≡ 5 → Rose links.faults links'.faults
   pub always : links.faults < links'.faults → (code ≡ 5) ⊎ (code ≡ 4)
 
--- 6 comes exactly where the count of faults of the ticker rose and no other code applies: the game was played, and memory sufficed for
+-- 6 comes exactly if the count of faults of the ticker rose and no other code applies: the game was played, and memory sufficed for
 -- its scores
 pub record ClockFaultExactly (ticker ticker' : TickerState) (code : ℕ) : Type 0 where
   pub only : code ≡ 6 → Rose ticker.faults ticker'.faults

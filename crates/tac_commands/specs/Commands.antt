@@ -39,7 +39,7 @@ batch_with word argument =
     else if bytes_eq word (codes "make") then option_map Make (below (2 ^ 64) (numeral 20 argument))
     else None
 
--- a trial has a seed as a made game has, and a count of at most the requests of a made script
+-- a trial has a seed like a made game, and a count within the limit of a made script
 abbrev pub trial_of : Option ℕ → Option ℕ → Option BatchCommand
 trial_of (Some seed) (Some count) = Some (Trial seed count)
 trial_of seed count = None
@@ -58,7 +58,7 @@ batch_by_count word (argument ∷ []) = batch_with word argument
 batch_by_count word (first ∷ second ∷ []) = batch_with_two word first second
 batch_by_count word words = None
 
--- words in pairs; one that is left over is in none
+-- words in pairs; a single one at the end is dropped
 abbrev pub paired : List (List ℕ) → List (List ℕ × List ℕ)
 paired (game ∷ log ∷ words) = (game, log) ∷ paired words
 paired words = []
@@ -83,11 +83,11 @@ command_of words = service_or_batch (service_of words) (batch_of words)
 
 -- ---- as the code has it
 
--- the service, with its word as it stands in memory
+-- the service, with its name as it is in memory
 abbrev pub seen_service : ServiceAsked → Service
 seen_service service = record { game = service.game.now; port = service.port; pace = service.pace; form = service.form }
 
--- the command, with its words as they stand in memory
+-- the command, with its words as they are in memory
 abbrev pub seen_batch : BatchAsked → BatchCommand
 seen_batch (batch.Hotel script) = Hotel script.now
 seen_batch (batch.Show game) = Show game.now

@@ -14,7 +14,7 @@ use Rattle.tac_commands.specs.Runs.{Runs}
 use Rattle.tac_commands.specs.Steps.{Steps}
 use Rattle.tac_commands.specs.Telling.{Tells}
 
--- a command that allows these outcomes ended so, and left the sink so: its text was written, or one that tells that a log is not sound, or the
+-- a command that allows these outcomes ended so, and left the sink so: its text was written, or one that reports an unsound log, or the
 -- first bytes of either, or nothing
 abbrev pub Ends : (Outcome → Type 0) → SinkState → SinkState → End → Type 0
 Ends allows sink sink' ends.Done = (text : List ℕ) × allows (Done text) × TookWhole sink sink' text
@@ -22,7 +22,7 @@ Ends allows sink sink' ends.Unsound = (text : List ℕ) × allows (Unsound text)
 Ends allows sink sink' ends.WriteFault = (text : List ℕ) × (allows (Done text) ⊎ allows (Unsound text)) × TookPart sink sink' text
 Ends allows sink sink' (ends.Refused refusal) = allows (Refused refusal) × (sink' ≡ sink)
 
--- a first part of a text was written, and then there was no memory for the rest; or the first bytes of that part alone
+-- a first part of a text was written, and then memory was refused for the rest; or only the first bytes of that part
 abbrev pub IsCut : List ℕ → SinkState → SinkState → End → Type 0
 IsCut text sink sink' ends.Done = ⊥
 IsCut text sink sink' ends.Unsound = ⊥
@@ -30,19 +30,19 @@ IsCut text sink sink' ends.WriteFault = TookPart sink sink' text
 IsCut text sink sink' (ends.Refused Memory) = TookWhole sink sink' text
 IsCut text sink sink' (ends.Refused refusal) = ⊥
 
--- a command that allows these outcomes, of which some may be cut off, ended so, and left the sink so
+-- a command that allows these outcomes, some of which may be cut off, ended so, and left the sink so
 abbrev pub EndsOrIsCut : (Outcome → Type 0) → SinkState → SinkState → End → Type 0
 EndsOrIsCut allows sink sink' end = Ends allows sink sink' end ⊎ ((text : List ℕ) × allows (Cut text) × IsCut text sink sink' end)
 
--- a command that goes these steps over its files ended so, and left the files and the sink so
+-- a command with these steps over its files ended so, and left the files and the sink so
 abbrev pub EndsSteps : Steps → FilesState → FilesState → SinkState → SinkState → End → Type 0
 EndsSteps steps files files' sink sink' end = EndsOrIsCut (Runs steps files files') sink sink' end
 
--- so does a command that needs no links
+-- the same for a command that needs no links
 abbrev pub EndsBatch : BatchCommand → FilesState → FilesState → SinkState → SinkState → End → Type 0
 EndsBatch command files files' sink sink' end = EndsSteps (batch_steps command) files files' sink sink' end
 
--- so does one that selects no more files, whatever the files are
+-- the same for one that selects no more files, whatever the files are
 abbrev pub EndsUnread : Steps → SinkState → SinkState → End → Type 0
 EndsUnread steps sink sink' end = (files : FilesState) → EndsSteps steps files files sink sink' end
 
@@ -62,7 +62,7 @@ WritesWhole text sink sink' ends.WriteFault = TookPart sink sink' text
 WritesWhole text sink sink' (ends.Refused Memory) = sink' ≡ sink
 WritesWhole text sink sink' (ends.Refused refusal) = ⊥
 
--- what is left to do for a command that ended so: a refusal is written, and else nothing is
+-- what is left to do for a command that ended so: a refusal is written, and otherwise nothing
 abbrev pub Finishes : End → SinkState → SinkState → ℕ → Type 0
 Finishes ends.Done sink sink' code = (code ≡ 0) × (sink' ≡ sink)
 Finishes ends.Unsound sink sink' code = (code ≡ 9) × (sink' ≡ sink)

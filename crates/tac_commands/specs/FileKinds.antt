@@ -1,4 +1,4 @@
--- The kinds of files that commands read: how long such a file may be, what it holds, and what is written where it is refused.
+-- The kinds of files that commands read: how long such a file may be, what it holds, and what is written if it is refused.
 use Rattle.std.specs.Prelude.{ℕ, List, length, nat_lt, if◌then◌else◌, Result, Ok, Err}
 use Rattle.tac_base.specs.declared.limits.TheConstants.{GAME_BYTES, TEXT_BYTES}
 use Rattle.game_text.specs.declared.fault.GameFault.{GameFault}
@@ -41,7 +41,7 @@ lines_or_fault (Err bad) = Err (Line bad.0 bad.1)
 abbrev pub script_in : {A : Type 0} → List ℕ → Result A BadLine → Result A GameFault
 script_in bytes read = if nat_lt TEXT_BYTES (length bytes) then Err TooLong else lines_or_fault read
 
--- a log has one reason for a bad line; to read it by its definition takes no memory
+-- a log has one reason for a bad line; reading it by its definition takes no memory
 abbrev pub fault_of : LogFault → GameFault
 fault_of (logs.Line line) = Line line 1
 fault_of logs.TooLong = TooLong
@@ -59,22 +59,22 @@ read_as GameScript bytes = script_in bytes (game_script bytes)
 read_as Account bytes = account_of bytes
 read_as Log bytes = logged_or_fault (log_of bytes)
 
--- what is written where a game file has this fault
+-- what is written if a game file has this fault
 abbrev pub game_refusal : GameFault → Refusal
 game_refusal (Line line reason) = GameLine line reason
 game_refusal TooLong = GameTooLong
 
--- what is written where any other file has it
+-- what is written if any other file has it
 abbrev pub text_refusal : GameFault → Refusal
 text_refusal (Line line reason) = TextLine line reason
 text_refusal TooLong = TextTooLong
 
--- what is written where a file of this kind has it
+-- what is written if a file of this kind has it
 abbrev pub refusal_of : FileKind → GameFault → Refusal
 refusal_of Game fault = game_refusal fault
 refusal_of kind fault = text_refusal fault
 
--- the code of that
+-- the code of that refusal
 abbrev pub refused_code : FileKind → ℕ
 refused_code Game = 2
 refused_code kind = 8

@@ -1,4 +1,4 @@
--- Reading a file of a command. A read fault comes exactly where the count of faults of the files rose. Memory may be refused at any time.
+-- Reading a file of a command. A read fault comes exactly if the count of faults of the files rose. Memory may be refused at any time.
 use Rattle.std.specs.Prelude.{◌≡◌, ℕ, ◌⊎◌, List, Option, Ok, Err}
 use Rattle.tac_io.specs.Counts.{Rose}
 use Rattle.tac_io.specs.Reading.{IsFile}
@@ -9,7 +9,7 @@ use Rattle.tac_commands.specs.declared.refusals.Refusal.{Refusal}
 use Rattle.tac_commands.specs.declared.refusals.Refusal.TheVariants.{ReadFault, Memory}
 use Rattle.tac_commands.specs.FileKinds.{Value, read_as, refusal_of}
 
--- the bytes of each name, where they are told
+-- the bytes of each name, if they are known
 abbrev pub Content : Type 0
 Content = Option (List ℕ → Option (List ℕ))
 

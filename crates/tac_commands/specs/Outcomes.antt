@@ -4,7 +4,7 @@ use Rattle.tac_commands.specs.declared.refusals.Refusal.{Refusal}
 use Rattle.tac_commands.specs.declared.refusals.Refusal.TheVariants.{Usage, GameLine, GameTooLong, ReadFault, LinkFault, Memory, TextLine, TextTooLong}
 use Rattle.tac_commands.specs.NumberedLines.{numbered}
 
--- a command's text; the same of a game in which ticks lapsed; a text that tells that a log is not sound; a first part of a text where memory
+-- a command's text; the same for a game in which ticks lapsed; a text that reports an unsound log; a first part of a text if memory
 -- was refused for the rest; or what is written in its place
 pub data Outcome : Type 0 where
   Done : (text : List ℕ) → Outcome

@@ -1,4 +1,4 @@
--- What is told of all that a command may ask of the outside.
+-- The state of all objects of the outside that a command may ask.
 use Rattle.tac_io.specs.States.{FilesState, SinkState, LinksState, TickerState}
 
 pub record Outside (L : Type 0) : Type 0 where

@@ -1,5 +1,5 @@
 -- How a command runs over its files: each is selected and read in order, up to the first that is not read, or to a log that is not sound. The
--- outcome is then the refusal of that file, or a text that tells that the log is not sound, and no later file was selected. A run that comes to
+-- outcome is then the refusal of that file, or a text that reports the unsound log, and no later file was selected. A run that reaches
 -- its last step ends with an outcome that the values of the files allow.
 use Rattle.std.specs.Prelude.{◌≡◌, ℕ, ◌⊎◌, ⊤, List, [], ◌∷◌}
 use Rattle.tac_io.specs.States.{FilesState}
@@ -14,7 +14,7 @@ use Rattle.tac_commands.specs.Files.{IsRead, IsNotRead}
 use Rattle.tac_commands.specs.Outcomes.{Outcome, Unsound, Refused}
 use Rattle.tac_commands.specs.Steps.{Steps, Reads, Audits, EndsWith}
 
--- The files once one more name was selected. Which file is selected, and what is left of it, no run tells.
+-- The files once one more name was selected. A run says nothing of which file is selected, and of what is left of it.
 abbrev pub with_name : FilesState → List ℕ → FilesState
 with_name files name = record files { names = and_then_told files.names (name ∷ []) }
 
@@ -22,7 +22,7 @@ with_name files name = record files { names = and_then_told files.names (name �
 abbrev pub AreUnasked : FilesState → FilesState → Type 0
 AreUnasked files files' = (files'.names ≡ files.names) × (files'.faults ≡ files.faults)
 
--- an audit ends a run: the log is not sound, which a text tells that is due, or memory was refused
+-- an audit ends a run: the log is not sound, and the text that is due reports it, or memory was refused
 abbrev pub StopsAt : GameFile → LoggedGame → (List ℕ → Type 0) → Outcome → Type 0
 StopsAt game log IsDue (Unsound text) = (IsSound game log → ⊥) × IsDue text
 StopsAt game log IsDue (Refused Memory) = ⊤

@@ -15,12 +15,12 @@ use Rattle.tac_commands.specs.Steps.{Steps, Reads, Audits, EndsWith}
 abbrev pub EndsAt : FileKind → ℕ → Type 0
 EndsAt kind code = (code ≡ 3) ⊎ (code ≡ 4) ⊎ (code ≡ 7) ⊎ (code ≡ refused_code kind)
 
--- the codes with which a run may end at an audit; what the log has to be for 9 is said with the causes
+-- the codes with which a run may end at an audit; `Causes` says what the log has to be for 9
 abbrev pub EndsAtAudit : ℕ → Type 0
 EndsAtAudit code = (code ≡ 4) ⊎ (code ≡ 7) ⊎ (code ≡ 9)
 
--- The files are selected in order, once each, up to the one, or to the audit, at which the run ended; a later file is selected only where those
--- before it are there, within their limits, and good, and the logs that are audited before it are sound. At the last step the code is none of
+-- The files are selected in order, once each, up to the one, or to the audit, at which the run ended; a later file is selected only if those
+-- before it are there, within their limits, and good, and the logs that are audited before it are sound. At the last step the code is not that of
 -- a file or of an audit.
 abbrev pub SelectsFiles : Steps → FilesState → FilesState → ℕ → Type 0
 SelectsFiles (Reads file next) files files' code =
@@ -31,7 +31,7 @@ SelectsFiles (Audits game log IsDue next) files files' code =
     ⊎ (IsSound game log × SelectsFiles next files files' code)
 SelectsFiles (EndsWith allows) files files' code = (files'.names ≡ files.names) × (code ≢ 2) × (code ≢ 3) × (code ≢ 8) × (code ≢ 9)
 
--- so it is with the files of the command; without a command none is selected
+-- the same for the files of the command; without a command none is selected
 abbrev pub Selects : Option Command → FilesState → FilesState → ℕ → Type 0
 Selects None files files' code = files'.names ≡ files.names
 Selects (Some command) files files' code = SelectsFiles (steps_of command) files files' code

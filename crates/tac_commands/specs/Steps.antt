@@ -14,8 +14,8 @@ pub record NamedFile : Type 0 where
 abbrev pub file : FileKind → List ℕ → NamedFile
 file kind name = record { kind = kind; name = name }
 
--- A command reads a file, and goes on with its value; or it audits a log by its game, and goes on where the log is sound, while one that is not
--- sound is told by a text of which this holds; or it ends with an outcome of which this holds.
+-- A command reads a file, and goes on with its value; or it audits a log by its game, and goes on if the log is sound, while an unsound one
+-- is reported by a text of which this holds; or it ends with an outcome of which this holds.
 pub data Steps : Type 1 where
   Reads : (file : NamedFile) → (Value file.kind → Steps) → Steps
   Audits : (game : GameFile) → (log : LoggedGame) → (List ℕ → Type 0) → Steps → Steps

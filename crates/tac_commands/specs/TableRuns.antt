@@ -1,4 +1,4 @@
--- What the calls that make a table say of the pairs that they read.
+-- What the calls that make a table promise about the pairs that they read.
 use Rattle.std.specs.Prelude.{◌≡◌, ℕ, List, [], ◌∷◌, ◌++◌, length}
 use Rattle.tac_io.specs.States.{FilesState}
 use Rattle.game_text.specs.Games.{GameFile}
@@ -38,8 +38,8 @@ EndsAtPair files files' pair game_name log_name fault =
     (played : List (GameFile × LoggedGame)) (later : List (List ℕ × List ℕ)) → length played ≡ pair →
     Runs (table_steps played ((game_name, log_name) ∷ later)) files files' (outcome_of fault)
 
--- The standings are those of so many games of the first pairs, and a table goes on from here: what comes of the pairs that are left is what
--- comes of all.
+-- The standings are those of this many games of the first pairs, and a table goes on from here: the outcome of the remaining pairs is that
+-- of all.
 pub record GoesOn (all left : List (List ℕ × List ℕ)) (count : ℕ) (files files' : FilesState) (standings : Kept) : Type 0 where
   pub played : List (GameFile × LoggedGame)
   pub count_is : length played ≡ count

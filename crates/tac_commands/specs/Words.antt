@@ -4,7 +4,7 @@ use Rattle.tac_base.specs.declared.limits.TheConstants.{FILE_NAMES, MADE_REQUEST
 use Rattle.tac_commands.specs.declared.words.BatchCommand.{BatchCommand as BatchAsked}
 use Rattle.tac_commands.specs.declared.words.BatchCommand.TheVariants as batch
 
--- each name has at most 1024 bytes, a script that is made has at most so many requests, and a table at most so many names
+-- each name has at most 1024 bytes, and a made script and a table are within their limits of requests and names
 abbrev pub IsShortBatch : BatchAsked → Type 0
 IsShortBatch (batch.Hotel script) = length script.now ≤ NAME_BYTES
 IsShortBatch (batch.Show game) = length game.now ≤ NAME_BYTES

@@ -42,7 +42,7 @@ use Rattle.tacd.specs.SoundLogs.{TellsSoundly}
 abbrev pub IsGameFile : FilesState → List ℕ → GameFile → Type 0
 IsGameFile files name game = (bytes : List ℕ) × IsFile files.content name bytes × (game_of bytes ≡ Ok game)
 
--- what is written where that file could not be read: a read failed, memory was refused, or the file is refused
+-- what is written if that file could not be read: a read failed, memory was refused, or the file is refused
 abbrev pub IsNoGameFile : FilesState → FilesState → List ℕ → Refusal → Type 0
 IsNoGameFile files files' name refusal =
     ((refusal ≡ ReadFault) × Rose files.faults files'.faults)
@@ -73,7 +73,7 @@ LogAllows game played (Done text) = IsLogOf game played text
 LogAllows game played (Cut text) = text ≡ first_part played
 LogAllows game played outcome = ⊥
 
--- the log of the game that was played is written, with another code where ticks lapsed, or without its sheet where there was no memory for
+-- the log of the game that was played is written, with another code if ticks lapsed, or without its sheet if memory was refused for
 -- it
 abbrev pub PlayedAllows : GameFile → Played → Outcome → Type 0
 PlayedAllows game played (Done text) = IsLogOf game played text × (missed_of (head_of played.head) ≡ 0)
@@ -82,19 +82,19 @@ PlayedAllows game played (Cut text) = text ≡ first_part played
 PlayedAllows game played (Unsound text) = ⊥
 PlayedAllows game played (Refused refusal) = ⊥
 
--- the code of a game that was played is that of a lapsed tick where no other applies
+-- the code of a game that was played is that of a lapsed tick if no other applies
 abbrev pub lapsed_code : Code → ℕ → Code
 lapsed_code Success missed = if nat_lt 0 missed then ClockFault else Success
 lapsed_code code missed = code
 
 -- ---- the form of lines
 
--- what a request line of a link may be read as; one of JSON also as a line that there was no memory to read, whatever it says
+-- what a request line of a link may be read as; one of JSON also as a line for which there was no memory, whatever it says
 abbrev pub answers_by : Form → List ℕ → Result Request RequestFault → Type 0
 answers_by Lines line answer = answer ≡ request_of line
 answers_by Json line answer = (answer ≡ asks_json line) ⊎ (answer ≡ Err request_faults.Memory)
 
--- what a link is sent of what is said
+-- what a link is sent for a reply
 abbrev pub texts_by : Form → Said → List ℕ
 texts_by Lines said = said_text said
 texts_by Json said = json_text said
@@ -106,8 +106,8 @@ abbrev pub at_pace : ℕ → TickerState → TickerState
 at_pace pace ticker = record ticker { paced = option_map (λ _. Some pace) ticker.paced }
 
 module _ {L : Type 0} (state : L → LinkState) where
-  -- The game was played over the links, by a ticker of this pace, and its log is told; or the links failed, and no game was played; or there
-  -- was no memory for the game, and nothing was asked. So a game that was played is there exactly where the links were asked to listen and
+  -- The game was played over the links, by a ticker of this pace, and its log is written; or the links failed, and no game was played; or
+  -- memory was refused for the game, and nothing was asked. So a game was played exactly if the links were asked to listen and
   -- did not fail.
   abbrev pub ServesGame : (List ℕ → Result Request RequestFault → Type 0) → (Said → List ℕ) → GameFile → ℕ → ℕ → LinksState L → LinksState L
       → TickerState → TickerState → Option Played → Vec L → Outcome → Type 0

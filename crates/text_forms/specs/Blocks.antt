@@ -1,4 +1,4 @@
--- Lines that stand one under another, as a text's bytes give them.
+-- Consecutive lines, as a text's bytes give them.
 use Rattle.std.specs.Prelude.{◌≡◌, ℕ, ◌&&◌, List, [], ◌∷◌, Bool, false, Option}
 use Rattle.text_forms.specs.Words.{parts_of}
 use Rattle.text_forms.specs.Lines.{Remaining, is_comment, lines_from, block_in}

@@ -6,7 +6,7 @@ use Rattle.text_forms.specs.declared.lines.Reason.TheVariants.{Keyword, WordCoun
 use Rattle.text_forms.specs.declared.lines.BadLine.{BadLine}
 use Rattle.text_forms.specs.declared.lines.Ending.{Ending}
 
--- the number that a refusal shows of a reason
+-- the number that a refusal shows for a reason
 abbrev pub number_of : Reason → ℕ
 number_of Keyword = 1
 number_of WordCount = 2
@@ -21,7 +21,7 @@ pub record NumberedLine : Type 0 where
   pub number : ℕ
   pub bytes : List ℕ
 
--- the lines that are left of a text, the number of what stands after the last of them, and whether nothing does
+-- the lines that are left of a text, the number of what follows the last of them, and whether that is empty
 pub record Remaining : Type 0 where
   pub lines : List NumberedLine
   pub last : ℕ
@@ -36,7 +36,7 @@ abbrev pub is_nothing : List ℕ → Bool
 is_nothing [] = true
 is_nothing (first ∷ rest) = false
 
--- a line before others, which is left out where comments are skipped and it is one
+-- a line before others, which is left out if comments are skipped and it is one
 abbrev pub before : Bool → ℕ → List ℕ → Remaining → Remaining
 before skips number line others = if skips && is_comment line then others else record others { lines = record { number = number; bytes = line } ∷ others.lines }
 
@@ -54,7 +54,7 @@ next_in left (line ∷ lines) = Ok (line, record left { lines = lines })
 abbrev pub next_of : Remaining → Result (NumberedLine × Remaining) Ending
 next_of left = next_in left left.lines
 
--- the same where a line is due: a text that ends here ends too early
+-- the same if a line is due: a text that ends here ends too early
 abbrev pub due_in : Remaining → List NumberedLine → Result (NumberedLine × Remaining) BadLine
 due_in left [] = Err (record { line = left.last; reason = TextEnd })
 due_in left (line ∷ lines) = Ok (line, record left { lines = lines })
@@ -74,7 +74,7 @@ nothing_left left = nothing_in left left.lines
 abbrev pub after_line : List ℕ → List ℕ × Remaining → List ℕ × Remaining
 after_line line block = (line ++ 10 ∷ block.0, block.1)
 
--- the next lines, so many, where they stand one under another from a number: no line that is left out stands among them
+-- the next lines, this many, if they are consecutive from a number: no line that is left out is among them
 abbrev pub block_in : ℕ → ℕ → Remaining → List NumberedLine → Option (List ℕ × Remaining)
 block_in number zero left lines = Some ([], record left { lines = lines })
 block_in number (suc count) left [] = None
@@ -84,7 +84,7 @@ abbrev pub first_number : List NumberedLine → ℕ
 first_number [] = 0
 first_number (line ∷ lines) = line.number
 
--- the bytes of the next lines with their ends, so many, and the lines after them
+-- the bytes of the next lines with their ends, and the lines after them
 abbrev pub block_of : ℕ → Remaining → Option (List ℕ × Remaining)
 block_of count left = block_in (first_number left.lines) count left left.lines
 

@@ -4,7 +4,7 @@ use Rattle.text_forms.specs.declared.lines.Reason.{Reason}
 use Rattle.text_forms.specs.declared.lines.BadLine.{BadLine}
 use Rattle.text_forms.specs.Lines.{Remaining, due_of, at_line}
 
--- a step and what follows it, where it gave no fault
+-- a step and what follows it, if it gave no fault
 infixl 10 ◌>>=◌
 abbrev pub ◌>>=◌ : {A B E : Type 0} → Result A E → (A → Result B E) → Result B E
 (Ok x) >>= f = f x
@@ -17,7 +17,7 @@ read_by form left = do
   value ← at_line line.0.number (form line.0.bytes)
   Ok (value, line.1)
 
--- so many parts of a text, numbered from a number, each read by its step
+-- this many parts of a text, numbered from a number, each read by its step
 unfoldable pub repeat : {A : Type 0} → ℕ → ℕ → (ℕ → Remaining → Result (A × Remaining) BadLine) → Remaining → Result (List A × Remaining) BadLine
 repeat zero from step left = Ok ([], left)
 repeat (suc count) from step left = do

@@ -17,7 +17,7 @@ abbrev pub AreInOrder : Bool → List ShownUnit → Type 0
 AreInOrder buys [] = ⊤
 AreInOrder buys (u ∷ units) = AllByRecursion (λ v. goes_first buys u v ≡ true) units × AreInOrder buys units
 
--- no unit of a side goes before one that is before it
+-- no unit of a side goes before one ahead of it
 abbrev pub AreSorted : Bool → List ShownUnit → Type 0
 AreSorted buys [] = ⊤
 AreSorted buys (u ∷ units) = AllByRecursion (λ v. goes_first buys v u ≡ false) units × AreSorted buys units
@@ -44,11 +44,11 @@ of_side sides false = sides.sells
 abbrev pub others : ℕ → List BidUnit → List BidUnit
 others agent units = filter (λ u. not (u.agent == agent)) units
 
--- two lists have the same units, each as often: however units are weighed, both weigh the same
+-- two lists have the same units, each equally often: under every weight of units, both have the same sum
 abbrev pub HaveSame : List BidUnit → List BidUnit → Type 0
 HaveSame units units' = (weight : BidUnit → ℕ) → sum_by weight units ≡ sum_by weight units'
 
--- what stands after a bid of an agent: the units of the others and the new ones, but for those that traded
+-- what stands after a bid of an agent: the units of the others and the new ones, without those that traded
 abbrev pub after_bid : List BidUnit → ℕ → List BidUnit → List BidUnit
 after_bid standing agent new =
     let gone = ticket_gone standing new in others agent (without standing gone) ++ without new gone

@@ -6,7 +6,7 @@ use Rattle.log_text.specs.LoggedGames.{LoggedGame}
 use Rattle.tourney.specs.declared.rows.TeamRow.{TeamRow}
 use Rattle.tourney.specs.Standings.{teams, games, total, rank}
 
--- so many dollars with the sign of a total
+-- this many dollars with the sign of a total
 abbrev pub signed : ℤ → ℕ → ℤ
 signed (pos total) dollars = pos dollars
 signed (negsuc total) dollars = neg_ℤ (pos dollars)

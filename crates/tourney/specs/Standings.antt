@@ -8,7 +8,7 @@ use Rattle.line_protocol.specs.Heads.{Head, Play, Serve}
 use Rattle.log_text.specs.LoggedGames.{LoggedGame}
 use Rattle.log_reader.specs.SoundLog.{seatings}
 
--- whether an agent counts in a game: each does where a script was played, and else those that were given their seat
+-- whether an agent counts in a game: each does if a script was played, and otherwise those that were given their seat
 abbrev pub counts : Head → ℕ → Bool
 counts Play agent = true
 counts (Serve verdicts ends missed) agent = nat_lt 0 (seatings verdicts agent)
@@ -25,12 +25,12 @@ results_of played = map (result_of played) (filter (counts played.1.head) agents
 abbrev pub results : List (GameFile × LoggedGame) → List (List ℕ × ℤ)
 results played = flat_map results_of played
 
--- each word once, in the order in which they are first met
+-- each word once, in the order in which they first appear
 abbrev pub firsts : List (List ℕ) → List (List ℕ)
 firsts [] = []
 firsts (word ∷ words) = word ∷ filter (λ other. not (bytes_eq word other)) (firsts words)
 
--- the teams of results, in the order in which they are first met
+-- the teams of results, in the order in which they first appear
 abbrev pub teams_in : List (List ℕ × ℤ) → List (List ℕ)
 teams_in results = firsts (map (λ result. result.0) results)
 
@@ -57,7 +57,7 @@ games played word = games_in (results played) word
 abbrev pub total : List (GameFile × LoggedGame) → List ℕ → ℤ
 total played word = total_in (results played) word
 
--- whether a total over so many games is more a game than another one: n / d is above m / e where m * d is below n * e
+-- whether a total over this many games has a greater average than another one: n / d is above m / e if m * d is below n * e
 abbrev pub is_above : ℤ → ℕ → ℤ → ℕ → Bool
 is_above total games other_total other_games = int_lt (other_total *ℤ pos games) (total *ℤ pos other_games)
 
@@ -65,6 +65,6 @@ is_above total games other_total other_games = int_lt (other_total *ℤ pos game
 abbrev pub is_ahead : List (GameFile × LoggedGame) → List ℕ → List ℕ → Bool
 is_ahead played word other = is_above (total played word) (games played word) (total played other) (games played other)
 
--- 1 and the number of teams with a greater average
+-- 1 plus the number of teams with a greater average
 abbrev pub rank : List (GameFile × LoggedGame) → List ℕ → ℕ
 rank played word = 1 + count_by (λ other. is_ahead played other word) (teams played)

@@ -35,7 +35,7 @@ pub record StandsFor (kept : Kept) (played : List (GameFile × LoggedGame)) : Ty
 abbrev pub no_tally : Tally
 no_tally = record { games = 0; total = pos 0 }
 
--- the tally of a team, which is none at first
+-- the tally of a team, which is zero at first
 abbrev pub tally_at : List (List ℕ × Tally) → List ℕ → Tally
 tally_at tallies word = unwrap_or (lookup (bytes_eq word) tallies) no_tally
 
@@ -50,23 +50,23 @@ with_result tallies result = insert_entry bytes_eq tallies result.0 (with_score 
 abbrev pub with_results : List (List ℕ × Tally) → List (List ℕ × ℤ) → List (List ℕ × Tally)
 with_results tallies results = fold with_result tallies results
 
--- the result of an agent, where it counts
+-- the result of an agent, if it counts
 abbrev pub result_if_counts : GameFile × LoggedGame → ℕ → List (List ℕ × ℤ)
 result_if_counts played agent = if counts played.1.head agent then result_of played agent ∷ [] else []
 
 -- ---- ranges
 
--- the greatest score of a sound log in dollars, without sign
+-- the greatest score of a sound log in dollars, in absolute value
 abbrev pub most_score : ℕ
 most_score = 10000000000000
 
--- a tally of at least one game and at most so many
+-- a tally of at least one game and at most this many
 pub record IsTally (most : ℕ) (tally : Tally) : Type 0 where
   pub some : 1 ≤ tally.games
   pub few : tally.games ≤ most
   pub small : unsigned_abs tally.total ≤ tally.games * most_score
 
--- at most eight teams a game, none in more games than there were
+-- at most eight teams per game, and none that counts in more games than there were
 pub record AreTallies (tallies : List (List ℕ × Tally)) (games : ℕ) : Type 0 where
   pub few : length tallies ≤ 8 * games
   pub each : All (λ team. IsTally games team.1) tallies
@@ -77,7 +77,7 @@ pub record AreTallies (tallies : List (List ℕ × Tally)) (games : ℕ) : Type 
 abbrev pub is_over : Tally → Tally → Bool
 is_over tally other = is_above other.total other.games tally.total tally.games
 
--- 1 and the number of teams that are ahead
+-- 1 plus the number of teams that are ahead
 abbrev pub rank_in : List (List ℕ × Tally) → Tally → ℕ
 rank_in tallies tally = 1 + count_by (is_over tally) (values_of tallies)
 

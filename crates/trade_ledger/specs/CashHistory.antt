@@ -34,7 +34,7 @@ abbrev pub IsFit : ℕ → CashCall → Type 0
 IsFit caller (Post good position nets) = ⊤
 IsFit caller (Read agent) = agent ≡ caller
 
--- the reply to a call where the parties have these totals
+-- the reply to a call if the parties have these totals
 abbrev pub reply_by : (ℕ → ℤ) → CashCall → CashReply
 reply_by totals (Post good position nets) = Done
 reply_by totals (Read agent) = Cash (totals agent)
@@ -52,6 +52,6 @@ IsLegalCash history = (position : ℕ) (e : CashEntry) → slice_get history pos
 abbrev pub cash_cap : ℕ → ℕ
 cash_cap caller = if caller == clock then CLOCK_CASH_ENTRIES else AGENT_CASH_ENTRIES
 
--- what is shown of a history: its length alone
+-- the board of a history: only its length
 abbrev pub cash_board : List CashEntry → Board
 cash_board history = record { count = length history; bid = 0; ask = 0; closed = false }

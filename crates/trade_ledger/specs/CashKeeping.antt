@@ -1,4 +1,4 @@
--- What the cash book keeps of its history.
+-- The invariant of the cash book.
 use Rattle.tac_base.specs.declared.limits.TheConstants.{CASH_ENTRIES}
 use Rattle.std.specs.Prelude.{◌≡◌, ℕ, ◌*◌, ◌<◌, ◌≤◌, ⊤, List, ℤ, pos, neg_ℤ, ◌≤ℤ◌, length, slice_index_or}
 use Rattle.std.specs.List.{AllByRecursion}
@@ -11,16 +11,16 @@ use Rattle.trade_ledger.specs.declared.cash_calls.CashReply.TheVariants.{Done, C
 use Rattle.trade_ledger.specs.declared.cash_calls.CashEntry.{CashEntry}
 use Rattle.trade_ledger.specs.CashHistory.{IsLegalCash, total_of, cash_cap}
 
--- at most so many dollars, gained or lost
+-- at most this many dollars, gained or lost
 abbrev pub IsWithin : ℕ → ℤ → Type 0
 IsWithin most dollars = (neg_ℤ (pos most) ≤ℤ dollars) × (dollars ≤ℤ pos most)
 
--- who reads its cash is an agent
+-- whoever reads its cash is an agent
 abbrev pub IsReader : CashCall → Type 0
 IsReader (Read agent) = agent ≤ 7
 IsReader (Post good position nets) = ⊤
 
--- what is told of a party's cash has at most 15 digits
+-- the cash that is answered has at most 15 digits
 abbrev pub IsToldInRange : CashReply → Type 0
 IsToldInRange (Cash dollars) = IsWithin 600000000000000 dollars
 IsToldInRange Done = ⊤

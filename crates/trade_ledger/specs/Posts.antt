@@ -18,12 +18,12 @@ is_post (Read agent) = false
 abbrev pub posts_of : List CashEntry → List CashEntry
 posts_of history = filter (λ e. is_post e.call) history
 
--- a post where there are trades, and none where there are none
+-- a post if there are trades, and none if there are none
 abbrev pub post_for : List Trade → CashEntry → List CashEntry
 post_for [] post = []
 post_for (trade ∷ trades) post = post ∷ []
 
--- the post that is due to an entry of a good at a position, where the entry has a trade: made by the entry's caller, with the nets
+-- the post that is due to an entry of a good at a position, if the entry has a trade: made by the entry's caller, with the nets
 abbrev pub due_post : ℕ → ℕ → Entry → List CashEntry
 due_post good position e =
     post_for e.trades (record { caller = e.caller; call = Post good position (record { dollars = nets e.trades }); reply = Done })
@@ -36,7 +36,7 @@ due_to good entries = flat_map (λ p. due_post good p.0 p.1) entries
 abbrev pub due_posts : List (List (ℕ × Entry)) → List CashEntry
 due_posts rows = flat_map (λ row. due_to row.0 row.1) (enumerate_from 0 rows)
 
--- two lists hold the same entries, each equally often: however entries are weighed, both weigh the same
+-- two lists hold the same entries, each equally often: under every weight of entries, both have the same sum
 abbrev pub HoldSame : List CashEntry → List CashEntry → Type 0
 HoldSame xs ys = (weight : CashEntry → ℕ) → sum_by weight xs ≡ sum_by weight ys
 

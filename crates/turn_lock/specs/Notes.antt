@@ -1,4 +1,4 @@
--- What is so of the notes of a pass.
+-- When the boards that a pass recorded are those of a history.
 use Rattle.std.specs.Prelude.{◌≡◌, ℕ, ◌≤◌, List, take}
 use mathlib.Core.Option.{some}
 use lib.ListN.{get_elem?}

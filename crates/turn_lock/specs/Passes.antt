@@ -25,7 +25,7 @@ module _ {S C R G E : Type 0} {K : Ghosts S C R G E} where
   abbrev pub left_of : Pass S C R G E K → ℕ
   left_of p = p.left
 
-  -- the length of the history that it knows of
+  -- the length of the history that it has seen
   abbrev pub seen_by : Pass S C R G E K → ℕ
   seen_by p = p.seat.me.0.seen
 
@@ -54,6 +54,6 @@ module _ {S C R G E : Type 0} where
   abbrev pub passes_of : TurnLock S C R G E → ℕ
   passes_of l = (own_view l.own.badge.views).passes
 
-  -- what the passes left that were taken back
+  -- what the passes that were taken back left
   abbrev pub returned_to : TurnLock S C R G E → List (Returned E)
   returned_to l = (own_view l.own.badge.views).returned

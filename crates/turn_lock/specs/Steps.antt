@@ -49,7 +49,7 @@ module _ {S G E : Type 0} where
   abbrev pub drew : Step S → Me S (View S G E) → ℕ → Me S (View S G E) → Type 0
   drew step before found after = after ≡ (ticketed before.0 found, before.1)
 
-  -- the state came into hand. It has the setup of the lock's first state, as many entries as the ticket says, and of the seat's caller
+  -- the state was taken. It has the setup of the lock's first state, as many entries as the ticket says, and of the seat's caller
   -- those that it made
   pub record Took (setup : S → G) (history : S → List E) (caller_of : E → ℕ) (before after : Me S (View S G E)) : Type 0 where
     pub state : S
@@ -59,15 +59,15 @@ module _ {S G E : Type 0} where
     pub mine : part caller_of (history state) before.0.caller ≡ before.0.mine
     pub seen : before.0.seen ≤ length (history state)
 
-  -- the state was taken where the count of the board was the ticket, and else nothing changed
+  -- the state was taken if the count of the board was the ticket, and otherwise nothing changed
   abbrev pub looked : (S → G) → (S → List E) → (E → ℕ) → Step S → Me S (View S G E) → ℕ → Me S (View S G E) → Type 0
   looked setup history caller_of step before found after =
       (found % 16777216 ≡ before.0.ticket → Took setup history caller_of before after) × (found % 16777216 ≢ before.0.ticket → after ≡ before)
 
-  -- the state in hand was given back, with its board
+  -- the state was given back, with its board
   abbrev pub published : (S → List E) → (E → ℕ) → Step S → Me S (View S G E) → ℕ → Me S (View S G E) → Type 0
   published history caller_of step before found after = (x : S) → before.1 ≡ (0, x) ∷ [] → after ≡ (turned caller_of before.0 (history x), [])
 
-  -- the board was seen, and its count is not below what was seen before
+  -- the board was read, and its count is not below what was seen before
   abbrev pub peeked : Step S → Me S (View S G E) → ℕ → Me S (View S G E) → Type 0
   peeked step before found after = (after ≡ (noted before.0 (unpacked found), before.1)) × (before.0.seen ≤ found % 16777216)

@@ -1,9 +1,9 @@
--- What a turn tells of the history at its time.
+-- What a turn shows of the history at its time.
 use Rattle.std.specs.Prelude.{◌≡◌, ℕ, List, [], ◌∷◌, ◌++◌, length}
 use Rattle.turn_lock.specs.Part.{part}
 
 module _ {G E : Type 0} where
-  -- an entry goes on from the entries before it: they are as many as its position says, those of the caller among them are what the
+  -- an entry continues the entries before it: they are as many as its position says, those of the caller among them are what the
   -- caller had made, and with the entry at their end they are a legal history
   pub record GoesOn (legal : G → List E → Type 0) (caller_of : E → ℕ) (setup : G) (caller : ℕ) (made : List (ℕ × E)) (position : ℕ) (entry : E) : Type 0 where
     pub before : List E
