@@ -13,7 +13,7 @@ use line_protocol::{Request, Said};
 use std::sync::Wait;
 use std::time::Clock;
 
-/// What is said of a call at a good.
+/// The answer to a call at a good.
 fn said_of(outcome: Outcome) -> Said
     ensures { result ≡ said_of_outcome outcome }
 {
@@ -23,7 +23,7 @@ fn said_of(outcome: Outcome) -> Said
     }
 }
 
-/// What is said of a reading of the agent's cash.
+/// The answer to a reading of the agent's cash.
 fn said_of_cash(outcome: CashOutcome) -> Said
     ensures { result ≡ said_of_reading outcome }
 {

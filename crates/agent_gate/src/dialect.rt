@@ -1,4 +1,4 @@
-// How an agent's lines are read and what it is told is printed.
+// How an agent's lines are read and its replies printed.
 ghost use Rattle.std.specs.Prelude.{◌+◌, ◌≤◌, ◌≡◌, ◌++◌, ℕ, List, Result, length};
 ghost use Rattle.tac_base.specs.declared.limits.TheConstants.{LINE_BYTES, REPLY_TEXT};
 ghost use Rattle.line_protocol.specs.Replies.{IsOneLine};
@@ -11,17 +11,17 @@ use tac_base::Text;
 
 /// The form of an agent's lines. Sessions are proved for every form.
 pub trait Dialect {
-    /// What may be answered to a line.
+    /// What a line may be read as.
     ghost may_answer: { Self → List ℕ → Result Request RequestFault → Type 0 };
 
-    /// The line that tells something, without its end.
+    /// The line of a reply, without its end.
     ghost text: { Self → Said → List ℕ };
 
     /// What a line asks.
     fn read(&self, line: &[u8]) -> Result<Request, RequestFault>
         ensures { may_answer self.now line.now result };
 
-    /// Appends the line that tells something, at most 512 bytes, without its end.
+    /// Appends the line of a reply, at most 512 bytes, without its end.
     fn print(&self, said: &Said, out: &mut Text)
         requires { length out.old + LINE_BYTES ≤ REPLY_TEXT }
         ensures text { out.new ≡ out.old ++ text self.now said.now }

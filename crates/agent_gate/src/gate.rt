@@ -38,7 +38,7 @@ fn greeting_of(line: &[u8]) -> Option<SeatWord>
     }
 }
 
-/// The place of a word among the words.
+/// The index of a word among the words.
 fn place_of(words: &[SeatWord], word: &[u8]) -> Option<usize>
     ensures value { result ≡ position (bytes_eq word.now) words.now }
     ensures bound { IfSome result (λ place. place < length words.now) }
@@ -67,7 +67,7 @@ impl Gate {
         }
     }
 
-    /// What becomes of a link with this first line, given without its line end. The verdicts and their order are our own.
+    /// The verdict on a link with this first line, given without its line end. The verdicts and their order are our own.
     pub fn admit(&mut self, line: &[u8]) -> Verdict
         ensures verdict { result ≡ gates.verdict_of self.old line.now }
         // Only a link that is seated changes something: its seat is taken.

@@ -30,7 +30,7 @@ pub struct SessionEnd<L> {
     pub cause: Cause,
 }
 
-/// How many replies were sent whole, where the session ends so in the turn after so many.
+/// How many replies were sent whole if the session ends so in the turn after this many.
 fn whole(before: u32, cause: Cause) -> u32
     requires { before < SESSION_LINES }
     ensures { result ≡ count_whole before cause }
@@ -41,8 +41,8 @@ fn whole(before: u32, cause: Cause) -> u32
     }
 }
 
-/// Welcomes the link of an agent, and answers each of its lines with one, until it leaves, ends, fails or comes to a limit. The limits and
-/// the causes are our own. It may wait for the link and for turns, and takes no memory but in reading a request.
+/// Welcomes the link of an agent, and answers each of its lines with one, until it quits, ends, fails or reaches a limit. The limits and
+/// the causes are our own. It may wait for the link and for turns, and takes no memory except to read a request.
 pub fn run_session<R: Wait + Clock, L: Link, D: Dialect>(
     rt: &R,
     floor: &Floor,

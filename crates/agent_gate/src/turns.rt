@@ -44,7 +44,7 @@ fn answer_next<R: Wait + Clock, L: Link, D: Dialect>(
     }
 }
 
-/// Sends the line that tells something, with its end, in one piece.
+/// Sends the line of a reply, with its end, in one piece.
 fn tell<L: Link, D: Dialect>(dialect: &D, said: &Said, lines: &mut Lines<L>) -> Result<(), Failed>
     ensures sends { OnlySends (L.state (link_of lines.old)) (L.state (link_of lines.new)) (D.text dialect.now said.now ++ 10 ∷ []) result }
     ensures place { KeepsPlace lines.old lines.new }

@@ -10,10 +10,10 @@ use game_text::{Game, print_agent_line};
 use tac_base::{Agent, Text, print_numeral};
 use tac_io::{Failed, Lines, Link};
 
-/// How many bytes a text may have to which one more line is appended: 256 bytes and a line end are then free.
+/// How many bytes a text may have so that one more line can be appended: 256 bytes and a line end are then free.
 const MOST_BEFORE_A_LINE: usize = 383;
 
-/// Sends what a text has, where one more line may not fit.
+/// Sends the text if one more line may not fit.
 fn make_room<L: Link>(text: &mut Text, lines: &mut Lines<L>) -> Result<(), Failed>
     ensures moved { OnOk result (MovesOn (L.state (link_of lines.old)) (L.state (link_of lines.new)) text.old text.new) }
     ensures room { OnOk result (length text.new ≤ MOST_BEFORE_A_LINE) }
@@ -29,7 +29,7 @@ fn make_room<L: Link>(text: &mut Text, lines: &mut Lines<L>) -> Result<(), Faile
     Ok(())
 }
 
-/// Sends an agent what it has at first and what its clients want, in as few pieces as a text has room for. After `Failed` some of the
+/// Sends an agent its tickets and its clients, in as few pieces as a text has room for. After `Failed` some of the
 /// first bytes were sent, or none, but not all.
 pub(crate) fn welcome<L: Link>(
     lines: &mut Lines<L>,

@@ -107,7 +107,7 @@ impl Auction {
         )
     }
 
-    /// How many units of the good the party holds, what it had at first included. Who sells more than it has holds less than 0.
+    /// How many units of the good the party holds, including what it had at first. A party that sells more than it has holds less than 0.
     pub fn holding(&self, party: Party) -> i32
         ensures value { result ≡ effects.holding self.now.setup (reverse self.now.history) party }
         ensures range { IsHolding result }

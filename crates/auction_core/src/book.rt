@@ -37,7 +37,7 @@ impl Book {
         }
     }
 
-    /// What is shown of the auction after `count` entries.
+    /// The board of the auction after `count` entries.
     pub(crate) fn board(&self, count: u32) -> Board
         ensures board { (setup : Setup) (past : List Entry) → Stands self.now setup past → count ≡ length past → result ≡ boards.board setup.rules past }
         ensures bid_within { result.bid ≤ BID_PRICE }

@@ -5,7 +5,7 @@ ghost use Rattle.auction_core.specs.Loggable.{IsLoggableCall, HasSmallNumbers};
 
 use tac_base::{Call, Left, Points, Reply};
 
-/// The same points again.
+/// A copy of the points.
 fn same_points(points: &Points) -> Points
     ensures value { result ≡ points.now }
     ensures bid { fault_of points.now ≡ None }
@@ -14,7 +14,7 @@ fn same_points(points: &Points) -> Points
     points.copy()
 }
 
-/// The same call again.
+/// A copy of the call.
 pub(crate) fn same_call(call: &Call) -> Call
     requires { IsFit call.now }
     ensures value { result ≡ call.now }
@@ -36,7 +36,7 @@ pub(crate) fn same_call(call: &Call) -> Call
     }
 }
 
-/// The same reply again.
+/// A copy of the reply.
 pub(crate) fn same_reply(reply: &Reply) -> Reply
     ensures value { result ≡ reply.now }
     ensures range { HasSmallNumbers reply.now }

@@ -54,7 +54,7 @@ fn net(trades: &[Trade], number: u8) -> i32
     earned(trades, number) as i32 - paid(trades, number) as i32
 }
 
-/// What each party gains in the trades of an entry. No more than 128 trades of 255 units at 65,535 dollars fit a number.
+/// What each party gains in the trades of an entry. The gains of 128 trades of 255 units at 65,535 dollars fit the number.
 pub(crate) fn nets(trades: &[Trade]) -> Nets
     requires { length trades.now ≤ ENTRY_TRADES }
     ensures { result.dollars ≡ effects.nets trades.now }

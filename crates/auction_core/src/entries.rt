@@ -1,7 +1,7 @@
 use std::marker::Model;
 use tac_base::{Call, Caller, Fills, Nets, Reply};
 
-/// What a caller is told of its entry.
+/// What a caller is answered.
 #[derive(Debug, Drop)]
 pub struct Struck {
     /// The answer to its call.

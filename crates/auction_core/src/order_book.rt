@@ -15,10 +15,10 @@ pub(crate) trait OrderBook {
     // the book stands for this past of an auction with this setup
     ghost stands: { Self → Setup → List Entry → Type 0 };
 
-    // how many units may still be traded by the calls of the clock alone
+    // how many units the calls of the clock alone may still trade
     ghost units_left: { Self → ℕ };
 
-    /// Answers a call by the rules, where these are the holdings of all parties. `fills` then holds its trades.
+    /// Answers a call by the rules, given the holdings of all parties. `fills` then holds its trades.
     fn act(
         &mut self,
         held: &GoodBook,
@@ -35,14 +35,14 @@ pub(crate) trait OrderBook {
         ensures short { All IsShort fills.new };
 }
 
-/// The agent that a caller is, and none for the clock.
+/// The agent that a caller is, and None for the clock.
 pub(crate) fn agent_of(caller: Caller) -> Option<Agent>
     ensures { result ≡ (if caller == 8 then None else Some caller) }
 {
     Agent::new(caller.get()).ok()
 }
 
-/// What an agent is told of its own state: how many units it holds, and its standing points.
+/// The answer to an agent's reading: how many units it holds, and its standing points.
 pub(crate) fn owned(held: &GoodBook, agent: Agent, left: Left) -> Reply
     ensures { result ≡ Reply.Own (slice_index_or held.now agent (pos 0)) left }
 {

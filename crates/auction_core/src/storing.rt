@@ -12,7 +12,7 @@ pub(crate) fn entry_at(entries: &[Entry], position: u32) -> Option<&Entry>
     entries.get(position as usize)
 }
 
-/// So many of the trades, from the first on.
+/// The first trades, this many.
 pub(crate) fn part_of(trades: &[Trade], first: usize, count: usize) -> &[Trade]
     requires { first + count ≤ length trades.now }
     ensures { result.now ≡ take count (drop first trades.now) }

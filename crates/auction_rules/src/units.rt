@@ -48,7 +48,7 @@ pub fn sells(points: &[Point]) -> bool
     points.iter().any(|point| !point.buys())
 }
 
-/// Appends so many units like the first, numbered on.
+/// Appends this many units like the first, with the numbers that follow.
 #[tactic(auto, using(crate::proofs::Blocks::block_more))]
 fn push_block<const N: usize>(out: &mut ArrayVec<BidUnit, N>, first: &BidUnit, count: u8)
     requires room { length out.old.items + count ≤ N }

@@ -30,7 +30,7 @@ fn bid(
     strike(rt, auction, agent, &Call::Bid(points))
 }
 
-/// Agent 0 sells a ticket that it did not have to agent 1, who would buy one more.
+/// Agent 0 sells a ticket that it does not have to agent 1, who would buy one more.
 #[test]
 fn history_is_shown(rt: HostRuntime) -> Result<(), Fail> {
     let mut museum = Auction::begin(rt.alloc(), Good::new(24)?, &Game::default())?;

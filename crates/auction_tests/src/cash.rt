@@ -52,7 +52,7 @@ fn spend<R: Wait + Clock>(
     pass
 }
 
-/// Each pass makes its calls in a thread of its own: the last one beside all the others.
+/// Each pass makes its calls in a thread of its own: the last one in parallel with all the others.
 fn spend_all<R: Threads + Wait + Clock + Sync>(
     rt: &R,
     lock: &TurnLock<CashBook>,
@@ -90,7 +90,7 @@ fn take_back(lock: &mut TurnLock<CashBook>, mut passes: Vec<Pass<CashBook>>)
     }
 }
 
-/// The book after callers made so many posts each, all at once.
+/// The book after callers made this many posts each, concurrently.
 fn posted<R: Threads + Wait + Clock + Sync>(
     rt: &R,
     alloc: Global,

@@ -83,7 +83,7 @@ fn tickets_are_traded_and_posted(rt: HostRuntime) -> Result<(), Fail> {
     Ok(())
 }
 
-/// How many of so many calls `own`, and of as many readings of cash, are answered with a position.
+/// How many of this many calls of `own`, and of as many readings of cash, are answered with a position.
 fn call_often<R: Wait + Clock>(
     rt: &R,
     floor: &Floor,
@@ -138,7 +138,7 @@ fn bid_often<R: Wait + Clock>(
     desk
 }
 
-/// Puts a desk with those that are handed back to their floor.
+/// Adds a desk to those that are handed back to their floor.
 fn hand_back(desks: &mut Vec<Desk>, desk: Desk) -> Result<(), Memory>
     ensures { OnOk result (desks.new.items ≡ desks.old.items ++ desk ∷ []) }
 {
@@ -148,7 +148,7 @@ fn hand_back(desks: &mut Vec<Desk>, desk: Desk) -> Result<(), Memory>
     }
 }
 
-/// The game in which the agents 0 and 1 bid 500 times each, at once.
+/// The game in which the agents 0 and 1 bid 500 times each, concurrently.
 fn bid_at_once<R: Threads + Wait + Clock + Sync>(
     rt: &R,
     alloc: Global,

@@ -27,7 +27,7 @@ fn are_sold(fills: &Fills, sales: &[(u8, u8, u16)]) -> bool {
         ) == *sale)
 }
 
-/// Agent 1's three units go before the thirteen of agent 0, and two units do not replace them.
+/// Agent 1's three units precede the thirteen of agent 0, and two units do not replace them.
 #[test]
 fn first_units_take_the_rooms(rt: HostRuntime) -> Result<(), Fail> {
     let mut hotel = Hotel::new(hotel_night()?, 16, false);

@@ -202,8 +202,8 @@ cash 2
 0 read = -60
 ";
 
-/// The part is taken whole, also by a sink that takes few bytes at once. That of a game over links differs in its head alone. A trade's
-/// line stands alone too.
+/// The part is written whole, also to a sink that takes few bytes at once. That of a game over links differs only in its head. A trade's
+/// line is tested by itself too.
 #[test]
 fn part_is_written(rt: HostRuntime) -> Result<(), Fail> {
     let closed = closed_game(&rt, rt.alloc())?;

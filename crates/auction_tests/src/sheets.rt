@@ -1,4 +1,4 @@
-// The second part of a log, of scores that are made by hand.
+// The second part of a log, with scores made by hand.
 ghost use Rattle.std.specs.Prelude.{◌≡◌};
 
 use allocator::Solved;
@@ -10,7 +10,7 @@ use std::alloc::{AllocError, Global};
 use std::test::Fail;
 use tac_io::MemSink;
 
-/// A certificate of one leaf, which asks nothing for any good.
+/// A certificate of one leaf whose prices are all 0.
 fn free_leaf() -> Cert {
     Cert {
         root: CertNode::Leaf(Prices { dollars: [0; 28] }),

@@ -15,8 +15,8 @@ fn point(units: i8, price: u16) -> Point {
     Point { units, price }
 }
 
-/// Agent 0 sells a ticket at 60. Then another buys two at 70, and gets one of them at once; or agent 0
-/// itself buys one, and does not meet its own old unit. Both times a buy of one ticket at 70 is left.
+/// Agent 0 sells a ticket at 60. Then another agent buys two at 70, and gets one of them at once; or agent 0
+/// itself buys one, and does not meet its own old unit. In both cases a buy of one ticket at 70 is left.
 #[test]
 fn new_units_meet_those_of_others(rt: HostRuntime) -> Result<(), Fail> {
     let seller = Agent::new(0)?;
@@ -58,7 +58,7 @@ fn are_units(units: &[Unit], wanted: &[(u8, u16, u8)]) -> bool {
             == *wanted)
 }
 
-/// Units that buy stand with the highest price first and those that sell with the lowest; at one price the earlier bid comes first, and in
+/// Buying units are ordered by falling price and selling ones by rising price; at one price the earlier bid comes first, and in
 /// one bid the lower index.
 #[test]
 fn each_side_stands_in_its_order(rt: HostRuntime) -> Result<(), Fail> {

@@ -3,7 +3,7 @@ use auction_rules::{BidUnit, Placed, bought, push_units, sells, sold};
 use std::test::Fail;
 use tac_base::{Agent, Good, Party, Point, Points, Trade};
 
-/// Sold and bought units are counted apart.
+/// Sold and bought units are counted separately.
 #[test]
 fn units_are_counted_for_buyer_and_seller(rt: HostRuntime) -> Result<(), Fail> {
     let trade = |buyer, units| Trade {

@@ -1,4 +1,4 @@
-//! Bids as text: the points of a bid are read from its string and printed as it.
+//! Bids as text: the points of a bid are read from a string and printed as one.
 #![tactic(auto)]
 
 mod printing;

@@ -29,8 +29,8 @@ fn print_next(count: usize, point: &Point, out: &mut Text)
     print_point(point, out);
 }
 
-/// Appends the one spelling of at most 16 points, in their order, where 256 bytes are free. Without points it is `()`,
-/// which is read as no bid.
+/// Appends the one spelling of at most 16 points, in their order; 256 bytes have to be free. Without points it is `()`,
+/// which is not read as a bid.
 pub fn print_points(points: &[Point], out: &mut Text)
     requires count { length points.now ≤ BID_POINTS }
     requires room { length out.old + 256 ≤ REPLY_TEXT }

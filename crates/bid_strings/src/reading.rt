@@ -8,7 +8,7 @@ use std::marker::Model;
 use tac_base::{BidDraft, BidFault, Points, read_numeral, read_signed};
 use text_forms::Words;
 
-/// A point as it was written, in no limits yet.
+/// A point as it was written, within no limits yet.
 #[derive(Debug, Drop)]
 struct WrittenPoint {
     units: i64,
@@ -24,7 +24,7 @@ impl Model for WrittenPoint {
 }
 
 impl WrittenPoint {
-    /// Adds the point to a bid, where it brings no fault.
+    /// Adds the point to a bid, unless it brings a fault.
     fn add_to(&self, draft: &mut BidDraft) -> Result<(), BidFault>
         ensures fault { IfErr result (λ fault. left_fault (draft.old ++ self.now ∷ []) ≡ Some fault) }
         ensures ok { OnOk result (draft.new ≡ draft.old ++ self.now ∷ []) }
@@ -33,8 +33,8 @@ impl WrittenPoint {
     }
 }
 
-/// The bid of a text of points, each with units and a price in dollars, as `((2 150) (1 100))`. The whole text has to
-/// have the form; then the first fault of the points from the left is told. The form and its limits are our own.
+/// The bid of a text of points, each with units and a price in dollars, such as `((2 150) (1 100))`. The whole text has to
+/// have the form; then the first fault of the points from the left is reported. The form and its limits are our own.
 pub fn read_points(text: &[u8]) -> Result<Points, BidFault>
     ensures exact { result ≡ bid_form.judged (bid_form.points_of text.now) }
     // What is read is spelled so.
@@ -43,7 +43,7 @@ pub fn read_points(text: &[u8]) -> Result<Points, BidFault>
     points_of(text)
 }
 
-/// The law of bid strings, as this call's contract: a text has the form of some points exactly where it is their
+/// The law of bid strings, as this call's contract: a text has the form of some points exactly if it is their
 /// spelling, and so the text that is printed of a bid is read as that bid.
 pub fn one_spelling()
     ensures found { (text : List ℕ) (points : List Point) → bid_form.points_of text ≡ Some points → IsBidString text points }
@@ -112,7 +112,7 @@ fn point_of(left: &[u8], right: &[u8]) -> Option<WrittenPoint>
     Some(WrittenPoint { units, price })
 }
 
-/// What is wrong with the text where a point has a fault and these words follow: the form is tested first.
+/// What is wrong with the text if a point has a fault and these words follow: the form is tested first.
 fn refusal(fault: BidFault, words: Words<'_>) -> BidFault
     ensures { result ≡ bid_form.refusal fault (bid_form.points_from words.entry) }
 {

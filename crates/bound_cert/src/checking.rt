@@ -9,7 +9,7 @@ use crate::ways::Way;
 use game_text::Account;
 use packages::{Narrowing, Prices, leaf_bound, value_count};
 
-/// Whether the prices bound what a narrowing leaves by a claim in dollars. They do where some client has no package left.
+/// Whether the prices bound by a claim in dollars what a narrowing leaves. They do if some client has no package left.
 fn leaf_holds<N: Narrowing>(account: &Account, claim: u32, narrowing: &N, prices: &Prices) -> bool
     ensures { result ≡ is_within (leaf_bound account.now (N.left narrowing.now) prices.now) claim }
 {
@@ -19,7 +19,7 @@ fn leaf_holds<N: Narrowing>(account: &Account, claim: u32, narrowing: &N, prices
     }
 }
 
-/// Whether the part of a certificate at the end of the way holds.
+/// Whether the part of a certificate after these splits holds.
 #[cycle(holding)]
 #[tactic(auto, using(crate::proofs::Views::views))]
 fn node_holds(account: &Account, claim: u32, way: &Way<'_>, node: &CertNode) -> bool

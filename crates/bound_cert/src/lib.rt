@@ -1,4 +1,4 @@
-//! Certificates: trees of splits and prices, from which it follows that no feasible allocation is worth more than a claim.
+//! Certificates: trees of splits and prices which prove that no feasible allocation is worth more than a claim.
 #![tactic(auto)]
 
 mod checking;

@@ -74,7 +74,7 @@ pub fn print_cert(alloc: Global, cert: &Cert) -> Result<Vec<u8>, Memory>
     ensures text { IfOk result (λ text. text.items ≡ spelling (tree_of cert.now.root)) }
     // There is a line for each leaf and each split, and each line has its line end.
     ensures lines { IfOk result (λ text. length (parts_of 10 text.items) ≡ length (tree_lines (tree_of cert.now.root)) + 1) }
-    // What is printed is read as the certificate again, where it is short enough to be read.
+    // What is printed is read as the certificate again, if it is short enough to be read.
     ensures again { IfOk result (λ text. length text.items ≤ TEXT_BYTES → cert_of text.items ≡ Ok (tree_of cert.now.root)) }
 {
     let mut out = Vec::new(alloc);

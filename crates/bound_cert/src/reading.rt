@@ -22,7 +22,7 @@ fn node_line_in<'a>(lines: Lines<'a>) -> Result<(u32, NodeLine, Lines<'a>), Cert
     Ok((line.number(), node, left))
 }
 
-/// Reads a node and all below it, with so many levels of splits at most, and gives the lines after them.
+/// Reads a node and all below it, with at most this many levels of splits, and gives the lines after them.
 #[cycle(reading)]
 fn read_node<'a>(
     alloc: Global,
@@ -54,7 +54,7 @@ fn read_node<'a>(
     }
 }
 
-/// Reads so many nodes, one after another, and gives the lines after them.
+/// Reads this many nodes, one after another, and gives the lines after them.
 #[cycle(reading)]
 fn read_children<'a>(
     alloc: Global,
@@ -96,9 +96,9 @@ fn root_of(alloc: Global, text: &[u8]) -> Result<CertNode, CertFault>
     root_in(alloc, Lines::new(text))
 }
 
-/// Reads the text of a certificate. It goes no deeper than 32 splits, whatever the text is.
+/// Reads the text of a certificate. Its depth is at most 32 splits, whatever the text is.
 pub fn read_cert(alloc: Global, text: &[u8]) -> Result<Cert, CertFault>
-    // Which certificate it is, or the first bad line with its first reason, unless memory is short.
+    // Which certificate it is, or the first bad line with its first reason, unless memory was refused.
     ensures exact { IsReading (λ cert. tree_of cert.root) result (reading.cert_of text.now) }
     ensures too_long { (result ≡ Err CertFault.TooLong) ↔ (TEXT_BYTES < length text.now) }
     // The text is the one of the certificate.

@@ -3,7 +3,7 @@ ghost use Rattle.bound_cert.specs.Views.{tree_of};
 
 use packages::Prices;
 
-/// A part of a certificate. That it goes by prices and by splits is our own rule.
+/// A part of a certificate. That it consists of prices and splits is our own rule.
 #[derive(Debug, Drop)]
 pub enum CertNode {
     /// Prices that bound what is left here.

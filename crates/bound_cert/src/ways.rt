@@ -5,7 +5,7 @@ use packages::{Narrowing, Package, feature_value};
 pub enum Way<'a> {
     /// No split: each client has every package left.
     Start,
-    /// A client, a feature and its value, by which the client's packages are narrowed, and the splits before.
+    /// A client, a feature and its value, to which the client's packages are narrowed, and the splits before.
     Turn {
         client: u8,
         feature: u8,

@@ -21,7 +21,7 @@ fn is_among(goods: &[Good], good: Good) -> bool
     goods.iter().any(|other| *other == good)
 }
 
-/// The hotel nights that are open after so many closings.
+/// The hotel nights that are open after this many closings.
 #[tactic(auto, unfolding(game_text::specs::Schedule::open_after))]
 fn open_after(order: &[Good], turn: usize) -> ArrayVec<Good, 8>
     requires turn { turn ≤ 8 }
@@ -63,7 +63,7 @@ fn last_call(n: usize) -> Option<(Good, Call)>
     }
 }
 
-/// The n-th call of the clock at a tick, counted from 0, and the good of which it is asked; None exactly past the tick's last call.
+/// The n-th call of the clock at a tick, counted from 0, and its good; None exactly past the tick's last call.
 /// At the ticks 1..53 the flights are updated; at each sixth of them the next hotel closes and the open ones publish; at tick 54
 /// flights and tickets close. That a game has these ticks is our own rule.
 #[tactic(auto, using(crate::proofs::CallLists::last_calls, crate::proofs::CallLists::flight_call, crate::proofs::CallLists::hotel_call_at, crate::proofs::CallLists::no_call,))]

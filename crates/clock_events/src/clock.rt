@@ -28,7 +28,7 @@ pub struct ClockEnd {
     pub missed: u8,
 }
 
-/// Makes the clock's calls of a tick, whose due it takes, in the schedule's order, and no other call. It may wait for turns.
+/// Makes the clock's calls of a tick, whose wait `due` shows, in the schedule's order, and no other call. It may wait for turns.
 pub fn clock_tick<R: Wait + Clock, T: Ticker>(
     rt: &R,
     floor: &Floor,
@@ -71,9 +71,9 @@ fn wait_for<R: Wait + Clock, T: Ticker>(rt: &R, ticker: &mut T, tick: Tick) -> (
     }
 }
 
-/// Waits for each of the 54 ticks in turn, and makes its calls: in all the schedule of the game from its first call to its last, in
+/// Waits for each of the 54 ticks in turn, and makes its calls: altogether the schedule of the game from its first call to its last, in
 /// that order across the goods, and no other call. The calls of a tick that lapsed are made at once, and the next one is waited for
-/// again. That a tick's calls are made before the next wait, no clause says. It takes no memory.
+/// again. No clause says that a tick's calls are made before the next wait. It takes no memory.
 pub fn run_clock<R: Wait + Clock, T: Ticker>(
     rt: &R,
     floor: &Floor,

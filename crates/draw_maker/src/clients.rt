@@ -5,7 +5,7 @@ use crate::drawing::{Drawn, draw_below, draw_each, draw_words};
 use rand_pcg::Lcg64Xsh32;
 use tac_base::Client;
 
-/// The days of arrival and departure, in the order of their ranks.
+/// The days of arrival and departure, by rank.
 static TRIPS: [(u8, u8); 10] = [
     (1, 2),
     (1, 3),
@@ -28,7 +28,7 @@ fn trip_of(rank: u32) -> (u8, u8)
     TRIPS[rank as usize]
 }
 
-/// The trip is one of the ten, the premium is 50 dollars and a remainder by 101, and each value is a remainder by 201.
+/// The trip is one of the ten, the premium is 50 dollars plus a word modulo 101, and each value is a word modulo 201.
 impl Drawn for Client {
     ghost size = { 5 };
 

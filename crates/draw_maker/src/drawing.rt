@@ -16,7 +16,7 @@ pub(crate) fn draw_words<const N: usize>(generator: &mut Lcg64Xsh32) -> [u32; N]
     drawn
 }
 
-/// Draws numbers below a limit, each the remainder of a word.
+/// Draws numbers below a limit, each a word modulo the limit.
 pub(crate) fn draw_below<const N: usize>(generator: &mut Lcg64Xsh32, limit: u8) -> [u8; N]
     requires { 0 < limit }
     ensures value { result ≡ map (λ word. word % limit) (words.next_words N generator.old) }

@@ -11,8 +11,8 @@ use tac_base::Client;
 /// The stream of the generator from which games are made.
 const GAME_STREAM: u64 = 54;
 
-/// Makes the game of a number, of version 1: all but its seat words comes from the words of a PCG generator. The rule is this
-/// project's own. It takes no memory.
+/// Makes the game of a seed, of version 1: everything except its seat words comes from the words of a PCG generator. The rule is our
+/// own. It takes no memory.
 pub fn make_game(seed: u64) -> Game
     ensures exact { result ≡ made_game seed }
     ensures range { IsGame result }

@@ -1,4 +1,4 @@
-//! Games and game scripts that are made from a number.
+//! Games and game scripts made from a seed.
 #![tactic(auto)]
 
 mod clients;

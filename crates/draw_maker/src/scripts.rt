@@ -72,7 +72,7 @@ fn push_line(line: &[u8], out: &mut Vec<u8>) -> Result<(), AllocError>
     Ok(())
 }
 
-/// Appends so many ticks. After an error the text may end within them.
+/// Appends this many ticks. After an error the text may end within them.
 fn push_ticks(count: u32, out: &mut Vec<u8>) -> Result<(), AllocError>
     ensures { OnOk result (out.new.items ≡ out.old.items ++ text_of (replicate count (codes "tick"))) }
 {
@@ -111,9 +111,9 @@ fn push_request(count: u32, i: u32, words: &[u32; 5], out: &mut Vec<u8>) -> Resu
     Ok(())
 }
 
-/// Makes the game script of a number: so many requests, at most 50000, each a bid of one point, with ticks between them
-/// in even steps. All of it comes from the words of a PCG generator, and it is the same at each call. The rule is this
-/// project's own. With no request the script is empty. `Memory` leaves nothing.
+/// Makes the game script of a seed: this many requests, at most 50000, each a bid of one point, with ticks between them
+/// in even steps. All of it comes from the words of a PCG generator, and it is the same at each call. The rule is our
+/// own. With no request the script is empty. `Memory` leaves nothing.
 pub fn make_script(alloc: Global, seed: u64, count: u32) -> Result<Vec<u8>, Memory>
     requires { count ≤ MADE_REQUESTS }
     ensures exact { IfOk result (λ text. text.items ≡ scripts.made_script seed count) }

@@ -62,7 +62,7 @@ impl Flight {
     }
 
     /// A bid of an agent. It replaces what stands of the agent's earlier one, and its points at the price
-    /// or above are sold at once: `fills` then holds the trades. Where it is refused, in a closed flight
+    /// or above are sold at once: `fills` then holds the trades. If it is refused, in a closed flight
     /// or for a point that sells, it changes nothing and has no trades.
     pub fn bid(&mut self, at: u32, agent: Agent, points: &Points, fills: &mut Fills) -> Reply
         ensures follows { (setup : Setup) (past : List Entry) → StandsFor self.old setup past → at ≡ length past →
@@ -89,8 +89,8 @@ impl Flight {
         }
     }
 
-    /// An agent's withdrawal of what stands of its bid. It is refused where nothing stands and in a
-    /// closed flight, and changes nothing there.
+    /// An agent's withdrawal of what stands of its bid. If nothing stands, or in a
+    /// closed flight, it is refused and changes nothing.
     pub fn withdraw(&mut self, at: u32, agent: Agent) -> Reply
         ensures follows { (setup : Setup) (past : List Entry) → StandsFor self.old setup past → at ≡ length past →
             Follows setup past agent Call.Withdraw result [] (StandsFor self.new setup) }
@@ -111,7 +111,7 @@ impl Flight {
     #[tactic(auto, using(crate::proofs::Keeping::idle_keeps, auction_rules::proofs::Idle::own_idle))]
     pub fn own(&self, agent: Agent) -> Left
         ensures left { (setup : Setup) (past : List Entry) → StandsFor self.now setup past → result ≡ left setup.rules past agent }
-        // To ask changes nothing.
+        // Reading changes nothing.
         ensures stands { (setup : Setup) (past : List Entry) → StandsFor self.now setup past →
             StandsFor self.now setup (entry_of setup past agent Call.Own ∷ past) }
     {
@@ -119,7 +119,7 @@ impl Flight {
     }
 
     /// The refusal of a call that flights do not have, or that the caller may not make: `Closed` in a closed
-    /// flight, but for `Own`, and else `WrongCall`. It changes nothing.
+    /// flight, except for `Own`, and otherwise `WrongCall`. It changes nothing.
     #[tactic(auto, using(crate::proofs::Keeping::follows_wrong))]
     pub fn refuse(&self, caller: Caller, call: &Call) -> Reply
         requires { IsTrue (is_wrong_caller caller call.now || is_wrong_place (Rules.Flight 300 (pos 0)) call.now) }
@@ -130,8 +130,8 @@ impl Flight {
     }
 
     /// The clock's update of the price at a tick, 1 to 53, by a draw. The points at the new price or
-    /// above are sold: `fills` then holds the trades. It is refused in a closed flight, and changes
-    /// nothing there.
+    /// above are sold: `fills` then holds the trades. In a closed flight it is refused and changes
+    /// nothing.
     pub fn update(&mut self, at: u32, tick: Tick, draw: u32, fills: &mut Fills) -> Reply
         requires { tick ≤ UPDATE_TICKS }
         ensures follows { (setup : Setup) (past : List Entry) → StandsFor self.old setup past → at ≡ length past →
@@ -149,8 +149,8 @@ impl Flight {
         Reply::Done
     }
 
-    /// The clock's closing, after which nothing stands. `fills` is left empty. It is refused in a closed
-    /// flight, and changes nothing there.
+    /// The clock's closing, after which nothing stands. `fills` is left empty. In a closed flight it is
+    /// refused and changes nothing.
     pub fn close(&mut self, at: u32, fills: &mut Fills) -> Reply
         ensures follows { (setup : Setup) (past : List Entry) → StandsFor self.old setup past → at ≡ length past →
             Follows setup past 8 Call.Close result fills.new (StandsFor self.new setup) }
@@ -166,7 +166,7 @@ impl Flight {
         Reply::Done
     }
 
-    /// What is shown of the flight after `count` entries. Its bid is 0, and its ask the price.
+    /// The board of the flight after `count` entries. Its bid is 0, and its ask the price.
     pub fn board(&self, count: u32) -> Board
         ensures board { (setup : Setup) (past : List Entry) → StandsFor self.now setup past → count ≡ length past → result ≡ board setup.rules past }
         ensures no_bid { result.bid ≡ 0 }

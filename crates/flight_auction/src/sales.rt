@@ -6,14 +6,14 @@ use arrayvec::ArrayVec;
 use tac_base::limits::{ENTRY_TRADES, STANDING_UNITS};
 use tac_base::{Agent, Fills, Good, Party, Point, Trade};
 
-/// A point of an agent's bid that stands.
+/// A standing point of an agent's bid.
 #[derive(Clone, Copy, Debug, Default, PartialEq, Eq)]
 pub struct StandingPoint {
     pub agent: Agent,
     pub point: Point,
 }
 
-/// Whether the point is the agent's that has the number.
+/// Whether the point belongs to the agent with this number.
 fn is_of(standing: &StandingPoint, number: u8) -> bool
     ensures { result ≡ spec.is_of number standing.now }
 {
@@ -40,14 +40,14 @@ fn sale(good: Good, price: u16, standing: &StandingPoint) -> Trade
     }
 }
 
-/// Whether some of the points is the agent's that has the number.
+/// Whether some of the points belongs to the agent with this number.
 pub(crate) fn has_points(standing: &[StandingPoint], number: u8) -> bool
     ensures { result ≡ list_any (spec.is_of number) standing.now }
 {
     standing.iter().any(|one| is_of(one, number))
 }
 
-/// Takes the points of the agent away that has the number.
+/// Removes the points of the agent with this number.
 pub(crate) fn forget(standing: &mut ArrayVec<StandingPoint, STANDING_UNITS>, number: u8)
     ensures { standing.new.items ≡ spec.others_than number standing.old.items }
 {
@@ -71,7 +71,7 @@ pub(crate) fn place(
     }
 }
 
-/// The points of the agent that has the number, at most 16.
+/// The points of the agent with this number, at most 16.
 pub(crate) fn points_of(standing: &[StandingPoint], number: u8) -> ArrayVec<Point, 16>
     requires { length (spec.points_of number standing.now) ≤ 16 }
     ensures { result.items ≡ spec.points_of number standing.now }
@@ -96,8 +96,8 @@ fn push_sale(fills: &mut Fills, good: Good, price: u16, standing: &StandingPoint
     }
 }
 
-/// Sells each point that the price reaches: the trades, in the order of the points, stand in place
-/// of those that stood in `fills`, and the points are taken away.
+/// Sells each point that the price reaches: `fills` then holds the trades, in the order of the points, in place of what it
+/// held before, and the points are removed.
 pub(crate) fn sell(
     standing: &mut ArrayVec<StandingPoint, STANDING_UNITS>,
     good: Good,

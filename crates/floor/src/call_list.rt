@@ -5,7 +5,7 @@ ghost use Rattle.tac_base.specs.declared.calls.Call.{Call};
 use std::marker::Model;
 use tac_base::{Call, Good};
 
-/// The calls of a desk with their goods, in the order in which they were made. It takes no bytes: clauses alone read it.
+/// The calls of a desk with their goods, in the order in which they were made. It takes no bytes: only clauses read it.
 #[derive(Drop)]
 pub(crate) struct CallList {
     pub(crate) ghost items: { List (ℕ × Call) },

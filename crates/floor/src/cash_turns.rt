@@ -14,7 +14,7 @@ use tac_base::{Agent, Good};
 use trade_ledger::{CashBook, CashCall, CashReply};
 use turn_lock::{Pass, TurnLock};
 
-/// Posts what the trades of an entry gave each party, where it has a trade.
+/// Posts what the trades of an entry gave each party, if it has a trade.
 pub(crate) fn post<R: Wait + Clock>(
     rt: &R,
     lock: &TurnLock<CashBook>,

@@ -24,7 +24,7 @@ pub(crate) fn return_passes(locks: &mut Vec<TurnLock<Auction>>, passes: Vec<Pass
     }
 }
 
-/// The auctions, once all passes are back, in a room with space for them.
+/// The auctions, once all passes are back, in memory reserved for them.
 pub(crate) fn close_all(locks: Vec<TurnLock<Auction>>, mut room: Vec<Auction>) -> Vec<Auction>
     requires room { (room.items ≡ []) × (length locks.items ≤ vec_capacity room) }
     requires all_back { (good : ℕ) (lock : _) → get_elem? locks.items good ≡ some lock → length (returned_to lock) ≡ passes_of lock }

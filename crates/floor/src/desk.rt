@@ -14,24 +14,24 @@ use tac_base::{Agent, Board, Call, Caller, Good, Points, Reply};
 use trade_ledger::CashBook;
 use turn_lock::Pass;
 
-/// The right of one caller to call at all auctions of a floor and at its cash book. It knows its own entries so far, each of whose
-/// trades it has posted.
+/// The right of one caller to call at all auctions of a floor and at its cash book. It knows its own entries so far, and has posted the
+/// trades of each.
 #[derive(Drop)]
 pub struct Desk {
     pub(crate) passes: Vec<Pass<Auction>>,
     pub(crate) cash: Pass<CashBook>,
-    /// How many readings of its cash it made.
+    /// How many times it has read its cash.
     pub(crate) readings: u32,
     pub(crate) calls: CallList,
     ghost kept: { IsKept (caller_of cash) (map (λ p. caller_of p) passes.items) (map (λ p. left_of p) passes.items)
         (map (λ p. made_by p) passes.items) (left_of cash) (made_by cash) readings },
-    /// What it was told of each good is in order.
+    /// What it was answered of each good is in order.
     pub ghost in_order: { AreInOrder (map (λ p. made_by p) passes.items) (map (λ p. noted_by p) passes.items) (map (λ p. seen_by p) passes.items) },
-    /// The list of its calls has those of its entries.
+    /// The list of its calls is that of its entries.
     pub ghost listed: { AreListed (map (λ p. made_by p) passes.items) calls.items },
 }
 
-/// The number of a good's auction.
+/// The index of a good's auction.
 fn place(good: Good) -> usize
     ensures value { result ≡ good }
     ensures range { result ≤ 27 }
@@ -50,7 +50,7 @@ impl Desk {
     ghost use Rattle.floor.specs.Floors.{floor_ids};
     ghost use Rattle.floor.specs.Answers.{IsSameDesk, IsAnswered, IsOutcome, TakesLawfulBid, IsCashOutcome, IsSeen, IsClockCall};
 
-    /// Whose desk it is.
+    /// The desk's caller.
     pub fn caller(&self) -> Caller
         ensures { result ≡ desk_caller self.now }
     {
@@ -80,7 +80,7 @@ impl Desk {
         (position, reply)
     }
 
-    /// Makes an agent's call at a good, if it made fewer than 1024 there.
+    /// Makes an agent's call at a good, if the agent made fewer than 1024 there.
     fn ask<R: Wait + Clock>(&mut self, rt: &R, floor: &Floor, good: Good, call: &Call) -> Outcome
         requires own { desk_ids self.old ≡ floor_ids floor.now }
         requires agent { desk_caller self.old < 8 }
@@ -96,7 +96,7 @@ impl Desk {
         Outcome::At { position, reply }
     }
 
-    /// An agent's bid, which takes the place of its whole earlier bid there. It may wait for its turn. Its trades are posted before it
+    /// An agent's bid, which replaces its whole earlier bid there. It may wait for its turn. Its trades are posted before it
     /// returns. `Spent` comes exactly after 1024 calls of the desk there, and changes nothing.
     pub fn bid<R: Wait + Clock>(
         &mut self,
@@ -116,7 +116,7 @@ impl Desk {
         self.ask(rt, floor, good, &call)
     }
 
-    /// An agent takes its bid back, which a hotel refuses. It may wait for its turn. `Spent` is as of `bid`.
+    /// An agent withdraws its bid, which a hotel refuses. It may wait for its turn. `Spent` comes as for `bid`.
     pub fn withdraw<R: Wait + Clock>(&mut self, rt: &R, floor: &Floor, good: Good) -> Outcome
         requires own { desk_ids self.old ≡ floor_ids floor.now }
         requires agent { desk_caller self.old < 8 }
@@ -127,7 +127,7 @@ impl Desk {
         self.ask(rt, floor, good, &Call::Withdraw)
     }
 
-    /// An agent asks for its own state. It may wait for its turn. `Spent` is as of `bid`.
+    /// An agent reads its own state. It may wait for its turn. `Spent` comes as for `bid`.
     pub fn own<R: Wait + Clock>(&mut self, rt: &R, floor: &Floor, good: Good) -> Outcome
         requires own { desk_ids self.old ≡ floor_ids floor.now }
         requires agent { desk_caller self.old < 8 }
@@ -156,7 +156,7 @@ impl Desk {
         CashOutcome::At { position, dollars }
     }
 
-    /// The board of a good so far, which is not shorter than what the desk had seen there. It waits for nobody.
+    /// The board of a good so far, which is not shorter than what the desk had seen there. It does not wait.
     pub fn quote(&mut self, floor: &Floor, good: Good) -> Board
         requires own { desk_ids self.old ≡ floor_ids floor.now }
         ensures seen { IsSeen self.old self.new good result }

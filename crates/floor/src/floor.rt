@@ -22,7 +22,7 @@ const GOODS: u8 = 28;
 pub struct Floor {
     pub(crate) auctions: Vec<TurnLock<Auction>>,
     pub(crate) cash: TurnLock<CashBook>,
-    /// Where the auctions are put at the end.
+    /// Room for the auctions at the end.
     room: Vec<Auction>,
     ghost goods: { goods_of (map (λ lock. start_of lock) auctions.items) ≡ all_goods },
     ghost passes: { (map (λ lock. passes_of lock) auctions.items ≡ replicate 28 9) × (passes_of cash ≡ 9) },

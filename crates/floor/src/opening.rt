@@ -51,7 +51,7 @@ const CASH_CALLS: [u32; 9] = [
     CLOCK_CASH_ENTRIES,
 ];
 
-/// What the callers have of the auctions' passes before any is dealt.
+/// The callers' passes of auctions before any is dealt.
 pub(crate) fn empty_hands(alloc: Global) -> Result<Vec<Vec<Pass<Auction>>>, Memory>
     ensures { IfOk result (λ hands. map (λ hand. hand.items) hands.items ≡ replicate 9 []) }
 {
@@ -109,7 +109,7 @@ pub(crate) fn open_cash(alloc: Global) -> Result<(TurnLock<CashBook>, Vec<Pass<C
     Ok((lock, passes))
 }
 
-/// The desks of callers who have these passes at the auctions and at the cash book, in order.
+/// The desks of the callers with these passes at the auctions and at the cash book, in order.
 pub(crate) fn seat(
     alloc: Global,
     hands: Vec<Vec<Pass<Auction>>>,

@@ -1,4 +1,4 @@
-//! Threads share a floor, and desks and floors move between them. These calls prove it here.
+//! Threads can share a floor, and desks and floors can move between them. These calls prove it.
 use crate::desk::Desk;
 use crate::floor::Floor;
 

@@ -32,7 +32,7 @@ fn write_ends<K: Sink>(sink: &mut K, ends: &[(Agent, Cause)]) -> Result<(), Fail
     Ok(())
 }
 
-/// Writes what is said of a game over links.
+/// Writes the lines about the links of a game.
 fn write_served<K: Sink>(
     sink: &mut K,
     verdicts: &[Verdict],

@@ -1,4 +1,4 @@
-// What the types of the parts of a game keep of what its log shows.
+// What the types of the parts of a game guarantee of the numbers in its log.
 ghost use Rattle.std.specs.Prelude.{◌≡◌, None};
 ghost use Rattle.std.specs.List.{AllByRecursion};
 ghost use Rattle.tac_base.specs.Bids.{fault_of, left_fault};
@@ -10,7 +10,7 @@ use line_protocol::{Cause, Verdict};
 use tac_base::{Agent, Call, Entry, Left, Nets, Points, Reply, Trade};
 use trade_ledger::{CashCall, CashEntry, CashReply};
 
-/// Points are a bid.
+/// Points are those of a bid.
 fn points_known(points: &Points)
     ensures { fault_of points.now ≡ None }
 {
@@ -24,7 +24,7 @@ fn left_known(left: &Left)
     left.as_slice();
 }
 
-/// The numbers of a call have at most 64 bits, and its points are a bid.
+/// The numbers of a call have at most 64 bits, and its points are those of a bid.
 fn call_known(call: &Call)
     ensures { IsCall call.now }
 {
@@ -67,7 +67,7 @@ fn reply_known(reply: &Reply)
     }
 }
 
-/// The same of an entry without its trades.
+/// The same for an entry without its trades.
 pub(crate) fn entry_known(entry: &Entry)
     ensures caller { IsNumber entry.now.caller }
     ensures call { IsCall entry.now.call }
@@ -87,7 +87,7 @@ fn trade_known(trade: &Trade)
     let _price = trade.price;
 }
 
-/// The same of each of several trades.
+/// The same for each of several trades.
 pub(crate) fn trades_known(trades: &[Trade])
     ensures { AllByRecursion AreTradeNumbers trades.now }
 {
@@ -122,7 +122,7 @@ fn cash_call_known(call: &CashCall)
     }
 }
 
-/// The same of what the cash book answers.
+/// The same for what the cash book answers.
 fn cash_reply_known(reply: CashReply)
     ensures { IsCashReply reply }
 {
@@ -132,7 +132,7 @@ fn cash_reply_known(reply: CashReply)
     }
 }
 
-/// The same of an entry of the cash history.
+/// The same for an entry of the cash history.
 pub(crate) fn cash_entry_known(entry: &CashEntry)
     ensures { AreEntryNumbers entry.now }
 {
@@ -153,7 +153,7 @@ fn verdict_known(verdict: Verdict)
     }
 }
 
-/// The same of each of several verdicts.
+/// The same for each of several verdicts.
 fn verdicts_known(verdicts: &[Verdict])
     ensures { AllByRecursion IsVerdict verdicts.now }
 {
@@ -162,7 +162,7 @@ fn verdicts_known(verdicts: &[Verdict])
     }
 }
 
-/// The same of the agents whose sessions ended.
+/// The same for the agents whose sessions ended.
 fn ends_known(ends: &[(Agent, Cause)])
     ensures { AllByRecursion IsEnd ends.now }
 {

@@ -137,7 +137,7 @@ fn write_histories<K: Sink>(sink: &mut K, closed: &Closed) -> Result<(), Failed>
 /// none, but not all. The form of the log is our own.
 pub fn write_play_part<K: Sink>(sink: &mut K, head: &LogHead, closed: &Closed) -> Result<(), Failed>
     ensures text { Writes (log.play_part (head_of head.now) closed.now) (K.state sink.old) (K.state sink.new) result }
-    // A head and a game are written that the law of logs speaks of.
+    // A head and a game are written as the law of logs requires.
     ensures known_head { IsHead (head_of head.now) }
     ensures known { OnOk result (IsPlayed closed.now) }
 {

@@ -1,4 +1,4 @@
-// The ranges of what a log shows of a game.
+// The ranges of the numbers that a log shows of a game.
 ghost use Rattle.std.specs.Prelude.{◌≤◌, List, length};
 ghost use Rattle.std.specs.List.{All, AllByRecursion};
 ghost use Rattle.tac_base.specs.declared.limits.TheConstants.{CASH_ENTRIES};
@@ -29,7 +29,7 @@ fn verdict_ranged(verdict: Verdict)
     }
 }
 
-/// The same of each of several verdicts.
+/// The same for each of several verdicts.
 fn verdicts_ranged(verdicts: &[Verdict])
     ensures { AllByRecursion IsLoggedVerdict verdicts.now }
 {
@@ -38,7 +38,7 @@ fn verdicts_ranged(verdicts: &[Verdict])
     }
 }
 
-/// The same of a head.
+/// The same for a head.
 fn head_ranged(head: &LogHead)
     ensures { HasSeats (head_of head.now) }
 {
@@ -55,7 +55,7 @@ fn history_ranged(auction: &Auction)
     auction.len();
 }
 
-/// The same of each of several auctions.
+/// The same for each of several auctions.
 fn histories_ranged(auctions: &[Auction])
     ensures { AllByRecursion (λ auction. IsLoggedHistory auction.setup.good auction.history) auctions.now }
 {
@@ -72,7 +72,7 @@ fn cash_ranged(cash: &CashBook)
     cash.entry(0);
 }
 
-/// Any sheet of the game is in its ranges, but for the lines of its certificates.
+/// Any sheet of the game is in its ranges, except for the lines of its certificates.
 fn sheets_ranged(game: &Game, closed: &Closed)
     ensures { (sheet : List Scored) → IsSheetOf game.now closed.now sheet → All IsRangedScore sheet }
 {
@@ -81,7 +81,7 @@ fn sheets_ranged(game: &Game, closed: &Closed)
     let _cash = &accounts.cash;
 }
 
-/// The law of ranges, as this call's contract: what the parts of a game that was played keep of the ranges in which logs are read.
+/// The law of ranges, as this call's contract: which of the ranges in which logs are read the parts of a played game keep.
 pub fn log_ranges(game: &Game, head: &LogHead, closed: &Closed)
     ensures { IsShowable game.now (head_of head.now) closed.now }
 {

@@ -1,4 +1,4 @@
-// What the types of the parts of a sheet keep of what its text shows.
+// What the types of the parts of a sheet guarantee of the numbers in its text.
 ghost use Rattle.std.specs.Prelude.{◌≡◌, length};
 ghost use Rattle.std.specs.List.{AllByRecursion};
 ghost use Rattle.bound_cert.specs.Trees.{IsCertificate};
@@ -35,7 +35,7 @@ fn package_known(chosen: &Package)
     }
 }
 
-/// The same of each of several packages.
+/// The same for each of several packages.
 fn packages_known(packages: &[Package])
     ensures { AllByRecursion IsShownPackage packages.now }
 {
@@ -51,7 +51,7 @@ fn eight_known(packages: &[Package; 8])
     let _first = &packages[0];
 }
 
-/// A certificate's tree is one.
+/// The tree of a certificate has the form of one.
 fn cert_known(cert: &Cert)
     ensures { IsCertificate (tree_of cert.now.root) }
 {
@@ -65,7 +65,7 @@ fn number_known(n: u32)
     let _number = n;
 }
 
-/// The same of the dollars of a score, which may have a sign.
+/// The same for the dollars of a score, which may have a sign.
 fn dollars_known(scored: &AgentScore)
     ensures cash { IsSigned scored.now.cash }
     ensures score { IsSigned scored.now.score }
@@ -73,7 +73,7 @@ fn dollars_known(scored: &AgentScore)
     let _dollars = (scored.cash, scored.score);
 }
 
-/// The same of a score with its packages, beside its certificate.
+/// The same for a score with its packages, beside its certificate.
 fn score_known(scored: &AgentScore)
     ensures { IsKnownScore scored.now }
 {
@@ -85,7 +85,7 @@ fn score_known(scored: &AgentScore)
     cert_known(&scored.solved.cert);
 }
 
-/// The same of each of several scores.
+/// The same for each of several scores.
 fn scores_known(scores: &[AgentScore])
     ensures { AllByRecursion IsKnownScore scores.now }
 {
@@ -94,7 +94,7 @@ fn scores_known(scores: &[AgentScore])
     }
 }
 
-/// The same of a sheet, which has eight scores.
+/// The same for a sheet, which has eight scores.
 pub(crate) fn sheet_known(sheet: &Sheet)
     ensures count { length sheet.now ≡ 8 }
     ensures scores { AllByRecursion IsKnownScore sheet.now }

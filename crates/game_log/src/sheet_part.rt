@@ -11,8 +11,8 @@ use score_sheet::Sheet;
 use std::alloc::Global;
 use tac_io::{Sink, write_all};
 
-/// Writes the second part of the log of a game: each agent's score, an allocation of its goods, and a certificate. It is made in
-/// memory and then written, so after `Memory` nothing was written; `Failed` comes exactly where the sink counted a fault in this
+/// Writes the second part of the log of a game: each agent's score, an allocation of its goods, and a certificate. It is built in
+/// memory and then written, so after `Memory` nothing was written; `Failed` comes exactly if the sink counted a fault in this
 /// call, and then some of the first bytes of the part were written, or none, but not all. The form of the log is our own.
 pub fn write_sheet_part<K: Sink>(
     alloc: Global,

@@ -1,4 +1,4 @@
-// Who is admitted. The rule is our own.
+// Which links are admitted. The rule is our own.
 ghost use Rattle.std.specs.Prelude.{◌≡◌, ◌<◌, ◌≤◌, ◌+◌, [], ◌∷◌, None, IfOk, OnOk, OnErr, IfSome, length, vec_len, vec_capacity, replicate};
 ghost use Rattle.tac_io.specs.Counts.{HasCause};
 ghost use Rattle.tac_io.specs.Lines.{count_of, held_of, last_of, link_of};
@@ -18,7 +18,7 @@ use tac_io::{Failed, LineGot, Lines, Link, Links};
 /// How many seats there are.
 const SEATS: usize = 8;
 
-/// What a link is sent that gets no seat.
+/// What a link without a seat is sent.
 fn refusal(verdict: &Verdict) -> &'static [u8]
     ensures { result.now ≡ refusal_line verdict.now }
 {
@@ -55,7 +55,7 @@ fn first_verdict<L: Link>(gate: &mut Gate, lines: &mut Lines<L>) -> Verdict
     }
 }
 
-/// Tells a link that it gets no seat, and why.
+/// Sends a link its refusal.
 fn turn_away<L: Link>(verdict: &Verdict, mut lines: Lines<L>) -> L
     ensures { IsAnswered (refusal_line verdict.now) (L.state (link_of lines)) (L.state result) }
 {
@@ -63,7 +63,7 @@ fn turn_away<L: Link>(verdict: &Verdict, mut lines: Lines<L>) -> L
     lines.into_link()
 }
 
-/// Reads the first line of a link, and turns it away if it gets no seat.
+/// Reads the first line of a link, and refuses the link if it gets no seat.
 fn greet<L: Link>(gate: &mut Gate, link: L) -> Greeting<L>
     ensures { IsGreeting L.state gate.old gate.new (L.state link) result }
 {
@@ -78,7 +78,7 @@ fn greet<L: Link>(gate: &mut Gate, link: L) -> Greeting<L>
     }
 }
 
-/// Takes a link in, and says whether it has a seat.
+/// Admits or refuses a link, and says whether it has a seat.
 fn take_in<L: Link + Drop>(gate: &mut Gate, arrivals: &mut Arrivals<L>, link: L) -> bool
     requires verdicts { vec_len arrivals.old.verdicts < vec_capacity arrivals.old.verdicts }
     requires spots { vec_len arrivals.old.spots < vec_capacity arrivals.old.spots }
@@ -103,7 +103,7 @@ fn take_in<L: Link + Drop>(gate: &mut Gate, arrivals: &mut Arrivals<L>, link: L)
     }
 }
 
-/// Listens, and takes links in until eight seats are taken, 64 links came or none is left.
+/// Listens, and takes links until eight seats are taken, 64 links came or none is left.
 pub(crate) fn admit<N: Links>(
     game: &Game,
     port: u16,

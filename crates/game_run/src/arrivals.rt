@@ -10,7 +10,7 @@ pub(crate) enum Greeting<L> {
     Apart(Verdict, L),
 }
 
-/// Where a link is kept: in the seat of its agent, or here.
+/// Where a link is kept: at the place of its agent, or here.
 #[derive(Drop)]
 pub(crate) enum Spot<L> {
     Seat(Agent),

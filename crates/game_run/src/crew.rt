@@ -1,4 +1,4 @@
-// The sessions and the clock beside one another.
+// The sessions and the clock run concurrently.
 ghost use Rattle.std.specs.Prelude.{◌≡◌, IsSomeAnd, IfSome, Some, []};
 ghost use Rattle.floor.specs.Answers.{IsSameDesk};
 ghost use Rattle.floor.specs.Floors.{floor_ids};
@@ -29,7 +29,7 @@ pub(crate) struct Played<L> {
     pub(crate) end: Option<(L, Cause)>,
 }
 
-/// Two things in order.
+/// Two values in order.
 #[derive(Drop)]
 pub(crate) struct Two<X> {
     pub(crate) first: X,
@@ -70,7 +70,7 @@ fn run_place<R: Wait + Clock, D: Dialect, L: Link>(
     }
 }
 
-// Two places at once.
+// Two places concurrently.
 fn run_two<R: Threads + Sync + Wait + Clock, D: Dialect + Sync, L: Link + Send + Drop>(
     rt: &R,
     floor: &Floor,
@@ -90,7 +90,7 @@ fn run_two<R: Threads + Sync + Wait + Clock, D: Dialect + Sync, L: Link + Send +
     Two { first, second }
 }
 
-// Four places at once.
+// Four places concurrently.
 fn run_four<R: Threads + Sync + Wait + Clock, D: Dialect + Sync, L: Link + Send + Drop>(
     rt: &R,
     floor: &Floor,
@@ -114,7 +114,7 @@ fn run_four<R: Threads + Sync + Wait + Clock, D: Dialect + Sync, L: Link + Send 
     Two { first, second }
 }
 
-// Eight places at once.
+// Eight places concurrently.
 fn run_eight<R: Threads + Sync + Wait + Clock, D: Dialect + Sync, L: Link + Send + Drop>(
     rt: &R,
     floor: &Floor,
@@ -171,10 +171,10 @@ fn run_ready_clock<R: Wait + Clock, T: Ticker>(
     run_clock(rt, floor, desk, game, ticker)
 }
 
-// Drops a value here, and not where its scope ends.
+// Drops a value here, before the end of its scope.
 fn let_go<X: Drop>(_value: X) {}
 
-/// The sessions of all places and the clock at once.
+/// The sessions of all places and the clock, concurrently.
 pub(crate) fn run_all<
     R: Threads + Sync + Wait + Clock,
     D: Dialect + Sync,

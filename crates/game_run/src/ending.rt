@@ -1,4 +1,4 @@
-// What the sessions left is gathered, and links come back in the order in which they came.
+// What the sessions left is gathered, and links are put back in the order in which they came.
 ghost use Rattle.std.specs.Prelude.{◌≡◌, ◌∷◌, [], ◌<◌, ◌≤◌, map, vec_len, vec_capacity};
 ghost use Rattle.std.specs.Option.{option_map};
 ghost use Rattle.tac_io.specs.Lines.{link_of};
@@ -19,7 +19,7 @@ pub(crate) struct Ending<L> {
     pub(crate) desks: Vec<Desk>,
     /// Why the session of each seated agent ended.
     pub(crate) ends: Vec<(Agent, Cause)>,
-    /// The links of the agents, where they have one.
+    /// The links of the agents that have one.
     pub(crate) links: Vec<Option<L>>,
 }
 

@@ -1,4 +1,4 @@
-//! A game over links: who is admitted, and the sessions beside the clock.
+//! A game over links: who is admitted, and the sessions concurrent with the clock.
 #![tactic(auto)]
 
 mod admission;

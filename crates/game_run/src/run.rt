@@ -45,7 +45,7 @@ pub enum RunFault<L> {
 pub(crate) struct Room<L> {
     pub(crate) stage: Stage<L>,
     pub(crate) arrivals: Arrivals<L>,
-    /// Where the links are put at the end.
+    /// Room for the links at the end.
     pub(crate) links: Vec<L>,
 }
 
@@ -118,9 +118,9 @@ fn leave<L: Link + Drop>(arrivals: Arrivals<L>, stage: Stage<L>, given: Vec<L>) 
     in_order(spots, places, given)
 }
 
-/// Plays a game over links. First it takes all the memory of the game. Then it listens at the port, takes links and reads a line of
-/// each, until eight agents have a seat, 64 links were taken or none is left. A link that gets no seat is told so. The sessions of the
-/// seated links and the clock run beside one another. It waits for peers and for ticks. The forms of lines are those of the dialect; who
+/// Plays a game over links. First it takes all the memory of the game. Then it listens on the port, takes links and reads a line of
+/// each, until eight agents have a seat, 64 links were taken or none is left. A link without a seat is sent its refusal. The sessions of the
+/// seated links and the clock run concurrently. It waits for peers and for ticks. The forms of lines are those of the dialect; who
 /// gets which seat is our own rule.
 pub fn run_game<R: Threads + Sync + Wait + Clock, D: Dialect + Sync, N: Links, T: Ticker + Send>(
     rt: &R,

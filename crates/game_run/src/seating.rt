@@ -1,4 +1,4 @@
-// Each agent's desk, with the lines of its link.
+// Each agent's desk, with the lines of its link if it has one.
 ghost use Rattle.std.specs.Prelude.{◌≡◌, ◌∷◌, ◌++◌, [], ◌≤◌, ◌+◌, map, vec_len};
 ghost use Rattle.game_run.specs.Seatings.{eight_of, four_of, two_of};
 

@@ -1,4 +1,4 @@
-// A game is played, and closed.
+// A game is played and closed.
 ghost use Rattle.std.specs.Prelude.{◌≡◌, [], ℕ, Some, true, IfOk, IfSome, slice_get, vec_len};
 ghost use Rattle.tac_io.specs.LineAnswers.{goes_on};
 ghost use Rattle.tac_io.specs.Lines.{last_of};
@@ -30,7 +30,7 @@ pub(crate) struct Stage<L> {
     pub(crate) ending: Ending<L>,
 }
 
-/// A game that is over, and the links of the agents, where they have one.
+/// A game that is over, and the links of the agents that have one.
 #[derive(Drop)]
 pub(crate) struct Over<L> {
     pub(crate) closed: Closed,
@@ -62,7 +62,7 @@ pub(crate) fn make_stage<L: Drop>(alloc: Global, game: &Game) -> Result<Stage<L>
     })
 }
 
-/// Plays a game, the agents with lines by their sessions, and closes it.
+/// Plays a game, in which the agents with lines have sessions, and closes it.
 pub(crate) fn play_out<
     R: Threads + Sync + Wait + Clock,
     D: Dialect + Sync,

@@ -12,7 +12,7 @@ use tac_base::Client;
 use tac_base::limits::{HOLDING, TEXT_BYTES};
 use text_forms::{BadLine, Column, Digits, Lines, Part, Reason, at_line, read_row, repeat};
 
-/// An agent's clients and its holdings of the goods. The ranges are this project's own.
+/// An agent's clients and its holdings of the goods. The ranges are our own.
 #[derive(Clone, Copy, Debug, PartialEq, Eq)]
 pub struct Account {
     /// The clients 0..7.
@@ -45,7 +45,7 @@ fn hold_columns() -> [Column; 28]
     }; 28]
 }
 
-/// The holdings as numbers of 32 bits.
+/// The holdings, each as a number of 32 bits.
 fn holdings_of(numbers: &[i64; 28]) -> [i32; 28]
     requires { IsTrue (list_all (λ n. rows.is_in accounts.hold_column n) numbers.now) }
     ensures { result ≡ numbers.now }
@@ -129,7 +129,7 @@ pub fn read_account(text: &[u8]) -> Result<Account, GameFault>
     // Which account it is, or the first bad line with its first reason.
     ensures exact { result ≡ accounts.account_of text.now }
     ensures too_long { (result ≡ Err GameFault.TooLong) ↔ (TEXT_BYTES < length text.now) }
-    // The lines that are neither empty nor comments are the account's own, and the account is in its ranges.
+    // The lines that are neither empty nor comments are those of the account, and the account is in its ranges.
     ensures found { IfOk result (λ account. accounts.IsAccountText account text.now × accounts.IsAccount account) }
     // Each text of an account is read as that account.
     ensures only { (account : accounts.AccountFile) → length text.now ≤ TEXT_BYTES → accounts.IsAccountText account text.now → accounts.IsAccount account → result ≡ Ok account }

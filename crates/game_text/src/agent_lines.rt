@@ -53,8 +53,8 @@ fn print_client(agent: u8, number: u8, wants: &Client, out: &mut Text)
     print_line(b"client", &client_numbers(agent, number, wants), out);
 }
 
-/// Appends a line of an agent without its line end, where 256 bytes are free: for 0 what it has at the start, and for 1..8 its clients
-/// 0..7. It is the line of the game file. It takes no memory.
+/// Appends a line of an agent without its line end; 256 bytes have to be free. Line 0 has its endowment, and the lines 1..8 its clients
+/// 0..7. They are the lines of the game file. It takes no memory.
 pub fn print_agent_line(game: &Game, agent: Agent, n: u8, out: &mut Text)
     requires number { n ≤ 8 }
     requires room { length out.old + 256 ≤ 640 }

@@ -13,7 +13,7 @@ pub(crate) struct Agents {
     pub(crate) clients: [[Client; 8]; 8],
 }
 
-/// Reads what stands between the closing order and the last line.
+/// Reads the lines between the closing order and the last line.
 #[tactic(auto, unfolding(crate::specs::AgentLines::agents_in))]
 pub(crate) fn agents_in(lines: Lines<'_>) -> Result<(Agents, Lines<'_>), BadLine>
     ensures { result ≡ agents.agents_in lines.entry }

@@ -13,7 +13,7 @@ use text_forms::{
     BadLine, Column, Digits, Lines, Part, PrintedPart, Reason, at_line, print_row, read_row,
 };
 
-/// How the price of a flight goes: the game description's flight rule, with draws that the file hands in.
+/// How the price of a flight moves: the game description's flight rule, with draws from the file.
 #[derive(Clone, Copy, Debug, PartialEq, Eq)]
 pub struct FlightLine {
     /// The first price, 250..400 dollars.
@@ -71,7 +71,7 @@ fn flight_columns() -> [Column; 56]
     columns
 }
 
-/// The draws as numbers of 32 bits.
+/// The draws, each as a number of 32 bits.
 fn draws_of(numbers: &[i64]) -> [u32; FLIGHT_DRAWS]
     requires count { length numbers.now ≡ FLIGHT_DRAWS }
     requires range { IsTrue (list_all (λ n. rows.is_in flights.any n) numbers.now) }

@@ -17,7 +17,7 @@ use tac_base::limits::GAME_BYTES;
 use tac_base::{Client, Good};
 use text_forms::{BadLine, Lines, at_line, repeat};
 
-/// What a game file says. The ranges are those of the game description; the form of the file is this project's own.
+/// What a game file says. The ranges are those of the game description; the form of the file is our own.
 #[derive(Debug, Drop)]
 pub struct Game {
     /// The version of the file's form, 1 or 2. In a game of version 1 each hotel night has 16 rooms and quotes are not live.
@@ -30,7 +30,7 @@ pub struct Game {
     pub order: [Good; 8],
     /// How many rooms each hotel night has, by good 8..15: 1..64.
     pub rooms: [u8; 8],
-    /// Whether a hotel's quote changes with each bid that is taken, and not by the minute alone.
+    /// Whether each admitted bid changes a hotel's quote, and not only the clock.
     pub live: bool,
     /// How many of the tickets 16..27 each agent has at the start, 0..16 of each.
     pub endow: [[u8; 12]; 8],
@@ -49,7 +49,7 @@ impl Model for Game {
 }
 
 impl Game {
-    /// The same game as one of version 2.
+    /// The same game in version 2.
     pub fn upgraded(self) -> Game
         ensures { result ≡ games.upgraded self }
     {
@@ -125,7 +125,7 @@ pub fn read_game(text: &[u8]) -> Result<Game, GameFault>
     // Which game it is, or the first bad line with its first reason.
     ensures exact { result ≡ games.game_of text.now }
     ensures too_long { (result ≡ Err GameFault.TooLong) ↔ (GAME_BYTES < length text.now) }
-    // The lines that are neither empty nor comments are the game's own, and the game is in its ranges.
+    // The lines that are neither empty nor comments are those of the game, and the game is in its ranges.
     ensures found { IfOk result (λ game. games.IsTextOf game text.now × games.IsGame game) }
     // Each text of a game is read as that game.
     ensures only { (game : games.GameFile) → length text.now ≤ GAME_BYTES → games.IsTextOf game text.now → games.IsGame game → result ≡ Ok game }

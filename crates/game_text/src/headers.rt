@@ -49,7 +49,7 @@ pub(crate) fn print_header(version: u8, out: &mut Vec<u8>) -> Result<(), AllocEr
     Ok(())
 }
 
-/// Tests the first line of an account file.
+/// Checks the first line of an account file.
 #[tactic(auto, unfolding(crate::specs::Accounts::title_of))]
 pub(crate) fn title_of(line: &[u8]) -> Result<(), Reason>
     ensures { result ≡ accounts.title_of line.now }
@@ -58,7 +58,7 @@ pub(crate) fn title_of(line: &[u8]) -> Result<(), Reason>
     Ok(())
 }
 
-/// Tests the last line.
+/// Checks the last line.
 #[tactic(auto, unfolding(crate::specs::Headers::end_of))]
 fn end_of(line: &[u8]) -> Result<(), Reason>
     ensures { result ≡ headers.end_of line.now }

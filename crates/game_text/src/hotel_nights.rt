@@ -81,7 +81,7 @@ fn quotes_at(lines: Lines<'_>) -> Result<(bool, Lines<'_>), BadLine>
     Ok((live, left))
 }
 
-/// Reads the hotel nights of a file of this version: version 1 has no lines of them.
+/// Reads the hotel nights of a file of this version; version 1 has no lines for them.
 #[tactic(auto, unfolding(crate::specs::HotelNights::nights_in))]
 pub(crate) fn nights_in(version: u8, lines: Lines<'_>) -> Result<(HotelNights, Lines<'_>), BadLine>
     ensures { result ≡ nights.nights_in version lines.entry }

@@ -29,7 +29,7 @@ fn print_lines(game: &Game, out: &mut Vec<u8>) -> Result<(), AllocError>
     Ok(())
 }
 
-/// The canonical text of a game, in the form of its version.
+/// The canonical text of a game, in its version.
 pub fn print_game(alloc: Global, game: &Game) -> Result<Vec<u8>, Memory>
     ensures text { IfOk result (λ text. text.items ≡ games.spelling game.now) }
     // What is printed is read as the game again.

@@ -1,4 +1,4 @@
-// The game in which nothing happens by itself.
+// A game in which only the clock acts.
 ghost use Rattle.std.specs.Prelude.{◌≡◌};
 ghost use Rattle.game_text.specs.QuietGames as quiet;
 
@@ -6,7 +6,7 @@ use crate::{FlightLine, Game, SeatWord};
 use tac_base::limits::FLIGHT_DRAWS;
 use tac_base::{Client, Good};
 
-/// The quiet game: each flight stays at 300 dollars, nobody has a ticket, and the hotels close in rising order. Each client would come on
+/// The quiet game: each flight stays at 300 dollars, nobody has a ticket, and the hotels close in rising order. Each client prefers to come on
 /// day 1 and leave on day 2, with a premium of 100 dollars for the better hotel and 100 dollars for the museum. The seat words are `seat0`
 /// to `seat7`. It takes no memory.
 impl Default for Game {

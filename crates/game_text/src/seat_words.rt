@@ -14,7 +14,7 @@ use std::marker::Model;
 use tac_base::OutOfRange;
 use text_forms::{Reason, Words};
 
-/// The word by which an agent takes its seat: 1 to 16 bytes of `a`..`z` and `0`..`9`. The rule is this project's own.
+/// The word by which an agent takes its seat: 1 to 16 bytes of `a`..`z` and `0`..`9`. The rule is our own.
 #[derive(Clone, Copy, Debug)]
 pub struct SeatWord {
     bytes: [u8; 16],
@@ -37,7 +37,7 @@ impl Model for SeatWord {
     ghost inverse_ok = { λ w h. padded_again (λ bytes len. record { bytes = bytes; len = len }) w.bytes w.len h };
 }
 
-/// Words are equal where their bytes are.
+/// Words are equal exactly if their bytes are.
 impl PartialEq for SeatWord {
     ghost eq = { bytes_eq };
 
@@ -90,7 +90,7 @@ fn padded(text: &[u8]) -> [u8; 16]
     bytes
 }
 
-/// The seat word of a text that is one.
+/// The seat word of a text, if it is one.
 fn seat_word(text: &[u8]) -> SeatWord
     requires { IsTrue (seats.is_seat_word text.now) }
     ensures { result ≡ text.now }
@@ -99,7 +99,7 @@ fn seat_word(text: &[u8]) -> SeatWord
 }
 
 impl SeatWord {
-    /// Refused exactly where the text is no seat word.
+    /// The seat word of a text, which is refused exactly if it is none.
     pub fn new(text: &[u8]) -> Result<Self, OutOfRange>
         ensures form { IsOk result ↔ IsTrue (seats.is_seat_word text.now) }
         ensures value { IfOk result (λ word. word ≡ text.now) }
@@ -139,7 +139,7 @@ impl SeatWord {
     }
 }
 
-/// Takes the next word, where it is a seat word.
+/// Takes the next word, if it is a seat word.
 fn next_seat(words: &mut Words<'_>) -> Option<SeatWord>
     requires { 0 < length words.old }
     ensures found { IfSome result (λ seat. (words.old ≡ seat ∷ words.new) × IsTrue (seats.is_seat_word seat)) }
@@ -151,7 +151,7 @@ fn next_seat(words: &mut Words<'_>) -> Option<SeatWord>
     }
 }
 
-/// The eight words that are left, where each is a seat word.
+/// The eight words that are left, if each is a seat word.
 fn all_seats(mut words: Words<'_>) -> Option<[SeatWord; 8]>
     requires { length words ≡ 8 }
     ensures { result ≡ (if list_all seats.is_seat_word words.entry then Some words.entry else None) }

@@ -1,4 +1,4 @@
-// Accounts with another holding of one good.
+// Accounts with a different holding of one good.
 ghost use Rattle.std.specs.Prelude.{◌≡◌, ◌<◌};
 ghost use Rattle.game_text.specs.Accounts.{IsHolding};
 ghost use Rattle.good_worth.specs.Worth as worth;
@@ -6,7 +6,7 @@ ghost use Rattle.good_worth.specs.Worth as worth;
 use game_text::Account;
 use tac_base::limits::HOLDING;
 
-/// The account with another holding of a good, 0..27.
+/// The account with a different holding of a good, 0..27.
 #[tactic(auto, using(crate::proofs::Ranges::changed_is))]
 fn with_holding(account: &Account, good: usize, held: i32) -> Account
     requires good { good < 28 }
@@ -18,7 +18,7 @@ fn with_holding(account: &Account, good: usize, held: i32) -> Account
     other
 }
 
-/// How many of a good, 0..27, there are.
+/// How many units of a good, 0..27, an account has.
 fn held(account: &Account, good: usize) -> i32
     requires { good < 28 }
     ensures value { result ≡ worth.held account.now good }
@@ -27,7 +27,7 @@ fn held(account: &Account, good: usize) -> i32
     account.holdings[good]
 }
 
-/// One unit more than so many, as far as an account may hold it.
+/// One unit more, as far as an account may hold it.
 fn one_more(held: i32) -> i32
     requires { IsHolding held }
     ensures value { result ≡ worth.one_more held }
@@ -36,7 +36,7 @@ fn one_more(held: i32) -> i32
     (held + 1).min(HOLDING)
 }
 
-/// One unit less than so many, as far as an account may be short of it.
+/// One unit less, as far as an account may be short of it.
 fn one_less(held: i32) -> i32
     requires { IsHolding held }
     ensures value { result ≡ worth.one_less held }

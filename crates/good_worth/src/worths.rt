@@ -23,8 +23,8 @@ pub struct Worths {
 }
 
 impl Worths {
-    /// What one unit more of a good, 0..27, adds to the best total, in dollars. To bid more than that for it,
-    /// all else as it is, loses by it.
+    /// What one unit more of a good, 0..27, adds to the best total, in dollars. All else as it is, paying more for it
+    /// is a loss.
     pub fn up(&self, good: usize) -> u32
         requires { good < 28 }
         ensures { result ≡ up_at (worths_of self.now.base self.now.more.items self.now.less.items) good }
@@ -32,8 +32,8 @@ impl Worths {
         self.more[good].total - self.base.total
     }
 
-    /// What one unit less of a good, 0..27, takes from the best total, in dollars. To sell it for less,
-    /// all else as it is, loses by it.
+    /// What one unit less of a good, 0..27, takes from the best total, in dollars. All else as it is, selling it for less
+    /// is a loss.
     pub fn down(&self, good: usize) -> u32
         requires { good < 28 }
         ensures { result ≡ down_at (worths_of self.now.base self.now.more.items self.now.less.items) good }
@@ -73,14 +73,14 @@ fn solve_less(alloc: Global, account: &Account) -> Result<Vec<Solved>, Memory>
 }
 
 /// What one unit more and one unit less of each good would change, each shown by a best allocation with a certificate. That
-/// worth is reckoned so is our own rule. `Memory` leaves nothing.
+/// worth is computed so is our own rule. `Memory` leaves nothing.
 pub fn worth(alloc: Global, account: &Account) -> Result<Worths, Memory>
     // Each is solved as by `solve`.
     ensures solved { IfOk result (λ w. AreWorths account.now (worths_of w.base w.more.items w.less.items)) }
     // So the differences are those of the best totals, none of which is below 0.
     ensures up { IfOk result (λ w. (good : ℕ) → good < 28 → IsUp account.now good (up_at (worths_of w.base w.more.items w.less.items) good)) }
     ensures down { IfOk result (λ w. (good : ℕ) → good < 28 → IsDown account.now good (down_at (worths_of w.base w.more.items w.less.items) good)) }
-    // Nothing is lost of what is not held, and a good that is owed gains nothing by one more.
+    // One unit less of a good that is not held takes nothing, and one unit more of a good that is owed adds nothing.
     ensures not_held { IfOk result (λ w. (good : ℕ) → good < 28 → slice_index_or account.now.holdings good (pos 0) ≤ℤ pos 0 → down_at (worths_of w.base w.more.items w.less.items) good ≡ 0) }
     ensures owed { IfOk result (λ w. (good : ℕ) → good < 28 → slice_index_or account.now.holdings good (pos 0) <ℤ pos 0 → up_at (worths_of w.base w.more.items w.less.items) good ≡ 0) }
 {

@@ -25,8 +25,8 @@ use tac_base::limits::BID_PRICE;
 use tac_base::{Agent, Board, Call, Caller, Fills, Good, Kind, Left, Points, Reply, Unit};
 
 /// The auction of a hotel night, by the game description: its rooms go to the highest units, at the price of the unit that takes the last
-/// room, or at 0 where a room is left. A bid has to beat the published price, in dollars, which is a rule after TAC. Where quotes are live,
-/// which is our own rule, each admitted bid publishes the ask; else only publications and the closing do. No call takes memory.
+/// room, or at 0 if a room is left. A bid has to beat the published price, in dollars, which is a rule after TAC. If quotes are live,
+/// which is our own rule, each admitted bid publishes the ask; otherwise only publications and the closing do. No call takes memory.
 #[derive(Debug, Drop)]
 pub struct Hotel {
     good: Good,
@@ -66,7 +66,7 @@ impl Hotel {
         }
     }
 
-    /// A bid of an agent. It replaces the agent's earlier one, and where it is refused changes nothing.
+    /// A bid of an agent. It replaces the agent's earlier one, and if it is refused changes nothing.
     /// `fills` is left empty.
     pub fn bid(&mut self, at: u32, agent: Agent, points: &Points, fills: &mut Fills) -> Reply
         ensures follows { (setup : Setup) (past : List Entry) →
@@ -102,7 +102,7 @@ impl Hotel {
         self.published = after_bid(self.live, self.ranking.ask(), self.published);
     }
 
-    /// The clock's publication of the ask. It is refused in a closed hotel, and changes nothing there.
+    /// The clock's publication of the ask. In a closed hotel it is refused and changes nothing.
     pub fn publish(&mut self, at: u32) -> Reply
         ensures follows { (setup : Setup) (past : List Entry) →
             StandsFor self.old setup past → at ≡ length past →
@@ -117,7 +117,7 @@ impl Hotel {
     }
 
     /// The clock's closing, which sells the rooms and publishes the ask. `fills` then holds its trades.
-    /// It is refused in a closed hotel, and changes nothing there.
+    /// In a closed hotel it is refused and changes nothing.
     pub fn close(&mut self, at: u32, fills: &mut Fills) -> Reply
         ensures follows { (setup : Setup) (past : List Entry) →
             StandsFor self.old setup past → at ≡ length past →
@@ -142,7 +142,7 @@ impl Hotel {
         Reply::Sold { units, price }
     }
 
-    /// The standing units, the preceding one first: none in a closed hotel.
+    /// The standing units, in order of precedence: none in a closed hotel.
     pub fn units(&self) -> &[Unit]
         ensures units { (setup : Setup) (past : List Entry) →
             StandsFor self.now setup past → IsPermutation (map shown_unit (stand setup.rules past)) result.now }
@@ -151,7 +151,7 @@ impl Hotel {
         self.ranking.units()
     }
 
-    /// The ask of the standing units, in dollars, whether it is published or not: 0 where fewer stand than there are rooms.
+    /// The ask of the standing units, in dollars, whether it is published or not: 0 if fewer stand than there are rooms.
     pub fn ask(&self) -> u16
         ensures ask { (setup : Setup) (past : List Entry) →
             StandsFor self.now setup past → result ≡ asks.ask self.now.rooms (stand setup.rules past) }
@@ -173,7 +173,7 @@ impl Hotel {
     pub fn own(&self, agent: Agent) -> Left
         ensures left { (setup : Setup) (past : List Entry) → StandsFor self.now setup past →
             result ≡ left setup.rules past agent }
-        // To ask changes nothing.
+        // Reading changes nothing.
         ensures stands { (setup : Setup) (past : List Entry) → StandsFor self.now setup past →
             StandsFor self.now setup (entry_of setup past agent Call.Own ∷ past) }
     {
@@ -184,7 +184,7 @@ impl Hotel {
     }
 
     /// The refusal of a call that hotels do not have, or that the caller may not make: `Closed` in a closed
-    /// hotel, but for `Own`, and else `WrongCall`. It changes nothing.
+    /// hotel, except for `Own`, and otherwise `WrongCall`. It changes nothing.
     #[tactic(auto, using(crate::proofs::Keeping::follows_wrong))]
     pub fn refuse(&self, caller: Caller, call: &Call) -> Reply
         requires { IsTrue (is_wrong_caller caller call.now || is_wrong_place (Rules.Hotel self.now.rooms self.now.live) call.now) }
@@ -194,7 +194,7 @@ impl Hotel {
         wrong_reply(self.closed, call)
     }
 
-    /// What is shown of the hotel after `count` entries. Its bid is 0, and its ask the published price.
+    /// The board of the hotel after `count` entries. Its bid is 0, and its ask the published price.
     pub fn board(&self, count: u32) -> Board
         ensures board { (setup : Setup) (past : List Entry) →
             StandsFor self.now setup past → count ≡ length past → result ≡ board setup.rules past }

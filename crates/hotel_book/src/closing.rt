@@ -37,7 +37,7 @@ fn push_trade(fills: &mut Fills, trade: Option<Trade>)
     }
 }
 
-/// The trades of a closing, in place of those that stood in `fills`.
+/// The trades of a closing; `fills` holds them in place of what it held before.
 pub(crate) fn fill(fills: &mut Fills, good: Good, ranking: &Ranking)
     ensures { fills.new ≡ spec.winner_trades good (last_price ranking.now.rooms ranking.now.units) (won ranking.now.rooms ranking.now.units) }
 {

@@ -1,4 +1,4 @@
-//! The auction of a hotel night, which keeps the standing units in the order of precedence, with the ask and what each agent would win.
+//! The auction of a hotel night, which keeps the standing units in the order of precedence, with the ask and each agent's winning number.
 #![tactic(auto)]
 
 mod book;

@@ -21,7 +21,7 @@ fn precedes(first: &Unit, second: &Unit) -> bool
                 || (first.position == second.position && first.index < second.index)))
 }
 
-/// The place of the first unit that another one precedes.
+/// The index of the first unit that the given unit precedes.
 fn first_after(units: &[Unit], unit: &Unit) -> Option<usize>
     ensures place { result ≡ position (goes_first unit.now) units.now }
     ensures within { IfSome result (λ place. place < length units.now) }
@@ -29,7 +29,7 @@ fn first_after(units: &[Unit], unit: &Unit) -> Option<usize>
     units.iter().position(|other| precedes(unit, other))
 }
 
-/// The place of the first unit that another one precedes, or the number of units where there is none.
+/// The index of the first unit that the given unit precedes, or the number of units if there is none.
 #[tactic(auto, using(crate::proofs::Sorting::place_at, crate::proofs::Sorting::place_at_end))]
 fn place_of(units: &[Unit], unit: &Unit) -> usize
     ensures place { result ≡ position_or_len (goes_first unit.now) units.now }
@@ -41,7 +41,7 @@ fn place_of(units: &[Unit], unit: &Unit) -> usize
     }
 }
 
-/// Puts a unit in its place among units in order.
+/// Inserts a unit in its place among units in order.
 fn put(units: &mut ArrayVec<Unit, STANDING_UNITS>, unit: &Unit)
     requires room { length units.old.items < STANDING_UNITS }
     requires order { AreSorted units.old.items }
@@ -56,7 +56,7 @@ fn put(units: &mut ArrayVec<Unit, STANDING_UNITS>, unit: &Unit)
     units.insert(place, *unit);
 }
 
-/// Puts the units of a bid in their places among units in order.
+/// Inserts the units of a bid in their places among units in order.
 pub(crate) fn put_all(units: &mut ArrayVec<Unit, STANDING_UNITS>, bid: &Placed)
     requires room { length units.old.items + BID_UNITS ≤ STANDING_UNITS }
     requires order { AreSorted units.old.items }
@@ -74,7 +74,7 @@ pub(crate) fn put_all(units: &mut ArrayVec<Unit, STANDING_UNITS>, bid: &Placed)
     }
 }
 
-/// Takes the units of the agent that has the number out of units in order.
+/// Removes the units of the agent with this number from units in order.
 pub(crate) fn take_out(units: &mut ArrayVec<Unit, STANDING_UNITS>, number: u8)
     ensures { units.new.items ≡ filter (λ u. not (u.agent == number)) units.old.items }
 {

@@ -28,7 +28,7 @@ fn offered(points: &[Point], at: u16) -> u8
     total
 }
 
-/// The refusal of a bid of an agent that would win so many units, if there is one.
+/// The refusal of a bid of an agent that would win this many units, if there is one.
 pub(crate) fn refusal(won: u8, published: u16, closed: bool, points: &Points) -> Option<Reply>
     requires { published ≤ BID_PRICE }
     ensures { result ≡ book_refusal won published closed points.now }
@@ -50,7 +50,7 @@ pub(crate) fn refusal(won: u8, published: u16, closed: bool, points: &Points) ->
     }
 }
 
-/// The published price after an admitted bid: where quotes are live the ask, and else the one before.
+/// The published price after an admitted bid: the ask if quotes are live, and otherwise the one before.
 pub(crate) fn after_bid(live: bool, ask: u16, published: u16) -> u16
     ensures { result ≡ (if live then ask else published) }
 {

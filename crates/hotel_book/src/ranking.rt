@@ -14,7 +14,7 @@ use std::marker::Model;
 use tac_base::limits::{BID_PRICE, BID_UNITS, STANDING_UNITS};
 use tac_base::{Agent, Unit};
 
-/// The standing units of a hotel, the preceding one first, and what the first of them give: the ask, and how many rooms each agent wins.
+/// The standing units of a hotel, in order of precedence, and what the first of them determine: the ask, and how many rooms each agent wins.
 /// Contracts see it as its rooms and its units.
 #[derive(Debug, Drop)]
 pub(crate) struct Ranking {
@@ -34,7 +34,7 @@ impl Model for Ranking {
     ghost invariant = { λ r. IsRanked r.rooms r.units.items r.ask r.winning };
 }
 
-/// The price of the unit that takes the last room, and 0 where a room is left.
+/// The price of the unit that takes the last room, or 0 if a room is left.
 fn last_price(rooms: u8, units: &[Unit]) -> u16
     requires { 1 ≤ rooms }
     ensures { result ≡ ranked.last_price rooms units.now }
@@ -45,7 +45,7 @@ fn last_price(rooms: u8, units: &[Unit]) -> u16
     }
 }
 
-/// How many rooms the agent that has the number takes.
+/// How many rooms the agent with this number takes.
 fn won(rooms: u8, units: &[Unit], number: u8) -> u8
     ensures { result ≡ ranked.won rooms units.now number }
 {
@@ -73,7 +73,7 @@ fn winning_numbers(rooms: u8, units: &[Unit]) -> [u8; 8]
 }
 
 impl Ranking {
-    /// No unit, and so many rooms.
+    /// No units, and this many rooms.
     pub(crate) fn new(rooms: u8) -> Ranking
         requires { 1 ≤ rooms }
         ensures rooms { result.rooms ≡ rooms }
@@ -87,7 +87,7 @@ impl Ranking {
         }
     }
 
-    /// The units, the preceding one first.
+    /// The units, in order of precedence.
     pub(crate) fn units(&self) -> &[Unit]
         ensures value { result.now ≡ self.now.units }
         ensures sorted { AreSorted self.now.units }
@@ -95,7 +95,7 @@ impl Ranking {
         self.units.as_slice()
     }
 
-    /// The price of the unit that takes the last room, and 0 where a room is left.
+    /// The price of the unit that takes the last room, or 0 if a room is left.
     pub(crate) fn ask(&self) -> u16
         ensures value { result ≡ ranked.last_price self.now.rooms self.now.units }
         ensures within { result ≤ BID_PRICE }
@@ -122,7 +122,7 @@ impl Ranking {
         usize::from(self.rooms).min(self.units.len()) as u8
     }
 
-    /// Puts the units of a bid in place of those that its agent had.
+    /// Replaces the units of the bid's agent by those of the bid.
     pub(crate) fn replace(&mut self, bid: &Placed)
         requires { count_by (λ u. not (u.agent == bid.now.agent)) self.old.units + BID_UNITS ≤ STANDING_UNITS }
         ensures rooms { self.new.rooms ≡ self.old.rooms }
@@ -137,7 +137,7 @@ impl Ranking {
         self.winning = winning_numbers(self.rooms, &self.units);
     }
 
-    /// Takes all units out.
+    /// Removes all units.
     pub(crate) fn clear(&mut self)
         ensures rooms { self.new.rooms ≡ self.old.rooms }
         ensures none { self.new.units ≡ [] }

@@ -7,7 +7,7 @@ use line_protocol::{Request, RequestFault, Said};
 use std::alloc::Global;
 use tac_base::Text;
 
-/// Lines that are JSON objects. Reading takes memory of the allocator, and a line that finds none is answered with the
+/// Lines that are JSON objects. Reading takes memory of the allocator, and a line for which there is none is answered with the
 /// fault `Memory`; printing takes none.
 #[derive(Clone, Copy)]
 pub struct JsonDialect {

@@ -1,5 +1,5 @@
-//! The lines of agents as JSON texts, one object a line: requests are read as what their objects ask, and what an agent
-//! is told is printed as an object. The objects and their texts are our own.
+//! The lines of agents as JSON texts, one object per line: requests are read as what their objects ask, and replies
+//! are printed as objects. The objects and their texts are our own.
 #![tactic(auto)]
 
 mod dialect;

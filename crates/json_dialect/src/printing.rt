@@ -87,7 +87,7 @@ fn print_own(holding: i32, left: &Left, out: &mut Text)
     print_left(left, out);
 }
 
-/// Appends what a hotel bid lacks.
+/// Appends the numbers of a hotel bid that is below the quote.
 fn print_below(need: u8, at: u16, offered: u8, out: &mut Text)
     requires { length out.old + 288 ≤ REPLY_TEXT }
     ensures value { out.new ≡ out.old ++ json.below_members need at offered }
@@ -102,7 +102,7 @@ fn print_below(need: u8, at: u16, offered: u8, out: &mut Text)
     print_numeral(u64::from(offered), out);
 }
 
-/// Appends the members of a reply that stand after its position.
+/// Appends the members of a reply that follow its position.
 fn print_members(reply: &Reply, out: &mut Text)
     requires { length out.old + 288 ≤ REPLY_TEXT }
     ensures value { out.new ≡ out.old ++ json.reply_members reply.now }
@@ -129,7 +129,7 @@ fn print_members(reply: &Reply, out: &mut Text)
     }
 }
 
-/// Appends an object's start with a position.
+/// Appends the start of an object with a position.
 fn print_place(position: u32, out: &mut Text)
     requires { length out.old + 32 ≤ REPLY_TEXT }
     ensures value { out.new ≡ out.old ++ json.place position }
@@ -166,7 +166,7 @@ fn print_cash(position: u32, dollars: i64, out: &mut Text)
     out.push(b'}');
 }
 
-/// Whether an auction is open, in words of JSON.
+/// Whether an auction is open, as a JSON word.
 fn openness(closed: bool) -> &'static [u8]
     ensures value { result.now ≡ json.openness closed }
     ensures len { length result.now ≤ 5 }
@@ -217,7 +217,7 @@ fn print_fault(fault: RequestFault, out: &mut Text)
     }
 }
 
-/// Appends the object that tells something, without a line end, where 512 bytes are free.
+/// Appends the object of a reply, without a line end; 512 bytes have to be free.
 pub(crate) fn print_said(said: &Said, out: &mut Text)
     requires { length out.old + LINE_BYTES ≤ REPLY_TEXT }
     ensures value { out.new ≡ out.old ++ json.json_text said.now }
@@ -235,8 +235,8 @@ pub(crate) fn print_said(said: &Said, out: &mut Text)
     }
 }
 
-/// The law of the texts, as this call's contract: different things in the ranges of `read_reply` have different texts,
-/// so an agent that is told in JSON is told as much as one that is told in words.
+/// The law of the texts, as this call's contract: different replies in the ranges of `read_reply` have different texts,
+/// so JSON tells an agent as much as words do.
 pub fn one_json_text()
     ensures { (one other : Said) → IsSaid one → IsSaid other → json.json_text one ≡ json.json_text other → one ≡ other }
 {}

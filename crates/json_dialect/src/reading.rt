@@ -15,7 +15,7 @@ use std::alloc::Global;
 use std::marker::Model;
 use tac_base::{BidDraft, BidFault, Good, Points};
 
-/// The most that a number is read as.
+/// The greatest number that is read.
 const HIGHEST: i64 = 99_999;
 
 /// A whole number in 0..99999.
@@ -54,7 +54,7 @@ fn good_of(value: &Value) -> Result<Good, RequestFault>
     }
 }
 
-/// A point as it was read, in no limits yet.
+/// A point as it was read, within no limits yet.
 #[derive(Drop)]
 struct ReadPoint {
     units: i64,
@@ -70,7 +70,7 @@ impl Model for ReadPoint {
 }
 
 impl ReadPoint {
-    /// Adds the point to a bid, where it brings no fault.
+    /// Adds the point to a bid, unless it brings a fault.
     fn add_to(&self, draft: &mut BidDraft) -> Result<(), BidFault>
         ensures fault { IfErr result (λ fault. left_fault (draft.old ++ self.now ∷ []) ≡ Some fault) }
         ensures ok { OnOk result (draft.new ≡ draft.old ++ self.now ∷ []) }
@@ -161,7 +161,7 @@ fn bid(word: &str, number: Option<&Value>, points: Option<&Value>) -> Result<Req
     }
 }
 
-/// The request of a line of one word.
+/// The request with only the word at `do`.
 fn plain(word: &str) -> Result<Request, RequestFault>
     ensures { result ≡ json.plain word.now }
 {
@@ -195,7 +195,7 @@ fn about(word: &str, number: Option<&Value>) -> Result<Request, RequestFault>
     }
 }
 
-/// What an object of so many members asks, by the word at `do`.
+/// What an object with this many members asks, by the word at `do`.
 fn asked_by(
     word: &str,
     count: usize,
@@ -247,7 +247,7 @@ pub(crate) fn read_line(alloc: Global, line: &[u8]) -> Result<Request, RequestFa
     }
 }
 
-/// The law of requests, as this call's contract: the plain object of a request in range is read as it.
+/// The law of requests, as this call's contract: the plain object of a request in range is read as that request.
 pub fn one_json_request()
     ensures { (request : Request) → IsRequest request → json.asks_json (object_text request) ≡ Ok request }
 {}

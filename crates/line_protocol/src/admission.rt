@@ -1,15 +1,15 @@
 use tac_base::Agent;
 
-/// What became of a link that asked for a seat. The answers and their order are our own.
+/// The verdict on a link that asked for a seat. The answers and their order are our own.
 #[derive(Clone, Copy, Debug, PartialEq, Eq)]
 pub enum Verdict {
     /// It plays as this agent.
     Seated(Agent),
-    /// Its first line was no `hello` with a seat word.
+    /// Its first line was not `hello` with a seat word.
     Syntax,
     /// No seat has its word.
     WrongWord,
-    /// The seat of its word was taken before.
+    /// The seat of its word is already taken.
     Taken,
     /// Its first line had no end within the bytes that a link may give, or a read failed before.
     Lost,
@@ -26,6 +26,6 @@ pub enum Cause {
     ReadFault,
     /// A write failed.
     WriteFault,
-    /// The session came to its last line or its last byte.
+    /// The session used up its lines or its bytes.
     Budget,
 }

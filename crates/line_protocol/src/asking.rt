@@ -6,7 +6,7 @@ use thiserror::Error;
 pub enum Request {
     /// A bid in the auction of the good, in place of the whole earlier bid.
     Bid { good: Good, points: Points },
-    /// The standing bid in the auction of the good is taken back.
+    /// The standing bid in the auction of the good is withdrawn.
     Withdraw { good: Good },
     /// The agent's holding of the good and its standing points.
     Own { good: Good },
@@ -18,14 +18,14 @@ pub enum Request {
     Quit,
 }
 
-/// Why a line is no request. The faults are tried in the order in which they stand here, which is our own rule.
-/// Nothing is changed by such a line.
+/// Why a line is no request. The faults are tried in this order, which is our own rule.
+/// Such a line changes nothing.
 #[derive(Clone, Copy, Debug, PartialEq, Eq, Error)]
 pub enum RequestFault {
     /// The line has none of the forms of a request.
     #[error("the line has none of the forms of a request")]
     Syntax,
-    /// The number is no good, 0..27.
+    /// The number is not a good, 0..27.
     #[error("there is no such auction")]
     NoSuchAuction,
     /// The points are refused.

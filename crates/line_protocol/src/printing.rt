@@ -51,7 +51,7 @@ fn print_left(left: &Left, out: &mut Text)
     print_points(left.as_slice(), out);
 }
 
-/// Appends the text of a reply without its position, as a log shows it, where 288 bytes are free. It takes at most 288
+/// Appends the text of a reply without its position, as a log shows it; 288 bytes have to be free. It takes at most 288
 /// of them, and none of them is a line end.
 pub fn print_answer(reply: &Reply, out: &mut Text)
     requires { length out.old + 288 ≤ REPLY_TEXT }
@@ -121,7 +121,7 @@ fn print_fault(fault: RequestFault, out: &mut Text)
     }
 }
 
-/// What is told of an auction that is closed or not.
+/// The word for whether an auction is closed.
 fn state_of(closed: bool) -> &'static [u8]
     ensures value { result.now ≡ state_word closed }
     ensures len { length result.now ≤ 6 }
@@ -145,7 +145,7 @@ fn print_board(board: &Board, out: &mut Text)
     out.push_bytes(state_of(board.closed));
 }
 
-/// Appends the line of what is said, without its line end, where 512 bytes are free. It takes at most 512 of them,
+/// Appends the line of a reply, without its line end; 512 bytes have to be free. It takes at most 512 of them,
 /// and none of them is a line end. The lines are our own.
 pub fn print_reply(said: &Said, out: &mut Text)
     requires { length out.old + LINE_BYTES ≤ REPLY_TEXT }

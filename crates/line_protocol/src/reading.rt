@@ -10,7 +10,7 @@ use tac_base::limits::{CASH_DIGITS, POSITION, SHOWN_HOLDING, SHOWN_PRICE};
 use tac_base::{BidFault, Board, Left, Reply, read_numeral, read_signed};
 use text_forms::Words;
 
-/// The value, where no word is left.
+/// The value, if no word is left.
 fn ended<T: Drop>(value: T, mut words: Words<'_>) -> Option<T>
     ensures { result ≡ forms.ended value words.entry }
 {
@@ -20,7 +20,7 @@ fn ended<T: Drop>(value: T, mut words: Words<'_>) -> Option<T>
     }
 }
 
-/// The number of a numeral, where it is at most the limit.
+/// The number of a numeral, if it is at most the limit.
 fn number_within(word: &[u8], limit: u64) -> Option<u64>
     ensures value { result ≡ forms.within limit word.now }
     ensures bound { IfSome result (λ n. n ≤ limit) }
@@ -29,7 +29,7 @@ fn number_within(word: &[u8], limit: u64) -> Option<u64>
     if number <= limit { Some(number) } else { None }
 }
 
-/// The number of the next word, where it is at most the limit, and the words after it.
+/// The number of the next word, if it is at most the limit, and the words after it.
 fn next_within<'a>(mut words: Words<'a>, limit: u64) -> Option<(u64, Words<'a>)>
     ensures value { result ≡ forms.next_within limit words.entry }
     ensures bound { IfSome result (λ x. x.0 ≤ limit) }
@@ -55,7 +55,7 @@ fn next_price<'a>(words: Words<'a>) -> Option<(u16, Words<'a>)>
     Some((price as u16, words))
 }
 
-/// The holding that a word tells.
+/// The holding of a word.
 fn holding_of(word: &[u8]) -> Option<i32>
     ensures { result ≡ forms.holding_of word.now }
 {
@@ -125,7 +125,7 @@ fn below_of(words: Words<'_>) -> Option<Reply>
     ended(Reply::BelowQuote { need, at, offered }, words)
 }
 
-/// The reply of the words after `own`: a holding, and the rest of the line, which are standing points.
+/// The reply of the words after `own`: a holding, and the rest of the line, which is the standing points.
 fn own_of(mut words: Words<'_>) -> Option<Reply>
     ensures { result ≡ forms.own_of words.entry }
 {
@@ -186,7 +186,7 @@ fn cash_of(position: u32, mut words: Words<'_>) -> Option<Said>
     ended(Said::Cash(position, dollars), words)
 }
 
-/// Whether a word tells that an auction is closed.
+/// Whether a word says that an auction is closed.
 fn state_of(word: &[u8]) -> Option<bool>
     ensures { result ≡ forms.state_of word.now }
 {
@@ -199,7 +199,7 @@ fn state_of(word: &[u8]) -> Option<bool>
     }
 }
 
-/// Whether the next word tells that an auction is closed, and the words after it.
+/// Whether the next word says that an auction is closed, and the words after it.
 fn next_state<'a>(mut words: Words<'a>) -> Option<(bool, Words<'a>)>
     ensures { result ≡ forms.next_state words.entry }
 {
@@ -224,7 +224,7 @@ fn quote_of(count: u32, words: Words<'_>) -> Option<Said>
     ended(Said::Quote(board), words)
 }
 
-/// What the words after a position tell.
+/// The reply of the words after a position.
 fn placed_of(position: u32, mut words: Words<'_>) -> Option<Said>
     ensures { result ≡ forms.placed_of position words.entry }
 {
@@ -253,7 +253,7 @@ fn fault_at(number: u64) -> Option<BidFault>
     }
 }
 
-/// What the words after `no bid` tell.
+/// The fault of the words after `no bid`.
 fn bid_fault_of(words: Words<'_>) -> Option<Said>
     ensures { result ≡ forms.bid_fault_of words.entry }
 {
@@ -262,7 +262,7 @@ fn bid_fault_of(words: Words<'_>) -> Option<Said>
     ended(Said::Fault(RequestFault::Bid(fault)), words)
 }
 
-/// What the words after `no` tell, where no position stands before it.
+/// The reply of the words after `no`, if no position stands before it.
 fn unplaced_of(mut words: Words<'_>) -> Option<Said>
     ensures { result ≡ forms.unplaced_of words.entry }
 {
@@ -284,7 +284,7 @@ fn unplaced_of(mut words: Words<'_>) -> Option<Said>
     }
 }
 
-/// What a line tells, over the definition of its form.
+/// The reply of a line, over the definition of its form.
 #[tactic(auto, unfolding(crate::specs::ReplyForms::said_of))]
 fn said_of(line: &[u8]) -> Option<Said>
     ensures { result ≡ forms.said_of line.now }
@@ -301,8 +301,8 @@ fn said_of(line: &[u8]) -> Option<Said>
     placed_of(position, words)
 }
 
-/// What a line without its line end tells. There is none exactly where the line is no text that `print_reply` appends
-/// of a value in these ranges: positions and counts 0..16777215, prices at most 10001 dollars, units at most 255,
+/// The reply of a line without its line end. There is none exactly if the line is no text that `print_reply` appends
+/// for a value in these ranges: positions and counts 0..16777215, prices at most 10001 dollars, units at most 255,
 /// holdings -1000000..1000000, cash of at most 18 digits, and standing points within the limits of a bid.
 pub fn read_reply(line: &[u8]) -> Option<Said>
     ensures found { IfSome result (λ said. IsSaidText line.now said) }
@@ -321,7 +321,7 @@ fn answer_of(text: &[u8]) -> Option<Reply>
     reply_of(keyword, words)
 }
 
-/// The reply of a text as `print_answer` appends it, without a position. There is none exactly where the text is no such text of a
+/// The reply of a text as `print_answer` appends it, without a position. There is none exactly if the text is no such text of a
 /// reply in the ranges of `read_reply`.
 pub fn read_answer(text: &[u8]) -> Option<Reply>
     ensures exact { result ≡ forms.answer_of text.now }

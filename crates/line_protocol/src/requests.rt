@@ -86,7 +86,7 @@ fn bid_of(keyword: &[u8], number: &[u8], points: &[u8]) -> Result<Request, Reque
     }
 }
 
-/// The request of a line without its line end, or the first fault: the form of the line, then the number of the
+/// The request of a line without its line end, or the first fault: the form of the line comes first, then the number of the
 /// auction, then the points. The requests and their forms are our own.
 pub fn read_request(line: &[u8]) -> Result<Request, RequestFault>
     ensures exact { result ≡ asked.request_of line.now }
@@ -114,8 +114,8 @@ fn request_of(line: &[u8]) -> Result<Request, RequestFault>
     }
 }
 
-/// The law of requests, as this call's contract. A line of a form is answered by its number and its points, and a line
-/// of no form is `Syntax`. What is read is the text of the request, and each text of a request is read as it.
+/// The law of requests, as this call's contract. A line of a form is answered by its number and its points, and any other line
+/// is `Syntax`. What is read is the text of the request, and each text of a request is read as it.
 pub fn one_request()
     ensures formed { (form : forms.Form) → forms.IsForm form → asked.request_of (forms.form_text form) ≡ forms.answer_to form }
     ensures syntax { (line : List ℕ) → (asked.request_of line ≡ Err asked.syntax) ⊎ forms.HasForm line }

@@ -1,16 +1,16 @@
 use crate::RequestFault;
 use tac_base::{Board, Reply};
 
-/// What an agent is told in a line.
+/// What an agent is answered in a line.
 #[derive(Debug, Drop)]
 pub enum Said {
     /// The reply to a call, whose entry has this position in the history of its auction, counted from 0.
     At(u32, Reply),
-    /// The agent's net cash, in dollars, in the posts before this position of the cash book.
+    /// The agent's net cash, in dollars, over the posts before this position of the cash book.
     Cash(u32, i64),
     /// The board of an auction after the first `count` entries.
     Quote(Board),
-    /// The agent has made all calls that it may make there. Nothing was asked, and there is no entry.
+    /// The agent has used up its calls there. Nothing was asked, and there is no entry.
     Spent,
     /// The line was no request.
     Fault(RequestFault),

@@ -1,4 +1,4 @@
-// The audit of a log, kind by kind of flaw.
+// The audit of a log, by kinds of flaws.
 ghost use Rattle.std.specs.Prelude.{◌≡◌, ◌↔◌, IfOk};
 ghost use Rattle.game_text.specs.Games.{GameFile};
 ghost use Rattle.score_sheet.specs.Settlement.{settlement_of};
@@ -77,14 +77,14 @@ fn last_flaw(game: &Game, log: &Log, accounts: &Accounts) -> Option<Flaw>
 }
 
 /// Judges a log by its game: that its histories are legal and its posts right, that the scores are those that are due, with packages and
-/// certificates for them, and that the head goes with all that. Nothing is played over links, and no best allocation is searched for. What
-/// the links were sent and gave is in no log, so nothing is said of it. After `Memory` nothing was found.
+/// certificates for them, and that the head agrees with all that. Nothing is played over links, and no best allocation is searched for. What
+/// the links sent and were sent is in no log, so nothing is said of it. After `Memory` nothing was found.
 pub fn audit_log(alloc: Global, game: &Game, log: &Log) -> Result<Finding, Memory>
     ensures sound { IfOk result (λ finding. (finding ≡ Finding.Sound) ↔ IsSound game.now log.now) }
-    // A flaw that is told is one of the log, and no flaw of the log comes before it.
+    // A flaw that is reported is one of the log, and no flaw of the log comes before it.
     ensures flaw { IfOk result (IsFound game.now log.now) }
 {
-    // What is found rests on the ranges of the log.
+    // The findings rest on the ranges of the log.
     let _head = log.head();
     let (auctions, earned) = match replay_all(alloc, game, log)? {
         Replays::Fair { auctions, nets } => (auctions, nets),
@@ -101,7 +101,7 @@ pub fn audit_log(alloc: Global, game: &Game, log: &Log) -> Result<Finding, Memor
     if let Some(flaw) = post_flaw(alloc, log, &earned)? {
         return Ok(Finding::Unsound(flaw));
     }
-    // Settling reads the auctions alone.
+    // Settling only reads the auctions.
     let cash = CashBook::begin(alloc)?;
     let closed = Closed { auctions, cash };
     let accounts = settle(&closed);

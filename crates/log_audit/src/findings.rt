@@ -1,6 +1,6 @@
 use tac_base::{Agent, Good};
 
-/// Where a log is not sound. A log can have several flaws: the first one is told, by the order in which they stand here, which is our own
+/// Why a log is not sound. A log can have several flaws: the first one is reported, in the order in which they stand here, which is our own
 /// rule, and of one kind the one at the lowest good, and there at the lowest position or agent.
 #[derive(Clone, Copy, Debug, PartialEq, Eq)]
 pub enum Flaw {
@@ -16,7 +16,7 @@ pub enum Flaw {
     Unposted { good: Good, position: u32 },
     /// The score of an agent, its packages or its certificate are not right.
     Score { agent: Agent },
-    /// What the head says of the links, the ends and the missed ticks cannot be so.
+    /// What the head says of the links, the ends and the missed ticks cannot be true.
     Head,
 }
 
@@ -25,6 +25,6 @@ pub enum Flaw {
 pub enum Finding {
     /// The log is sound.
     Sound,
-    /// It is not, and this is its first flaw.
+    /// It is not sound, and this is its first flaw.
     Unsound(Flaw),
 }

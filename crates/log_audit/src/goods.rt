@@ -13,7 +13,7 @@ pub(crate) fn good_of(number: u8) -> Good
     Good::new(number).unwrap()
 }
 
-/// The tick after so many, which are fewer than all 54.
+/// The tick after this many, which are fewer than all 54.
 pub(crate) fn tick_after(number: u8) -> Tick
     requires { number < 54 }
     ensures { result ≡ number + 1 }

@@ -1,4 +1,4 @@
-// The head of a log beside its histories.
+// The head of a log, compared with its histories.
 ghost use Rattle.std.specs.Prelude.{◌≡◌, ◌==◌, ℕ, ◌≤◌, ◌↔◌, map, Some, length, slice_get, IsTrue};
 ghost use Rattle.std.specs.List.{list_any};
 ghost use Rattle.log_audit.specs.Auditing.{IsEndFollowed};
@@ -42,7 +42,7 @@ fn is_end_of(ends: &[(Agent, Cause)], place: usize, agent: Agent) -> bool
     }
 }
 
-/// How many ends are due with an agent, if so many are due before it. None where it has a seat, and the next end is not its own.
+/// How many ends are due with an agent, if this many are due before it. None if it has a seat, and the next end is not its own.
 fn follow_end(
     verdicts: &[Verdict],
     ends: &[(Agent, Cause)],
@@ -138,7 +138,7 @@ fn is_service(log: &Log, verdicts: &[Verdict], ends: &[(Agent, Cause)], missed: 
     are_others_absent(log, verdicts)
 }
 
-/// Whether the head of a log goes with its histories.
+/// Whether the head of a log agrees with its histories.
 pub(crate) fn is_sound_head(log: &Log) -> bool
     ensures { IsTrue result ↔ IsSoundHead log.now log.now.head }
 {

@@ -27,7 +27,7 @@ impl Model for Places {
     ghost invariant = { λ p. length p.named.items ≡ 231168 };
 }
 
-/// Where the place of an entry is in the list.
+/// The index of the place of an entry in the list.
 fn place_of(good: Good, position: u32) -> usize
     requires { position < AUCTION_ENTRIES }
     ensures value { result ≡ place_at good position }

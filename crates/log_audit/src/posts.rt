@@ -1,4 +1,4 @@
-// The posts of a log beside its entries with trades.
+// The posts of a log, compared with its entries with trades.
 ghost use Rattle.std.specs.Prelude.{◌≡◌, ℕ, ◌<◌, ◌↔◌, ◌++◌, List, [], ◌∷◌, Some, None, length, map, slice_get, IsTrue};
 ghost use Rattle.auction_rules.specs.History.{Entry as HistoryEntry};
 ghost use Rattle.trade_ledger.specs.declared.cash_calls.CashEntry.{CashEntry};
@@ -58,7 +58,7 @@ fn is_earned(
     }
 }
 
-/// Whether an entry of the cash history, if it is a post, is due, where these places were named by the posts before it. Names its place.
+/// Whether an entry of the cash history, if it is a post, is due, given the places named by the posts before it. Names its place.
 fn is_due(log: &Log, earned: &[Vec<Nets>], places: &mut Places, entry: &CashEntry) -> bool
     requires { AreNets log.now earned.now }
     ensures answer { (before : List CashEntry) → AreNamed before places.old → IsTrue result ↔ IsDuePost (history_at log.now) before entry.now.caller entry.now.call }

@@ -1,4 +1,4 @@
-// The readings of a cash history beside the posts before them.
+// The readings of a cash history, compared with the posts before them.
 ghost use Rattle.std.specs.Prelude.{◌≡◌, ℕ, ◌<◌, ◌≤◌, ◌↔◌, ◌+ℤ◌, List, pos, length, slice_index_or, IsTrue};
 ghost use Rattle.tac_base.specs.declared.limits.TheConstants.{CASH_ENTRIES};
 ghost use Rattle.trade_ledger.specs.CashHistory.{gain_of};

@@ -17,7 +17,7 @@ use tac_base::limits::{AGENT_CALLS, CLOCK_CALLS};
 use tac_base::{Caller, Entry, Good, Memory, Nets, Trade, same_reply};
 use turn_lock::Kept;
 
-/// What playing a history again gave.
+/// The result of playing a history again.
 #[derive(Drop)]
 pub(crate) enum Replay {
     /// Each entry is the one that the rules give: the auction after them all, and what the trades of each gave the parties.
@@ -26,7 +26,7 @@ pub(crate) enum Replay {
     Unfair { position: u32 },
 }
 
-/// What playing the histories of all goods again gave.
+/// The result of playing the histories of all goods again.
 #[derive(Drop)]
 pub(crate) enum Replays {
     /// Each entry is the one that the rules give: the auctions by good, and by good and position what the trades gave the parties.
@@ -41,7 +41,7 @@ pub(crate) enum Replays {
     },
 }
 
-/// Whether a caller has an entry left, where the callers have had so many.
+/// Whether a caller has an entry left, if the callers have had this many.
 fn has_room(counts: &[u32; 9], caller: Caller) -> bool
     ensures room { IsTrue result ↔ (slice_index counts.now caller < cap caller) }
     ensures known { caller ≤ 8 }
@@ -54,7 +54,7 @@ fn has_room(counts: &[u32; 9], caller: Caller) -> bool
     counts[usize::from(caller.get())] < cap
 }
 
-/// Counts one entry more of a caller.
+/// Counts one more entry of a caller.
 fn count(counts: &mut [u32; 9], caller: Caller)
     requires { slice_index counts.old caller < AGENT_CALLS }
     ensures { counts.new ≡ slice_set counts.old caller (slice_index counts.old caller + 1) }
@@ -69,7 +69,7 @@ fn same_trades(a: &[Trade], b: &[Trade]) -> bool
     a == b
 }
 
-/// Makes the call of an entry in the auction. Answers what its trades gave each party, and None where the reply or the trades are not those
+/// Makes the call of an entry in the auction. Answers what its trades gave each party, and None if the reply or the trades are not those
 /// of the entry.
 fn strike(auction: &mut Auction, entry: &Entry, trades: &[Trade]) -> Option<Nets>
     requires fit { IsFit entry.now.call }
@@ -93,7 +93,7 @@ fn strike(auction: &mut Auction, entry: &Entry, trades: &[Trade]) -> Option<Nets
 }
 
 /// Makes the call of the next entry of a history, whose entries before it the auction has. Answers what its trades gave each party, and None
-/// where the entry is not fair.
+/// if the entry is not fair.
 fn strike_next(auction: &mut Auction, counts: &mut [u32; 9], history: &LogHistory) -> Option<Nets>
     requires before { auction.old.history ≡ take (length auction.old.history) history.now }
     requires inside { length auction.old.history < length history.now }

@@ -1,4 +1,4 @@
-// The clock's calls of a log beside those of the game's schedule.
+// The clock's calls of a log, compared with those of the game's schedule.
 ghost use Rattle.std.specs.Prelude.{◌≡◌, ◌↔◌, ◌++◌, [], ◌∷◌, ◌≤◌, Some, length, slice_get, IfOk, OnOk, IsTrue};
 ghost use Rattle.game_text.specs.Schedule.{calls_at, clock_calls};
 ghost use Rattle.log_reader.specs.SoundLog.{clock_calls_in, history_at};
@@ -52,7 +52,7 @@ fn due_calls(alloc: Global, game: &Game, good: Good) -> Result<Vec<Call>, AllocE
     Ok(calls)
 }
 
-/// Whether a call stands at a place among those that are due.
+/// Whether a call is the one at a place among those that are due.
 fn is_next(due: &[Call], place: usize, call: &Call) -> bool
     ensures { IsTrue result ↔ (slice_get due.now place ≡ Some call.now) }
 {
@@ -62,7 +62,7 @@ fn is_next(due: &[Call], place: usize, call: &Call) -> bool
     }
 }
 
-/// How many calls that are due were made with an entry, if so many were made before it. None where it is of the clock, and not the next one.
+/// How many calls that are due were made with an entry, if this many were made before it. None if it is of the clock, and not the next one.
 fn follow(due: &[Call], made: usize, entry: &Entry) -> Option<usize>
     requires { made ≤ length due.now }
     ensures { IsFollowed due.now made entry.now.caller entry.now.call result }

@@ -1,4 +1,4 @@
-// The scores of a log beside what the histories leave to each agent.
+// The scores of a log, compared with what the histories leave to each agent.
 ghost use Rattle.std.specs.Prelude.{◌≡◌, ◌<◌, ◌↔◌, IsTrue};
 ghost use Rattle.score_sheet.specs.Score as rules;
 ghost use Rattle.score_sheet.specs.Settlement.{settlement_of};
@@ -24,7 +24,7 @@ fn reckoned(line: &ScoreLine) -> i64
     i64::from(line.best) + line.cash - 200 * i64::from(line.short)
 }
 
-/// Whether a score has this cash and is short of so many tickets, and is reckoned by its own numbers.
+/// Whether a score has this cash and this many tickets short, and is computed from its own numbers.
 fn is_reckoned(line: &ScoreLine, cash: i64, short: u32) -> bool
     requires { IsLoggedScore line.now }
     ensures { IsTrue result ↔ ((line.now.cash ≡ cash) × (line.now.short ≡ short) × (line.now.score ≡ rules.score_of line.now.best line.now.cash line.now.short)) }

@@ -16,7 +16,7 @@ use tac_base::Agent;
 /// The reason of a certificate that ends too early or too late.
 const TEXT_END: u8 = 7;
 
-/// The fault of a log in which the block after the line of a number is no certificate.
+/// The fault of a log in which the block after the line of its number is no certificate.
 fn fault_at(number: u32, fault: CertFault) -> LogFault
     requires number { number ≤ last_number }
     requires line { IsLowFault fault }
@@ -33,7 +33,7 @@ fn fault_at(number: u32, fault: CertFault) -> LogFault
     }
 }
 
-/// Reads the certificate of a block that follows the line of a number.
+/// Reads the certificate of a block that follows the line of its number.
 fn cert_at(alloc: Global, number: u32, block: &[u8]) -> Result<Cert, LogFault>
     requires { number ≤ last_number }
     ensures { IsReading (λ cert. tree_of cert.root) result (refused (reading.cert_by number (cert_of block.now))) }

@@ -7,7 +7,7 @@ use thiserror::Error;
 /// Why a text is not read as a log. Nothing was made.
 #[derive(Clone, Copy, Debug, PartialEq, Eq, Error)]
 pub enum LogFault {
-    /// The first line, counted from 1, at which no log goes on.
+    /// The first line, counted from 1, that fits no log.
     #[error("line {line} of the log is bad")]
     Line { line: u32 },
     /// The text has more than 67,108,864 bytes.

@@ -15,7 +15,7 @@ use tac_base::Agent;
 use tac_base::limits::TEXT_BYTES;
 use text_forms::BadLine;
 
-/// The most links that a log has, as of the ticks that were missed.
+/// The most links that a log has, and the most missed ticks.
 const LINKS: u32 = 255;
 
 /// The links, in order of arrival.

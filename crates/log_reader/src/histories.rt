@@ -98,7 +98,7 @@ fn entry_at(entries: &[Entry], position: u32) -> Option<&Entry>
     entries.get(position as usize)
 }
 
-/// So many of the trades, from the first on.
+/// The first trades, this many.
 fn part_of(trades: &[Trade], first: usize, count: usize) -> &[Trade]
     requires { first + count ≤ length trades.now }
     ensures { result.now ≡ take count (drop first trades.now) }
@@ -106,7 +106,7 @@ fn part_of(trades: &[Trade], first: usize, count: usize) -> &[Trade]
     &trades[first..first + count]
 }
 
-/// Stores an entry behind others, and its trades behind theirs. After `Memory` nothing was stored.
+/// Stores an entry after others, and its trades after theirs. After `Memory` nothing was stored.
 fn store(entries: &mut Vec<Entry>, trades: &mut Vec<Trade>, entry: ReadEntry) -> Result<(), Memory>
     requires { vec_len trades.old < 2 ^ 32 }
     ensures entries { OnOk result (entries.new.items ≡ entries.old.items ++ entry_behind trades.old.items entry.caller entry.call entry.reply entry.trades ∷ []) }

@@ -47,7 +47,7 @@ impl<'a> LogLines<'a> {
         Ok((line, LogLines { lines }))
     }
 
-    /// The bytes of the next lines, so many, with their line ends, and the lines after them.
+    /// The bytes of the next lines, this many, with their line ends, and the lines after them.
     pub(crate) fn block(self, count: u32) -> Option<(&'a [u8], LogLines<'a>)>
         ensures { MatchOption result (lines.block_of count self.entry ≡ None) (λ found. lines.block_of count self.entry ≡ Some (found.0.now, found.1)) }
     {
@@ -65,7 +65,7 @@ impl<'a> LogLines<'a> {
         }
     }
 
-    /// The same lines, where the next one does not begin with the word; else that line is bad.
+    /// The same lines, if the next one does not begin with the word; otherwise that line is bad.
     pub(crate) fn without(self, word: &[u8]) -> Result<LogLines<'a>, BadLine>
         ensures { result ≡ nothing_begins word.now self.entry }
     {
@@ -97,7 +97,7 @@ fn starts(line: &[u8], word: &[u8]) -> bool
     }
 }
 
-/// What was read of a line, which is bad where it has not its form.
+/// What was read of a line, which is bad if it does not have its form.
 pub(crate) fn well_formed<T>(line: u32, read: Option<T>) -> Result<T, BadLine>
     ensures { result ≡ lines.at_line line (head.formed read) }
 {
@@ -110,7 +110,7 @@ pub(crate) fn well_formed<T>(line: u32, read: Option<T>) -> Result<T, BadLine>
     }
 }
 
-/// Passes over a line that has to be this text.
+/// Skips a line that has to be this text.
 pub(crate) fn text_at<'a>(text: &[u8], lines: LogLines<'a>) -> Result<((), LogLines<'a>), BadLine>
     ensures { result ≡ reading.line_by (head.is_text text.now) lines.entry }
 {

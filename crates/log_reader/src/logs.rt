@@ -7,7 +7,7 @@ use std::marker::Model;
 use tac_base::{Agent, Good};
 use trade_ledger::CashEntry;
 
-/// What the log of a game says, in its ranges. Whether the histories are lawful, and whether head and scores go with them, is not tested
+/// What the log of a game says, in its ranges. Whether the histories are legal, and whether head and scores agree with them, is not tested
 /// here. Contracts see it as a `LoggedGame`.
 #[derive(Debug, Drop)]
 pub struct Log {

@@ -33,7 +33,7 @@ pub(crate) trait Part {
         ensures { IsReading (λ x. x) result (refused (gives self.now number lines.entry)) };
 }
 
-/// Reads so many parts, one after another, and gives the lines after them.
+/// Reads this many parts, one after another, and gives the lines after them.
 pub(crate) fn read_all<'a, P: Part>(
     alloc: Global,
     part: &P,
@@ -55,8 +55,8 @@ pub(crate) fn read_all<'a, P: Part>(
     Ok((values, left))
 }
 
-/// Reads parts as long as the next line begins with a word, and gives the lines after them. Where more than so many stand there, the
-/// first that is too many is bad.
+/// Reads parts as long as the next line begins with a word, and gives the lines after them. If there are too many, the
+/// first extra one is bad.
 pub(crate) fn read_while<'a, P: Part>(
     alloc: Global,
     part: &P,

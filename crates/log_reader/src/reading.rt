@@ -36,9 +36,9 @@ fn log_in(alloc: Global, text: &[u8]) -> Result<Log, LogFault>
     })
 }
 
-/// Reads the text of a log: its first and its second part together, and nothing else. Forms and ranges alone are tested.
+/// Reads the text of a log: its first and its second part together, and nothing else. Only forms and ranges are tested.
 pub fn read_log(alloc: Global, text: &[u8]) -> Result<Log, LogFault>
-    // Which log it is, or the first bad line, unless memory is short.
+    // Which log it is, or the first bad line, unless memory was refused.
     ensures exact { IsReading (λ log. log) result (log_of text.now) }
     ensures too_long { (result ≡ Err LogFault.TooLong) ↔ (TEXT_BYTES < length text.now) }
     // The text is the one of the log, which is in its ranges.

@@ -168,7 +168,7 @@ pub(crate) fn idle_log(alloc: Global) -> Result<String, AllocError> {
     Ok(text)
 }
 
-/// A text with one part in the place of another, where that stands first.
+/// A text in which one part replaces another, at its first occurrence.
 pub(crate) fn edited(
     alloc: Global,
     whole: &str,

@@ -1,5 +1,5 @@
-// A log is read, and what is none is told from its first bad line on. The log is that of a quiet game in which agent 0 buys a trip with a ticket of agent 1,
-// and agent 2 another ticket.
+// A log is read, and other texts are refused at their first bad line. The log is that of a quiet game in which agent 0 buys a trip with a
+// ticket of agent 1, and agent 2 another ticket.
 use log_reader::{LogFault, LogHead, read_log};
 use std::alloc::{AllocError, Global};
 use std::test::Fail;
@@ -161,7 +161,7 @@ const SCORES: [&[u8]; 8] = [
     b"score 7 0 0 0 0\npackage 7 0 none\n",
 ];
 
-/// The rest of an agent's lines, with `#` for its digit.
+/// The other lines of an agent, with `#` for its digit.
 const AGENT: &[u8] = b"package # 1 none
 package # 2 none
 package # 3 none
@@ -207,7 +207,7 @@ fn whole_log(alloc: Global) -> Result<Vec<u8>, AllocError> {
     Ok(text)
 }
 
-/// A log whose line of a number is another text, so many times.
+/// A log in which a line is replaced by another text, repeated.
 fn edited(
     alloc: Global,
     whole: &[u8],
@@ -238,7 +238,7 @@ fn push_times(text: &mut Vec<u8>, new: &[u8], times: u32) -> Result<(), AllocErr
     Ok(())
 }
 
-/// A certificate that goes 33 splits deep, before what it takes the place of.
+/// A certificate 33 splits deep, before what it replaces.
 const DEEP: &[u8] = b"cert 0 33
 split 0 1\nsplit 0 1\nsplit 0 1\nsplit 0 1\nsplit 0 1\nsplit 0 1\nsplit 0 1\nsplit 0 1\nsplit 0 1\nsplit 0 1\nsplit 0 1
 split 0 1\nsplit 0 1\nsplit 0 1\nsplit 0 1\nsplit 0 1\nsplit 0 1\nsplit 0 1\nsplit 0 1\nsplit 0 1\nsplit 0 1\nsplit 0 1
@@ -312,7 +312,7 @@ fn bad_line(alloc: Global, text: &[u8]) -> u32 {
     }
 }
 
-/// So many links, in place of the line that says how the game was played.
+/// This many links, in place of the line that says how the game was played.
 fn links(alloc: Global, count: u32) -> Result<String, AllocError> {
     let mut text = String::new(alloc);
     text.push_str("serve\n")?;

@@ -1,4 +1,4 @@
-// The standings of teams over several games: of each list of games the text.
+// The standings of teams over several games: lists of games, and the text of each.
 ghost use Rattle.std.specs.Prelude.{◌≡◌, true};
 ghost use Rattle.log_reader.specs.SoundLog.{IsSound};
 
@@ -15,9 +15,9 @@ use tourney::{Standings, print_standings};
 enum Played {
     /// Agent 1 sells two tickets at 60 dollars.
     Traded,
-    /// So too, and only the agents 0, 1 and 2 have seats.
+    /// The same, and only the agents 0, 1 and 2 have seats.
     Served,
-    /// So too, and the words of the first two seats are each other's.
+    /// The same, with the words of the first two seats swapped.
     Swapped,
     /// Nobody bids.
     Idle,
@@ -25,7 +25,7 @@ enum Played {
     Dear,
 }
 
-/// The quiet game with other words in the place of the first two.
+/// The quiet game with other words for the first two seats.
 fn with_words(alloc: Global, words: &str) -> Result<Game, Fail> {
     let text = print_game(alloc, &Game::default())?;
     let text = edited(alloc, str::from_utf8(&text)?, "seat0 seat1", words)?;

@@ -6,7 +6,7 @@ use line_protocol::{Cause, Verdict};
 use tac_base::{Agent, Text, print_numeral};
 use text_forms::{Column, Words, read_row};
 
-/// One digit, at most that of a number.
+/// One digit, at most this number.
 pub(crate) fn digit_of(most: u8, word: &[u8]) -> Option<u8>
     requires { most ≤ 9 }
     ensures value { result ≡ forms.digit_of most word.now }

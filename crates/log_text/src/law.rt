@@ -4,7 +4,7 @@ ghost use Rattle.line_protocol.specs.Heads.{Head};
 ghost use Rattle.log_text.specs.LogText.{play_part};
 ghost use Rattle.log_text.specs.Logged.{IsHead, IsPlayed, HaveOneHistory};
 
-/// The law of logs, as this call's contract: where a text begins with the first part of a log, it does so with one alone. So games with
+/// The law of logs, as this call's contract: a text begins with at most one first part of a log. So games with
 /// different heads or histories have different parts, whatever follows them.
 pub fn one_game()
     ensures { (head other_head : Head) (game other : ClosedGame) (rest other_rest : List ℕ) → IsHead head → IsHead other_head → IsPlayed game → IsPlayed other →

@@ -1,4 +1,4 @@
-//! The text of a game's log: its lines, and the laws by which a text has one game.
+//! The text of a game's log: its lines, and the laws by which a text belongs to one game.
 #![tactic(auto)]
 
 mod entry_forms;

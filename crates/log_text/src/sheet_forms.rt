@@ -74,7 +74,7 @@ fn is_trip(hotel: u8, arrive: u8, depart: u8, nights: &[u8; 3]) -> bool
         && are_apart(nights)
 }
 
-/// Whether it is one of the packages.
+/// Whether a package is one of the 393.
 fn is_package(chosen: &Package) -> bool
     ensures { result ≡ is_package chosen.now }
 {

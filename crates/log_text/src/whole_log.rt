@@ -6,7 +6,7 @@ ghost use Rattle.log_text.specs.Logged.{IsHead, IsPlayed, HaveOneHistory};
 ghost use Rattle.log_text.specs.LoggedSheet.{IsShownSheet};
 ghost use Rattle.log_text.specs.SheetText.{sheet_part, log_text};
 
-/// The law of sheets, as this call's contract: where a text begins with the second part of a log, it does so with one alone.
+/// The law of sheets, as this call's contract: a text begins with at most one second part of a log.
 pub fn one_sheet()
     ensures { (sheet other : List Scored) (rest other_rest : List ℕ) → IsShownSheet sheet → IsShownSheet other →
         sheet_part sheet ++ rest ≡ sheet_part other ++ other_rest → (sheet ≡ other) × (rest ≡ other_rest) }

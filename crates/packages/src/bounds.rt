@@ -25,7 +25,7 @@ pub trait Narrowing {
         ensures { result ≡ left self.now client «package».now };
 }
 
-/// How many of a good there are to use: none of one of which the agent is short. The good's number is 0..27.
+/// How many units of a good can be used: none if the agent is short of it. The good's number is 0..27.
 pub fn stock(account: &Account, good: usize) -> u32
     requires { good < 28 }
     ensures value { result ≡ stock_of account.now.holdings good }
@@ -83,7 +83,7 @@ fn raised(most: Option<i64>, client: &Client, prices: &Prices, package: &Package
     }
 }
 
-/// The greatest margin of a client among the packages that it has left; none where it has none left. The client's number
+/// The greatest margin of a client among the packages that it has left; None if it has none left. The client's number
 /// is 0..7.
 fn best_margin<N: Narrowing>(
     client: &Client,
@@ -125,7 +125,7 @@ fn added(bound: Option<i64>, other: Option<i64>, number: usize) -> Option<i64>
 }
 
 /// The leaf bound, in dollars: what the stock costs and the greatest margin of each client among the packages that it has
-/// left. None where some client has no package left. That bounds are by prices is our own rule.
+/// left. None if some client has no package left. That bounds use prices is our own rule.
 pub fn leaf_bound<N: Narrowing>(account: &Account, narrowing: &N, prices: &Prices) -> Option<i64>
     ensures { result ≡ bounds.leaf_bound account.now (N.left narrowing.now) prices.now }
 {

@@ -12,7 +12,7 @@ pub fn uses(package: &Package, good: Good) -> u8
     ensures value { result ≡ use_of «package».now good }
     ensures few { result ≤ 1 }
 
-    // What the good is has the good's number.
+    // Decoding a good and encoding it again gives its number.
     ensures number { good_of (thing_of good) ≡ good }
 {
     let number = good.get();

@@ -1,4 +1,4 @@
-//! What a client's trip uses and what it is worth, all such packages, and what prices say about every allocation of them.
+//! What a client's trip uses and is worth, all such packages, and what prices say about every allocation of them.
 #![tactic(auto)]
 
 mod bounds;

@@ -11,7 +11,7 @@ pub enum Package {
         arrive: u8,
         /// The day of departure, above that of arrival and at most 5.
         depart: u8,
-        /// The night of alligator wrestling, of the amusement park and of the museum; 0 where there is none.
+        /// The night of alligator wrestling, of the amusement park and of the museum; 0 if there is none.
         nights: [u8; 3],
     },
 }

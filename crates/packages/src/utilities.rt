@@ -11,7 +11,7 @@ fn days_between(a: u8, b: u8) -> u32
     u32::from(a.abs_diff(b))
 }
 
-/// The value of a ticket type, where it has a night.
+/// The value of a ticket type, if it has a night.
 fn fun(client: &Client, nights: &[u8; 3], kind: usize) -> u32
     requires { kind < 3 }
     ensures value { result ≡ fun_of client.now.values nights.now kind }
@@ -25,7 +25,7 @@ fn fun(client: &Client, nights: &[u8; 3], kind: usize) -> u32
 }
 
 /// What the package is worth to the client, in dollars: 1000 for a trip, less 100 for each day by which arrival and
-/// departure miss its wishes, with its premium in Tampa Towers and its values of the ticket types used. The package is one
+/// departure miss the preferred days, plus its premium in Tampa Towers and its values of the ticket types used. The package is one
 /// of the 393. The numbers are the game description's.
 pub fn utility(client: &Client, package: &Package) -> u32
     requires { IsPackage «package».now }

@@ -1,4 +1,4 @@
-//! The laws of the readers of whole texts: which line of a text is the first bad one, by what the texts of a kind are.
+//! The laws of the readers of whole texts: which line of a text is the first bad one, defined by the texts of each kind.
 #![tactic(auto)]
 
 mod certificates;

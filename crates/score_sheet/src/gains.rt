@@ -44,7 +44,7 @@ fn gain_of_trades(trades: &[Trade], party: Party) -> i64
     sum
 }
 
-/// How many trades an entry has: it counts them with a number of 8 bits.
+/// How many trades an entry has, at most 255.
 fn trade_count(entry: &Entry) -> u8
     ensures value { result ≡ entry.now.trades }
     ensures few { result ≤ 255 }

@@ -1,4 +1,4 @@
-// The scores of all agents, found beside each other.
+// The scores of all agents, computed concurrently.
 ghost use Rattle.std.specs.Prelude.{◌≡◌, ℕ, ◌<◌, Ok, IfOk, map, vec_len, slice_index_or};
 ghost use Rattle.score_sheet.specs.Sheets.{IsDue, IsSheet};
 
@@ -9,7 +9,7 @@ use std::alloc::{AllocError, Global};
 use std::thread::{Threads, map_indices};
 use tac_base::Memory;
 
-/// Scores the eight agents, each in a thread of its own where threads can be made.
+/// Scores the eight agents, each in a thread of its own if threads can be made.
 fn score_all<R: Threads + Sync>(
     rt: &R,
     alloc: Global,
@@ -30,7 +30,7 @@ fn score_all<R: Threads + Sync>(
     )
 }
 
-/// The scores in order, unless memory was wanting for one of them.
+/// The scores in order, unless memory was refused for one of them.
 fn all_found(
     alloc: Global,
     found: Vec<Result<AgentScore, Memory>>,
@@ -44,7 +44,7 @@ fn all_found(
     Ok(scores)
 }
 
-/// Scores all agents by their accounts, each in a thread of its own where threads can be made. The scores and the
+/// Scores all agents by their accounts, each in a thread of its own if threads can be made. The scores and the
 /// certificates are those that one thread finds. After `Memory` nothing is left of them.
 pub fn sheet<R: Threads + Sync>(
     rt: &R,

@@ -18,11 +18,11 @@ use tac_base::Memory;
 /// The score of an agent with its parts.
 #[derive(Debug, Drop)]
 pub struct AgentScore {
-    /// The most that the agent's goods are worth to its clients, in dollars: 0..14000 where `sheet` reckoned it.
+    /// The most that the agent's goods are worth to its clients, in dollars: 0..14000 if `sheet` computed it.
     pub best: u32,
-    /// What it has earned less what it has paid, in dollars: at most 1000000000000000, gained or lost, where `sheet` reckoned it.
+    /// What it has earned less what it has paid, in dollars: at most 1000000000000000, gained or lost, if `sheet` computed it.
     pub cash: i64,
-    /// How many tickets it is short, of all goods 16..27 together: 0..2400000 where `sheet` reckoned it.
+    /// How many tickets it is short, over all goods 16..27: 0..2400000 if `sheet` computed it.
     pub short: u32,
     /// The best total and the cash, less 200 dollars for each ticket short: the penalty is after TAC.
     pub score: i64,
@@ -74,7 +74,7 @@ impl Model for Sheet {
     ghost invariant = { λ s. length s.agents.items ≡ 8 };
 }
 
-/// How many units a holding lies below 0.
+/// By how many units a holding is below 0.
 fn lacking(holding: i32) -> u32
     ensures { result ≡ rules.lacking holding }
 {
@@ -85,7 +85,7 @@ fn lacking(holding: i32) -> u32
     }
 }
 
-/// How many units all these holdings lie below 0.
+/// By how many units all these holdings are below 0.
 fn all_lacking(holdings: &[i32]) -> u32
     requires few { length holdings.now ≤ 28 }
     requires range { All IsHolding holdings.now }
@@ -128,7 +128,7 @@ fn cash(accounts: &Accounts, agent: usize) -> i64
     accounts.cash[agent]
 }
 
-/// The score of an agent with this best total and cash that is short of so many tickets.
+/// The score of an agent with this best total and cash that is this many tickets short.
 fn score(best: u32, cash: i64, short: u32) -> i64
     requires cash { IsWithin 1000000000000000 cash }
     requires short { short ≤ 28 * unsigned_abs HOLDING }

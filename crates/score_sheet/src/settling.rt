@@ -11,7 +11,7 @@ use auction_core::Closed;
 use std::marker::Model;
 use tac_base::{Agent, Party};
 
-/// What each agent has when a game is over. The ranges are this project's own.
+/// What each agent has when a game is over. The ranges are our own.
 #[derive(Clone, Copy, Debug, PartialEq, Eq)]
 pub struct Accounts {
     /// How many of each good 0..27 each agent has, -200000..200000; below 0 it is short of them.
@@ -69,7 +69,7 @@ fn all_cash(closed: &Closed) -> [i64; 8]
     cash
 }
 
-/// Tells how many of each good each agent has, -200000..200000, and its cash by the trades of all auctions, in dollars,
+/// Computes how many of each good each agent has, -200000..200000, and its cash from the trades of all auctions, in dollars,
 /// -1000000000000000..1000000000000000; the cash book is not read.
 pub fn settle(closed: &Closed) -> Accounts
     ensures { result ≡ settlement_of closed.now.auctions }

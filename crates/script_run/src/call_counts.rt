@@ -42,7 +42,7 @@ impl GoodCounts {
 }
 
 impl CallCounts {
-    /// Nobody has called.
+    /// No agent has made a call.
     pub(crate) fn new() -> CallCounts
         ensures { (agent good : ℕ) → count_at result agent good ≡ 0 }
     {

@@ -54,7 +54,7 @@ pub enum ScriptFault {
     Memory,
 }
 
-/// Why a game was not played without writing.
+/// Why a game was not played, by a call that writes nothing.
 #[derive(Clone, Copy, Debug, PartialEq, Eq, Error)]
 pub enum QuietFault {
     /// The first bad line, counted from 1, and the first reason, 1 to 4, that applies to it.

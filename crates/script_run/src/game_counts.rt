@@ -50,7 +50,7 @@ impl GameCounts {
         }
     }
 
-    /// Counts a line where it may stand here, or gives the reason.
+    /// Counts a line if it is allowed here, or gives the reason.
     fn admit(&mut self, line: GameLine) -> Result<GameLine, ScriptReason>
         ensures { (lines : List GameLine) → Counts lines self.old →
             MatchResult result
@@ -63,7 +63,7 @@ impl GameCounts {
         }
     }
 
-    /// Counts a line where it may stand here, or gives the reason.
+    /// Counts a line if it is allowed here, or gives the reason.
     fn count(&mut self, line: &GameLine) -> Result<(), ScriptReason>
         ensures { (lines : List GameLine) → Counts lines self.old →
             MatchResult result
@@ -76,7 +76,7 @@ impl GameCounts {
         }
     }
 
-    /// Counts a tick, where one is left.
+    /// Counts a tick, if one is left.
     fn count_tick(&mut self) -> Result<(), ScriptReason>
         ensures { (lines : List GameLine) → Counts lines self.old →
             MatchResult result
@@ -90,7 +90,7 @@ impl GameCounts {
         Ok(())
     }
 
-    /// Counts a line of an agent that has lines left and has not ended its session.
+    /// Counts a line of an agent, if the agent has lines left and has not ended its session.
     fn count_line(
         &mut self,
         agent: Agent,

@@ -22,7 +22,7 @@ pub(crate) struct GameRun<'a> {
     text: Vec<u8>,
 }
 
-/// The line that tells an agent something.
+/// The line that answers an agent.
 fn told_line(agent: Agent, said: &Said) -> Text
     ensures { result ≡ run.told_line agent said.now }
 {
@@ -67,7 +67,7 @@ impl<'a> GameRun<'a> {
         })
     }
 
-    /// Plays the line of a number. After an error the run is of no more use.
+    /// Plays the line of this number. After an error the run is unusable.
     pub(crate) fn step(&mut self, number: u32, line: &[u8]) -> Result<(), ScriptFault>
         ensures { (game : GameFile) (lines : List GameLine) → HasRun game lines self.old → Steps game lines number line.now self.new result }
     {
@@ -86,7 +86,7 @@ impl<'a> GameRun<'a> {
         }
     }
 
-    /// Makes the ticks that are left. Gives what is to be written of the lines, and the histories.
+    /// Makes the ticks that are left. Returns what is to be written of the lines, and the histories.
     pub(crate) fn close(self) -> (Vec<u8>, Closed)
         ensures text { result.0.items ≡ self.entry.text.items }
         ensures closed { (game : GameFile) (lines : List GameLine) → HasRun game lines self.entry → result.1 ≡ run.closed_of game (run.whole_game game lines) }

@@ -107,7 +107,7 @@ impl HotelRun {
         self.counts.all()
     }
 
-    /// Runs a line. After an error the run is of no more use.
+    /// Runs a line. After an error the run is unusable.
     pub(crate) fn step(&mut self, line: &[u8]) -> Result<(), ScriptFault>
         requires { Runs self.old }
         ensures { (lines : List HotelLine) → HasRun lines self.old → Steps lines line.now self.new result }

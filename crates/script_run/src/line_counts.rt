@@ -61,7 +61,7 @@ impl LineCounts {
         }
     }
 
-    /// Counts a line where there are not too many, or gives the reason.
+    /// Counts a line if there are not too many, or gives the reason.
     fn admit(&mut self, line: HotelLine) -> Result<HotelLine, ScriptReason>
         ensures { (lines : List HotelLine) → Counts lines self.old →
             MatchResult result

@@ -1,4 +1,4 @@
-// A game that is played.
+// A game that is being played.
 ghost use Rattle.std.specs.Prelude.{◌≡◌, ℕ, ◌+◌, ◌<◌, ◌≤◌, [], ◌∷◌, ◌++◌, List, length, map, IfOk, IfSome, MatchOption};
 ghost use Rattle.auction_rules.specs.Board.{board};
 ghost use Rattle.auction_rules.specs.History.{Entry};
@@ -64,7 +64,7 @@ fn all_auctions(alloc: Global, game: &Game) -> Result<Vec<Auction>, Memory>
     Ok(auctions)
 }
 
-/// Posts what an entry gave, where it has trades.
+/// Posts what an entry gave, if it has trades.
 fn post(cash: &mut CashBook, caller: Caller, good: Good, position: u32, struck: &Struck)
     requires { length (part (λ e. e.caller) cash.old caller) < cash_cap caller }
     ensures { (e : Entry) → e.caller ≡ caller → struck.now ≡ struck_of e → cash.new ≡ cash.old ++ due_post good position e }
@@ -104,7 +104,7 @@ impl<'a> OpenGame<'a> {
         self.game
     }
 
-    /// Makes a call of a caller that has calls left, and its post where it has trades. Answers its position and its reply.
+    /// Makes a call of a caller that has calls left, and its post if it has trades. Answers its position and its reply.
     pub(crate) fn call(&mut self, caller: Caller, good: Good, call: &Call) -> (u32, Reply)
         requires fit { IsFit call.now }
         requires room { entries_of (past_at self.old.state.pasts good) caller < cap caller }
@@ -137,7 +137,7 @@ impl<'a> OpenGame<'a> {
         (position, dollars)
     }
 
-    /// What is shown of the auction of a good.
+    /// The board of the auction of a good.
     pub(crate) fn quote(&self, good: Good) -> Board
         ensures { result ≡ board (setup_of good self.now.game).rules (past_at self.now.state.pasts good) }
     {
@@ -152,7 +152,7 @@ impl<'a> OpenGame<'a> {
         self.ticks
     }
 
-    /// Begins the next tick, where one is left.
+    /// Begins the next tick, if one is left.
     pub(crate) fn begin_tick(&mut self) -> Option<Tick>
         ensures game { self.new.game ≡ self.old.game }
         ensures pasts { self.new.state.pasts ≡ self.old.state.pasts }
@@ -168,7 +168,7 @@ impl<'a> OpenGame<'a> {
         Tick::new(self.ticks).ok()
     }
 
-    /// The histories, when no call is to come.
+    /// The histories, once no more calls are to come.
     pub(crate) fn close(self) -> Closed
         ensures { result ≡ closed_of self.entry.game self.entry.state }
     {

@@ -8,7 +8,7 @@ use auction_core::{Auction, Closed};
 /// How many entries and trades the 28 histories of a game have.
 #[derive(Clone, Copy, Debug, PartialEq, Eq)]
 pub struct PlayCount {
-    /// Entries, those of refused calls included: at most 231,168.
+    /// Entries, including those of refused calls: at most 231,168.
     pub entries: u32,
     /// Trades, whatever their units.
     pub trades: u32,

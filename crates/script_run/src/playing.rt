@@ -133,7 +133,7 @@ fn quiet(fault: ScriptFault) -> QuietFault
     }
 }
 
-/// Plays the same game as `play`, and writes nothing. Gives how much happened, and the scores. The faults are those of `play` but
+/// Plays the same game as `play`, and writes nothing. Returns how much happened, and the scores. The faults are those of `play` except
 /// for a failed write.
 pub fn play_quiet<R: Threads + Sync>(
     rt: &R,

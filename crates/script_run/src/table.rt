@@ -20,7 +20,7 @@ use tac_base::{Agent, Call, Caller, Good, Memory, Tick};
 /// The most calls of the clock at a tick.
 const MOST_TICK_CALLS: u8 = 20;
 
-/// A game that is played, with the counts of what each agent has asked.
+/// A game that is being played, with the counts of what each agent has asked.
 #[derive(Drop)]
 pub(crate) struct Table<'a> {
     open: OpenGame<'a>,
@@ -52,7 +52,7 @@ impl<'a> Table<'a> {
         })
     }
 
-    /// Makes an agent's call in the auction of a good, where it has calls left there.
+    /// Makes an agent's call in the auction of a good, if it has calls left there.
     fn call(&mut self, agent: Agent, good: Good, call: &Call) -> Said
         requires { IsFit call.now }
         ensures game { self.new.game ≡ self.old.game }
@@ -66,7 +66,7 @@ impl<'a> Table<'a> {
         Said::At(position, reply)
     }
 
-    /// Makes an agent's reading of its cash, where it has readings left.
+    /// Makes an agent's reading of its cash, if it has readings left.
     fn read(&mut self, agent: Agent) -> Said
         ensures game { self.new.game ≡ self.old.game }
         ensures told { (result, self.new.state) ≡ cash_turn agent self.old.state }
@@ -81,7 +81,7 @@ impl<'a> Table<'a> {
         Said::Cash(position, dollars)
     }
 
-    /// Does what an agent asks, and gives what it is told.
+    /// Does what an agent asks, and returns the answer.
     pub(crate) fn answer(&mut self, agent: Agent, asked: &Result<Request, RequestFault>) -> Said
         ensures game { self.new.game ≡ self.old.game }
         ensures told { (result, self.new.state) ≡ turn self.old.game agent asked.now self.old.state }
@@ -99,7 +99,7 @@ impl<'a> Table<'a> {
         }
     }
 
-    /// Makes the n-th call of the clock at the tick that was begun, where there is one.
+    /// Makes the n-th call of the clock at the tick that was begun, if there is one.
     fn clock_call(&mut self, tick: Tick, n: u8)
         requires tick { tick ≡ self.old.state.ticks }
         requires room { HasClockRoom self.old.game self.old.state (drop n (calls_at self.old.game tick)) }
@@ -132,7 +132,7 @@ impl<'a> Table<'a> {
         }
     }
 
-    /// Makes the calls of the next tick, where one is left.
+    /// Makes the calls of the next tick, if one is left.
     pub(crate) fn tick(&mut self)
         ensures game { self.new.game ≡ self.old.game }
         ensures state { self.new.state ≡ ticked self.old.game self.old.state }
@@ -154,7 +154,7 @@ impl<'a> Table<'a> {
         }
     }
 
-    /// The histories, when no call is to come.
+    /// The histories, once no more calls are to come.
     pub(crate) fn close(self) -> Closed
         ensures { result ≡ closed_of self.entry.game self.entry.state }
     {

@@ -6,7 +6,7 @@ use arrayvec::ArrayVec;
 use std::marker::Model;
 use thiserror::Error;
 
-/// So many units at a price each.
+/// A number of units at a price each.
 #[derive(Clone, Copy, Debug, Default, PartialEq, Eq)]
 pub struct Point {
     /// Positive units are bought, negative ones sold.
@@ -41,7 +41,7 @@ pub enum BidFault {
     /// There is a 17th point.
     #[error("a bid has at most 16 points")]
     TooManyPoints,
-    /// The units of all points, bought and sold ones alike, pass 16.
+    /// The units of all points, bought and sold ones alike, exceed 16.
     #[error("a bid has at most 16 units")]
     TooManyUnits,
     /// A price is outside 1..10000 dollars.
@@ -72,7 +72,7 @@ fn fault_at(count: usize, used: u8, size: u64, price: u64) -> Option<BidFault>
     }
 }
 
-/// The places of a list of points.
+/// The storage of a list of points.
 const POINTS: usize = BID_POINTS as usize;
 
 /// The points of a bid so far, within the limits of a bid: at most 16 of them, with at most 16 units.
@@ -105,7 +105,7 @@ impl BidDraft {
         }
     }
 
-    /// Adds a point of any units and price, where it brings no fault. After a fault the draft is as before.
+    /// Adds a point of any units and price, unless it brings a fault. After a fault the draft is as before.
     #[tactic(auto, using(crate::proofs::Faults::list_units))]
     pub fn push(&mut self, units: i64, price: u64) -> Result<(), BidFault>
         ensures variant { IsOk result ↔ (left_fault (self.old ++ point_at units price ∷ []) ≡ None) }
@@ -133,7 +133,7 @@ impl BidDraft {
         self.push(i64::from(point.units), u64::from(point.price))
     }
 
-    /// What would be wrong with the points after one more.
+    /// The fault of the points with one more point, if there is one.
     #[tactic(auto, using(crate::proofs::Faults::list_units))]
     fn fault_with(&self, units: i64, price: u64) -> Option<BidFault>
         ensures value { result ≡ left_fault (self.now ++ point_at units price ∷ []) }
@@ -155,7 +155,7 @@ impl BidDraft {
     }
 }
 
-/// The points, where there are at most 16.
+/// The points, if there are at most 16.
 pub(crate) fn copied(list: &[Point]) -> ArrayVec<Point, POINTS>
     requires { length list.now ≤ BID_POINTS }
     ensures { result.items ≡ list.now }
@@ -213,7 +213,7 @@ impl Points {
         self.list.as_slice()
     }
 
-    /// The same bid again.
+    /// A copy of the bid.
     #[tactic(auto, using(crate::proofs::Faults::bid_points, crate::proofs::Faults::bid_prices))]
     pub fn copy(&self) -> Self
         ensures value { result ≡ self.now }
@@ -244,7 +244,7 @@ impl Model for Left {
 }
 
 impl Left {
-    /// Nothing is left.
+    /// No points.
     pub fn none() -> Self
         ensures { result ≡ [] }
     {

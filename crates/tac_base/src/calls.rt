@@ -5,7 +5,7 @@ use crate::{Caller, Good, Left, Party, Points, Tick};
 use arrayvec::ArrayVec;
 use std::marker::Model;
 
-/// So many units of a good, each at the price.
+/// A number of units of a good, each at the price.
 #[derive(Clone, Copy, Debug, Default, PartialEq, Eq)]
 pub struct Trade {
     /// Who pays.
@@ -20,7 +20,7 @@ pub struct Trade {
     pub price: u16,
 }
 
-/// The places of a list of trades.
+/// The storage of a list of trades.
 const TRADES: usize = ENTRY_TRADES as usize;
 
 /// The trades of one entry, in the order in which they were made: at most 128.
@@ -48,14 +48,14 @@ impl Fills {
         }
     }
 
-    /// Takes all trades away.
+    /// Removes all trades.
     pub fn clear(&mut self)
         ensures { self.new ≡ [] }
     {
         self.list.clear();
     }
 
-    /// Adds a trade at the end, where there are fewer than 128.
+    /// Adds a trade at the end; there have to be fewer than 128.
     pub fn push(&mut self, trade: Trade)
         requires { length self.old < ENTRY_TRADES }
         ensures { self.new ≡ self.old ++ trade ∷ [] }
@@ -77,9 +77,9 @@ impl Fills {
 pub struct Board {
     /// How many entries its history has.
     pub count: u32,
-    /// The best buy that stands in a ticket auction, in dollars; 0 where none stands, and for every other good.
+    /// The highest standing bid in a ticket auction, in dollars; 0 if there is none, and for every other good.
     pub bid: u16,
-    /// A flight's price, a hotel's published price, or the best sell that stands in a ticket auction, in dollars; 0 for none.
+    /// A flight's price, a hotel's published price, or the lowest standing ask in a ticket auction, in dollars; 0 for none.
     pub ask: u16,
     /// Whether the auction is closed.
     pub closed: bool,
@@ -88,48 +88,48 @@ pub struct Board {
 /// What the trades of one entry gave each party.
 #[derive(Clone, Copy, Debug, PartialEq, Eq)]
 pub struct Nets {
-    /// What each party gained, in dollars, with what it paid as a loss: the agents 0..7, then the house.
+    /// What each party gained, in dollars, negative if it paid: the agents 0..7, then the house.
     pub dollars: [i32; 9],
 }
 
 /// What a caller may ask of an auction.
 #[derive(Debug, Drop)]
 pub enum Call {
-    /// An agent's bid, which takes the place of its whole earlier bid.
+    /// An agent's bid, which replaces its whole earlier bid.
     Bid(Points),
-    /// An agent takes its bid back.
+    /// An agent withdraws its bid.
     Withdraw,
-    /// An agent asks for its own state.
+    /// An agent reads its own state.
     Own,
     /// The clock moves a flight's price at a tick, 1..53, by the draw.
     Update { tick: Tick, draw: u32 },
-    /// The clock shows a hotel's ask as its published price.
+    /// The clock publishes a hotel's ask.
     Publish,
     /// The clock ends the auction.
     Close,
 }
 
 /// What an auction answers: the first four replies are to admitted calls, the others are refusals.
-/// The refusals are tried in the order in which they stand here, which is our own rule.
+/// The refusals are tried in this order, which is our own rule.
 #[derive(Debug, Drop)]
 pub enum Reply {
-    /// A bid stands, and the caller bought and sold so many units by it at once.
+    /// A bid stands, and the caller bought and sold these units by it at once.
     Taken { bought: u8, sold: u8 },
     /// The agent's holding of the good, its endowment included, and its standing points.
     Own { holding: i32, left: Left },
-    /// A hotel closed: so many rooms were sold, each at the price in dollars.
+    /// A hotel closed: this many rooms were sold, each at the price in dollars.
     Sold { units: u8, price: u16 },
-    /// Any other call was done.
+    /// Any other admitted call.
     Done,
     /// The auction is closed.
     Closed,
-    /// The caller or the kind of the good does not go with the call.
+    /// The caller may not make the call, or the kind of the good does not have it.
     WrongCall,
-    /// There is no standing unit to take back.
+    /// There is no standing unit to withdraw.
     NoBid,
     /// A bid that sells, where agents only buy.
     Sell,
-    /// A bid whose buying points reach its own selling points.
+    /// A bid that buys at a price at or above one at which it sells.
     SelfCross,
     /// A hotel bid that offers fewer units than it needs at the price `at` or more, in dollars.
     BelowQuote { need: u8, at: u16, offered: u8 },

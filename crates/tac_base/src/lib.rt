@@ -1,4 +1,4 @@
-//! The words that every part of the game speaks in: the numbers of agents, goods and ticks, bids, trades, calls and
+//! The vocabulary of all other crates: the numbers of agents, goods and ticks, bids, trades, calls and
 //! replies of the auctions, clients, short texts and numerals. Each value keeps its range, and no call takes memory.
 #![tactic(auto)]
 

@@ -1,4 +1,4 @@
-//! The limits of the game and of its texts. Each stands here alone; code, clauses and definitions cite it. All of them are our own rules.
+//! The limits of the game and of its texts, each in one place; code, clauses and definitions cite it. All of them are our own rules.
 
 /// The most calls of an agent in one auction, refused ones included.
 pub const AGENT_CALLS: u32 = 1_024;
@@ -24,7 +24,7 @@ pub const CLOCK_CASH_ENTRIES: u32 = 480;
 /// The most entries of the cash book: eight agents' and the clock's.
 pub const CASH_ENTRIES: u32 = 238_048;
 
-/// The ticks of a game, which are numbered from 1.
+/// The number of ticks of a game, numbered from 1.
 pub const TICKS: u8 = 54;
 
 /// The last tick at which flights are updated: the one before the last.
@@ -51,7 +51,7 @@ pub const REPLY_TEXT: usize = 640;
 /// The most request lines that a session answers, and that a game script has of one agent.
 pub const SESSION_LINES: u32 = 65_536;
 
-/// The most bytes of a link that its lines use.
+/// The most bytes that are read from a link.
 pub const LINK_BYTES: u32 = 67_108_864;
 
 /// The most links that a served game takes.
@@ -66,19 +66,19 @@ pub const NAME_BYTES: usize = 1_024;
 /// The highest port that a game is served at; the lowest is 1.
 pub const PORT: u16 = 65_535;
 
-/// The longest pace of a served game, in milliseconds a tick; the shortest is 1.
+/// The longest pace of a served game, in milliseconds per tick; the shortest is 1.
 pub const PACE: u16 = 60_000;
 
 /// The highest price of a bid, in dollars; the lowest is 1.
 pub const BID_PRICE: u16 = 10_000;
 
-/// The highest price that a board or a reply shows, in dollars: a dollar more than a bid may offer, which a hotel bid may lack.
+/// The highest price that a board or a reply shows, in dollars: one more than the highest bid, which no hotel bid can offer.
 pub const SHOWN_PRICE: u16 = 10_001;
 
 /// The most points of a bid.
 pub const BID_POINTS: u8 = 16;
 
-/// The most units of a bid, buys and sells counted without sign.
+/// The most units of a bid, bought and sold ones alike.
 pub const BID_UNITS: u8 = 16;
 
 /// The most positions of a history or of the cash book that texts name, counted from 0.
@@ -96,10 +96,10 @@ pub const DUAL_PRICE: u16 = 14_001;
 /// The most that eight clients' packages are worth to them together, in dollars.
 pub const BEST_TOTAL: u32 = 14_000;
 
-/// The greatest holding of a good in an account, and of an agent in a game, without sign.
+/// The greatest holding of a good in an account, and of an agent in a game, in absolute value.
 pub const HOLDING: i32 = 200_000;
 
-/// The greatest holding of an agent that a reply shows, without sign.
+/// The greatest holding of an agent that a reply shows, in absolute value.
 pub const SHOWN_HOLDING: i32 = 1_000_000;
 
 /// The most digits of an amount of cash in a text.

@@ -1,4 +1,4 @@
-// Want of memory, as the public calls tell it.
+// The error for refused memory, as public calls report it.
 use std::alloc::AllocError;
 use thiserror::Error;
 

@@ -10,14 +10,14 @@ pub fn same_points(a: &Points, b: &Points) -> bool
     a.as_slice() == b.as_slice()
 }
 
-/// Whether the same points stand in the same order.
+/// Whether two lists have the same points in the same order.
 pub fn same_left(a: &Left, b: &Left) -> bool
     ensures { IsTrue result ↔ (a.now ≡ b.now) }
 {
     a.as_slice() == b.as_slice()
 }
 
-/// Whether two calls ask the same.
+/// Whether two calls are the same.
 pub fn same_call(a: &Call, b: &Call) -> bool
     ensures { IsTrue result ↔ (a.now ≡ b.now) }
 {
@@ -33,7 +33,7 @@ pub fn same_call(a: &Call, b: &Call) -> bool
     }
 }
 
-/// Whether two replies answer the same.
+/// Whether two replies are the same.
 pub fn same_reply(a: &Reply, b: &Reply) -> bool
     ensures { IsTrue result ↔ (a.now ≡ b.now) }
 {

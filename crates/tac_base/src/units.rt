@@ -7,8 +7,8 @@ pub struct Unit {
     pub agent: Agent,
     /// The most that the unit may cost, or the least that it must bring, in dollars.
     pub price: u16,
-    /// Where the bid stands in the history of its auction, counted from 0.
+    /// The position of the bid in the history of its auction, counted from 0.
     pub position: u32,
-    /// Where the unit stands among the units of its bid, counted from 0.
+    /// The index of the unit among the units of its bid, counted from 0.
     pub index: u8,
 }

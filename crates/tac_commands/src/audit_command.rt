@@ -74,7 +74,7 @@ fn audit_by_file<F: Files, K: Sink>(
     }
 }
 
-/// Judges the log of the second file by the game of the first; the log is read only where the game is not refused.
+/// Judges the log of the second file by the game of the first; the log is read only if the game is not refused.
 pub(crate) fn audit_files<F: Files, K: Sink>(
     alloc: Global,
     game: &str,

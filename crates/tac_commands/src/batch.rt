@@ -46,7 +46,7 @@ fn write_upgraded<K: Sink>(alloc: Global, game: Game, out: &mut K) -> End
     write_game(alloc, &game.upgraded(), out)
 }
 
-/// Writes the canonical text of the game that is made of a seed.
+/// Writes the canonical text of the game made from a seed.
 fn make<K: Sink>(alloc: Global, seed: u64, out: &mut K) -> End
     ensures { Ends (Writes (λ text. text ≡ spelling (made_game seed))) (K.state out.old) (K.state out.new) result }
 {

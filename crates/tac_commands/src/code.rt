@@ -1,13 +1,13 @@
-// The codes of the program.
+// The exit codes of the program.
 ghost use Rattle.std.specs.Prelude.{◌≡◌};
 ghost use Rattle.tac_commands.specs.Codes as codes;
 
-/// What the program ends with. The numbers are our own.
+/// The exit code of the program. The numbers are our own.
 #[derive(Clone, Copy, Debug, PartialEq, Eq)]
 pub enum Code {
     /// The text of the command was written.
     Success,
-    /// The words are no command of the list.
+    /// The words are no command.
     Usage,
     /// A game file is refused.
     GameRefused,

@@ -12,7 +12,7 @@ use tac_io::{Sink, write_all};
 pub enum End {
     /// Its text was written.
     Done,
-    /// A text was written that tells that a log is not sound.
+    /// A text was written that reports an unsound log.
     Unsound,
     /// A write failed, and its text was not written whole.
     WriteFault,
@@ -20,7 +20,7 @@ pub enum End {
     Refused(Refusal),
 }
 
-/// Prints the refusal, if a command ended so, and gives the code. After a write that failed nothing is written.
+/// Prints the refusal, if a command ended with one, and returns the code. After a failed write nothing is written.
 pub fn finish<K: Sink>(out: &mut K, end: End) -> Code
     ensures { Finishes end (K.state out.old) (K.state out.new) (number_of result) }
 {

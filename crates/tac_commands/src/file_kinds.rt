@@ -33,7 +33,7 @@ impl FileKind {
         }
     }
 
-    /// What is written where such a file has this fault.
+    /// What is written if such a file has this fault.
     pub(crate) fn refusal(&self, fault: GameFault) -> Refusal
         ensures { result ≡ kinds.refusal_of self.now fault }
     {

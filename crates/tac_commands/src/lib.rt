@@ -1,4 +1,4 @@
-//! The commands of `tac`: their words, the files that each reads, what it makes of them and with which code it ends. Those that need no
+//! The commands of `tac`: their words, the files that each reads, what it makes of them and the code with which it ends. Those that need no
 //! links are run here.
 #![tactic(auto)]
 

@@ -4,7 +4,7 @@ ghost use Rattle.tac_commands.specs.NumberedLines as lines;
 
 use tac_base::{Text, print_numeral};
 
-/// A line that has no numbers.
+/// A line without numbers.
 pub(crate) fn plain(line: &[u8]) -> Text
     requires { length line.now ≤ 16 }
     ensures { result ≡ line.now }

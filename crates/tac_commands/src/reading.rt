@@ -15,7 +15,7 @@ use log_reader::{Log, LogFault, read_log};
 use std::alloc::Global;
 use tac_io::{FileFault, Files, read_file};
 
-/// The bytes of the file of that name, no more than its kind may have; or what is written in their place.
+/// The bytes of the file of that name, at most the limit of its kind; or what is written in their place.
 pub(crate) fn read_bytes<F: Files>(
     alloc: Global,
     files: &mut F,
@@ -38,7 +38,7 @@ pub(crate) fn read_bytes<F: Files>(
     }
 }
 
-/// What a file that is read whole holds.
+/// The value of a file that is read whole.
 pub trait FileValue: Sized + Drop {
     ghost use Rattle.tac_commands.specs.declared.file_kinds.FileKind.{FileKind};
     ghost use Rattle.tac_commands.specs.FileKinds.{Value};
@@ -46,7 +46,7 @@ pub trait FileValue: Sized + Drop {
     // the kind of such a file
     ghost kind: { FileKind };
 
-    // the value, as the definition of reading gives it
+    // the value, by the definition of reading
     ghost seen: { Self → Value kind };
 
     /// The kind of such a file.

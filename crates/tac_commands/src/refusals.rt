@@ -10,7 +10,7 @@ use tac_base::Text;
 /// What is written in place of a command's text.
 #[derive(Clone, Copy, Debug, PartialEq, Eq)]
 pub enum Refusal {
-    /// The words are no command of the list.
+    /// The words are no command.
     Usage,
     /// The first bad line of a game file, counted from 1, and the first reason that applies to it.
     GameLine { line: u32, reason: u8 },
@@ -29,7 +29,7 @@ pub enum Refusal {
 }
 
 impl Refusal {
-    /// The code that goes with it.
+    /// The exit code of the refusal.
     pub(crate) fn code(&self) -> Code
         ensures value { number_of result ≡ (outcomes.refusal_end self.now).0 }
         ensures no_write_fault { number_of result ≢ 4 }

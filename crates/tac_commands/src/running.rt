@@ -1,4 +1,4 @@
-// The words of a command that needs no links, run.
+// Running the words of a command that needs no links.
 ghost use Rattle.std.specs.Prelude.{◌≡◌, ◌≤◌, [], map, string_bytes, string_len, None, All, IfSome};
 ghost use Rattle.tac_base.specs.declared.limits.TheConstants.{NAME_BYTES};
 ghost use Rattle.tac_commands.specs.Allowed.{Allows};
@@ -17,7 +17,7 @@ use std::thread::Threads;
 use tac_base::limits::NAME_BYTES;
 use tac_io::{Files, Sink};
 
-/// Runs the command that the words ask for, one that needs no links, and gives its code; where they ask for none, the usage is written.
+/// Runs the command that the words ask for, one that needs no links, and returns its code; if they ask for none, the usage is written.
 pub fn run_words<R: Threads + Sync, F: Files, K: Sink>(
     rt: &R,
     alloc: Global,

@@ -16,7 +16,7 @@ use std::alloc::Global;
 use std::thread::Threads;
 use tac_io::{Files, Sink};
 
-/// How a command ends that ran a script.
+/// The end of a command that ran a script.
 fn script_end<T>(ran: Result<T, ScriptFault>) -> End
 where
     T: Drop,
@@ -66,7 +66,7 @@ fn play_by_file<R: Threads + Sync, F: Files, K: Sink>(
     }
 }
 
-/// Plays the game of the first file by the script of the second, which is read only where the game is not refused.
+/// Plays the game of the first file by the script of the second, which is read only if the game is not refused.
 pub(crate) fn play_files<R: Threads + Sync, F: Files, K: Sink>(
     rt: &R,
     alloc: Global,

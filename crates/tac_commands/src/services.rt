@@ -1,4 +1,4 @@
-// The service of a game, as the words of a command line ask for it.
+// The service of a game that the words of a command line ask for.
 ghost use Rattle.std.specs.Prelude.{◌≡◌, ◌≤◌, [], ◌∷◌, length, map, string_bytes, string_len, MatchOption, Some, None, All, IfSome};
 ghost use Rattle.tac_base.specs.declared.limits.TheConstants.{NAME_BYTES};
 ghost use Rattle.tac_base.specs.Numerals.{numeral};
@@ -27,7 +27,7 @@ pub struct Service<'a> {
     pub form: Form,
 }
 
-/// The number of a word, at least 1 and at most a limit.
+/// The number of a word, if it is at least 1 and at most a limit.
 fn number_of(word: &str, most: u16) -> Option<u16>
     ensures { result ≡ services.positive_to most (numeral 10 word.now) }
 {

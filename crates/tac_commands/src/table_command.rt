@@ -36,7 +36,7 @@ enum TableFault {
     Unsound(u8),
 }
 
-/// Adds the game of a pair to the standings, where its log is sound.
+/// Adds the game of a pair to the standings, if its log is sound.
 fn add_sound(
     alloc: Global,
     standings: Standings,
@@ -89,7 +89,7 @@ fn add_pair<F: Files>(
     add_sound(alloc, standings, &game, &log, pair)
 }
 
-/// The standings of all pairs of a game and its log; or why there are none, of the first pair that has a fault. No later file is asked for.
+/// The standings of all pairs of a game and its log; or why there are none, by the first pair with a fault. No later file is selected.
 fn add_pairs<F: Files>(
     alloc: Global,
     names: &[String],

@@ -90,7 +90,7 @@ fn write_trial<K: Sink>(
     }
 }
 
-/// Plays a game by a script that was made, which is never refused.
+/// Plays a game by a made script, which is never refused.
 fn play_made<R: Threads + Sync>(
     rt: &R,
     alloc: Global,

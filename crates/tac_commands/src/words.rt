@@ -17,7 +17,7 @@ pub(crate) enum BatchCommand<'a> {
     Show { game: &'a str },
     /// The canonical text of the same game in version 2.
     Upgrade { game: &'a str },
-    /// The game that is made of a seed.
+    /// The game made from a seed.
     Make { seed: u64 },
     /// A best allocation of an account.
     Solve { account: &'a str },
@@ -25,11 +25,11 @@ pub(crate) enum BatchCommand<'a> {
     Worth { account: &'a str },
     /// A game, played by a script.
     Play { game: &'a str, script: &'a str },
-    /// The made game, played by the made script of so many requests, 0 to 50,000.
+    /// The made game, played by the made script of this many requests, 0 to 50,000.
     Trial { seed: u64, count: u32 },
     /// The log of a game, judged by the game.
     Audit { game: &'a str, log: &'a str },
-    /// The standings over several games: for each of 1 to 64 games its name and that of its log.
+    /// The standings over several games: for each of 1 to 64 games the name of its file and that of its log.
     Table { names: &'a [String] },
 }
 

@@ -14,7 +14,7 @@ pub struct Played {
     pub closed: Closed,
 }
 
-/// What a command leaves: the code that the process ends with, the links that it took, in the order in which they came, and the game that
+/// The result of a command: the exit code of the process, the links that it took, in the order in which they came, and the game that
 /// was played over them.
 #[derive(Drop)]
 pub struct Answer<L> {

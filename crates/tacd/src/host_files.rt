@@ -6,7 +6,7 @@ use std::io::Read;
 use std::rt;
 use tac_io::{Failed, Files};
 
-/// The files of the system. They count their faults, and tell nothing of what they hold.
+/// The files of the system. They count their faults; no clause says what they hold.
 #[derive(Drop)]
 pub(crate) struct HostFiles<'a, R> {
     rt: &'a R,

@@ -29,8 +29,8 @@ use tac_commands::{End, Refusal, finish};
 use tcp_links::TcpLinks;
 use top::tac;
 
-/// The words of the command line after the program's name. One that is no UTF-8, or longer than
-/// the name of a file may be, is in no command of the list.
+/// The words of the command line after the program's name. One that is not UTF-8, or longer than
+/// the name of a file may be, is in no command.
 fn command_line<R: Env + AllocGlobal>(rt: &R) -> Result<Vec<String>, Refusal>
     ensures { IfOk result (λ words. All (λ word. string_len word ≤ NAME_BYTES) words.items) }
 {

@@ -64,7 +64,7 @@ fn missed(head: &LogHead) -> u8
     }
 }
 
-/// The code of a game that was played: that of a lapsed tick where no other applies.
+/// The code of a game that was played: that of a lapsed tick if no other applies.
 fn lapsed_code(code: Code, missed: u8) -> Code
     ensures { result ≡ service.lapsed_code code missed }
 {

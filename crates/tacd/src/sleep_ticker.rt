@@ -21,7 +21,7 @@ pub(crate) struct SleptLapse {
 }
 
 /// A ticker that sleeps. The first tick comes one pace after the first wait began, and each later one a pace after the one before,
-/// whenever that was taken. It counts its faults, and tells nothing of its waits.
+/// however late that one was taken. It counts its faults; no clause says what it waited for.
 #[derive(Drop)]
 pub(crate) struct SleepTicker {
     pace: Duration,
@@ -30,7 +30,7 @@ pub(crate) struct SleepTicker {
 }
 
 impl SleepTicker {
-    /// No tick was waited for yet, and ticks come one after the other at once.
+    /// No tick was waited for yet, and the pace is zero.
     pub(crate) fn new() -> SleepTicker
         ensures start { result.start ≡ None }
         ensures faults { result.faults ≡ 0 }

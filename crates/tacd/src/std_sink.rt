@@ -7,8 +7,8 @@ ghost use Rattle.tac_io.specs.Told.{Takes};
 use std::io::Write;
 use tac_io::{Failed, Sink};
 
-/// A writer of the system as a sink. It counts its faults, and tells nothing of what it took; that the writer took just that, a clause of
-/// `write` says, of a writer whose content is known.
+/// A writer of the system as a sink. It counts its faults; no clause says what it took. That the writer took just that, a clause of
+/// `write` says for every writer whose content is known.
 #[derive(Drop)]
 pub(crate) struct StdSink<W> {
     writer: W,

@@ -8,8 +8,8 @@ use std::io::{ErrorKind, Read, Write};
 use std::net::{Net, TcpListener, TcpStream};
 use tac_io::{Failed, Link, Links};
 
-/// A stream as a link, as that of a TCP connection. It counts its faults, and tells nothing of what goes over it. That it passes on what the
-/// stream gave or took, as a fault where that failed, a clause of `read` and of `write` says, of a stream whose content is known.
+/// A stream as a link, such as a TCP connection. It counts its faults; no clause says what goes over it. Clauses of `read` and `write`
+/// say that it passes on what the stream gave or took, and a failure as a fault, for every stream whose content is known.
 #[derive(Drop)]
 pub(crate) struct TcpLink<S> {
     stream: S,
@@ -75,7 +75,7 @@ impl<S: Read + Write> Link for TcpLink<S> {
     }
 }
 
-/// The TCP connections that come to a port, on every address of the machine. They count their faults.
+/// The TCP connections to a port, on every address of the machine. They count their faults.
 #[derive(Drop)]
 pub(crate) struct TcpLinks<'a, R> {
     rt: &'a R,
@@ -84,7 +84,7 @@ pub(crate) struct TcpLinks<'a, R> {
 }
 
 impl<'a, R: Net<Listener = TcpListener, Stream = TcpStream>> TcpLinks<'a, R> {
-    /// No port is listened at yet.
+    /// They do not listen yet.
     pub(crate) fn new(rt: &'a R) -> TcpLinks<'a, R>
         ensures listener { result.listener ≡ None }
         ensures faults { result.faults ≡ 0 }
@@ -105,7 +105,7 @@ impl<'a, R: Net<Listener = TcpListener, Stream = TcpStream>> Links for TcpLinks<
     ghost state = { λ s. record { listens = is_some s.listener; ports = None; pending = None; faults = s.faults } };
 
     fn listen(&mut self, port: u16) -> Result<(), Failed> {
-        // Where the machine has no addresses of version 6, those of version 4 alone are listened at.
+        // If the machine has no addresses of version 6, they listen on those of version 4.
         let bound = match TcpListener::bind(self.rt, ("::", port)) {
             Ok(listener) => Ok(listener),
             Err(_) => TcpListener::bind(self.rt, ("0.0.0.0", port)),
@@ -127,7 +127,7 @@ impl<'a, R: Net<Listener = TcpListener, Stream = TcpStream>> Links for TcpLinks<
         for _ in 0..u64::MAX {
             match listener.accept() {
                 Ok((stream, _)) => {
-                    // A reply is one short line: it is to be sent at once. Where that cannot be set, it is sent all the same.
+                    // A reply is one short line, to be sent at once. If that cannot be set, it is sent all the same.
                     let _ = stream.set_nodelay(true);
                     return Ok(Some(TcpLink::new(stream)));
                 }

@@ -36,11 +36,11 @@ pub fn tac<R: Threads + Sync + Wait + Clock, F: Files, K: Sink, N: Links, T: Tic
     requires short { All (λ word. string_len word ≤ NAME_BYTES) words.now }
     requires ports { IfSome (N.state links.old).ports (λ ports. ports ≡ []) }
     requires ticks { IfSome (T.state ticker.old).waited (λ ticks. ticks ≡ []) }
-    // The outcome is one that the words and the files allow, and the files that were selected are those that it tells of.
+    // The outcome is one that the words and the files allow, and the files that were selected are those that it implies.
     ensures outcome { (outcome : Outcome)
         × Allows (command_of (map (λ word. string_bytes word) words.now)) (F.state files.old) (F.state files.new) outcome
         × Tells outcome (K.state out.old) (K.state out.new) result.code }
-    // A game over links: what its log tells is what was played, and what each link asked and was sent.
+    // A game over links: the log shows what was played, and what each link asked and was sent.
     ensures service { IfSome (service_of (map (λ word. string_bytes word) words.now)) (λ service. Serves N.Link.state service
         (outside_of (F.state files.old) (K.state out.old) (N.state links.old) (T.state ticker.old))
         (outside_of (F.state files.new) (K.state out.new) (N.state links.new) (T.state ticker.new)) result) }

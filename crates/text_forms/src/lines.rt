@@ -16,13 +16,13 @@ pub enum Reason {
     /// There are too few or too many words; an empty word counts.
     #[error("there are too few or too many words")]
     WordCount = 2,
-    /// A later word has another spelling than its place asks for, as a numeral with a leading zero.
+    /// A later word has another spelling than its place requires, such as a numeral with a leading zero.
     #[error("a word is spelled wrongly")]
     Spelling = 3,
     /// A number is outside the range of its place.
     #[error("a number is outside its range")]
     OutOfRange = 4,
-    /// The number that counts the lines of a kind is not the one that is due.
+    /// A number that counts lines of a kind is not the one that is due.
     #[error("the number that counts the lines is not the one that is due")]
     NotDue = 5,
     /// Two words or numbers that have to differ are equal.
@@ -54,9 +54,9 @@ pub struct BadLine {
 /// Where a text ends.
 #[derive(Clone, Copy, Debug, PartialEq, Eq)]
 pub struct Ending {
-    /// The number of what stands after the last line end.
+    /// The number of what follows the last line end.
     pub line: u32,
-    /// Whether nothing stands there, so that the last line has its end.
+    /// Whether that is empty, so that the last line has its end.
     pub whole: bool,
 }
 
@@ -124,7 +124,7 @@ impl<'a> Lines<'a> {
         }
     }
 
-    /// The lines of a text but for empty lines and those that begin with `#`, which count in the numbers.
+    /// The lines of a text except empty lines and those that begin with `#`, which count in the numbers.
     pub fn without_comments(text: &'a [u8]) -> Self
         requires { length text.now < 2 ^ 31 }
         ensures { result ≡ lines.lines_from true 1 (parts_of 10 text.now) }
@@ -160,7 +160,7 @@ impl<'a> Lines<'a> {
         }
     }
 
-    /// The same lines once more, to look at the next line and go back.
+    /// A copy of the lines, to look at the next line and go back.
     pub fn again(&self) -> Lines<'a>
         ensures { result ≡ self.now }
     {
@@ -171,8 +171,8 @@ impl<'a> Lines<'a> {
         }
     }
 
-    /// The bytes of the next `count` lines with their line ends, and the lines after them. There are none where fewer
-    /// whole lines are left, or where a line that is left out stands among them.
+    /// The bytes of the next `count` lines with their line ends, and the lines after them. There are none if fewer
+    /// whole lines are left, or if a line that is left out is among them.
     pub fn block(self, count: u32) -> Option<(&'a [u8], Lines<'a>)>
         ensures { MatchOption result (lines.block_of count self.entry ≡ None) (λ found. lines.block_of count self.entry ≡ Some (found.0.now, found.1)) }
     {
@@ -240,8 +240,8 @@ fn past_comments(skips_comments: bool, number: u32, text: &[u8]) -> (u32, &[u8])
     (number, rest)
 }
 
-/// The bytes of so many lines with their line ends, and what stands after them. There are none where fewer whole lines
-/// stand there, or one of them is left out.
+/// The bytes of this many lines with their line ends, and what follows them. There are none if there are fewer whole lines,
+/// or if one of them is left out.
 fn take_lines(skips_comments: bool, text: &[u8], count: u32) -> Option<(&[u8], &[u8])>
     ensures lines { (number : ℕ) → MatchOption result (block_at skips_comments number count text.now ≡ None) (λ found. block_at skips_comments number count text.now ≡ Some (found.0.now, lines.lines_from skips_comments (number + count) (parts_of 10 found.1.now))) }
     ensures small { IfSome result (λ found. count + length found.1.now ≤ length text.now) }

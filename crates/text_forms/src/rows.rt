@@ -13,7 +13,7 @@ use tac_base::{Text, print_signed, read_numeral, read_signed};
 pub enum Digits {
     /// At most ten.
     Ten,
-    /// At most 18, as an amount of cash.
+    /// At most 18, for an amount of cash.
     Eighteen,
 }
 
@@ -30,7 +30,7 @@ impl Digits {
     }
 }
 
-/// What a number in a row may be: a numeral of at most so many digits, with a sign or without, in a range.
+/// What a number in a row may be: a numeral of at most this many digits, with a sign or without, in a range.
 #[derive(Clone, Copy, Debug, PartialEq, Eq)]
 pub struct Column {
     pub signed: bool,
@@ -53,7 +53,7 @@ impl Column {
     }
 }
 
-/// The number that a word is in a column.
+/// The number of a word in a column.
 fn number_of(column: &Column, word: &[u8]) -> Option<i64>
     ensures { result ≡ rows.number_of column.now word.now }
 {
@@ -67,7 +67,7 @@ fn number_of(column: &Column, word: &[u8]) -> Option<i64>
     }
 }
 
-/// The numbers that the words are, each in its column.
+/// The numbers of the words, each in its column.
 fn numbers_of<const N: usize>(columns: &[Column; N], mut words: Words<'_>) -> Option<[i64; N]>
     ensures { result ≡ rows.numbers_of columns.now words.entry }
 {
@@ -101,7 +101,7 @@ fn all_in(columns: &[Column], numbers: &[i64]) -> bool
         .all(|(column, number)| is_in(column, *number))
 }
 
-/// The numbers, or the reason why they are none of the row.
+/// The numbers, or the reason why the words are no numbers of the row.
 fn in_range<const N: usize>(
     columns: &[Column; N],
     numbers: Option<[i64; N]>,

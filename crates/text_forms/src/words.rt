@@ -20,7 +20,7 @@ fn count(bytes: &[u8], separator: u8) -> usize
     bytes.iter().filter(|b| **b == separator).count()
 }
 
-/// The bytes before the first separator and those after it, where there is a separator.
+/// The bytes before the first separator and those after it, if there is a separator.
 /// Either side may be empty.
 pub fn cut(bytes: &[u8], separator: u8) -> Option<(&[u8], &[u8])>
     ensures whole { IfNone result (parts_of separator bytes.now ≡ bytes.now ∷ []) }
@@ -40,8 +40,8 @@ pub fn count_parts(bytes: &[u8], separator: u8) -> usize
     count(bytes, separator) + 1
 }
 
-/// The words of a line that are left. Words are parted by exactly one space, so two spaces have an empty word between
-/// them, and a line without a byte is one empty word. Contracts see the list of the words.
+/// The words of a line that are left. Words are separated by exactly one space, so two spaces have an empty word between
+/// them, and an empty line is one empty word. Contracts see the list of the words.
 #[derive(Debug, Drop)]
 pub struct Words<'a> {
     rest: Option<&'a [u8]>,
@@ -74,7 +74,7 @@ impl<'a> Words<'a> {
         }
     }
 
-    /// Takes the next word, where one is left. After the last word none is left for good.
+    /// Takes the next word, if one is left. After the last word there is never one again.
     pub fn next(&mut self) -> Option<&'a [u8]>
         ensures { MatchOption result ((self.old ≡ []) × (self.new ≡ [])) (λ word. self.old ≡ word.now ∷ self.new) }
     {
@@ -93,7 +93,7 @@ impl<'a> Words<'a> {
         }
     }
 
-    /// All bytes that are left, with the spaces between the words, where a word is left.
+    /// All bytes that are left, with the spaces between the words, if a word is left.
     pub fn rest(self) -> Option<&'a [u8]>
         ensures { MatchOption result (self.entry ≡ []) (λ rest. (self.entry ≡ words_of rest.now) × (rest.now ≡ join_with_byte 32 self.entry)) }
     {

@@ -5,7 +5,7 @@ use game_text::print_game;
 use std::alloc::Global;
 use std::test::Fail;
 
-// The numbers are those of the generator's published words.
+// The numbers come from the generator's published words.
 #[test]
 fn first_flight_begins_with_the_first_words(rt: HostRuntime) {
     let flight = &make_game(42).flights[0];
@@ -23,7 +23,7 @@ fn made_game_has_the_canonical_lines(rt: HostRuntime) -> Result<(), Fail> {
     Ok(())
 }
 
-/// Whether the script has these bids, each after so many more ticks.
+/// Whether the script has these bids, each after this many more ticks.
 fn has_bids(alloc: Global, seed: u64, count: u32, bids: &[(u8, &[u8])]) -> Result<bool, Fail>
     requires { count ≤ 50000 }
 {
@@ -38,7 +38,7 @@ fn has_bids(alloc: Global, seed: u64, count: u32, bids: &[(u8, &[u8])]) -> Resul
     Ok(make_script(alloc, seed, count)?.as_slice() == due.as_slice())
 }
 
-// The bids are those that a separate program makes of the generator's words.
+// The bids come from a separate program that uses the generator's words.
 #[test]
 fn made_scripts_have_the_bids_of_the_words(rt: HostRuntime) -> Result<(), Fail> {
     let alloc = rt.alloc();

@@ -30,7 +30,7 @@ fn the_first_fault_of_a_line_is_told(rt: HostRuntime) -> Result<(), Fail> {
     Ok(())
 }
 
-/// The line of what is said.
+/// The line of a reply.
 fn printed(said: &Said) -> Text {
     let mut line = Text::new();
     print_reply(said, &mut line);
@@ -75,7 +75,7 @@ fn replies_are_printed_as_the_agents_are_told(rt: HostRuntime) {
     }
 }
 
-/// The line of what a line tells, or nothing.
+/// The line of what a line says, or nothing.
 fn read_and_printed(line: &[u8]) -> Text {
     match read_reply(line) {
         Some(said) => printed(&said),

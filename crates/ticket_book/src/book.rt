@@ -24,7 +24,7 @@ use tac_base::{Agent, Board, Call, Caller, Fills, Good, Kind, Left, Points, Repl
 /// The auction of a ticket, in which agents trade with each other: a continuous double auction, by the
 /// game description. How units are matched is a rule after TAC. No call takes memory.
 ///
-/// Of each agent its last bid is kept, and of all agents the units that stand, each side in its order.
+/// Of each agent its last bid is kept, and of all agents the standing units, each side in its order.
 #[derive(Debug, Drop)]
 pub struct Tickets {
     good: Good,
@@ -55,8 +55,8 @@ impl Tickets {
         }
     }
 
-    /// A bid of an agent. It takes the place of what stands of the agent's earlier one, and its units
-    /// then trade with those of other agents, one by one: `fills` holds the trades. Where it is refused,
+    /// A bid of an agent. It replaces what stands of the agent's earlier one, and its units
+    /// then trade with those of other agents, one by one: `fills` holds the trades. If it is refused,
     /// in a closed auction or for a buying point that reaches one of its own selling points, it changes
     /// nothing and has no trades. An agent may sell what it does not have.
     pub fn bid(&mut self, at: u32, agent: Agent, points: &Points, fills: &mut Fills) -> Reply
@@ -87,8 +87,8 @@ impl Tickets {
         }
     }
 
-    /// An agent's withdrawal of what stands of its bid. It is refused where nothing stands, also where
-    /// the whole bid was traded away, and in a closed auction, and changes nothing there.
+    /// An agent's withdrawal of what stands of its bid. If nothing stands, even because the
+    /// whole bid was traded, or in a closed auction, it is refused and changes nothing.
     pub fn withdraw(&mut self, at: u32, agent: Agent) -> Reply
         ensures { (setup : Setup) (past : List Entry) → StandsFor self.old setup past → at ≡ length past →
             Follows setup past agent Call.Withdraw result [] (StandsFor self.new setup) }
@@ -107,7 +107,7 @@ impl Tickets {
     /// The standing points of an agent, in the order of its bid: none in a closed auction.
     pub fn own(&self, agent: Agent) -> Left
         ensures left { (setup : Setup) (past : List Entry) → StandsFor self.now setup past → result ≡ left setup.rules past agent }
-        // To ask changes nothing.
+        // Reading changes nothing.
         ensures stands { (setup : Setup) (past : List Entry) → StandsFor self.now setup past →
             StandsFor self.now setup (entry_of setup past agent Call.Own ∷ past) }
     {
@@ -118,7 +118,7 @@ impl Tickets {
     }
 
     /// The refusal of a call that ticket auctions do not have, or that the caller may not make: `Closed`
-    /// after the closing, but for `Own`, and else `WrongCall`. It changes nothing.
+    /// after the closing, except for `Own`, and otherwise `WrongCall`. It changes nothing.
     pub fn refuse(&self, caller: Caller, call: &Call) -> Reply
         requires { IsTrue (is_wrong_caller caller call.now || is_wrong_place Rules.Tickets call.now) }
         ensures { (setup : Setup) (past : List Entry) → StandsFor self.now setup past →
@@ -127,8 +127,8 @@ impl Tickets {
         wrong_reply(self.closed, call)
     }
 
-    /// The clock's closing, after which nothing stands. `fills` is left empty. It is refused in a closed
-    /// auction, and changes nothing there.
+    /// The clock's closing, after which nothing stands. `fills` is left empty. In a closed auction it is
+    /// refused and changes nothing.
     pub fn close(&mut self, at: u32, fills: &mut Fills) -> Reply
         ensures follows { (setup : Setup) (past : List Entry) → StandsFor self.old setup past → at ≡ length past →
             Follows setup past clock Call.Close result fills.new (StandsFor self.new setup) }
@@ -143,9 +143,9 @@ impl Tickets {
         Reply::Done
     }
 
-    /// What is shown of the auction after `count` entries: the highest standing buy and the lowest
-    /// standing sell, in dollars, 0 where there is none. After entries that the rules allow, the buy lies
-    /// below the sell where both are there.
+    /// The board of the auction after `count` entries: the highest standing bid and the lowest
+    /// standing ask, in dollars, 0 if there is none. After entries that the rules allow, the bid is
+    /// below the ask if both are there.
     pub fn board(&self, count: u32) -> Board
         ensures board { (setup : Setup) (past : List Entry) → StandsFor self.now setup past → count ≡ length past → result ≡ board setup.rules past }
         ensures bid_within { result.bid ≤ 10000 }

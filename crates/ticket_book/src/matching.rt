@@ -12,7 +12,7 @@ use auction_rules::{BidUnit, Placed, push_units};
 use tac_base::limits::{BID_PRICE, BID_UNITS, ENTRY_TRADES};
 use tac_base::{Fills, Good, Trade, Unit};
 
-/// Whether two units are one.
+/// Whether two units are the same.
 fn same_unit(first: &BidUnit, second: &BidUnit) -> bool
     ensures { result ≡ spec.same_unit first.now second.now }
 {
@@ -26,7 +26,7 @@ fn is_among(units: &[BidUnit], unit: &BidUnit) -> bool
     units.iter().any(|other| same_unit(unit, other))
 }
 
-/// Takes out the units that are gone.
+/// Removes the units that are gone.
 fn take_away(units: &mut ArrayVec<BidUnit, 16>, gone: &[BidUnit])
     ensures { units.new.items ≡ spec.without units.old.items gone.now }
 {
@@ -87,7 +87,7 @@ fn trade_of(good: Good, arriving: &BidUnit, standing: &BidUnit) -> Trade
 }
 
 impl Sides {
-    /// The first unit of another agent on the other side than the arriving one.
+    /// The first unit of another agent on the other side.
     fn front(&self, arriving: &BidUnit) -> Option<BidUnit>
         ensures { result ≡ rule.best (filter (rule.faces arriving.now) (both self.now)) }
     {
@@ -166,7 +166,7 @@ impl Sides {
         ensures priced { All (λ u. u.price ≤ BID_PRICE) (both self.old) }
         ensures units { HaveSame (both self.new) (after_bid (both self.old) bid.now.agent (spec.units_of bid.now)) }
     {
-        // No unit that stands costs more than 10000 dollars.
+        // No standing unit costs more than 10000 dollars.
         let _ = self.side(true);
         let mut left = units_of(bid);
         let gone = self.match_units(good, &left, fills);

@@ -7,7 +7,7 @@ use arrayvec::ArrayVec;
 use tac_base::Unit;
 use tac_base::limits::STANDING_UNITS;
 
-/// Of two units of a side, whether the first goes before the second.
+/// Whether the first of two units of a side goes before the second.
 fn goes_first(buys: bool, first: &Unit, second: &Unit) -> bool
     ensures { result ≡ spec.goes_first buys first.now second.now }
 {
@@ -22,14 +22,14 @@ fn goes_first(buys: bool, first: &Unit, second: &Unit) -> bool
                 || (first.position == second.position && first.index < second.index)))
 }
 
-/// Whether two units of a side are one.
+/// Whether two units of a side are the same.
 fn is_same(first: &Unit, second: &Unit) -> bool
     ensures { result ≡ spec.is_same first.now second.now }
 {
     first == second
 }
 
-/// The place of the first unit of a side that another one goes before.
+/// The index of the first unit of a side that the given unit goes before.
 fn first_after(units: &[Unit], buys: bool, unit: &Unit) -> Option<usize>
     ensures place { result ≡ position (spec.goes_first buys unit.now) units.now }
     ensures within { IfSome result (λ place. place < length units.now) }
@@ -37,7 +37,7 @@ fn first_after(units: &[Unit], buys: bool, unit: &Unit) -> Option<usize>
     units.iter().position(|other| goes_first(buys, unit, other))
 }
 
-/// The place of the first unit of a side that another one goes before, or the number of units where there is none.
+/// The index of the first unit of a side that the given unit goes before, or the number of units if there is none.
 #[tactic(auto, using(crate::proofs::Sorting::place_at, crate::proofs::Sorting::place_at_end))]
 fn place_of(units: &[Unit], buys: bool, unit: &Unit) -> usize
     ensures place { result ≡ position_or_len (spec.goes_first buys unit.now) units.now }
@@ -49,7 +49,7 @@ fn place_of(units: &[Unit], buys: bool, unit: &Unit) -> usize
     }
 }
 
-/// Puts a unit in its place among those of a side.
+/// Inserts a unit in its place among those of a side.
 pub(crate) fn put(units: &mut ArrayVec<Unit, STANDING_UNITS>, buys: bool, unit: &Unit)
     requires { length units.old.items < STANDING_UNITS }
     ensures { units.new.items ≡ insert units.old.items (position_or_len (spec.goes_first buys unit.now) units.old.items) unit.now }
@@ -58,14 +58,14 @@ pub(crate) fn put(units: &mut ArrayVec<Unit, STANDING_UNITS>, buys: bool, unit: 
     units.insert(place, *unit);
 }
 
-/// Takes a unit out of a side.
+/// Removes a unit from a side.
 pub(crate) fn take_out(units: &mut ArrayVec<Unit, STANDING_UNITS>, taken: &Unit)
     ensures { units.new.items ≡ filter (λ u. not (spec.is_same u taken.now)) units.old.items }
 {
     units.retain(|unit| !is_same(unit, taken));
 }
 
-/// Takes the units of the agent that has the number out of a side.
+/// Removes the units of the agent with this number from a side.
 pub(crate) fn take_out_of(units: &mut ArrayVec<Unit, STANDING_UNITS>, number: u8)
     ensures { units.new.items ≡ filter (λ u. not (u.agent == number)) units.old.items }
 {
@@ -79,7 +79,7 @@ pub(crate) fn is_on(units: &[Unit], unit: &Unit) -> bool
     units.iter().any(|other| is_same(unit, other))
 }
 
-/// The first unit of a side that is not of the agent that has the number.
+/// The first unit of a side that is not of the agent with this number.
 pub(crate) fn first_of_others(units: &[Unit], number: u8) -> Option<Unit>
     ensures { result ≡ find (λ u. not (number == u.agent)) units.now }
 {
@@ -89,14 +89,14 @@ pub(crate) fn first_of_others(units: &[Unit], number: u8) -> Option<Unit>
         .find(|unit| number != unit.agent.get())
 }
 
-/// Whether the agent that has the number has a unit on a side.
+/// Whether the agent with this number has a unit on a side.
 pub(crate) fn has_units_of(units: &[Unit], number: u8) -> bool
     ensures { result ≡ list_any (λ u. u.agent == number) units.now }
 {
     units.iter().any(|unit| unit.agent.get() == number)
 }
 
-/// The price of the first unit of a side, 0 where there is none.
+/// The price of the first unit of a side, 0 if there is none.
 pub(crate) fn first_price(units: &[Unit]) -> u16
     ensures { result ≡ slice_index_or (map (λ u. u.price) units.now) 0 0 }
 {

@@ -12,7 +12,7 @@ fn meets_own(points: &[Point], price: u16) -> bool
         .any(|sell| !sell.buys() && sell.price <= price)
 }
 
-/// Whether some buying point has at least the price of a selling one.
+/// Whether some buying point's price is at least that of a selling one.
 pub(crate) fn crosses_itself(points: &[Point]) -> bool
     ensures { result ≡ refusals.crosses_itself points.now }
 {

@@ -11,7 +11,7 @@ use arrayvec::ArrayVec;
 use auction_rules::{BidUnit, Placed, push_point};
 use tac_base::{Left, Point};
 
-/// How many units of a point of the bid stand, where the units of the bid before it are `from`.
+/// How many units of a point of the bid stand, if `from` units of the bid come before it.
 fn units_left(standing: &Sides, bid: &Placed, from: u8, point: &Point) -> u8
     requires { from + size_of point.now ≤ 16 }
     ensures value { result ≡ units.common_units (units.point_units bid.now.agent bid.now.position from point.now) (both standing.now) }
@@ -22,7 +22,7 @@ fn units_left(standing: &Sides, bid: &Placed, from: u8, point: &Point) -> u8
     own.iter().filter(|unit| standing.contains(unit)).count() as u8
 }
 
-/// So many units at the point's price, bought or sold as the point does.
+/// This many units at the point's price, bought or sold like the point's.
 fn with_units(point: &Point, count: u8) -> Point
     requires { count ≤ 16 }
     ensures { result ≡ remains.with_units point.now count }
@@ -34,7 +34,7 @@ fn with_units(point: &Point, count: u8) -> Point
     }
 }
 
-/// Appends what is left of a point, if there is something.
+/// Appends what is left of a point, if anything is.
 fn push_left(left: &mut ArrayVec<Point, 16>, point: &Point, count: u8)
     requires room { length left.old.items < 16 }
     requires few { count ≤ 16 }
@@ -46,7 +46,7 @@ fn push_left(left: &mut ArrayVec<Point, 16>, point: &Point, count: u8)
     }
 }
 
-/// What is left of a bid where these units stand.
+/// What is left of a bid if these units stand.
 pub(crate) fn left_of(bid: &Placed, standing: &Sides) -> Left
     ensures { result ≡ spec.left_points (both standing.now) bid.now.agent bid.now.position 0 bid.now.points }
 {

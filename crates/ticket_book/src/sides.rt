@@ -32,7 +32,7 @@ impl Model for Sides {
 }
 
 impl Sides {
-    /// No unit.
+    /// No units.
     pub(crate) fn new() -> Sides
         ensures { both result ≡ [] }
     {
@@ -71,7 +71,7 @@ impl Sides {
         has_units_of(&self.buys, number) || has_units_of(&self.sells, number)
     }
 
-    /// The highest price of a unit that buys, 0 where there is none.
+    /// The highest price of a unit that buys, 0 if there is none.
     pub(crate) fn highest_buy(&self) -> u16
         ensures value { result ≡ boards.highest_buy (both self.now) }
         ensures within { result ≤ BID_PRICE }
@@ -79,7 +79,7 @@ impl Sides {
         first_price(&self.buys)
     }
 
-    /// The lowest price of a unit that sells, 0 where there is none.
+    /// The lowest price of a unit that sells, 0 if there is none.
     pub(crate) fn lowest_sell(&self) -> u16
         ensures value { result ≡ boards.lowest_sell (both self.now) }
         ensures within { result ≤ BID_PRICE }
@@ -87,7 +87,7 @@ impl Sides {
         first_price(&self.sells)
     }
 
-    /// Takes a unit out.
+    /// Removes a unit.
     pub(crate) fn take_out(&mut self, taken: &BidUnit)
         ensures { both self.new ≡ not_taken (Some taken.now) (both self.old) }
     {
@@ -99,7 +99,7 @@ impl Sides {
         }
     }
 
-    /// Takes all units of the agent out.
+    /// Removes all units of the agent.
     pub(crate) fn take_out_of(&mut self, agent: Agent)
         ensures { both self.new ≡ others agent (both self.old) }
     {
@@ -108,7 +108,7 @@ impl Sides {
         take_out_of(&mut self.sells, number);
     }
 
-    /// Puts a unit in its place. Its agent has fewer than 16 others.
+    /// Inserts a unit in its place. Its agent has fewer than 16 others.
     fn put(&mut self, unit: &BidUnit)
         requires owned { unit.now.agent ≤ 7 }
         requires priced { unit.now.price ≤ BID_PRICE }
@@ -123,21 +123,21 @@ impl Sides {
         }
     }
 
-    /// Puts the units of the agent in their places. No other unit of the agent stands.
+    /// Inserts the units of the agent in their places. No other unit of the agent stands.
     pub(crate) fn put_all(&mut self, agent: Agent, units: &[BidUnit])
         requires owned { All (λ u. u.agent ≡ agent) units.now }
         requires priced { All (λ u. u.price ≤ BID_PRICE) units.now }
         requires few { count_by (λ u. u.agent == agent) (both self.old) + length units.now ≤ BID_UNITS }
         ensures { HaveSame (both self.new) (both self.old ++ units.now) }
     {
-        // An agent has a number of at most 7.
+        // An agent's number is at most 7.
         let _ = agent.get();
         for unit in units {
             self.put(unit);
         }
     }
 
-    /// Takes all units out.
+    /// Removes all units.
     pub(crate) fn clear(&mut self)
         ensures { both self.new ≡ [] }
     {

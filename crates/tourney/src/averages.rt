@@ -26,7 +26,7 @@ fn greatest_divisor(first: u64, second: u64) -> u64
     a
 }
 
-/// So many dollars with the sign of a total.
+/// This many dollars with the sign of a total.
 #[tactic(auto, using(crate::proofs::LowestTerms::signed_low, crate::proofs::LowestTerms::signed_high))]
 fn signed(total: i64, dollars: u64) -> i64
     requires { dollars < 2 ^ 63 }

@@ -33,7 +33,7 @@ fn print_average(row: &TeamRow, out: &mut Vec<u8>) -> Result<(), AllocError>
     print_number(out, b'/', i64::from(row.under))
 }
 
-/// Appends what stands after a team's word. After an error the text may end within it.
+/// Appends what follows a team's word. After an error the text may end within it.
 fn print_numbers(row: &TeamRow, out: &mut Vec<u8>) -> Result<(), AllocError>
     ensures { OnOk result (out.new.items ≡ out.old.items ++ 32 ∷ texts.numbers_text row.now) }
 {
@@ -75,7 +75,7 @@ fn print_teams(standings: &Standings, rows: &[TeamRow], out: &mut Vec<u8>) -> Re
 }
 
 /// Appends the text of the standings: the line `table N`, a line `team WORD GAMES TOTAL NUM/DEN RANK` for each team in the
-/// order in which they were first met, and `end`. After `Memory` a part of it may stand behind what was there.
+/// order in which they first appear, and `end`. After `Memory` a part of it may follow what was there.
 pub fn print_standings(standings: &Standings, out: &mut Vec<u8>) -> Result<(), Memory>
     ensures { (played : List (GameFile × LoggedGame)) → StandsFor standings.now played → OnOk result (IsPrinted played out.old.items out.new.items) }
 {

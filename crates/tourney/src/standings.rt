@@ -47,7 +47,7 @@ fn word_of(game: &Game, agent: Agent) -> SeatWord
     game.words[usize::from(agent.get())]
 }
 
-/// The score of an agent, at most 10,000,000,000,000 dollars without sign.
+/// The score of an agent, at most 10,000,000,000,000 dollars in absolute value.
 fn score_of(game: &Game, log: &Log, agent: Agent) -> i64
     requires { IsSound game.now log.now }
     ensures value { result ≡ slice_index_or (map (λ scored. scored.score) log.now.scores) agent (pos 0) }
@@ -59,7 +59,7 @@ fn score_of(game: &Game, log: &Log, agent: Agent) -> i64
     log.score(agent).score
 }
 
-/// Adds the score of an agent, where the agent counts in the game.
+/// Adds the score of an agent, if the agent counts in the game.
 fn add_agent(tallies: &mut Tallies, game: &Game, log: &Log, agent: Agent) -> Result<(), Memory>
     requires sound { IsSound game.now log.now }
     requires few { (spec.tally_at tallies.old.entries (standings.result_of (game.now, log.now) agent).0).games < 64 }
@@ -148,7 +148,7 @@ impl Standings {
         rows.push(self.row(place)).map_err(|_| Memory)
     }
 
-    /// The row of each team, in the order in which the teams were first met. `Memory` leaves nothing.
+    /// The row of each team, in the order in which the teams first appear. `Memory` leaves nothing.
     pub fn rows(&self) -> Result<Vec<TeamRow>, Memory>
         ensures { (played : List (GameFile × LoggedGame)) → StandsFor self.now played → IfOk result (λ teams. rows.AreRows played teams.items) }
     {

@@ -18,13 +18,13 @@ pub(crate) struct Tally {
     pub total: i64,
 }
 
-/// The tallies of the teams, in the order in which they were first met.
+/// The tallies of the teams, in the order in which they first appear.
 pub(crate) type Tallies = IndexMap<SeatWord, Tally>;
 
 /// The tally of no games.
 const NONE: Tally = Tally { games: 0, total: 0 };
 
-/// A total times so many games.
+/// A total times this many games.
 fn scaled(total: i64, games: u8) -> i64
     requires total { unsigned_abs total ≤ 64 * spec.most_score }
     ensures { result ≡ total *ℤ pos games }
@@ -33,7 +33,7 @@ fn scaled(total: i64, games: u8) -> i64
 }
 
 impl Tally {
-    /// The tally with one more game. A score has at most 10,000,000,000,000 dollars, without sign.
+    /// The tally with one more game. A score has at most 10,000,000,000,000 dollars, in absolute value.
     pub(crate) fn with_score(self, score: i64) -> Tally
         requires few { self.games < 64 }
         requires total { unsigned_abs self.total ≤ self.games * spec.most_score }
@@ -46,7 +46,7 @@ impl Tally {
         }
     }
 
-    /// Whether the average of this one is greater.
+    /// Whether the average of this tally is greater.
     pub(crate) fn is_above(self, other: Tally) -> bool
         requires this { spec.IsTally 64 self }
         requires that { spec.IsTally 64 other }
@@ -56,7 +56,7 @@ impl Tally {
     }
 }
 
-/// The tally of a team, which is none at first.
+/// The tally of a team, which is zero at first.
 fn tally_at(tallies: &Tallies, word: &SeatWord) -> Tally
     ensures { result ≡ spec.tally_at tallies.now.entries word.now }
 {
@@ -90,7 +90,7 @@ pub(crate) fn tally_in(tallies: &Tallies, place: usize) -> Tally
     tallies[place]
 }
 
-/// 1 where the team at a place has a greater average, and else 0.
+/// 1 if the team at a place has a greater average, and otherwise 0.
 fn one_ahead(tallies: &Tallies, place: usize, tally: Tally) -> u16
     requires inside { place < length tallies.now.entries }
     requires each { All (λ team. spec.IsTally 64 team.1) tallies.now.entries }
@@ -104,7 +104,7 @@ fn one_ahead(tallies: &Tallies, place: usize, tally: Tally) -> u16
     0
 }
 
-/// 1 and the number of teams with a greater average.
+/// 1 plus the number of teams with a greater average.
 pub(crate) fn rank_of(tallies: &Tallies, tally: Tally) -> u16
     requires few { length tallies.now.entries ≤ 512 }
     requires each { All (λ team. spec.IsTally 64 team.1) tallies.now.entries }

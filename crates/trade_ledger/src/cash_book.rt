@@ -41,7 +41,7 @@ pub fn add_nets(totals: &mut [i64; 9], nets: &Nets)
     }
 }
 
-/// What is answered to a call, where these are the totals so far, and adds what the call gives.
+/// The answer to a call, given the totals so far; adds what the call gives.
 fn settle(totals: &mut [i64; 9], call: &CashCall) -> CashReply
     requires { (party : ℕ) → party < 9 → IsWithin 600000000000000 (slice_index_or totals.old party (pos 0)) }
     ensures reply { result ≡ reply_by (λ party. slice_index_or totals.old party (pos 0)) call.now }

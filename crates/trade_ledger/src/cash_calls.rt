@@ -9,7 +9,7 @@ pub enum CashCall {
         position: u32,
         nets: Nets,
     },
-    /// An agent asks for its own cash.
+    /// An agent reads its own cash.
     Read {
         agent: Agent,
     },

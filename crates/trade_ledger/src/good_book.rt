@@ -5,7 +5,7 @@ ghost use Rattle.trade_ledger.specs.Holdings.{held_after, sum_held, IsHolding};
 use std::marker::Model;
 use tac_base::{Party, Trade};
 
-/// How many units of one good each party holds: the agents 0..7, then the house. Who sells more than it holds has less than 0.
+/// How many units of one good each party holds: the agents 0..7, then the house. A party that sells more than it holds has less than 0.
 #[derive(Debug, Drop)]
 pub struct GoodBook {
     holdings: [i32; 9],
@@ -19,7 +19,7 @@ impl Model for GoodBook {
     ghost view = { λ b. b.holdings };
 }
 
-/// Where a party's holding stands.
+/// The index of a party's holding.
 fn place(party: Party) -> usize
     ensures value { result ≡ party }
     ensures range { result ≤ 8 }
@@ -37,7 +37,7 @@ fn add(holdings: &mut [i32; 9], place: usize, units: i32)
 }
 
 impl GoodBook {
-    /// The book at first: what each party is endowed with.
+    /// The book at first: each party holds its endowment.
     pub fn new(endow: [i32; 9]) -> GoodBook
         ensures { result ≡ endow }
     {

@@ -3,7 +3,7 @@ ghost use Rattle.turn_lock.specs.BoardWord.{IsSmall, packed, unpacked};
 
 use tac_base::Board;
 
-/// The board as one word, so that one swap shows it whole.
+/// The board as one word, so that one swap publishes it whole.
 pub(crate) fn pack(board: &Board) -> u64
     requires { IsSmall board.now }
     ensures { result ≡ packed board.now }

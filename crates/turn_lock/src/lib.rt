@@ -1,5 +1,5 @@
-//! A lock whose callers take turns at one state, each turn one entry of the state's history. What it says of any schedule stands in the
-//! clauses of its calls: each caller learns its own part of the one history that the state has at the end. No clause says that a turn
+//! A ticket lock whose callers take turns at one state; each turn is one entry of the state's history. The clauses of its calls hold in any
+//! schedule: each caller learns its own part of the one history that the state has at the end. No clause says that a turn
 //! comes, or when.
 #![tactic(auto)]
 

@@ -18,7 +18,7 @@ use std::thread;
 use std::time::{Clock, Duration};
 use tac_base::{Board, Caller, Memory};
 
-/// After so many looks at the board a caller that waits sleeps.
+/// A caller that waits sleeps after polling the board this many times.
 const LOOKS: u32 = 64;
 
 /// A state at which callers take turns. Word 0 of its table gives tickets, word 1 is the board, and the one slot has the state.
@@ -41,7 +41,7 @@ impl<S: Kept> TurnLock<S> {
         self.table.shared.fetch_add::<Draw>(seat, 0, 1)
     }
 
-    /// Looks at the board until its count is the ticket, and takes the state with that look.
+    /// Polls the board until its count is the ticket, and takes the state with that read.
     fn wait<R: Wait + Clock>(
         &self,
         rt: &R,
@@ -72,7 +72,7 @@ impl<S: Kept> TurnLock<S> {
         }
     }
 
-    /// Acts on the state in hand, and gives it back with the swap that shows the new board.
+    /// Acts on the state, and gives it back with the swap that publishes the new board.
     fn act(
         &self,
         seat: &mut Seat<S, View<S, S::Setup, S::Entry>>,
@@ -164,7 +164,7 @@ impl<S: Kept> TurnLock<S> {
     }
 
     /// Takes a turn: it may wait for it, acts on the state by the call, and answers the position of its entry and the reply. The position
-    /// is not below what the pass had seen. The entry goes on from as many entries as its position says, and with it they are legal.
+    /// is not below what the pass had seen. The entry continues as many entries as its position says, and with it they are legal.
     pub fn call<R: Wait + Clock>(
         &self,
         rt: &R,
@@ -188,7 +188,7 @@ impl<S: Kept> TurnLock<S> {
         answer
     }
 
-    /// The board of the history so far, which is not shorter than what the pass had seen. It waits for nobody.
+    /// The board of the history so far, which is not shorter than what the pass had seen. It does not wait.
     pub fn peek(&self, pass: &mut Pass<S>) -> Board
         requires own { lock_of pass.old ≡ lock_id self.now }
         ensures own { (lock_of pass.new ≡ lock_of pass.old) × (caller_of pass.new ≡ caller_of pass.old)

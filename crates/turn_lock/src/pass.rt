@@ -27,7 +27,7 @@ impl<S: Kept> Pass<S> {
         self.left
     }
 
-    /// Whose pass it is.
+    /// The caller of the pass.
     pub fn caller(&self) -> Caller
         ensures { result ≡ caller_of self.now }
     {

@@ -1,4 +1,4 @@
-//! Threads share a lock, and passes and locks move between them. These calls prove it here, for every state.
+//! Threads can share a lock, and passes and locks can move between them. These calls prove it, for every state.
 use crate::kept::Kept;
 use crate::lock::TurnLock;
 use crate::pass::Pass;

@@ -14,7 +14,7 @@ impl<S, G, E> Play<S, View<S, G, E>> for Draw {
     ghost then = { drew };
 }
 
-/// Looks at the board for one's turn, and takes the state where it has come.
+/// Reads the board, and takes the state if its turn has come.
 pub(crate) struct Look<S> {
     state: PhantomData<S>,
 }
@@ -23,7 +23,7 @@ impl<S: Kept> Play<S, View<S, S::Setup, S::Entry>> for Look<S> {
     ghost then = { looked S.setup S.history S.caller_of };
 }
 
-/// Shows the new board, and gives the state back.
+/// Publishes the new board, and gives the state back.
 pub(crate) struct Publish<S> {
     state: PhantomData<S>,
 }
@@ -32,7 +32,7 @@ impl<S: Kept> Play<S, View<S, S::Setup, S::Entry>> for Publish<S> {
     ghost then = { published S.history S.caller_of };
 }
 
-/// Looks at the board.
+/// Reads the board.
 pub(crate) struct Peek;
 
 impl<S, G, E> Play<S, View<S, G, E>> for Peek {

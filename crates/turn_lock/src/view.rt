@@ -24,7 +24,7 @@ pub struct View<S, G, E> {
     /// 1 while it has a ticket that it has not used up, else 0.
     pub waits: u64,
     pub ticket: u64,
-    /// The length of the history that it knows of.
+    /// The length of the history that it has seen.
     pub seen: u64,
     /// Its own entries, with their positions.
     pub mine: LinkedList<(u64, E)>,
@@ -32,13 +32,13 @@ pub struct View<S, G, E> {
     pub notes: LinkedList<(u64, Board)>,
     /// While it has the turn, the setup and the history of the state that it took.
     pub held: Option<(G, LinkedList<E>)>,
-    /// The lock's own seat alone: how many passes were made.
+    /// The lock's own seat only: how many passes were made.
     pub passes: u64,
-    /// The lock's own seat alone: what the passes left that were taken back.
+    /// The lock's own seat only: what the passes left that were taken back.
     pub returned: LinkedList<Returned<E>>,
 }
 
-/// The rule of the table of a lock.
+/// The invariant of the table of a lock.
 pub struct TurnRule<S> {
     state: PhantomData<S>,
 }
