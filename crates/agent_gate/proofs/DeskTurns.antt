@@ -1,4 +1,4 @@
--- What a desk has of the turns that were taken with it.
+-- What a desk has of the turns taken with it.
 use Rattle.std.proofs.Common.{◌≡◌, ℕ, ◌<◌, List, [], ◌∷◌, ◌++◌, length, get_or, replicate, refl, sym, ap, ◌∙◌, subst, arith}
 use Rattle.std.specs.List.{count_by}
 use Rattle.std.proofs.lemmas.List.{append_assoc, append-nil, get_or-replicate}
@@ -15,7 +15,7 @@ use Rattle.agent_gate.specs.Answering.{IsDue, IsMade}
 use Rattle.agent_gate.specs.Sessions.{AreMadeBy}
 use Rattle.agent_gate.proofs.LawfulTurns.{goes_on_more, goes_on_with, readings_made}
 
--- the desk has what the turns left besides what it had, and has seen as much as they told
+-- the desk has what the turns left besides what it had, and has seen as much as they were answered
 pub record HasMade (turns : List Turn) (before after : Desk) : Type 0 where
   pub entries : (good : ℕ) → good < 28 → entries_at after good ≡ made_at good turns
   pub cash : cash_of after ≡ cash_made (desk_caller before) turns

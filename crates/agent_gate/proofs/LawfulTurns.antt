@@ -1,4 +1,4 @@
--- Turn by turn, the turns of a session are lawful.
+-- The turns of a session are allowed, one after the other.
 use Rattle.std.proofs.Common.{◌≡◌, ℕ, zero, suc, ◌+◌, ◌<◌, ◌≤◌, List, [], ◌∷◌, ◌++◌, map, length, take, Bool, true, false, cond, Some, refl, sym, ap, ◌∙◌, subst, arith, inl, inr}
 use Rattle.std.specs.Prelude.{◌⊎◌, All, slice_get, not, ◌||◌}
 use Rattle.std.specs.List.{AllZip, count_by}
@@ -53,7 +53,7 @@ has_left-more turns turn left here is =
 pub goes_on_more : (good count count' : ℕ) (turns : List Turn) → GoesOn good count turns → count ≤ count' → GoesOn good count' turns
 goes_on_more good count count' turns all le k d lt = let h = all k d lt in omega (arith, h)
 
--- the turns that tell no more than a count
+-- the turns whose answers show no more than a count
 pub goes_on_with : (good count : ℕ) (turns : List Turn) (turn : Turn) → GoesOn good count turns → told_length good turn ≤ count → GoesOn good count (turns ++ turn ∷ [])
 goes_on_with good count turns turn all last = All-append (λ t. told_length good t ≤ count) turns (turn ∷ []) all one
   where

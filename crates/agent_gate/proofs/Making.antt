@@ -31,7 +31,7 @@ module _ {A : Type 0} where
   none_if true x is = absurd (cc)
   none_if false x is = refl
 
-  -- the rows of a table where one has an element more
+  -- the rows of a table, one of which has an element more
   pub row_more : (rows : List (List A)) (place good : ℕ) (x : A) → place < length rows
       → get_or (set rows place (get_or rows place [] ++ x ∷ [])) good [] ≡ get_or rows good [] ++ cons_option (cond (eqb place good) (Some x) None) []
   row_more rows place good x inside = elim (eqb_tells place good) [

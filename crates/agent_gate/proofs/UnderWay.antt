@@ -40,7 +40,7 @@ abbrev leaving : List ℕ → LinkState
 leaving left = record { taken = None; left = Some left; sent = None; reads = 0; writes = 0 }
 
 module _ (old new : Held) (link link' : LinkState) (count count' : ℕ) where
-  -- an item comes of a line, or of one that is too long
+  -- an item comes from a line, or from one that is too long
   pub item_first : (may_answer : List ℕ → Result Request RequestFault → Type 0) (item : Item) (got : LineGot) (a : Answers old new link link' count count' got) → count' ≤ 2 ^ 26 → IsItem may_answer (got, new.line) item
       → (first : LineGot × List ℕ) × IsItem may_answer first item × ((after : List ℕ) → answers_left old (a.more ++ after) count ≡ first ∷ answers_left new after count')
   item_first may_answer item gots.Line a le is = (
@@ -61,7 +61,7 @@ module _ (old new : Held) (link link' : LinkState) (count count' : ℕ) where
   item_first may_answer (Asks asked) gots.Budget a le is = absurd is
   item_first may_answer Overlong gots.Budget a le is = absurd is
 
-  -- the link's bytes end without one more line
+  -- the link's bytes end without another line
   pub end_comes : (got : LineGot) (a : Answers old new link link' count count' got) → count' ≤ 2 ^ 26 → cause_of got ≡ Some causes.End
       → (answers_left old a.more count ≡ (gots.End, []) ∷ []) × IsAtEnd link'.left
   end_comes gots.End a le is = (
@@ -74,7 +74,7 @@ module _ (old new : Held) (link link' : LinkState) (count count' : ℕ) where
   end_comes gots.Failed a le is = absurd (cc)
   end_comes gots.Budget a le is = absurd (cc)
 
-  -- the bytes that came before a read failed end without one more line
+  -- the bytes that came before a failed read end without another line
   pub fault_comes : (got : LineGot) (a : Answers old new link link' count count' got) → count' ≤ 2 ^ 26 → cause_of got ≡ Some causes.ReadFault → answers_left old a.more count ≡ (gots.End, []) ∷ []
   fault_comes gots.Failed a le is =
       in_turn old new (leaving a.more) (leaving []) count count' gots.End
@@ -94,7 +94,7 @@ module _ (old new : Held) (link link' : LinkState) (count count' : ℕ) where
   budget_comes gots.End a le is = absurd (cc)
   budget_comes gots.Failed a le is = absurd (cc)
 
--- ---- who says `bye`
+-- ---- which answer is `bye`
 
 leaves : (turn : Turn) → said_of turn ≡ Bye → is_leaving turn ≡ true
 leaves (Called request good position entry posted) is = absurd (cc)
@@ -306,6 +306,6 @@ module _ (may_answer : List ℕ → Result Request RequestFault → Type 0) (tex
     sent_is = whole ∙ ap (and_then_told link.sent) (sym (append-nil welcome));
   }
 
-  -- the same session, where its values are known by other names
+  -- the same session, if its values are known by other names
   pub session_as : (link' link₂ : LinkState) (after : Desk) (lines lines₂ : ℕ) (cause : Cause) → link₂ ≡ link' → lines₂ ≡ lines → HasSession link' after lines cause → HasSession link₂ after lines₂ cause
   session_as link' link₂ after lines lines₂ cause e₁ e₂ s = subst (λ (w : LinkState × ℕ). HasSession w.0 after w.1 cause) (λ i. (sym e₁ i, sym e₂ i)) s

@@ -49,7 +49,7 @@ pub sum_nothing : {A : Type 0} (f : A → ℕ) (xs : List A) → AllByRecursion 
 sum_nothing f [] h = refl
 sum_nothing f (x ∷ xs) h = let first = sum_by-cons f x xs in let rest = sum_nothing f xs h.1 in let here = h.0 in omega (arith, first, rest, here)
 
--- where nothing counts but what passes a test, and nothing passes it
+-- if only what passes a test counts, and nothing passes it
 none_counted : {A : Type 0} (test : A → Bool) (f : A → ℕ) (xs : List A) → ((x : A) → test x ≡ false → f x ≡ 0) → count_by test xs ≤ 0 → sum_by f xs ≡ 0
 none_counted test f [] nothing none = refl
 none_counted test f (x ∷ xs) nothing none = by_test (test x) (count-cons test x xs) (nothing x) (λ fewer. none_counted test f xs nothing fewer)
@@ -62,7 +62,7 @@ none_counted test f (x ∷ xs) nothing none = by_test (test x) (count-cons test 
         let first = sum_by-cons f x xs in
         omega (arith, here, rest, first)
 
--- and where one at most passes it, all count for no more than one may
+-- and if at most one element passes it, all count for no more than one may
 pub counted_once : {A : Type 0} (test : A → Bool) (f : A → ℕ) (most : ℕ) (xs : List A) → ((x : A) → test x ≡ false → f x ≡ 0) → ((x : A) → f x ≤ most) → count_by test xs ≤ 1 → sum_by f xs ≤ most
 counted_once test f most [] nothing few once = omega arith
 counted_once test f most (x ∷ xs) nothing few once =

@@ -94,7 +94,7 @@ own_bids past agent (a ∷ who) =
         count-cons (is_bid_of agent) bid others ∙ ap (λ (b : ℕ). cond (b == agent) 1 0 + count_by (is_bid_of agent) others) own.0 in
         omega (arith, first)
 
--- of the last bids and a new one in place of its caller's, one at most is an agent's
+-- among the last bids, with a new one in place of its caller's, at most one is an agent's
 looked_once : (bids : List Placed) (position caller agent : ℕ) (call : Call) → count_by (is_bid_of agent) bids ≤ 1 → count_by (is_bid_of agent) (bids_looked_at bids position caller call) ≤ 1
 looked_once bids position caller agent (Bid points) once =
     let parts = sum_by-append (λ bid. cond (is_bid_of agent bid) 1 0) (filter (λ bid. not (bid.agent == caller)) bids) (new ∷ []) in

@@ -1,4 +1,4 @@
--- What trades change of the holdings.
+-- What trades change in the holdings.
 use Rattle.std.proofs.Common.{◌≡◌, ℕ, ◌+◌, ◌<◌, ◌≤◌, List, [], ◌∷◌, ◌++◌, length, map, take, get_or, sum_by, refl, sym, ap, ◌∙◌, subst, arith, ℤ, pos, ◌+ℤ◌, ◌-ℤ◌}
 use Rattle.std.specs.Prelude.{filter, ◌==◌}
 use Rattle.std.specs.List.{All}

@@ -21,7 +21,7 @@ use Rattle.auction_core.proofs.Buying.{AllBuy}
 use Rattle.auction_core.proofs.FlightPays.{agents_once}
 
 module _ (good rooms : ℕ) (units : List BidUnit) (agent price : ℕ) where
-  -- what the agent pays for, where another may be the buyer
+  -- what the agent pays for, if another may be the buyer
   abbrev bought_by : ℕ → ℕ
   bought_by a = counted (paid agent price) (closing_trade good rooms units a)
 

@@ -1,4 +1,4 @@
--- What an auction keeps of its history, with one entry more.
+-- The invariant of an auction, with one entry more.
 use Rattle.std.proofs.Common.{Bool, true, false, cond, ◌==◌, ◌≡◌, ℕ, ◌+◌, ◌<◌, ◌≤◌, List, [], ◌∷◌, ◌++◌, length, reverse, get_or, refl, sym, ap, ◌∙◌, subst, arith, length-append, Option, Some, None, ℤ, pos, ◌+ℤ◌, ◌≤ℤ◌}
 use Rattle.std.proofs.lemmas.Int.{ints}
 use Rattle.std.proofs.lemmas.List.{reverse-append, length-map, length-reverse}
@@ -181,7 +181,7 @@ small_holdings setup book held history keeps party le =
     let is = held_is setup (reverse history) held party le keeps.held in
     (omega (arith, ints, range.0, is), omega (arith, ints, range.1, is))
 
--- what is told of an entry that follows the rules
+-- the answer of an entry that follows the rules
 pub struck_is : (setup : Setup) (past : List Entry) (caller : ℕ) (call : Call) (reply told : Reply) (more : List Trade) (gains : List ℤ) (count : ℕ) (StandsAfter : List Entry → Type 0) →
     Follows setup past caller call reply more StandsAfter → told ≡ reply → gains ≡ nets more → count ≡ length more →
     struck_of (entry_of setup past caller call) ≡ record { reply = told; nets = record { dollars = gains }; trades = count }

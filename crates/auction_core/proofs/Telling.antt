@@ -1,4 +1,4 @@
--- What replies tell is in range, where every bid of the past is within its limits.
+-- The numbers in replies are in range, if every bid of the past is within its limits.
 use Rattle.std.proofs.Common.{◌≡◌, ℕ, ◌+◌, ◌≤◌, Bool, true, false, cond, List, [], ◌∷◌, length, map, arith, Option, Some, None}
 use Rattle.std.specs.Prelude.{IfSome, ⊤, not, ◌&&◌, ◌||◌, nat_le, max, filter}
 use Rattle.std.specs.List.{AllByRecursion}

@@ -12,7 +12,7 @@ use Rattle.auction_rules.specs.Refusals.{refusal}
 use Rattle.auction_rules.specs.Legal.{entry_by, trades_by, trades_of}
 use Rattle.auction_rules.proofs.Steps.{entry_refused}
 
--- a question trades nothing
+-- a reading trades nothing
 own_trades : (rules : Rules) (good : ℕ) (past : List Entry) (caller : ℕ) → trades_by rules good past caller OwnCall ≡ []
 own_trades (FlightRules first bound) good past caller = refl
 own_trades (HotelRules rooms live) good past caller = refl

@@ -1,4 +1,4 @@
--- The standing units of one agent, and what one more entry changes of them.
+-- The standing units of one agent, and what one more entry changes in them.
 use Rattle.std.proofs.Common.{◌≡◌, ℕ, ◌≤◌, Bool, true, false, cond, List, [], ◌∷◌, ◌++◌, length, map, refl, sym, ap, ◌∙◌, Option, Some}
 use Rattle.std.specs.Prelude.{not, ◌&&◌, ◌||◌, ◌==◌, filter, if◌then◌else◌}
 use Rattle.std.specs.List.{AllByRecursion, flat_map}
@@ -16,7 +16,7 @@ use Rattle.auction_rules.proofs.Agents.{number_same, another, agents_within, age
 use Rattle.auction_rules.proofs.Lists.{filter-filter, filter-flat_map, flat_map_alike, filter_all}
 use Rattle.auction_rules.proofs.Standing.{Each, each-append, each-filter, each-weaker, last_is, last_units, number_is, among-append, new_not_gone}
 
--- ---- whose a standing unit is
+-- ---- the owner of a standing unit
 
 bids_owned : (past : List Entry) (who : List ℕ) → AllByRecursion (λ a. a ≤ 7) who → Each (λ u. u.agent ≤ 7) (flat_map units_of_last (map (λ a. last_bid a past) who))
 bids_owned past [] h = tt
@@ -34,7 +34,7 @@ stand_owned rules past = by_test (is_closed past)
 
 -- ---- one agent's units
 
--- units of one agent are all found or none is
+-- either all units of one agent are found, or none is
 all_own : (agent a : ℕ) (units : List BidUnit) → (agent == a) ≡ true → Each (λ u. u.agent ≡ a) units → filter (λ u. u.agent == agent) units ≡ units
 all_own agent a [] same h = refl
 all_own agent a (u ∷ units) same h =

@@ -46,7 +46,7 @@ agents_set (suc (suc (suc (suc (suc (suc zero)))))) new old le = refl
 agents_set (suc (suc (suc (suc (suc (suc (suc zero))))))) new old le = refl
 agents_set (suc (suc (suc (suc (suc (suc (suc (suc n)))))))) new old le = absurd (omega arith)
 
--- what one agent has, and nothing of the others
+-- what one agent has, and nothing for the others
 pub agents_pick : {T : Type 0} (agent : ℕ) (xs : List T) → agent ≤ 7 → flat_map (λ a. if agent == a then xs else []) agents ≡ xs
 agents_pick zero xs le = append-nil xs
 agents_pick (suc zero) xs le = append-nil xs

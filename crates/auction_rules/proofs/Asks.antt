@@ -1,4 +1,4 @@
--- What the ask of units is: the units reach it, and it is as high as the units reach.
+-- The ask of units: the units reach it, and it is as high as the units reach.
 use Rattle.std.proofs.Common.{◌≡◌, ℕ, ◌≤◌, Bool, true, false, cond, List, [], ◌∷◌, map, refl, arith, inl, inr, ◌⊎◌}
 use Rattle.std.specs.Prelude.{nat_le, max, filter}
 use Rattle.std.specs.List.{AllByRecursion}

@@ -48,6 +48,6 @@ cheap-units_from agent position from (point ∷ points) h =
     (cheap-block (record { agent = agent; buys = buys_of point.units; price = point.price; position = position; index = from }) (size_of point) h.0)
     (cheap-units_from agent position (from + size_of point) points h.1)
 
--- no unit costs more than 10000 where no point does
+-- no unit costs more than 10000 if no point does
 pub cheap-units_of : (bid : Placed) → All (λ (p : Point). p.price ≤ 10000) bid.points → All (λ (u : BidUnit). u.price ≤ 10000) (units_of bid)
 cheap-units_of bid h = cheap-units_from bid.agent bid.position 0 bid.points (recursion_from_All (λ (p : Point). p.price ≤ 10000) bid.points h)

@@ -1,4 +1,4 @@
--- How many things of a list and of its parts pass a test.
+-- How many elements of a list and of its parts pass a test.
 use Rattle.std.proofs.Common.{◌≡◌, ℕ, zero, suc, ◌+◌, ◌≤◌, Bool, true, false, cond, List, [], ◌∷◌, refl, sym, ◌∙◌, arith, inl, inr}
 use Rattle.std.specs.Prelude.{not, ◌&&◌, nat_le, filter, count_by}
 use Rattle.std.proofs.lemmas.List.Sums.{sum_by-cons, sum_by-append, sum_by_push, sum_by-le-sum_by}
@@ -16,7 +16,7 @@ pub none_pass : {A : Type 0} (p : A → Bool) (xs : List A) → ((x : A) → In 
 none_pass p [] f = refl
 none_pass p (x ∷ xs) f = count-cons p x xs ∙ rw (f x (inl refl), none_pass p xs (λ y h. f y (inr h))) (omega arith)
 
--- what passes is on one side of another test or on the other
+-- each element that passes is on one side of another test
 pub count-parts : {A : Type 0} (test p : A → Bool) (xs : List A) → count_by p xs ≡ count_by p (filter test xs) + count_by p (filter (λ x. not (test x)) xs)
 count-parts test p [] = omega arith
 count-parts test p (x ∷ xs) = count-cons p x xs ∙ by_test (test x) (count-parts test p xs)

@@ -18,7 +18,7 @@ price_after_within bound dollars OwnCall within = within
 price_after_within bound dollars Publish within = within
 price_after_within bound dollars Close within = within
 
--- after any past the price is one, where the first one was
+-- after any past the price is in range, if the first one was
 pub flight_price_within : (first : ℕ) (bound : ℤ) (past : List Entry) → IsFlightPrice first → IsFlightPrice (price first bound past)
 flight_price_within first bound [] within = within
 flight_price_within first bound (e ∷ past) within = by_test (is_admission e.reply) (flight_price_within first bound past within)

@@ -21,7 +21,7 @@ entry_caller setup past caller call = entry_by_caller setup past caller call (re
 pub entry_call : (setup : Setup) (past : List Entry) (caller : ℕ) (call : Call) → (entry_of setup past caller call).call ≡ call
 entry_call setup past caller call = entry_by_call setup past caller call (refusal setup.rules past caller call)
 
--- a lawful past stays lawful by the entry of the rules
+-- a legal past stays legal with the entry of the rules
 pub lawful_more : (setup : Setup) (past : List Entry) (caller : ℕ) (call : Call) → IsLawful setup past → IsLawful setup (entry_of setup past caller call ∷ past)
 lawful_more setup past caller call lawful = (rw (entry_caller setup past caller call, entry_call setup past caller call), lawful)
 

@@ -1,4 +1,4 @@
--- What stands in a hotel: the units of the last bids, each two of them in the order of precedence.
+-- What stands in a hotel: the units of the last bids, any two of them in the order of precedence.
 use Rattle.std.proofs.Common.{◌≡◌, ℕ, zero, suc, ◌+◌, ◌<◌, ◌≤◌, min, Bool, true, false, cond, List, [], ◌∷◌, ◌++◌, length, refl, sym, ap, ◌∙◌, subst, arith, Option, Some, None, inl, inr, ◌⊎◌}
 use Rattle.std.specs.Prelude.{◌&&◌, ◌==◌, ◌≢◌, ⊤, if◌then◌else◌}
 use Rattle.std.specs.List.{AllByRecursion, flat_map}
@@ -42,7 +42,7 @@ precedes_not_self u = grind (arith, nat_tests)
 pub precedes_through : (u v w : BidUnit) → precedes u v ≡ true → precedes v w ≡ true → precedes u w ≡ true
 precedes_through u v w h k = grind (arith, nat_tests)
 
--- two units with other places are in order
+-- two units at different places are in order
 other_position : (u v : BidUnit) → u.position ≢ v.position → precedes u v ≡ false → precedes v u ≡ true
 other_position u v differ h = grind (arith, nat_tests)
 
@@ -185,7 +185,7 @@ own_made agent past = made_by past agent (last_bid agent past) (owner_is agent p
     whose None h placed is = absurd cc
     whose (Some bid) h placed is = let same : bid ≡ placed = cc in ap (λ (p : Placed). p.agent) (sym same) ∙ h.0
 
--- units of two agents are in order, whatever comes first
+-- units of two agents are in order, whichever comes first
 apart : (past : List Entry) (a b : ℕ) (u v : BidUnit) → a ≢ b → IsMade past a u → IsMade past b v → precedes u v ≡ false → precedes v u ≡ true
 apart past a b u v differ made_u made_v = other_position u v (λ same. differ (sym made_u.1 ∙ ap (owner past) same ∙ made_v.1))
 

@@ -1,4 +1,4 @@
--- An entry that is refused, or that only asks what an agent owns, changes nothing of what stands.
+-- An entry that is refused, or that is an agent's reading, changes nothing of what stands.
 use Rattle.std.proofs.Common.{◌≡◌, ℕ, ◌≤◌, Bool, true, false, cond, List, [], ◌∷◌, refl, ap, Some, None, sym, subst}
 use Rattle.std.specs.Prelude.{not, ◌&&◌, ◌||◌, ◌==◌, ℤ, ⊤, if◌then◌else◌}
 use Rattle.tac_base.specs.declared.bids.Point.{Point}
@@ -117,7 +117,7 @@ module _ (past : List Entry) (e : Entry) (idle : IsIdle e) where
   pub idle_stand : (rules : Rules) → stand rules (e ∷ past) ≡ stand rules past
   idle_stand rules = rw (idle_closed, ap units_of_bids idle_bids, gone_same e.caller e.reply e.trades past rules e.call idle) refl
 
--- ---- what an agent owns
+-- ---- the answer to a reading
 
 place_of_own : (rules : Rules) → is_wrong_place rules OwnCall ≡ false
 place_of_own (FlightRules first bound) = refl
@@ -135,7 +135,7 @@ own_trades (FlightRules first bound) good past agent = refl
 own_trades (HotelRules rooms live) good past agent = refl
 own_trades TicketRules good past agent = refl
 
--- the answer to an agent that asks follows the rules
+-- the answer to an agent's reading follows the rules
 pub own_follows : (setup : Setup) (past : List Entry) (agent : ℕ) (held : ℤ) (points : List Point) (Stands : List Entry → Type 0) → agent ≤ 7 →
     held ≡ holding setup past agent → points ≡ left setup.rules past agent → Stands (entry_of setup past agent OwnCall ∷ past) →
     Follows setup past agent OwnCall (Own held points) [] Stands
@@ -163,7 +163,7 @@ hotel_place rooms rooms' live live' (Update tick draw) = refl
 hotel_place rooms rooms' live live' Publish = refl
 hotel_place rooms rooms' live live' Close = refl
 
--- whether two rules are of one kind of auction
+-- whether two rules are of the same kind of auction
 abbrev pub SameKind : Rules → Rules → Type 0
 SameKind (FlightRules first bound) (FlightRules first' bound') = ⊤
 SameKind (HotelRules rooms live) (HotelRules rooms' live') = ⊤
@@ -181,7 +181,7 @@ same_place (HotelRules rooms live) TicketRules call h = absurd h
 same_place TicketRules (FlightRules first bound) call h = absurd h
 same_place TicketRules (HotelRules rooms live) call h = absurd h
 
--- such a call follows the rules where the book stands for the past with its refusal
+-- such a call follows the rules if the book stands for the past with its refusal
 pub wrong_follows : (setup : Setup) (past : List Entry) (caller : ℕ) (call : Call) (kind : Rules) (closed : Bool) (reply : Reply) (Stands : List Entry → Type 0) →
     SameKind setup.rules kind → (is_wrong_caller caller call || is_wrong_place kind call) ≡ true → closed ≡ is_closed past →
     reply ≡ (if not (is_own call) && closed then Closed else WrongCall) →

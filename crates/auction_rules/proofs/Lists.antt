@@ -1,4 +1,4 @@
--- How filters, maps and flat maps pass through one another.
+-- How filters, maps and flat maps commute.
 use Rattle.std.proofs.Common.{◌≡◌, Bool, true, false, cond, List, [], ◌∷◌, ◌++◌, map, refl, ap, ◌∙◌, Option, Some, None}
 use Rattle.std.specs.Prelude.{IfSome, if◌then◌else◌, ◌||◌, filter}
 use Rattle.std.specs.List.{AllByRecursion, cons_option, filter_map, flat_map, list_any}
@@ -144,7 +144,7 @@ any_is_some test (x ∷ xs) = by_test (test x) (any_is_some test xs)
     by_test true ih = refl
     by_test false ih = ih
 
--- where one test is passed another is
+-- what passes one test passes another
 pub any-weaker : {X : Type 0} (p q : X → Bool) (xs : List X) → ((x : X) → p x ≡ true → q x ≡ true) → list_any p xs ≡ true → list_any q xs ≡ true
 any-weaker p q [] f h = h
 any-weaker p q (x ∷ xs) f h = by_test (p x) refl h (λ later. any-weaker p q xs f later)

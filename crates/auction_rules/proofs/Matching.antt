@@ -14,11 +14,11 @@ use Rattle.auction_rules.proofs.Standing.{Each, each-filter, each-weaker, same_i
 
 -- ---- which of two units of one side goes before the other
 
--- the places of a price, a position and an index, where the better price is the lower one
+-- the places of a price, a position and an index, if the better price is the lower one
 abbrev lower_first : ℕ → ℕ → ℕ → ℕ → ℕ → ℕ → Bool
 lower_first p n i q m j = nat_lt p q || ((p == q) && (nat_lt n m || ((n == m) && nat_lt i j)))
 
--- and where it is the higher one
+-- and if it is the higher one
 abbrev higher_first : ℕ → ℕ → ℕ → ℕ → ℕ → ℕ → Bool
 higher_first p n i q m j = nat_lt q p || ((p == q) && (nat_lt n m || ((n == m) && nat_lt i j)))
 
@@ -53,7 +53,7 @@ one_way : (b : Bool) (u v : BidUnit) → u.buys ≡ b → v.buys ≡ b → goes_
 one_way true u v hu hv h = before_is true v u hv ∙ higher_one_way u.price u.position u.index v.price v.position v.index (sym (before_is true u v hu) ∙ h)
 one_way false u v hu hv h = before_is false v u hv ∙ lower_one_way u.price u.position u.index v.price v.position v.index (sym (before_is false u v hu) ∙ h)
 
--- what does not go before a unit does not go before one that this unit does not go before
+-- if u does not go before v, nor v before w, then u does not go before w
 never : (b : Bool) (u v w : BidUnit) → u.buys ≡ b → v.buys ≡ b → goes_before u v ≡ false → goes_before v w ≡ false → goes_before u w ≡ false
 never true u v w hu hv h g =
     before_is true u w hu
@@ -64,7 +64,7 @@ never false u v w hu hv h g =
 
 -- ---- the best of some units
 
--- the first of a unit and others
+-- the best of a unit and others
 first_of : BidUnit → List BidUnit → BidUnit
 first_of u [] = u
 first_of u (v ∷ vs) = first_of (if goes_before v u then v else u) vs
@@ -154,7 +154,7 @@ faces_side u v h = by_sides (not (u.agent == v.agent)) u.buys v.buys h
     by_sides true false false g = cc
     by_sides false b c g = absurd cc
 
--- where a unit crosses one that it faces, it crosses the better ones
+-- if a unit crosses one that it faces, it crosses the better ones
 crosses_better : (b : Bool) (u v w : BidUnit) → u.buys ≡ b → v.buys ≡ not b → goes_before v w ≡ false → crosses u v ≡ true → crosses u w ≡ true
 crosses_better true u v w hu hv before h = grind (arith, nat_tests)
 crosses_better false u v w hu hv before h = grind (arith, nat_tests)
@@ -207,7 +207,7 @@ unmatched standing (x ∷ xs) u v arrives stands facing u_stays v_stays =
         let kept : among v (not_taken (Some w) standing) ≡ true = among-filter v (λ y. not (same_unit y w)) standing ∙ rw (stands, v_rest.0) refl in
         more (not_taken (Some w) standing) (later (same_unit u x) (among u xs) u_parts.0 is) kept u_rest.1 v_rest.1
 
--- ---- whom an arriving unit trades with
+-- ---- the partner of an arriving unit
 
 find_among : (test : BidUnit → Bool) (us : List BidUnit) (w : BidUnit) → find test us ≡ Some w → among w us ≡ true
 find_among test [] w h = absurd cc

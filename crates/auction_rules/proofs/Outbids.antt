@@ -1,4 +1,4 @@
--- A hotel's bid that is not below the quote keeps its price reached.
+-- A hotel bid that is not below the quote keeps the published price reached.
 use Rattle.std.proofs.Common.{◌≡◌, ℕ, ◌+◌, ◌<◌, ◌≤◌, min, Bool, true, false, List, [], ◌∷◌, length, refl, sym, ap, ◌∙◌, subst, arith, inl, inr, ◌⊎◌}
 use Rattle.std.specs.Prelude.{not, ◌==◌, max, nat_le, filter}
 use Rattle.std.proofs.lemmas.Bool.{cases_lt, ltb-true, ltb-false}
@@ -31,7 +31,7 @@ use Rattle.auction_rules.proofs.Asks.{IsReached}
 
 -- ---- who wins
 
--- where as many units as there are rooms have a price or more, each unit that wins has it
+-- if as many units as there are rooms have a price or more, each unit that wins has it
 pub winner_reaches : (rooms : ℕ) (units : List BidUnit) (price : ℕ) → rooms ≤ units_at units price → (u : BidUnit) → wins rooms units u ≡ true → nat_le price u.price ≡ true
 winner_reaches rooms units price enough u winning = by_test (nat_le price u.price) refl
   where
@@ -87,7 +87,7 @@ others_stay past agent points bought sold trades =
     one true a same = none_of_own_bid agent a (e ∷ past) same ∙ sym (none_of_own_bid agent a past same)
     one false a differs = rw differs refl
 
--- a caller that is no agent changes nothing
+-- a caller that is not an agent changes nothing
 strangers_bid : (past : List Entry) (agent : ℕ) (points : List Point) (bought sold : ℕ) (trades : List Trade) → 8 ≤ agent → bid_units (bid_entry agent points bought sold trades ∷ past) ≡ bid_units past
 strangers_bid past agent points bought sold trades le =
     agents_joined (λ a. units_of_last (last_bid a (bid_entry agent points bought sold trades ∷ past))) (λ a. units_of_last (last_bid a past))

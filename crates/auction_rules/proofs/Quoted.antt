@@ -29,7 +29,7 @@ use Rattle.auction_rules.proofs.Outbids.{bid_entry, bid_keeps}
 
 -- ---- what an admitted call shows
 
--- an admitted call that is no question came before the close
+-- an admitted call that is no reading came before the close
 still_open : (rules : Rules) (past : List Entry) (caller : ℕ) (call : Call) → is_own call ≡ false → refusal rules past caller call ≡ None → is_closed past ≡ false
 still_open rules past caller call no_question h =
     by_test (is_closed past) (ap (λ (b : Bool). if not b && is_closed past then Some Closed else if is_wrong_caller caller call || is_wrong_place rules call then Some WrongCall else call_refusal rules past caller call) (sym no_question) ∙ h)
@@ -73,7 +73,7 @@ module _ (setup : Setup) (rooms : ℕ) (live : Bool) (hotel : setup.rules ≡ Ho
   abbrev rules : Rules
   rules = HotelRules rooms live
 
-  -- the price does not fall, and stays backed
+  -- the price does not fall, and stays reached
   abbrev Keeps : List Entry → List Entry → Type 0
   Keeps past next = (published rooms live past ≤ published rooms live next) × IsBacked rooms live next
 
@@ -86,7 +86,7 @@ module _ (setup : Setup) (rooms : ℕ) (live : Bool) (hotel : setup.rules ≡ Ho
             (subst (λ (n : ℕ). IsReached rooms (stand rules past) n) (sym price) (backed (sym (idle_closed past e idle) ∙ opened))),
       )
 
-  -- the ask is no lower than a backed price
+  -- the ask is no lower than a price that is reached
   ask_above : (units : List BidUnit) (price : ℕ) → IsReached rooms units price → price ≤ ask rooms units
   ask_above units price (inl zero_price) = omega arith
   ask_above units price (inr enough) = enough_raises rooms units price some_rooms enough
@@ -162,7 +162,7 @@ module _ (setup : Setup) (rooms : ℕ) (live : Bool) (hotel : setup.rules ≡ Ho
       by_refusal (Some reply) h = idle_keeps past (refused_entry caller call reply) (idle_refused (refused_entry caller call reply) (refusal_refuses setup.rules past caller call reply h)) backed
       by_refusal None h = admitted_step past caller call (ap (λ (r : Rules). refusal r past caller call) (sym hotel) ∙ h) backed
 
-  -- so it is after every lawful past
+  -- the same after every legal past
   pub published_backed : (past : List Entry) → IsLawful setup past → IsBacked rooms live past
   published_backed [] lawful = λ _. inl refl
   published_backed (e ∷ past) lawful = subst (λ (x : Entry). IsBacked rooms live (x ∷ past)) (sym lawful.0) (step past e.caller e.call (published_backed past lawful.1)).1

@@ -1,4 +1,4 @@
--- What the highest and the lowest price have that all prices have.
+-- The highest and the lowest price have every property that all prices have.
 use Rattle.std.proofs.Common.{◌≡◌, ℕ, ◌≤◌, Bool, true, false, cond, List, [], ◌∷◌, map, refl, subst, arith}
 use Rattle.std.specs.Prelude.{not, nat_le, max, min, filter, fold}
 use Rattle.std.specs.List.{AllByRecursion}

@@ -1,10 +1,10 @@
--- Among things of which each two are in a strict order, as many have fewer than k predecessors as there are, up to k.
+-- Among elements in a strict total order, min(k, their number) have fewer than k predecessors.
 use Rattle.std.proofs.Common.{◌≡◌, ℕ, zero, suc, ◌+◌, ◌<◌, ◌≤◌, min, Bool, true, false, cond, List, [], ◌∷◌, length, refl, sym, ap, ◌∙◌, subst, arith, inl, inr, ◌⊎◌}
 use Rattle.std.specs.Prelude.{count_by, nat_lt, ⊤}
 use Rattle.std.proofs.lemmas.Bool.Decides.{nat_tests}
 use Rattle.std.proofs.lemmas.List.Sums.{sum_by-cons, count_by-le-length}
 
--- a thing is one of the list
+-- an element of the list
 abbrev pub In : {A : Type 0} → A → List A → Type 0
 In u [] = ⊥
 In u (x ∷ xs) = (u ≡ x) ⊎ In u xs
@@ -41,11 +41,11 @@ count_less p q u (x ∷ xs) (inr is) out within f =
     omega (arith, count-cons p x xs, count-cons q x xs, bits_le (p x) (q x) (f x (inl refl)), count_less p q u xs is out within (λ y h. f y (inr h)))
 
 module _ {A : Type 0} (before : A → A → Bool) (not_self : (x : A) → before x x ≡ false) (through : (x y z : A) → before x y ≡ true → before y z ≡ true → before x z ≡ true) where
-  -- how many of the things come before one
+  -- how many of the elements come before one
   abbrev pub rank : List A → A → ℕ
   rank xs x = count_by (λ y. before y x) xs
 
-  -- of the first and each later thing one comes before the other, and so on
+  -- of the first and each later element one comes before the other, and so on
   abbrev pub AreOrdered : List A → Type 0
   AreOrdered [] = ⊤
   AreOrdered (x ∷ xs) = ((y : A) → In y xs → before x y ≡ false → before y x ≡ true) × AreOrdered xs

@@ -41,7 +41,7 @@ IsBetween trade = HasTwoParties trade × (trade.buyer ≤ house) × (trade.selle
 from_house : (agent : ℕ) → agent ≤ 7 → (agent ≢ house) × (agent ≤ house) × (house ≤ house)
 from_house agent le = (λ same. absurd (omega (arith, le, same)), omega (arith, le), omega arith)
 
--- ---- whose a call is
+-- ---- the caller of a call
 
 -- an admitted call is of a caller that may make it
 pub admitted_caller : (rules : Rules) (past : List Entry) (caller : ℕ) (call : Call) → refusal rules past caller call ≡ None → is_wrong_caller caller call ≡ false

@@ -1,4 +1,4 @@
--- Lists that weigh the same however their units are weighed have the same units, each as often.
+-- Lists with equal sums under every weight of units have the same units, each equally often.
 use Rattle.std.proofs.Common.{◌≡◌, ℕ, ◌+◌, ◌≤◌, Bool, true, false, cond, List, [], ◌∷◌, ◌++◌, map, refl, sym, ap, ◌∙◌, arith, subst}
 use Rattle.std.specs.Prelude.{◌==◌, ◌&&◌, sum_by, count_by}
 use Rattle.std.specs.List.Sorted.{IsPermutation}
@@ -9,7 +9,7 @@ use Rattle.tac_base.specs.declared.units.Unit.{Unit as ShownUnit}
 use Rattle.auction_rules.specs.declared.units.BidUnit.{BidUnit}
 use Rattle.auction_rules.specs.Shown.{shown_unit, AreShown}
 
--- ---- whether two units shown are one
+-- ---- whether two units shown are the same
 
 same : ShownUnit → ShownUnit → Bool
 same u v = (u.agent == v.agent) && ((u.price == v.price) && ((u.position == v.position) && (u.index == v.index)))
@@ -44,7 +44,7 @@ part_at u (v ∷ units) some = by_test (same u v) refl (part_at u units)
         let later = rest (omega (arith, first, none, some)) in
         (v ∷ later.0, later.1, ap (λ ws. v ∷ ws) later.2)
 
--- the same units, each as often
+-- the same units, each equally often
 permuted_units : (xs ys : List ShownUnit) → ((weight : ShownUnit → ℕ) → sum_by weight ys ≡ sum_by weight xs) → IsPermutation xs ys
 permuted_units [] [] alike = IsPermutation-refl []
 permuted_units [] (y ∷ ys) alike = absurd (omega (arith, sum_by-cons (λ _. 1) y ys, alike (λ _. 1)))

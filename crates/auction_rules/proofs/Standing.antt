@@ -1,4 +1,4 @@
--- Which units of the last bids stand, for all rules: those that no call traded away. What one entry changes of it.
+-- Which units of the last bids stand, for all rules: those that no call traded away; and what one entry changes in them.
 use Rattle.std.proofs.Common.{◌≡◌, ℕ, zero, suc, ◌+◌, ◌<◌, ◌≤◌, Bool, true, false, cond, List, [], ◌∷◌, ◌++◌, length, map, refl, sym, ap, ◌∙◌, arith, Option, Some, None, subst, get_or}
 use Rattle.std.specs.Prelude.{not, ◌&&◌, ◌||◌, ◌==◌, ◌≢◌, filter, ℤ, pos, negsuc, unsigned_abs}
 use Rattle.std.specs.List.{AllByRecursion, flat_map, find}
@@ -59,7 +59,7 @@ pub each-block : (P : BidUnit → Type 0) (first : BidUnit) (n : ℕ) → ((i : 
 each-block P first zero f = tt
 each-block P first (suc n) f = each-append P (block first n) (record first { index = first.index + n } ∷ []) (each-block P first n f) (f (first.index + n), tt)
 
--- ---- whose the units of a bid are, and where it was made
+-- ---- the owner of a bid's units, and its position
 
 abbrev pub IsPlaced : ℕ → ℕ → BidUnit → Type 0
 IsPlaced agent position u = (u.agent ≡ agent) × (u.position ≡ position)
@@ -361,7 +361,7 @@ left_whole standing agent position from (point ∷ points) all full =
     count_all standing (point_units agent position from point) front ∙ length-point_units agent position from point in
     rw (count, not_zero (size_of point) full.0, left_whole standing agent position (from + size_of point) points back full.1, signed_whole point.units)
 
--- nothing is left where nothing stands
+-- nothing is left if nothing stands
 pub left_none : (agent position from : ℕ) (points : List Point) → left_points [] agent position from points ≡ []
 left_none agent position from [] = refl
 left_none agent position from (point ∷ points) = rw (count_none (point_units agent position from point)) (left_none agent position (from + size_of point) points)

@@ -1,4 +1,4 @@
--- One call of a book: what it has to show in order to follow the rules.
+-- One call of a book: what has to be shown so that it follows the rules.
 use Rattle.std.proofs.Common.{◌≡◌, ℕ, Bool, true, false, List, [], ◌∷◌, refl, sym, ap, ◌∙◌, subst, Option, Some, None}
 use Rattle.std.specs.Prelude.{IfSome, if◌then◌else◌, not, ◌&&◌, ◌||◌}
 use Rattle.tac_base.specs.declared.bids.Point.{Point}
@@ -29,7 +29,7 @@ pub entry_admitted : (setup : Setup) (past : List Entry) (caller : ℕ) (call : 
     entry_of setup past caller call ≡ record { caller = caller; call = call; reply = admitted_reply setup past caller call; trades = admitted_trades setup past caller call }
 entry_admitted setup past caller call h = rw h
 
--- a call follows the rules where its entry is theirs
+-- a call follows the rules if its entry is theirs
 pub follows : (setup : Setup) (past : List Entry) (caller : ℕ) (call : Call) (e : Entry) (reply : Reply) (trades : List Trade) (Stands : List Entry → Type 0) →
     entry_of setup past caller call ≡ e → reply ≡ e.reply → trades ≡ e.trades → Stands (e ∷ past) → Follows setup past caller call reply trades Stands
 follows setup past caller call e reply trades Stands entry replied traded stands = record {

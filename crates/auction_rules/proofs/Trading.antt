@@ -24,7 +24,7 @@ bought_le trades party = sum_by-filter-le (λ (t : Trade). t.units) (λ t. t.buy
 pub sold_le : (trades : List Trade) (party : ℕ) → sold trades party ≤ traded trades
 sold_le trades party = sum_by-filter-le (λ (t : Trade). t.units) (λ t. t.seller == party) trades
 
--- where each trade has a unit, there are no more trades than units
+-- if each trade has a unit, there are no more trades than units
 pub length_le : (trades : List Trade) → All (λ (t : Trade). 1 ≤ t.units) trades → length trades ≤ traded trades
 length_le trades some = each trades (recursion_from_All (λ (t : Trade). 1 ≤ t.units) trades some)
   where
@@ -32,6 +32,6 @@ length_le trades some = each trades (recursion_from_All (λ (t : Trade). 1 ≤ t
     each [] h = omega arith
     each (t ∷ ts) h = omega (arith, each ts h.1, h.0, sum_by-cons (λ (x : Trade). x.units) t ts)
 
--- where nothing is sold, no more may be left than was
+-- if nothing is sold, no more may be left than was
 pub nothing_spent : (before after : ℕ) (trades : List Trade) → trades ≡ [] → after ≤ before → Spends before after trades
 nothing_spent before after trades none le = subst (λ (ts : List Trade). Spends before after ts) (sym none) (record { some = All-from_recursion (λ (t : Trade). 1 ≤ t.units) [] tt; few = let zero : traded [] ≡ 0 = refl in omega (arith, zero, le) })

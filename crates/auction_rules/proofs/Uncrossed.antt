@@ -1,4 +1,4 @@
--- After a lawful past no board of a ticket auction is crossed: each unit that buys has a lower price than each that sells.
+-- After a legal past no board of a ticket auction is crossed: each unit that buys has a lower price than each that sells.
 use Rattle.std.proofs.Common.{◌≡◌, ℕ, ◌+◌, ◌<◌, ◌≤◌, Bool, true, false, List, [], ◌∷◌, length, map, refl, sym, ap, ◌∙◌, subst, arith, Option, Some, None}
 use Rattle.std.specs.Prelude.{not, ◌&&◌, ◌||◌, ◌==◌, nat_le, max, filter, if◌then◌else◌}
 use Rattle.std.specs.List.{list_any}
@@ -86,7 +86,7 @@ one_bid_apart bid apart u v among_u among_v buys sells = by_test (nat_le v.price
     by_test true h = let crossed : crosses_itself bid.points ≡ true = any-weaker (point_of u) (λ buy. buys_of buy.units && meets_own bid.points buy.price) bid.points (reaching h) (has u among_u) in absurd cc
     by_test false h = price_below u v h
 
--- ---- whose a standing unit is, and where it comes from
+-- ---- the owner of a standing unit, and where it comes from
 
 -- each standing unit is an agent's
 owner_within : (rules : Rules) (past : List Entry) (u : BidUnit) → among u (stand rules past) ≡ true → u.agent ≤ 7
@@ -165,7 +165,7 @@ module _ (past : List Entry) (e : Entry) (still_open : is_closed past ≡ false)
       by_owners false false own_u own_v =
           before u v ((from_other u among_u (other u own_u)).0) ((from_other v among_v (other v own_v)).0) buys sells
 
-  -- after an admitted call that is no bid only such units stand as stood before
+  -- after an admitted call that is no bid, only units stand that stood before
   none_new : (u : BidUnit) (call : Call) → is_bid call ≡ false → is_admission e.reply ≡ true → e.call ≡ call → among u (stand TicketRules (e ∷ past)) ≡ true → among u (stand TicketRules past) ≡ true
   none_new u call no_bid admitted is_call is = by_owner (e.caller == u.agent) refl
     where
@@ -236,14 +236,14 @@ entry_apart setup past e tickets lawful before = by_closed (is_closed (e ∷ pas
     by_closed true closed = let nothing : stand TicketRules (e ∷ past) ≡ [] = rw closed refl in λ u v among_u. absurd (false≢true (sym (ap (among u) nothing) ∙ among_u))
     by_closed false stays_open = by_admission (is_admission e.reply) refl stays_open
 
--- after a lawful past no standing unit that buys reaches one that sells
+-- after a legal past no standing unit that buys reaches one that sells
 pub stand_apart : (setup : Setup) (past : List Entry) → setup.rules ≡ TicketRules → IsLawful setup past → Apart (stand TicketRules past)
 stand_apart setup [] tickets lawful = λ u v among_u. absurd (false≢true among_u)
 stand_apart setup (e ∷ past) tickets lawful = entry_apart setup past e tickets lawful.0 (stand_apart setup past tickets lawful.1)
 
 -- ---- the board
 
--- the bid that is shown lies below the ask, where both are there
+-- the bid that is shown is below the ask, if both are there
 pub quotes_apart : (units : List BidUnit) → Apart units → 0 < highest_buy units → 0 < lowest_sell units → highest_buy units < lowest_sell units
 quotes_apart units apart some_bid some_ask =
     lowest_keeps Above (λ h. absurd (omega arith)) (map (λ u. u.price) (filter (λ u. not u.buys) units))

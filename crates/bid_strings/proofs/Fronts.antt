@@ -28,7 +28,7 @@ whole_step front words words1 words2 left right point total e1 e2 made so_far =
 abbrev pub bad : BidFault → Result (List Point) BidFault
 bad fault = Err fault
 
--- a fault of the points so far is that of the whole text, where the rest has the form
+-- a fault of the points so far is that of the whole text, if the rest has the form
 pub refused : (points : List Point) (fault : BidFault) (rest total : Option (List Point)) → 0 < length points → left_fault points ≡ Some fault → with_front points rest ≡ total → bad (refusal fault rest) ≡ judged total
 refused points fault None total some h e = ap judged e
 refused points fault (Some more) total some h e =

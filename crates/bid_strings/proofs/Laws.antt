@@ -1,4 +1,4 @@
--- What is read is spelled so, and what is spelled so is read.
+-- What is read was spelled so, and what is spelled so is read.
 use Rattle.std.proofs.Common.{◌≡◌, ℕ, suc, ◌+◌, ◌-◌, ◌^◌, ◌<◌, ◌≤◌, Bool, true, false, cond, ◌&&◌, eqb, leb, List, [], ◌∷◌, ◌++◌, Option, Some, None, Result, Ok, Err, length, get_or, take, drop, refl, sym, ap, subst, ◌∙◌, arith, ℤ, decimal, lit<, lit≤}
 use Rattle.std.specs.Prelude.{unsigned_abs, IfOk}
 use Rattle.tac_base.specs.declared.bids.BidFault.{BidFault}
@@ -163,7 +163,7 @@ lacks_append : (byte : ℕ) (xs ys : List ℕ) → Lacks byte xs → Lacks byte 
 lacks_append byte [] ys h k = k
 lacks_append byte (x ∷ xs) ys h k = (h.0, lacks_append byte xs ys h.1 k)
 
--- a byte below `(` stands in no word of a point
+-- no word of a point has a byte below `(`
 left_lacks : (byte : ℕ) → byte < 40 → (point : Point) → HasFiveDigits point → Lacks byte (left_word point)
 left_lacks byte lt point digits = let small = digits.units in (grind (arith, nat_tests, lt), signed_lacks byte point.units (omega (arith, lt)) (omega (arith, small)))
 

@@ -23,7 +23,7 @@ below_max_left a b = grind (arith, ints)
 below_max_right : (a b : ℤ) → b ≤ℤ int_max a b
 below_max_right a b = grind (arith, ints)
 
--- the greatest number is there, and is at least that of an element that passes
+-- the greatest number is there, and is at least that of each element that passes
 IsUnder : Option ℤ → ℤ → Type 0
 IsUnder most n = (m : ℤ) × (most ≡ Some m) × (n ≤ℤ m)
 
@@ -66,7 +66,7 @@ all_cost prices (p ∷ ps) = cost_of prices p + all_cost prices ps
 step : (u t c s : ℕ) (b m : ℤ) → (pos u -ℤ pos c) ≤ℤ b → pos t ≤ℤ (m +ℤ pos s) → pos (u + t) ≤ℤ ((b +ℤ m) +ℤ pos (c + s))
 step u t c s b m hb hm = omega (arith, ints, hb, hm)
 
--- the margins of clients and the cost of their packages make up for the packages' worth
+-- the margins of clients and the cost of their packages add up to at least the packages' worth
 pub margins_law : (left : Narrowing) (prices : List ℕ) (clients : List Preferences) (ps : List Package) (n : ℕ) → length clients ≡ length ps
     → ((k : ℕ) → k < length ps → is_package (get_or ps k kinds.None) ≡ true)
     → ((k : ℕ) → k < length ps → left (n + k) (get_or ps k kinds.None) ≡ true)

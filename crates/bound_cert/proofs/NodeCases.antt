@@ -46,18 +46,18 @@ split_node (suc level) number client feature left after read some h each =
     let each' : forest_by (tree_in level) (values_of feature) after ≡ read = rw same at each in
     rw (h, each')
 
--- a refusal is one also where memory may be short
+-- a refusal remains one if memory may be refused too
 pub refusal_is : {A : Type 0} (fault : CertFault) (read : Result A CertFault) → read ≡ Err fault → IsRefusal fault read
 refusal_is (faults.Line line reason) read h = h
 refusal_is faults.TooLong read h = h
 refusal_is faults.Memory read h = tt
 
--- a refusal that is handed on
+-- a refusal that is passed on
 pub handed_on : {A B : Type 0} (view : A → B) (given : Result A CertFault) (fault : CertFault) (read : Result B CertFault) → IsErrAnd given (λ f. f ≡ fault) → IsRefusal fault read → IsReading view given read
 handed_on view (Ok x) fault read h refusal = absurd h
 handed_on view (Err f) fault read h refusal = subst (λ (e : CertFault). IsRefusal e read) (sym h) refusal
 
--- where the one reading is refused, so is the other
+-- if one reading is refused, so is the other
 pub refused_through : {X Y : Type 0} (fault : CertFault) (a : Result X CertFault) (b : Result Y CertFault) → ((e : CertFault) → a ≡ Err e → b ≡ Err e) → IsRefusal fault a → IsRefusal fault b
 refused_through (faults.Line line reason) a b h f = h (faults.Line line reason) f
 refused_through faults.TooLong a b h f = h faults.TooLong f

@@ -85,7 +85,7 @@ root_short left h =
     then_short (tree_in 32 left) (λ tree. refused (nothing_left tree.1) >>= λ done. Ok tree.0) (tree_short 32 left)
     (λ tree. then_short (refused (nothing_left tree.1)) (λ done. Ok tree.0) (line_short (nothing_left tree.1)) (λ done. ok_short tree.0)) h
 
--- so what was read of it is not
+-- so what was read of it is not refused either
 pub reading_short : {A B : Type 0} (view : A → B) (result : Result A CertFault) (read : Result B CertFault) → (read ≡ Err faults.TooLong → ⊥) → IsReading view result read → result ≡ Err faults.TooLong → ⊥
 reading_short view (Ok x) read short is h = cc
 reading_short view (Err (faults.Line line reason)) read short is h = cc

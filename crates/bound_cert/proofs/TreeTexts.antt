@@ -104,12 +104,12 @@ node_took left x e =
 
 -- ---- trees
 
--- a tree whose lines were taken, of at most so many levels
+-- a tree whose lines were taken, of at most this many levels
 record TookTree (depth : ℕ) (left : Remaining) (x : Tree × Remaining) : Type 0 where
   took : Took left (tree_lines x.0) x.1
   fits : is_tree depth x.0 ≡ true
 
--- so many of them
+-- this many of them
 record TookTrees (depth count : ℕ) (left : Remaining) (x : Trees × Remaining) : Type 0 where
   took : Took left (forest_lines x.0) x.1
   fit : are_trees depth x.0 ≡ true
@@ -133,7 +133,7 @@ forest_took tree_at depth each (suc count) left x e =
 split_fits : (client feature count values : ℕ) (fit : Bool) → client < 8 → feature < 4 → count ≡ values → fit ≡ true → (ltb client 8 && ltb feature 4 && eqb count values && fit) ≡ true
 split_fits client feature count values fit in_client in_feature same fits = grind (arith, nat_tests)
 
--- a node of at most so many levels, where the nodes below it are such trees
+-- a node of at most this many levels, if the nodes below it are such trees
 node_by_took : (depth : ℕ) → ((left : Remaining) (x : Tree × Remaining) → tree_in depth left ≡ Ok x → TookTree depth left x)
     → (left : Remaining) (node : NodeLine) (after : Remaining) (x : Tree × Remaining) → TookNode left node after → node_by (tree_in depth) node after ≡ Ok x → TookTree (suc depth) left x
 node_by_took depth each left (Leaf prices) after x line e =

@@ -1,4 +1,4 @@
--- How many numbers of a list are a number, or are among others.
+-- How often a number occurs in a list, and how many numbers of a list are among others.
 use Rattle.std.proofs.Common.{◌≡◌, ℕ, zero, suc, ◌+◌, ◌-◌, ◌==◌, ◌≤◌, ◌<◌, Bool, true, false, cond, List, [], ◌∷◌, length, take, get_or, refl, sym, ap, ◌∙◌, arith, subst}
 use Rattle.std.specs.Prelude.{not, ◌||◌, ◌&&◌, nat_le, filter, count_by}
 use Rattle.std.specs.List.{All, list_all}

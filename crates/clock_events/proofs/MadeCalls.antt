@@ -1,4 +1,4 @@
--- What a desk's entries show of a list of calls, each of a good.
+-- The entries of a desk that made a list of calls, each of a good.
 use Rattle.std.proofs.Common.{◌≡◌, ℕ, suc, ◌+◌, ◌==◌, ◌≤◌, ◌<◌, Bool, cond, List, [], ◌∷◌, ◌++◌, length, map, get_or, slice_index_or, sym, ap, ◌∙◌, arith}
 use Rattle.std.specs.Prelude.{filter, count_by, nat_le}
 use Rattle.std.specs.List.{sum_by}

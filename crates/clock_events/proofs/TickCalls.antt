@@ -15,7 +15,7 @@ use Rattle.floor.specs.Answers.{IsClockCall}
 use Rattle.game_text.specs.Schedule.{calls_at, clock_calls, schedule, ticks}
 use Rattle.clock_events.specs.Laws.{IsDue, IsFor}
 
--- so many numbers, from the first on
+-- this many numbers, from the first on
 count_up : ℕ → ℕ → List ℕ
 count_up first zero = []
 count_up first (suc many) = first ∷ count_up (first + 1) many
@@ -48,7 +48,7 @@ module _ (game : GameFile) where
       one : (calls : List (ℕ × Call)) → calls ≡ calls ++ []
       one calls = sym (append-nil calls)
 
-  -- what is to come after the first calls of a tick
+  -- the calls that follow the first calls of a tick
   pub to_come : (tick n : ℕ) → 1 ≤ tick → tick ≤ 54 → schedule game ≡ (flat_map (calls_at game) (take (tick - 1) ticks) ++ take n (calls_at game tick)) ++ (drop n (calls_at game tick) ++ flat_map (calls_at game) (drop tick ticks))
   to_come tick n first last =
       ap (flat_map (calls_at game)) (sym (take-append-drop tick ticks))

@@ -33,7 +33,7 @@ missed_more first before now missed false cause stays = record {
   same = λ none. stays ∙ cause.same (omega (arith, none));
 }
 
--- the first `many` ticks were waited for, in order and at the pace that was set, and so many of them lapsed
+-- the first `many` ticks were waited for, in order and at the pace that was set, and this many of them lapsed
 pub record WaitsFor (before after : TickerState) (many missed : ℕ) : Type 0 where
   pub waits : List (ℕ × Bool)
   pub told : after.waited ≡ and_then_told before.waited waits

@@ -1,4 +1,4 @@
--- Words that are drawn in several goes are those that are drawn in one.
+-- Words that are drawn in several steps are those that are drawn in one.
 use Rattle.std.proofs.Common.{◌≡◌, ℕ, zero, suc, ◌+◌, ◌-◌, ◌*◌, ◌≤◌, ◌<◌, List, [], ◌∷◌, ◌++◌, length, map, take, drop, refl, sym, ap, ◌∙◌, append_assoc, arith}
 use Rattle.std.specs.Prelude.{slice_index}
 use Rattle.std.proofs.Math.ListN.{set}

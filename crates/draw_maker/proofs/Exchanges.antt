@@ -1,4 +1,4 @@
--- Exchanges leave the goods of a closing order apart and in their range.
+-- Swaps keep the goods of a closing order different and in their range.
 use Rattle.std.proofs.Common.{◌≡◌, ℕ, ◌+◌, ◌%◌, ◌≤◌, ◌<◌, Bool, true, false, not, ◌&&◌, ◌||◌, eqb, cond, List, [], ◌∷◌, length, refl, sym, ap, ◌∙◌, subst, lit<, lit≤, eq-eqb, arith}
 use Rattle.std.specs.Prelude.{fold, IsPermutation}
 use Rattle.std.specs.List.{All, zip, list_any, sum_by}
@@ -13,12 +13,12 @@ use Rattle.text_forms.specs.Rows.{IsBetween}
 use Rattle.game_text.specs.ClosingOrders.{is_distinct, IsOrder}
 use Rattle.draw_maker.specs.ClosingOrders.{exchanged, made_order}
 
--- ---- numbers that are apart, by how often each comes
+-- ---- different numbers, by how often each occurs
 
 once : Bool → ℕ
 once b = cond b 1 0
 
--- how often a number comes
+-- how often a number occurs
 times : ℕ → List ℕ → ℕ
 times n ns = sum_by (λ m. once (eqb m n)) ns
 
@@ -86,9 +86,9 @@ apart (m ∷ ms) h =
     let others = apart ms (λ n. omega (arith, h n, times_first n m ms)) in
     ap (λ (b : Bool). not b && is_distinct ms) none ∙ others
 
--- ---- exchanges
+-- ---- swaps
 
--- each place is one of the order's, so what comes of the exchanges has the same items
+-- each place is one of the order's, so the swaps keep the items
 shuffled : (places words order : List ℕ) → All (λ place. place < length order) places → IsPermutation order (fold exchanged order (zip places words))
 shuffled [] words order inside = IsPermutation-refl order
 shuffled (place ∷ places) [] order inside = IsPermutation-refl order

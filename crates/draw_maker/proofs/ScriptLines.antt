@@ -94,7 +94,7 @@ counted_more test seed count n ticks bids ticks-are bids-are =
     ∙ ap (λ (k : ℕ). before + (new * k + cond (test (made_request (request_words seed n))) 1 0)) ticks-are
     ∙ ap (λ (k : ℕ). before + (new * ticks + k)) bids-are
 
--- the ticks never fall
+-- the number of ticks never falls
 ticks_rise : (count n : ℕ) → 0 < count → ticks_before count (n - 1) ≤ ticks_before count n
 ticks_rise count n some =
     let whole : 54 * (n - 1) / count * count ≤ 54 * (n - 1) = div-mul-le_self (54 * (n - 1)) count in

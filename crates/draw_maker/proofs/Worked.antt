@@ -1,4 +1,4 @@
--- Words, exchanges and scripts on worked rows.
+-- Words, swaps and scripts on worked rows.
 use Rattle.std.proofs.Common.{◌≡◌, ℕ, [], ◌∷◌, ◌++◌, refl}
 use Rattle.std.specs.Prelude.{codes}
 use Rattle.std.specs.Fmt.{digits}
@@ -12,11 +12,11 @@ first_words_of_42 : next_words 4 (generator 42 54) ≡ 2707161783 ∷ 2068313097
 unfolding first_words
 first_words_of_42 = refl
 
--- each place changes its item with itself
+-- each place swaps its item with itself
 own_place_keeps_order : made_order (7 ∷ 6 ∷ 5 ∷ 4 ∷ 3 ∷ 2 ∷ 1 ∷ []) ≡ 8 ∷ 9 ∷ 10 ∷ 11 ∷ 12 ∷ 13 ∷ 14 ∷ 15 ∷ []
 own_place_keeps_order = refl
 
--- each place changes its item with the first place, so that the first item ends at the last place
+-- each place swaps its item with the first place, so that the first item ends at the last place
 first_place_turns_order : made_order (8 ∷ 7 ∷ 6 ∷ 5 ∷ 4 ∷ 3 ∷ 2 ∷ []) ≡ 9 ∷ 10 ∷ 11 ∷ 12 ∷ 13 ∷ 14 ∷ 15 ∷ 8 ∷ []
 first_place_turns_order = refl
 

@@ -1,4 +1,4 @@
--- What one more entry changes of the points that stand in a flight.
+-- What one more entry changes in the standing points of a flight.
 use Rattle.std.proofs.Common.{◌≡◌, ℕ, suc, ◌+◌, ◌<◌, ◌≤◌, Bool, true, false, cond, List, [], ◌∷◌, ◌++◌, length, refl, sym, ap, ◌∙◌, subst, arith, add-one, append-nil, Option, Some, None, ℤ}
 use Rattle.std.specs.Prelude.{not, ◌&&◌, ◌||◌, ◌==◌, ◌≢◌, nat_le, filter, if◌then◌else◌}
 use Rattle.std.specs.List.{AllByRecursion, flat_map}

@@ -1,4 +1,4 @@
--- The drift for each bound and tick: over ten dollars it is the greatest whole number that is no more than the quotient.
+-- The drift for each bound and tick is the floor of its quotient.
 use Rattle.std.proofs.Common.{◌≡◌, ℕ, ◌&&◌, Bool, true, refl, pos}
 use Rattle.std.specs.Prelude.{ℤ, ◌-ℤ◌, ◌*ℤ◌, int_le, int_lt}
 use Rattle.std.specs.List.{list_all, range_with_len}

@@ -29,7 +29,7 @@ use Rattle.flight_auction.specs.Book.{owned_by, is_of, points_of, others_than, r
 use Rattle.flight_auction.proofs.Changes.{update_entry, update_left, update_trades, bid_entry, bid_left, bid_trades, withdraw_entry, withdraw_left, closed_left, idle_left}
 use Rattle.flight_auction.proofs.Owning.{own_points, has_standing_is}
 
--- a book by its parts, and two that are one where their parts are
+-- a book by its parts, and two that are equal if their parts are
 abbrev pub book_of : ℕ → ℤ → ℕ → List StandingPoint → Bool → FlightBook
 book_of good bound price standing closed = record { good = good; bound = bound; price = price; standing = standing; closed = closed }
 
@@ -37,7 +37,7 @@ same_books : (bound : ℤ) (good good' price price' : ℕ) (standing standing' :
     good ≡ good' → price ≡ price' → standing ≡ standing' → closed ≡ closed' → book_of good bound price standing closed ≡ book_of good' bound price' standing' closed'
 same_books bound good good' price price' standing standing' closed closed' g p s c = rw (g, p, s, c) refl
 
--- an agent sells nothing where the house sells all
+-- an agent sells nothing if the house sells all
 none_sold : (agent : ℕ) (trades : List Trade) → agent ≤ 7 → AllByRecursion (λ (t : Trade). t.seller ≡ house) trades → sold trades agent ≡ 0
 none_sold agent trades le h = ap (sum_by (λ (t : Trade). t.units)) (no_sales trades h)
   where

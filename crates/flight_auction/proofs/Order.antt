@@ -179,7 +179,7 @@ ordered_all P f n h = all_of (positions_below n)
     all_of (position ∷ positions) =
         all-append (λ (bid : Placed). Each P (units_of bid)) (filter (made_at position) (filter_map f agents)) _ (all-filter (λ (bid : Placed). Each P (units_of bid)) (made_at position) (filter_map f agents) all) (all_of positions)
 
--- ---- the one bid of an agent
+-- ---- each agent has at most one bid
 
 by_position_none : (n : ℕ) → by_position [] n ≡ []
 by_position_none zero = refl

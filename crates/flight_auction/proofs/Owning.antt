@@ -58,7 +58,7 @@ some-map : {X Y : Type 0} (f : X → Y) (xs : List X) → some_of (map f xs) ≡
 some-map f [] = refl
 some-map f (x ∷ xs) = refl
 
--- points are left of a bid just where units of it are
+-- points of a bid are left exactly if units of it are
 some_left : (standing gone : List BidUnit) (agent position from : ℕ) (points : List Point) → Each (λ u. among u standing ≡ not (among u gone)) (units_from agent position from points) →
     some_of (without (units_from agent position from points) gone) ≡ some_of (left_points standing agent position from points)
 some_left standing gone agent position from [] h = refl

@@ -49,7 +49,7 @@ each_paid good price (s ∷ standing) = by_test (reaches price s) refl (all-weak
 pub sales_paid : (good price : ℕ) (standing : List StandingPoint) (trades : List Trade) → trades ≡ sales good price standing → All (IsPaid standing) trades
 sales_paid good price standing trades is = All-from_recursion (IsPaid standing) trades (subst (AllByRecursion (IsPaid standing)) (sym is) (each_paid good price standing))
 
--- also where the points of one agent were replaced
+-- the same if the points of one agent were replaced
 pub bid_paid : (good price agent : ℕ) (standing added : List StandingPoint) (trades : List Trade) → trades ≡ sales good price (others_than agent standing ++ added) →
     All (IsPaid (standing ++ added)) trades
 bid_paid good price agent standing added trades is =

@@ -62,7 +62,7 @@ left_same xs ys agent position from (point ∷ points) h =
     let more = left_same xs ys agent position (from + size_of point) points (each-back P (point_units agent position from point) (units_from agent position (from + size_of point) points) h) in
     rw (here, more) refl
 
--- where just those units stay that are cheaper than the price, so do the points
+-- if exactly those units stay that are cheaper than the price, so do the points
 left_cut : (current : ℕ) (xs ys : List BidUnit) (agent position from : ℕ) (points : List Point) →
     Each (λ (u : BidUnit). among u ys ≡ (among u xs && not (nat_le current u.price))) (units_from agent position from points) →
     left_points ys agent position from points ≡ filter (stays current) (left_points xs agent position from points)
@@ -117,7 +117,7 @@ point_trades_are good current units bid from (point ∷ points) =
 unsold_owned : (current agent : ℕ) (points : List Point) → unsold current (owned_by agent points) ≡ owned_by agent (filter (stays current) points)
 unsold_owned current agent points = filter-map (λ (s : StandingPoint). not (reaches current s)) (λ (p : Point). record { agent = agent; point = p }) points
 
--- where just those units stay that are cheaper than the price, the unsold points stand
+-- if exactly those units stay that are cheaper than the price, the unsold points stand
 pub standing_cut : (current : ℕ) (xs ys : List BidUnit) (bid : Placed) → Each (λ (u : BidUnit). among u ys ≡ (among u xs && not (nat_le current u.price))) (units_of bid) →
     standing_of ys bid ≡ unsold current (standing_of xs bid)
 standing_cut current xs ys bid h =

@@ -1,4 +1,4 @@
--- What the desks knew is so of the closed game.
+-- What the desks knew holds of the closed game.
 use Rattle.std.proofs.Common.{◌≡◌, ℕ, zero, suc, ◌+◌, ◌<◌, ◌≤◌, List, [], ◌∷◌, ◌++◌, map, length, take, reverse, get_or, replicate, refl, sym, ap, ◌∙◌, subst, arith, Some, None, slice_get}
 use Rattle.std.specs.Prelude.{All}
 use Rattle.std.specs.List.{AllZip, AllByRecursion, range_with_len}
@@ -30,7 +30,7 @@ module _ {A : Type 0} where
   place_of (x ∷ xs) zero d inside = refl
   place_of (x ∷ xs) (suc k) d inside = place_of xs k d (omega arith)
 
-  -- what is so at each place is so of all
+  -- what holds at each place holds of all
   pub all_by_place : (P : A → Type 0) (xs : List A) → ((k : ℕ) (x : A) → get_elem? xs k ≡ some x → P x) → All P xs
   all_by_place P xs at k d inside = at k (get_or xs k d) (place_of xs k d inside)
 
@@ -96,7 +96,7 @@ lawful_at setup (x ∷ later) e past lawful = lawful_at setup later e past lawfu
 pub last_is_ruled : (setup : Setup) (before : List Entry) (e : Entry) → Legal setup (before ++ e ∷ []) → e ≡ entry_of setup (reverse before) e.caller e.call
 last_is_ruled setup before e legal = (subst (IsLawful setup) (reverse-append before (e ∷ [])) legal.lawful).0
 
--- an answered bid has the reply of the rules, so it is taken where none of their refusals applies
+-- an answered bid has the reply of the rules, so it is taken if none of their refusals applies
 pub takes_lawful_bid : (before after : Desk) (good : ℕ) (points : Points) (outcome : Outcome) → IsOutcome before after good (Bid points) outcome → TakesLawfulBid before after good points outcome
 takes_lawful_bid before after good points Spent outcome = tt
 takes_lawful_bid before after good points (At position reply) outcome =

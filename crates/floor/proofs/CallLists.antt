@@ -1,4 +1,4 @@
--- The list of a desk's calls beside its entries: at first, with one call more, and where there is no entry.
+-- The list of a desk's calls and its entries: at first, with one call more, and if there is no entry.
 use Rattle.std.proofs.Common.{◌≡◌, ◌≢◌, ℕ, ◌==◌, ◌<◌, Bool, true, false, cond, List, [], ◌∷◌, ◌++◌, map, length, get_or, set, replicate, refl, sym, ap, ◌∙◌, subst, arith, append-nil}
 use Rattle.std.specs.Prelude.{filter}
 use Rattle.std.proofs.lemmas.List.{map-append, get_or-set_same, get_or-set_other, get_or-replicate}
@@ -45,7 +45,7 @@ listed_more {entries = entries} {calls = calls} listed good asked position e ins
         let apart : other ≢ good = grind (arith, nat_tests, here) in
         ap calls_in (get_or-set_other entries good other (get_or entries good [] ++ (position, e) ∷ []) [] apart) ∙ listed.each other low ∙ sym (append-nil (calls_of_good calls other))
 
--- the same where the code names the parts otherwise
+-- the same if the code names the parts otherwise
 pub listed_as : {entries entries' : List (List (ℕ × Entry))} {calls calls' : List (ℕ × Call)} → AreListed entries calls → entries' ≡ entries → calls' ≡ calls → AreListed entries' calls'
 listed_as listed a b = subst (λ (t : List (List (ℕ × Entry)) × List (ℕ × Call)). AreListed t.0 t.1) (λ k. (sym a k, sym b k)) listed
 
@@ -53,7 +53,7 @@ listed_as listed a b = subst (λ (t : List (List (ℕ × Entry)) × List (ℕ ×
 pub listed_first : AreListed (replicate 28 []) []
 listed_first = record { goods = All-nil (λ (c : ℕ × Call). c.0 < 28); each = λ good low. ap calls_in (get_or-replicate {A = List (ℕ × Entry)} 28 good [] [] low) }
 
--- where there is no entry, no call is listed
+-- if there is no entry, no call is listed
 pub none_listed : (entries : List (List (ℕ × Entry))) (calls : List (ℕ × Call)) → entries ≡ replicate 28 [] → AreListed entries calls → calls ≡ []
 none_listed entries [] none listed = refl
 none_listed entries (call ∷ calls) none listed =

@@ -1,4 +1,4 @@
--- What a desk keeps, when it begins, with one entry more, and with one reading more.
+-- The invariant of a desk, at its start, with one entry more, and with one reading more.
 use Rattle.std.proofs.Common.{◌≡◌, ℕ, zero, suc, ◌+◌, ◌*◌, ◌<◌, ◌≤◌, List, [], ◌∷◌, ◌++◌, map, length, get_or, set, replicate, sum_by, sym, refl, ap, ◌∙◌, subst, arith, length-set, length-append, ne_eqb}
 use Rattle.std.proofs.lemmas.List.{get_or-set_same, get_or-set_other, get_or-replicate}
 use Rattle.std.proofs.lemmas.List.Sums.{sum_by-append, sum_by-cons}
@@ -97,7 +97,7 @@ module _ {caller : ℕ} {callers lefts : List ℕ} {entries : List (List (ℕ ×
             ∙ (ap (λ (k : ℕ). k + sum_by w (due_post good p e)) (kept.posted w) ∙ sym (due_posts-more w good entries p e (omega (arith, kept.goods)))));
       }
 
-  -- the same where the code names the parts otherwise
+  -- the same if the code names the parts otherwise
   pub kept_as : {caller' : ℕ} {callers' lefts' : List ℕ} {entries' : List (List (ℕ × Entry))} {cash_left' : ℕ} {cash' : List (ℕ × CashEntry)} {count' : ℕ} → IsKept caller callers lefts entries cash_left cash count
       → caller' ≡ caller → callers' ≡ callers → lefts' ≡ lefts → entries' ≡ entries → cash_left' ≡ cash_left → cash' ≡ cash → count' ≡ count → IsKept caller' callers' lefts' entries' cash_left' cash' count'
   kept_as kept a b c d e f g = subst (λ (t : ℕ × List ℕ × List ℕ × List (List (ℕ × Entry)) × ℕ × List (ℕ × CashEntry) × ℕ). IsKept t.0 t.1 t.2 t.3 t.4 t.5 t.6)

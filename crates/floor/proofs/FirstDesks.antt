@@ -9,7 +9,7 @@ module _ {A B : Type 0} where
   first_of f xs rest a v vs is at =
       let whole : f a ∷ map f rest ≡ v ∷ vs = sym (ap (map f) at) ∙ is in (ap (λ (l : List B). get_or l 0 v) whole, ap (λ (l : List B). drop 1 l) whole)
 
-  -- the first two were exchanged for others that read alike, and the rest was added again
+  -- the first two were replaced by others that read alike, and the rest was added again
   pub put_back : (f : A → B) (all all0 all1 none desks rest rest' left : List A) (a b a' b' : A) → map f all ++ map f left ≡ map f all0 ++ map f rest' → left ≡ [] → none ≡ [] → all1 ≡ none ++ a' ∷ [] → all0 ≡ all1 ++ b' ∷ []
       → rest' ≡ rest → desks ≡ a ∷ b ∷ rest → f a' ≡ f a → f b' ≡ f b → map f all ≡ map f desks
   put_back f all all0 all1 none desks rest rest' left a b a' b' kept end empty first second same whole fa fb =
@@ -21,7 +21,7 @@ none_at A zero k = refl
 none_at A (suc n) zero = refl
 none_at A (suc n) (suc k) = none_at A n k
 
--- where there is no entry at any good
+-- if there is no entry at any good
 pub idle : (entries : List (List (ℕ × Entry))) → entries ≡ replicate 28 [] → ((good : ℕ) → length (get_or entries good []) < 64) × (count_entries entries < 480)
 idle entries none = subst (λ (l : List (List (ℕ × Entry))). ((good : ℕ) → length (get_or l good []) < 64) × (count_entries l < 480)) (sym none)
     (λ good. let zero_long = none_at (ℕ × Entry) 28 good in omega arith, omega arith)

@@ -1,4 +1,4 @@
--- The passes that callers get lock by lock, and the desks that are made of them.
+-- The passes that callers get lock by lock, and the desks made of them.
 use Rattle.std.proofs.Common.{◌≡◌, ℕ, zero, suc, ◌<◌, List, [], ◌∷◌, ◌++◌, map, length, get_or, replicate, refl, sym, ap, ◌∙◌, subst, arith}
 use Rattle.std.proofs.lemmas.List.{map_push, replicate_more, length_push}
 use mathlib.Core.Option.{some, some-injective, some-ne-none}

@@ -1,4 +1,4 @@
--- What a desk was told stays in order.
+-- What a desk was answered stays in order.
 use Rattle.std.proofs.Common.{◌≡◌, ℕ, zero, suc, ◌+◌, ◌<◌, ◌≤◌, List, [], ◌∷◌, ◌++◌, map, length, get_or, set, replicate, sym, refl, ◌∙◌, subst, arith, length-set}
 use Rattle.std.specs.List.Sorted.{IsStrictlyIncreasing}
 use Rattle.std.proofs.lemmas.List.{get_or-set_same, get_or-set_other, get_or-replicate, length-map, map_push, get_or-map}
@@ -69,7 +69,7 @@ module _ (entries : List (List (ℕ × Entry))) (boards : List (List (ℕ × Boa
             (λ i. (sym (get_or-set_other boards good k row [] ne) i, sym (get_or-set_other seen good k count 0 ne) i)) (order.each k lt));
       }
 
--- the same where the code names the parts otherwise
+-- the same if the code names the parts otherwise
 pub order_as : {entries entries' : List (List (ℕ × Entry))} {boards boards' : List (List (ℕ × Board))} {seen seen' : List ℕ} → AreInOrder entries boards seen → entries' ≡ entries → boards' ≡ boards → seen' ≡ seen → AreInOrder entries' boards' seen'
 order_as order a b c = subst (λ (t : List (List (ℕ × Entry)) × List (List (ℕ × Board)) × List ℕ). AreInOrder t.0 t.1 t.2) (λ k. (sym a k, sym b k, sym c k)) order
 

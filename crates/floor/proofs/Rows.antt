@@ -1,4 +1,4 @@
--- Lists beside one another, and one of them after a change at one place.
+-- Lists side by side, and one of them after a change at one place.
 use Rattle.std.proofs.Common.{◌≡◌, ℕ, zero, suc, ◌+◌, ◌<◌, List, [], ◌∷◌, Option, Some, slice_get, map, length, get_or, set, sym, refl, ap, ◌∙◌, arith}
 use Rattle.std.specs.Prelude.{option_and_then}
 use Rattle.std.specs.Option.{option_map}

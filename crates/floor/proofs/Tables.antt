@@ -62,7 +62,7 @@ module _ {A B : Type 0} where
       ∙ (ap (λ (l : List (List A)). set l k (get_or (with_each rows given) k [] ++ x ∷ [])) is
       ∙ (ap (λ (j : ℕ). set (with_each rows given) j (get_or (with_each rows given) j [] ++ x ∷ [])) count ∙ with_each_more rows given x inside))
 
-  -- what is so of the elements at each place of two lists, with one more of each
+  -- what holds of the elements at each place of two lists, with one more of each
   pub pairs_more : (P : A → B → Type 0) (xs : List A) (ys : List B) (x : A) (y : B) → length ys ≡ length xs → ((k : ℕ) (a : A) (b : B) → get_elem? xs k ≡ some a → get_elem? ys k ≡ some b → P a b) → P x y
       → (k : ℕ) (a : A) (b : B) → get_elem? (xs ++ x ∷ []) k ≡ some a → get_elem? (ys ++ y ∷ []) k ≡ some b → P a b
   pairs_more P [] [] x y long old new zero a b at_a at_b = subst (λ (t : A × B). P t.0 t.1) (λ i. (some-injective x a at_a i, some-injective y b at_b i)) new

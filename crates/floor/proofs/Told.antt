@@ -1,4 +1,4 @@
--- What the desks' passes left at the locks, and that it is so of the closed game.
+-- What the desks' passes left at the locks, and that it holds of the closed game.
 use Rattle.std.proofs.Common.{◌≡◌, ℕ, zero, suc, ◌<◌, ◌≤◌, List, [], ◌∷◌, ◌++◌, map, fold, length, get_or, replicate, refl, sym, ap, ◌∙◌, subst, arith}
 use Rattle.std.proofs.lemmas.List.{length-map, get_or-replicate}
 use Rattle.std.specs.List.{AllByRecursion, Contains}
@@ -69,7 +69,7 @@ module _ {L : Type 0} (start : L → AuctionHistory) (passes : L → ℕ) (retur
   count_of : (good : ℕ) (lock : L) → get_elem? locks good ≡ some lock → 9 ≡ passes lock
   count_of good lock at = at_replicate 28 9 (passes lock) good (ap (λ (l : List ℕ). get_elem? l good) (sym nine) ∙ at_map passes locks good lock at)
 
-  -- all passes of a lock are back where the desks are nine
+  -- all passes of a lock are back if the desks are nine
   pub all_back : length desks ≡ 9 → (good : ℕ) (lock : L) → get_elem? locks good ≡ some lock → length (returned lock) ≡ passes lock
   all_back all good lock at = ap length (row_of good lock at) ∙ (length-map desks (λ d. told d good) ∙ (all ∙ count_of good lock at))
 

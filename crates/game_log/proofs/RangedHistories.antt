@@ -1,4 +1,4 @@
--- What an auction keeps of its history is in the ranges of logs.
+-- The invariant of an auction puts its history in the ranges of logs.
 use Rattle.std.proofs.Common.{ℕ, ◌≤◌, List, length, arith, ℤ, unsigned_abs}
 use Rattle.std.specs.List.{All}
 use Rattle.std.proofs.lemmas.Int.{ints}

@@ -1,4 +1,4 @@
--- Any sheet of a game is in the ranges of logs, but for the lines of its certificates.
+-- Any sheet of a game is in the ranges of logs, except for the lines of its certificates.
 use Rattle.std.proofs.Common.{◌≡◌, ℕ, ◌*◌, ◌<◌, ◌≤◌, ◌^◌, Bool, true, false, cond, List, [], ◌∷◌, length, drop, get_or, sum_by, ℤ, pos, negsuc, ◌+ℤ◌, ◌-ℤ◌, unsigned_abs, sym, subst, arith}
 use Rattle.std.specs.Prelude.{◌==◌}
 use Rattle.std.specs.List.{All, AllByRecursion}
@@ -56,7 +56,7 @@ total_small (client ∷ clients) [] all = omega arith
 total_small (client ∷ clients) (p ∷ ps) all =
     let one = utility_small client p all.0 in let rest = total_small clients ps all.1 in omega (arith, one, rest)
 
--- ---- what is short
+-- ---- tickets short
 
 lacking_small : (held : ℤ) → IsHolding held → lacking held ≤ 200000
 lacking_small (pos n) is = omega arith

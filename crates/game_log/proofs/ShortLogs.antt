@@ -1,4 +1,4 @@
--- A log that is in its ranges but for the lines of its certificates is in all of them where it is not too long.
+-- A log that is in its ranges except for the lines of its certificates is in all of them if it is not too long.
 use Rattle.std.proofs.Common.{ℕ, ◌+◌, ◌≤◌, List, [], ◌∷◌, ◌++◌, length, ap, arith}
 use Rattle.std.specs.Prelude.{codes}
 use Rattle.std.specs.List.{AllByRecursion}

@@ -1,4 +1,4 @@
--- What the first line of a link says of it.
+-- The first line of a link and its verdict.
 use Rattle.std.proofs.Common.{suc, ◌≡◌, ◌≢◌, ℕ, ◌+◌, ◌-◌, ◌^◌, ◌<◌, ◌≤◌, List, [], ◌∷◌, ◌++◌, length, refl, ap, sym, ◌∙◌, subst, true, false, Bool, Some, None, arith, append_assoc, append-nil, length-append, inl, inr}
 use Rattle.std.specs.Prelude.{position, if◌then◌else◌, slice_index_or}
 use Rattle.std.specs.declared.option.Option.{Option}
@@ -33,7 +33,7 @@ short_line line le = grind (arith, nat_tests)
 long_line : (line : List ℕ) → 512 < length line → ended_line line ≡ (gots.TooLong, [])
 long_line line lt = grind (arith, nat_tests)
 
--- after the first line come the answers of what stands behind it
+-- after the first line come the answers of what follows it
 pub after_line : (bytes line rest more : List ℕ) → Begins bytes line rest → length bytes ≤ 2 ^ 26
     → all_answers [] (2 ^ 26) (bytes ++ more) ≡ ended_line line ∷ all_answers [] (2 ^ 26 - length bytes + length rest) (rest ++ more)
 after_line bytes line rest more b le =
@@ -192,7 +192,7 @@ refused seats verdict before between after u a = (
       (λ i. (u.1.0 i, u.1.1 i)) a.sent,
 )
 
--- what is so of a link still is after nothing was sent to it
+-- what holds of a link still holds after nothing was sent to it
 lost : (before between after : LinkState) → IsLost before between → IsAnswered [] between after → IsLost before after
 lost before between after l a =
     let none = sent_nothing between after a.sent in

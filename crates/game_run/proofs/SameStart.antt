@@ -1,4 +1,4 @@
--- A session that began later is one from before, where nothing was sent and no call failed in between.
+-- A session that began later is one from before, if nothing was sent and no call failed in between.
 use Rattle.std.proofs.Common.{◌≡◌, ℕ, List, ◌∙◌, ap, subst, inl, inr}
 use Rattle.std.specs.Prelude.{Result}
 use Rattle.tac_io.specs.Counts.{Rose}

@@ -1,4 +1,4 @@
--- What sits in the seats of agents, and at which spots that is told.
+-- The links at the places of agents, and at which spots they are kept.
 use Rattle.std.proofs.Common.{zero, suc, ◌≡◌, ◌≢◌, ℕ, ◌<◌, List, [], ◌∷◌, map, length, refl, ap, sym, ◌∙◌, subst, true, false, Bool, Some, None, arith, length-set}
 use Rattle.std.specs.Prelude.{position, if◌then◌else◌, slice_get, slice_set, slice_index_or}
 use Rattle.std.specs.Str.{bytes_eq}
@@ -54,7 +54,7 @@ free_word : (seats : Seats) (word : Option (List ℕ)) (agent : ℕ) → word_ve
 free_word seats None agent e = absurd (cc)
 free_word seats (Some word) agent e = free_seat seats.taken (position (bytes_eq word) seats.words) agent e
 
--- who is seated takes a seat that was free
+-- whoever is seated takes a seat that was free
 pub seat_was_free : (seats : Seats) (line : List ℕ) (agent : ℕ) → verdict_of seats line ≡ Seated agent → slice_index_or seats.taken agent false ≡ false
 seat_was_free seats line agent e = free_word seats (greeting_of line) agent e
 
@@ -137,7 +137,7 @@ module _ {L : Type 0} (state : L → LinkState) {X : Type 0} (Sits : Seats → �
 one_value : {L : Type 0} (a b : L) → Some (Some a) ≡ Some (Some b) → a ≡ b
 one_value a b e = cc
 
--- what is so of each link that came back to its spot
+-- what holds of each link that came back to its spot
 pub links_hold : {L : Type 0} (state : L → LinkState) (Sits : Seats → ℕ → LinkState → L → Type 0) (Holds : Seats → Verdict → LinkState → LinkState → Type 0)
     → ((seats : Seats) (agent : ℕ) (before : LinkState) (link : L) → Sits seats agent before link → Holds seats (Seated agent) before (state link))
     → ((seats : Seats) (v : Verdict) (before after : LinkState) → IsTurnedAway seats v before after → Holds seats v before after)

@@ -67,7 +67,7 @@ none_of zero i x e = cc
 none_of (suc n) zero x e = cc
 none_of (suc n) (suc i) x e = none_of n i x e
 
--- what is so of each place, after one is filled
+-- what holds of each place, after one is filled
 pub each_place : {X : Type 0} (P : X → Type 0) (xs : List (Option X)) (a : ℕ) (y : X) → P y → ((i : ℕ) (x : X) → slice_get xs i ≡ Some (Some x) → P x)
     → (i : ℕ) (x : X) → slice_get (slice_set xs a (Some y)) i ≡ Some (Some x) → P x
 each_place P [] a y new old i x at = old i x at
@@ -92,7 +92,7 @@ module _ {L : Type 0} (state : L → LinkState) (game : GameFile) where
     };
   }
 
-  -- what is so of the arrivals, by their lists
+  -- what holds of the arrivals, by their lists
   kept_by_lists : (given : List LinkState) (arrivals : Arrivals L) (vs : List Verdict) (spots : List (Spot L)) (lines : List (Option (Lines L))) → arrivals.verdicts.items ≡ vs → arrivals.spots.items ≡ spots
       → arrivals.lines.items ≡ lines → AreAdmitted (Keeps state (IsGreeted state) lines) (free_seats game) given vs spots → map (λ l. is_some l) lines ≡ (seats_given game vs).taken
       → ((agent : ℕ) (ls : Lines L) → slice_get lines agent ≡ Some (Some ls) → goes_on (last_of ls) ≡ true) → length lines ≡ 8

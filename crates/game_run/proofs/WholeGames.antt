@@ -50,7 +50,7 @@ module _ {L : Type 0} (state : L → LinkState) (game : GameFile) (given : List 
 
 -- ---- a game that was not played
 
--- what is so of a link without a seat, whatever is so of one with a seat
+-- what holds of a link without a seat, whatever holds of one with a seat
 came_so : (Sits : Seats → ℕ → LinkState → LinkState → Type 0) (seats : Seats) (v : Verdict) (before after : LinkState) → IsTurnedAway seats v before after → CameTo Sits seats v before after
 came_so Sits seats (Seated agent) before after h = absurd h
 came_so Sits seats Syntax before after h = h
@@ -163,7 +163,7 @@ module _ {L : Type 0} (state : L → LinkState) (may_answer : List ℕ → Resul
         };
       }
 
--- ---- where links sit
+-- ---- where links are
 
 same_lists : (xs ys : List Bool) → length xs ≡ length ys → ((k : ℕ) → k < length xs → slice_index_or xs k false ≡ slice_index_or ys k false) → xs ≡ ys
 same_lists [] [] long each = refl

@@ -1,4 +1,4 @@
--- What stands of the agents is read in its ranges as it was printed.
+-- The lines of the agents are read in their ranges as they were printed.
 use Rattle.std.proofs.Common.{◌≡◌, ℕ, ◌<◌, List, ◌++◌, Ok, refl, subst, append_assoc, arith}
 use Rattle.tac_base.specs.Clients.{IsClient}
 use Rattle.text_forms.specs.declared.lines.BadLine.{BadLine}

@@ -1,4 +1,4 @@
--- A file that is read has the canonical lines, but for comments and empty lines, and a game that is printed is read again.
+-- A file that is read has the canonical lines, except for comments and empty lines, and a game that is printed is read again.
 use Rattle.std.proofs.Common.{◌≡◌, ℕ, ◌≤◌, ◌<◌, true, false, ltb, List, [], ◌∷◌, ◌++◌, Result, Ok, Err, length, drop, refl, sym, ap, ◌∙◌, subst, arith}
 use Rattle.std.specs.Prelude.{codes, IfOk}
 use Rattle.std.specs.List.{All}

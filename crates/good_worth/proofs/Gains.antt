@@ -84,7 +84,7 @@ more_grows account is good lt = grows account good _ (in_account account is good
 less_shrinks : (account : AccountFile) → IsAccount account → (good : ℕ) → good < 28 → IsWithin (less account good) account
 less_shrinks account is good lt = shrinks account good _ (in_account account is good lt) (none_grows _ _ (lowered (held account good) (held_in account is good lt)))
 
--- of a good that is not held nothing is left to lose
+-- nothing is left to lose of a good that is not held
 less_keeps : (account : AccountFile) → IsAccount account → (good : ℕ) → good < 28 → held account good ≤ℤ pos 0 → IsWithin account (less account good)
 less_keeps account is good lt not_held = grows account good _ (in_account account is good lt) (none_under (held account good) (one_less (held account good)) not_held)
 

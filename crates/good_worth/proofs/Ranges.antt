@@ -1,4 +1,4 @@
--- Accounts with another holding of one good are accounts.
+-- Accounts with a different holding of one good are accounts.
 use Rattle.std.proofs.Common.{ℕ, ◌<◌, ℤ, pos, length, ◌∙◌, sym, subst}
 use Rattle.std.proofs.lemmas.List.{length-set}
 use Rattle.std.proofs.lemmas.List.Elements.{All-set}

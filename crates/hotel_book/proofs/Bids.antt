@@ -25,7 +25,7 @@ sum_ones : (units : List BidUnit) → sum_by (λ _. 1) units ≡ length units
 sum_ones [] = refl
 sum_ones (u ∷ units) = sum_by-cons (λ _. 1) u units ∙ rw (sum_ones units) (omega arith)
 
--- what the units of others than an agent weigh
+-- the weight of the units of all agents but one
 abbrev but : ℕ → (BidUnit → ℕ) → BidUnit → ℕ
 but agent weight u = cond (not (u.agent == agent)) (weight u) 0
 
@@ -216,7 +216,7 @@ few_standing : (agent : ℕ) (bids : List (Option Placed)) (closed : Bool) → A
 few_standing agent bids true own = omega arith
 few_standing agent bids false own = few_own agent 0 bids own
 
--- of the units that take the rooms too
+-- the same for the units that take the rooms
 pub few_won : (rooms agent : ℕ) (bids : List (Option Placed)) (closed : Bool) (units : List ShownUnit) → AreOwn 0 bids → AreShown (standing bids closed) units → won rooms units agent ≤ 16
 unfolding own_weigh_one
 few_won rooms agent bids closed units own shown =

@@ -1,4 +1,4 @@
--- What one more entry changes of what a hotel keeps.
+-- What one more entry changes in a hotel's book.
 use Rattle.std.proofs.Common.{◌≡◌, ℕ, ◌≤◌, Bool, true, false, List, [], ◌∷◌, length, min, refl, sym, ap, ◌∙◌, set, subst, arith, Option, Some, None}
 use Rattle.std.specs.Prelude.{if◌then◌else◌, not, ◌&&◌, ◌||◌}
 use Rattle.tac_base.specs.declared.bids.Point.{Point}
@@ -99,7 +99,7 @@ published_by_bid : (rooms : ℕ) (live : Bool) (agent : ℕ) (points : List Poin
 published_by_bid rooms true agent points past h = ap (ask rooms) (open_stand rooms true (taken_entry agent points ∷ past) h)
 published_by_bid rooms false agent points past h = refl
 
--- a book, and that two of the same rules are one where the rest is
+-- a book by its parts, and two of the same rules are equal if the rest is
 abbrev pub book_of : ℕ → Bool → ℕ → List (Option Placed) → ℕ → Bool → HotelBook
 book_of rooms live good bids price closed = record { good = good; rooms = rooms; live = live; bids = bids; published = price; closed = closed }
 

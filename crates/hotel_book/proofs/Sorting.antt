@@ -1,4 +1,4 @@
--- A unit that is put in its place keeps the order, and a filter does.
+-- Inserting a unit in its place keeps the order, and so does a filter.
 use Rattle.std.proofs.Common.{◌≡◌, ℕ, zero, suc, ◌+◌, ◌≤◌, Bool, true, false, cond, not, List, [], ◌∷◌, map, length, get_or, ◌-◌, Option, Some, None, refl, sym, ap, subst, ◌∙◌, arith}
 use Rattle.std.specs.Prelude.{nat_lt}
 use Rattle.std.specs.List.{All, AllByRecursion, insert, position, position_or_len, filter}
@@ -16,7 +16,7 @@ not_back u v h = grind (arith, nat_tests)
 pub not_self : (u : ShownUnit) → goes_first u u ≡ false
 not_self u = grind (arith, nat_tests)
 
--- what precedes u, where u precedes v, precedes v
+-- if u precedes v, what precedes u precedes v
 before_both : (u v w : ShownUnit) → goes_first u v ≡ true → goes_first w v ≡ false → goes_first w u ≡ false
 before_both u v w h k = grind (arith, nat_tests)
 
@@ -26,7 +26,7 @@ pub all-each : (P Q : ShownUnit → Type 0) (units : List ShownUnit) → ((u : S
 all-each P Q [] f h = tt
 all-each P Q (u ∷ units) f h = (f u h.0, all-each P Q units f h.1)
 
--- where a unit is put, what is so of it and of all others is so of all
+-- inserting a unit keeps what holds of it and of all others
 all-put : (P : ShownUnit → Type 0) (i : ℕ) (u : ShownUnit) (units : List ShownUnit) → P u → AllByRecursion P units → AllByRecursion P (insert units i u)
 all-put P zero u units here h = (here, h)
 all-put P (suc i) u [] here h = (here, tt)
@@ -77,7 +77,7 @@ priced-put most place u units le h = All-from_recursion (λ v. v.price ≤ most)
 pub priced-filter : (most : ℕ) (test : ShownUnit → Bool) (units : List ShownUnit) → All (λ v. v.price ≤ most) units → All (λ v. v.price ≤ most) (filter test units)
 priced-filter most test units h = All-from_recursion (λ v. v.price ≤ most) (filter test units) (all-filter (λ v. v.price ≤ most) test units (recursion_from_All (λ v. v.price ≤ most) units h))
 
--- the last price is in range where the units' prices are
+-- the last price is in range if the units' prices are
 pub last_within : (most rooms : ℕ) (units : List ShownUnit) → All (λ v. v.price ≤ most) units → last_price rooms units ≤ most
 last_within most rooms units h = at_place (rooms - 1) units (recursion_from_All (λ v. v.price ≤ most) units h)
   where

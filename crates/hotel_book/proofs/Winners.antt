@@ -1,4 +1,4 @@
--- What units in order give is what the rules say of the units that stand.
+-- What units in order determine is what the rules say of the standing units.
 use Rattle.std.proofs.Common.{◌≡◌, ℕ, zero, suc, ◌-◌, ◌<◌, ◌≤◌, Bool, true, false, cond, List, [], ◌∷◌, map, take, length, get_or, refl, sym, ap, subst, ◌∙◌, arith, inl, inr}
 use Rattle.std.specs.Prelude.{not, ◌&&◌, ◌==◌, nat_lt, nat_le, count_by}
 use Rattle.std.specs.List.{AllByRecursion}
@@ -188,7 +188,7 @@ in_order standing units shown ordered sorted =
 
 -- ---- the winning numbers
 
--- among units in order those win that stand before as many places as there are rooms
+-- among units in order those win that are at the places below the number of rooms
 winners : (rooms : ℕ) (test : ShownUnit → Bool) (units : List ShownUnit) → AreInOrder units →
     count_by (λ u. test u && nat_lt (count_by (λ v. goes_first v u) units) rooms) units ≡ count_by test (take rooms units)
 winners zero test [] h = refl

@@ -1,4 +1,4 @@
--- The plain object of a request is read as it.
+-- The plain object of a request is read as that request.
 use Rattle.std.proofs.Common.{◌≡◌, ℕ, suc, ◌^◌, ◌<◌, ◌≤◌, Bool, true, false, ◌&&◌, List, [], ◌∷◌, ◌++◌, Option, Some, None, Ok, refl, sym, ap, ◌∙◌, append-nil, arith, ℤ, pos, negsuc, decimal, lit≤, lt-ltb, le-leb, ltb, leb, IsUtf8}
 use Rattle.std.specs.Prelude.{codes, unsigned_abs, option_and_then, ⊤}
 use Rattle.std.specs.Fmt.{signed_decimal}
@@ -32,7 +32,7 @@ use Rattle.json_dialect.specs.JsonRequests as asked
 use Rattle.json_dialect.specs.JsonRequests.{asks_json, asked_by_value}
 use Rattle.json_dialect.specs.JsonObjects.{point_items, object_of, object_text}
 
--- ---- the text of a value is read as it
+-- ---- the text of a value is read as that value
 
 read_plain : (j : json.Json) (d : Data) → HasNumbers j → depth j ≤ 127 → of_json j ≡ Some d → read (print (json_tokens j)) ≡ Some d
 read_plain j d numbers shallow is =

@@ -1,4 +1,4 @@
--- What a text of JSON tells, by its words: so different things have different texts.
+-- The words of a JSON text determine its reply: so different replies have different texts.
 use Rattle.std.proofs.Common.{◌≡◌, ℕ, ◌^◌, ◌<◌, ◌≤◌, Bool, true, false, eqb, List, [], ◌∷◌, ◌++◌, Option, Some, None, drop, get_or, refl, sym, ap, ◌∙◌, arith, ℤ, pos, decimal, lit<}
 use Rattle.std.specs.Prelude.{codes, unsigned_abs, if◌then◌else◌}
 use Rattle.std.specs.Fmt.{signed_decimal}
@@ -48,7 +48,7 @@ number_back : (z : ℤ) → unsigned_abs z < 2 ^ 64 → signed (signed_decimal z
 unfolding signed
 number_back z small = ap or_zero (signed_again 20 z small (length-decimal-le 20 (unsigned_abs z) (lit< tt) (omega (arith, small)) small))
 
--- ---- what words tell
+-- ---- what words mean
 
 abbrev points_told : List (List ℕ) → List Point
 points_told [] = []
@@ -118,7 +118,7 @@ told (first ∷ second ∷ words) =
     else if bytes_eq first (codes "no") then unplaced_told second words
     else Bye
 
--- ---- a text tells what it was made of
+-- ---- a text determines what it was made of
 
 placed_again : (position : ℕ) (words : List (List ℕ)) → position < 2 ^ 64 → told (codes "at" ∷ decimal position ∷ words) ≡ placed_told position words
 placed_again position words small = ap (λ (n : ℕ). placed_told n words) (number_again position small)

@@ -46,6 +46,6 @@ same_by : (word known : List ℕ) (b : Bool) → bytes_eq word known ≡ b → (
 same_by word known true h = inl ((bytes_eq-Decides word known).0 h)
 same_by word known false h = inr h
 
--- a word is a known one, or is told apart from it
+-- a word is a known one, or differs from it
 pub same_or_not : (word known : List ℕ) → (word ≡ known) ⊎ (bytes_eq word known ≡ false)
 same_or_not word known = same_by word known (bytes_eq word known) refl

@@ -1,4 +1,4 @@
--- Whether two entries of a cash history are one, by their codes.
+-- Whether two entries of a cash history are equal, by their codes.
 use Rattle.std.proofs.Common.{◌≡◌, Bool, true, false, ◌&&◌, refl, ap, eq-eqb}
 use Rattle.std.proofs.lemmas.Bool.{eqb-true}
 use Rattle.std.specs.Prelude.{◌==◌}
@@ -44,7 +44,7 @@ same_code-true (gcons a b) (gcons c d) is = λ i. gcons (same_code-true a c (lef
 cash_code : Coded CashEntry
 cash_code = hlevel codes
 
--- whether two entries are one
+-- whether two entries are equal
 pub is_one : CashEntry → CashEntry → Bool
 is_one e other = same_code (cash_code.code e) (cash_code.code other)
 

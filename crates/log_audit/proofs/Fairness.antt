@@ -1,4 +1,4 @@
--- A history is legal where each of its entries is fair, and then alone.
+-- A history is legal exactly if each of its entries is fair.
 use Rattle.std.proofs.Common.{◌≡◌, ℕ, zero, suc, ◌+◌, ◌<◌, ◌≤◌, List, [], ◌∷◌, ◌++◌, length, take, refl, sym, ap, ◌∙◌, subst, arith, cond, Some, slice_get, Option, None, eq-eqb}
 use Rattle.std.specs.Prelude.{reverse, ◌==◌}
 use Rattle.std.specs.List.{AllByRecursion}

@@ -24,7 +24,7 @@ module _ (w : CashEntry → ℕ) where
   no_row g k [] = refl
   no_row g k (e ∷ history) = omega (arith, no_row g (k + 1) history)
 
-  -- where nothing is marked
+  -- if nothing is marked
   pub none_marked : (n : ℕ) (histories : List (List Entry)) → marked (λ _ _. false) n histories ≡ 0
   none_marked n [] = refl
   none_marked n (h ∷ histories) = omega (arith, no_row n 0 h, none_marked (n + 1) histories)
@@ -36,7 +36,7 @@ module _ (w : CashEntry → ℕ) where
         let here : cond (m' g k) (sum_by w (due_post g k e)) 0 ≡ cond (m g k) (sum_by w (due_post g k e)) 0 = ap (λ b. cond b (sum_by w (due_post g k e)) 0) (same k (omega arith)) in
         omega (arith, here, same_row g (k + 1) history (λ p le. same p (omega (arith, le))))
 
-    -- where the same is marked
+    -- if the same is marked
     pub same_marked : (n : ℕ) (histories : List (List Entry)) → ((g p : ℕ) → n ≤ g → m' g p ≡ m g p) → marked m' n histories ≡ marked m n histories
     same_marked n [] same = refl
     same_marked n (h ∷ histories) same =
@@ -59,7 +59,7 @@ module _ (w : CashEntry → ℕ) where
         let weight : sum_by w (due_post g ((k + 1) + j) e) ≡ sum_by w (due_post g (k + suc j) e) = ap (λ (p : ℕ). sum_by w (due_post g p e)) next in
         omega (arith, here, ih, weight)
 
-    -- where one place more is marked
+    -- if one more place is marked
     pub more_marked : (n i j : ℕ) (histories : List (List Entry)) (history : List Entry) (e : Entry) → slice_get histories i ≡ Some history → slice_get history j ≡ Some e
         → m (n + i) j ≡ false → m' (n + i) j ≡ true → ((g p : ℕ) → ((g ≡ n + i) × (p ≡ j) → ⊥) → m' g p ≡ m g p)
         → marked m' n histories ≡ marked m n histories + sum_by w (due_post (n + i) j e)
@@ -99,7 +99,7 @@ module _ (w : CashEntry → ℕ) where
             let on : m g k ≡ true = ap (m g) (sym here) ∙ is (λ never. absurd cc) in
             ap (λ b. cond b (sum_by w ((record { caller = e.caller; call = Post g k (record { dollars = nets_of (t ∷ ts) }); reply = Done }) ∷ [])) 0) on
 
-    -- where each place of an entry with a trade is marked
+    -- if each place of an entry with a trade is marked
     pub all_marked : (n : ℕ) (histories : List (List Entry))
         → ((i j : ℕ) (history : List Entry) (e : Entry) → slice_get histories i ≡ Some history → slice_get history j ≡ Some e → e.trades ≢ [] → m (n + i) j ≡ true) → marked m n histories ≡ sum_by w (due_from n histories)
     all_marked n [] each = refl

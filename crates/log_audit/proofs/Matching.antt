@@ -1,4 +1,4 @@
--- A cash history is matched where each of its posts is due and each entry with a trade has one, and then alone.
+-- A cash history is matched exactly if each of its posts is due and each entry with a trade has one.
 use Rattle.std.proofs.Common.{◌≡◌, ◌≢◌, ℕ, zero, suc, ◌+◌, ◌<◌, ◌≤◌, Bool, true, false, ◌&&◌, ◌||◌, cond, List, [], ◌∷◌, ◌++◌, length, take, sum_by, refl, sym, ap, ◌∙◌, subst, arith, Some, slice_get, slice_index_or, eq-eqb, ne_eqb}
 use Rattle.std.specs.Prelude.{◌==◌}
 use Rattle.std.proofs.lemmas.List.Folds.{list_any-append}
@@ -59,7 +59,7 @@ module _ (histories : List (List Entry)) (goods : length histories ≡ 28) where
   -- ---- posts that are due, one after the other
 
   module _ (w : CashEntry → ℕ) where
-    -- the posts so far weigh what the due posts of the places weigh that they name
+    -- the posts so far have the weight of the due posts of the places that they name
     abbrev AreEven : List CashEntry → Type 0
     AreEven cash = sum_by w (posts_of cash) ≡ marked w (is_posted cash) 0 histories
 

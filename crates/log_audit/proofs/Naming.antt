@@ -53,7 +53,7 @@ post_names before e g p nets named is long low' few' are good position low few =
         get_or-set_other named (place_at g p) (place_at good position) true false off
         ∙ (are good position low few ∙ sym (more ∙ (ap (λ b. is_posted before good position || (b || false)) none ∙ or_none (is_posted before good position))))
 
--- a list of so many false tests has no other
+-- a list of false tests only has no true one
 pub none_named : (n : ℕ) (named : List Bool) → length named ≡ n → ((k : ℕ) (d : Bool) → k < n → get_or named k d ≡ false) → (k : ℕ) → get_or named k false ≡ false
 none_named n named long each k = dite (dec_lt k n) (λ lt. each k false lt) (λ ge. past named k (omega (arith, ge, long)))
   where

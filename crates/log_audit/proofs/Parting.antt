@@ -20,7 +20,7 @@ module _ (game : GameFile) (log : LoggedGame) where
   before_turn flaw other (inl lower) = omega (arith, lower)
   before_turn flaw other (inr same) = let is = same.0 in omega (arith, is)
 
-  -- where there is no flaw of some kinds, the first one of the kinds after them is the first of all these
+  -- if there is no flaw of some kinds, the first one of the kinds after them is the first of all these
   pub none_before : (a b c : ℕ) (found : Option Flaw) → HasNoneFrom game log a b → a ≤ b → IsFirstFrom game log b c found → IsFirstFrom game log a c found
   none_before a b c None none le here = λ flaw low high. dite (dec_lt (turn_of flaw) b) (λ lt. none flaw low lt) (λ ge. here flaw (omega (arith, ge)) high)
   none_before a b c (Some first) none le here =
@@ -66,7 +66,7 @@ module _ (game : GameFile) (log : LoggedGame) where
   pub longer : (a b c : ℕ) (flaw : Flaw) → b ≤ c → IsFirstOf game log a b flaw → IsFirstOf game log a c flaw
   longer a b c flaw le first = let high = first.high in record { low = first.low; high = omega (arith, high, le); has = first.has; first = first.first }
 
-  -- where there is no flaw of the kinds before, the first of some kinds is the first of all
+  -- if there is no flaw of the kinds before, the first of some kinds is the first of all
   pub found_first : (b c : ℕ) (flaw : Flaw) → HasNoneFrom game log 0 b → c ≤ 7 → IsFirstOf game log b c flaw → IsFirstFlaw game log flaw
   found_first b c flaw none le first = first_of_all flaw (longer 0 c 7 flaw le (none_before 0 b c (Some flaw) none (omega arith) first))
 

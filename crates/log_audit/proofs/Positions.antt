@@ -17,7 +17,7 @@ module _ {A : Type 0} where
   pub same_at : (xs : List A) (i : ℕ) (x y : A) → slice_get xs i ≡ Some x → slice_get xs i ≡ Some y → x ≡ y
   same_at xs i x y at at' = let both : Some x ≡ Some y = sym at ∙ at' in cc
 
-  -- the list up to an element, that element, and what is behind it
+  -- the list up to an element, that element, and what follows it
   pub split_at : (xs : List A) (i : ℕ) (x : A) → slice_get xs i ≡ Some x → (later : List A) × (xs ≡ take i xs ++ x ∷ later)
   split_at [] i x at = let never : None ≡ Some x = at in absurd cc
   split_at (y ∷ xs) zero x at = let same : y ≡ x = cc in (xs, ap (λ (z : A). z ∷ xs) same)
@@ -29,7 +29,7 @@ module _ {A : Type 0} where
   all_taken (x ∷ xs) zero long = absurd (omega (arith, long))
   all_taken (x ∷ xs) (suc n) long = ap (λ (l : List A). x ∷ l) (all_taken xs n (omega (arith, long)))
 
-  -- what stands behind the first elements
+  -- what follows the first elements
   pub next_is : (xs rest : List A) (k : ℕ) (x : A) → k ≤ length xs → xs ≡ take k xs ++ x ∷ rest → slice_get xs k ≡ Some x
   next_is [] rest zero x le is = absurd cc
   next_is (y ∷ xs) rest zero x le is = let same : y ≡ x = cc in ap (λ (z : A). Some z) same

@@ -24,7 +24,7 @@ one_is good x = by_test (x.0 == good)
     by_test true = refl
     by_test false = refl
 
--- a call of the good alone, and one of another good
+-- a call of the good only, and one of another good
 pub for_own : (good other : ℕ) (call : Call) → other ≡ good → calls_for good ((other, call) ∷ []) ≡ call ∷ []
 for_own good other call same = one_is good (other, call) ∙ ap (λ b. cond {A = List Call} b (call ∷ []) []) (eq-eqb other good same)
 
@@ -52,7 +52,7 @@ other_first : (e : Entry) (rest : List Entry) → e.caller ≢ 8 → clock_calls
 other_first e rest ne = ap (λ b. map (λ (x : Entry). x.call) (cond b (e ∷ filter (λ (x : Entry). x.caller == clock) rest) (filter (λ (x : Entry). x.caller == clock) rest))) (ne_eqb e.caller 8 ne)
 
 module _ (history : List Entry) (due : List Call) (position made : ℕ) (e : Entry) (at : slice_get history position ≡ Some e) (so_far : clock_calls_in (take position history) ≡ take made due) where
-  -- where the calls are those that are due, the next one of the clock is the next due one
+  -- if the calls are those that are due, the next one of the clock is the next due one
   pub next_due : e.caller ≡ 8 → made ≤ length due → clock_calls_in history ≡ due → slice_get due made ≡ Some e.call
   next_due own le is =
       let split = split_at history position e at in

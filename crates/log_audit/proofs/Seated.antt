@@ -32,7 +32,7 @@ later_agents (suc (suc (suc (suc (suc (suc zero)))))) low = (_, refl)
 later_agents (suc (suc (suc (suc (suc (suc (suc zero))))))) low = (_, refl)
 later_agents (suc (suc (suc (suc (suc (suc (suc (suc k)))))))) low = absurd (omega (arith, low))
 
--- where some are the agents that pass, and the first of them those below one that passes, that one is next
+-- if some are the agents that pass, and the first of them those below one that passes, that one is next
 pub seated_next : (has : ℕ → Bool) (xs : List ℕ) (ended k : ℕ) → k < 8 → has k ≡ true → ended ≤ length xs → take ended xs ≡ filter has (take k agents) → xs ≡ filter has agents → slice_get xs ended ≡ Some k
 seated_next has xs ended k low passes le so_far is =
     let later = later_agents k low in

@@ -1,4 +1,4 @@
--- An entry that is struck anew beside the one of the log.
+-- An entry that is struck again, compared with the one of the log.
 use Rattle.std.proofs.Common.{◌≡◌, ℕ, zero, suc, ◌+◌, ◌<◌, ◌≤◌, cond, List, [], ◌∷◌, ◌++◌, length, take, map, set, get_or, sym, ap, ◌∙◌, subst, arith, Option, Some, None, slice_get, MatchOption, ne_eqb, eq-eqb}
 use Rattle.std.specs.Prelude.{reverse, ◌==◌, slice_index, slice_set}
 use Rattle.std.specs.Option.{option_map}
@@ -76,7 +76,7 @@ module _ (setup : Setup) (history : List Entry) (position : ℕ) (e : Entry) (at
           nets_are = slice_get-map nets_by history position ∙ (ap (option_map nets_by) at ∙ (λ i. Some (record { dollars = sym dollars i })));
         }
 
--- what a call gave, where the reply and the trades are those of the rules, and where they are not
+-- the result of a call, if the reply and the trades are those of the rules, and if they are not
 abbrev pub IsSameAs : Setup → Option Nets → List Trade → List Entry → ℕ → Call → Reply → Type 0
 IsSameAs setup found trades past caller call reply =
     MatchOption found (reply ≡ reply_of setup (reverse past) caller call → trades ≡ trades_of setup (reverse past) caller call → ⊥)

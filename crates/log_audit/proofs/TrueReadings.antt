@@ -1,4 +1,4 @@
--- A cash history is legal where each of its readings is true, and then alone.
+-- A cash history is legal exactly if each of its readings is true.
 use Rattle.std.proofs.Common.{◌≡◌, ℕ, List, take, refl, Some, slice_get}
 use Rattle.trade_ledger.specs.declared.cash_calls.CashCall.{CashCall}
 use Rattle.trade_ledger.specs.declared.cash_calls.CashCall.TheVariants.{Post, Read}

@@ -1,4 +1,4 @@
--- What is so of the trades and the calls that were read of lines.
+-- What holds of the trades and the calls that were read from lines.
 use Rattle.std.proofs.Common.{◌≡◌, ℕ, ◌≤◌, List, [], ◌∷◌, ◌++◌, Option, Some, None, Ok, sym, ◌∙◌}
 use Rattle.std.specs.List.{AllByRecursion}
 use Rattle.tac_base.specs.declared.calls.Call.{Call}

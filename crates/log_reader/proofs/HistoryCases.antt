@@ -17,7 +17,7 @@ pub history_is : (good : ℕ) (left : Remaining) (count : ℕ) (after : Remainin
 unfolding history_in
 history_is good left count after read h e = rw h e
 
--- what is so where a call succeeded
+-- what holds if a call succeeded
 pub if_done : {A E P : Type 0} (result : Result A E) → is_err result ≡ false → OnOk result P → P
 if_done (Ok x) h p = p
 if_done (Err fault) h p = absurd cc

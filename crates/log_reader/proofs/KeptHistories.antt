@@ -12,7 +12,7 @@ use Rattle.auction_core.specs.Stored.{entry_behind, stored}
 use Rattle.auction_core.proofs.Chains.{stored_more, stores_more}
 use Rattle.log_reader.specs.Histories.{IsKept, IsRead}
 
--- what is so of each entry is so of the one at a position
+-- what holds of each entry holds of the one at a position
 pub found_is : (P : StoredEntry → Type 0) (entries : List StoredEntry) (position : ℕ) (found : Option StoredEntry) → AllByRecursion P entries → slice_get entries position ≡ found → IfSome found P
 found_is P entries position None all at = tt
 found_is P [] position (Some e) all at = absurd cc

@@ -18,7 +18,7 @@ is_read read x h = rw h refl
 is_refused : {A : Type 0} (read : Result A BadLine) (bad : BadLine) → read ≡ Err bad → IsRefusal (fault_of bad) (refused read)
 is_refused read bad h = rw h refl
 
--- where the one is refused, so is the other
+-- if the one is refused, so is the other
 pub refused_on : {X Y : Type 0} (fault : LogFault) (a : Result X BadLine) (b : Result Y BadLine) → ((bad : BadLine) → a ≡ Err bad → b ≡ Err bad) → IsRefusal fault (refused a) → IsRefusal fault (refused b)
 refused_on (faults.Line line) (Ok x) b h f = absurd cc
 refused_on (faults.Line line) (Err bad) b h f = let same : bad.line ≡ line = cc in rw (h bad refl) (ap (λ (n : ℕ). Err (faults.Line n)) same)
@@ -26,16 +26,16 @@ refused_on faults.TooLong (Ok x) b h f = absurd cc
 refused_on faults.TooLong (Err bad) b h f = absurd cc
 refused_on faults.Memory a b h f = tt
 
--- a refusal that is handed on
+-- a refusal that is passed on
 handed_on : {A B : Type 0} (view : A → B) (given : Result A LogFault) (fault : LogFault) (read : Result B LogFault) → IsErrAnd given (λ f. f ≡ fault) → IsRefusal fault read → IsReading view given read
 handed_on view (Ok x) fault read h refusal = absurd h
 handed_on view (Err f) fault read h refusal = subst (λ (e : LogFault). IsRefusal e read) (sym h) refusal
 
--- a bad line that is handed on
+-- a bad line that is passed on
 pub line_on : {A B : Type 0} (view : A → B) (given : Result A LogFault) (bad : BadLine) (read : Result B BadLine) → IsErrAnd given (λ f. f ≡ fault_of bad) → read ≡ Err bad → IsReading view given (refused read)
 line_on view given bad read h e = handed_on view given (fault_of bad) (refused read) h (is_refused read bad e)
 
--- the refusal of a part that is handed on
+-- the refusal of a part that is passed on
 pub fault_on : {A B X : Type 0} (view : A → B) (given : Result A LogFault) (fault : LogFault) (part : Result X BadLine) (read : Result B BadLine) → IsErrAnd given (λ f. f ≡ fault) → IsRefusal fault (refused part) →
     ((bad : BadLine) → part ≡ Err bad → read ≡ Err bad) → IsReading view given (refused read)
 fault_on view given fault part read h refusal through = handed_on view given fault (refused read) h (refused_on fault part read through refusal)

@@ -1,4 +1,4 @@
--- Calls and replies are found again in their texts.
+-- Calls and replies are determined by their texts.
 use Rattle.std.proofs.Common.{◌≡◌, ℕ, ◌^◌, ◌<◌, true, false, eqb, List, [], ◌∷◌, Option, Some, None, Result, Ok, Err, refl, sym, ap, subst, ◌∙◌, arith, ℤ, pos, negsuc, suc, decimal, lit<}
 use Rattle.std.specs.Prelude.{codes, unsigned_abs, if◌then◌else◌}
 use Rattle.std.specs.Fmt.{signed_decimal}
@@ -62,7 +62,7 @@ call_at (keyword ∷ words) =
 pair_words : (keyword : List ℕ) (m n : ℕ) → Lacks 32 keyword → m < 2 ^ 64 → n < 2 ^ 64 → words_of (join_with_byte 32 (keyword ∷ decimal m ∷ decimal n ∷ [])) ≡ keyword ∷ decimal m ∷ decimal n ∷ []
 pair_words keyword m n h j k = joined_parts 32 keyword (decimal m ∷ decimal n ∷ []) h ((number_word m j).0, ((number_word n k).0, tt))
 
--- a bid is found in the words of its text
+-- a bid is determined by the words of its text
 bid_found : (points : List Point) → fault_of points ≡ None → call_at (codes "bid" ∷ words_of (spelling points)) ≡ Some (calls.Bid points)
 bid_found points h = rw (join_with_byte-slice_split 32 (spelling points), bid_again points h) refl
 
@@ -74,7 +74,7 @@ call_found (calls.Update tick draw) h = ap call_at (pair_words (codes "update") 
 call_found calls.Publish h = refl
 call_found calls.Close h = refl
 
--- calls with one text are one
+-- calls with the same text are equal
 pub call_same : (call other : Call) → IsCall call → IsCall other → call_text call ≡ call_text other → call ≡ other
 call_same call other h k e = same_Some call other (sym (call_found call h) ∙ ap (λ (text : List ℕ). call_at (words_of text)) e ∙ call_found other k)
 
@@ -150,13 +150,13 @@ reply_found (replies.BelowQuote need at offered) h =
     (lacks 32 (codes "belowquote") refl, ((number_word need h.0).0, ((number_word at h.1).0, ((number_word offered h.2).0, tt)))))
     ∙ rw (number_again need h.0, number_again at h.1, number_again offered h.2) refl
 
--- replies with one text are one
+-- replies with the same text are equal
 pub reply_same : (reply other : Reply) → IsReply reply → IsReply other → reply_text reply ≡ reply_text other → reply ≡ other
 reply_same reply other h k e = same_Some reply other (sym (reply_found reply h) ∙ ap (λ (text : List ℕ). reply_at (words_of text)) e ∙ reply_found other k)
 
--- ---- bytes that stand in no call or reply
+-- ---- bytes that occur in no call or reply
 
--- a byte that stands in no number and no points
+-- a byte that occurs in no number and no points
 record IsStrange (byte : ℕ) : Type 0 where
   digits : (word : List ℕ) → all_ascii_digits word ≡ true → Lacks byte word
   minus : eqb 45 byte ≡ false

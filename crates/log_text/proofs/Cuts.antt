@@ -52,7 +52,7 @@ no_line_ends (word ∷ words) h = (h.0.1, no_line_ends words h.1)
 pub line_same : (xs ys us vs : List ℕ) → Lacks 10 xs → Lacks 10 ys → (xs ++ 10 ∷ []) ++ us ≡ (ys ++ 10 ∷ []) ++ vs → (xs ≡ ys) × (us ≡ vs)
 line_same xs ys us vs h k e = cut_same 10 xs ys us vs h k (sym (append_assoc xs (10 ∷ []) us) ∙ e ∙ append_assoc ys (10 ∷ []) vs)
 
--- a line of words has these words alone
+-- a line of words has exactly these words
 pub row_same : (word other : List ℕ) (words others : List (List ℕ)) (us vs : List ℕ) → AllByRecursion IsWord (word ∷ words) → AllByRecursion IsWord (other ∷ others) → row (word ∷ words) ++ us ≡ row (other ∷ others) ++ vs → (word ∷ words ≡ other ∷ others) × (us ≡ vs)
 row_same word other words others us vs h k e =
     let cut = line_same (join_with_byte 32 (word ∷ words)) (join_with_byte 32 (other ∷ others)) us vs (join_lacks 10 (word ∷ words) refl (no_line_ends (word ∷ words) h)) (join_lacks 10 (other ∷ others) refl (no_line_ends (other ∷ others) k)) e in

@@ -45,11 +45,11 @@ begins_at word number line rest b lacks is = ap (begins word) (next_at number li
 abbrev pub BeginsNot : List ℕ → List ℕ → Type 0
 BeginsNot word text = (number : ℕ) → begins word (at number text) ≡ false
 
--- a step reads the bytes of each part, where what follows is as it has to be
+-- a step reads the bytes of each part, if what follows is as it has to be
 unfoldable pub GivesBytes : {A : Type 0} → (ℕ → Remaining → Result (A × Remaining) BadLine) → (ℕ → A → List ℕ) → (ℕ → A → Type 0) → (List ℕ → Type 0) → Type 0
 GivesBytes {A} step bytes P Q = (i : ℕ) (x : A) → P i x → (number : ℕ) (rest : List ℕ) → Q rest → (m : ℕ) × (step i (at number (bytes i x ++ rest)) ≡ Ok (x, at m rest))
 
--- what follows is so as well where a part stands before it
+-- what follows is so too if a part comes before it
 unfoldable pub Keeps : {A : Type 0} → (ℕ → A → List ℕ) → (ℕ → A → Type 0) → (List ℕ → Type 0) → Type 0
 Keeps {A} bytes P Q = (i : ℕ) (x : A) → P i x → (rest : List ℕ) → Q (bytes i x ++ rest)
 

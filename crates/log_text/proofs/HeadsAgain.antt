@@ -1,4 +1,4 @@
--- A text that begins with the head of a log tells how its game was played.
+-- A text that begins with the head of a log determines how its game was played.
 use Rattle.std.proofs.Common.{◌≡◌, ℕ, ◌+◌, List, [], ◌∷◌, ◌++◌, get_or, Option, Some, None, refl, sym, ap, ◌∙◌, append_assoc, arith, decimal}
 use Rattle.std.specs.Prelude.{codes, if◌then◌else◌}
 use Rattle.std.specs.Str.{bytes_eq}
@@ -185,7 +185,7 @@ regroup a b links ends missed rest = simp append_assoc
 served : (verdicts : List Verdict) (ends : List (ℕ × Cause)) (missed : ℕ) (rest : List ℕ) → first_lines (Serve verdicts ends missed) ++ rest ≡ codes "taclog 1\n" ++ (codes "serve\n" ++ links 0 verdicts (after_links ends missed rest))
 served verdicts ends missed rest = regroup (codes "taclog 1\n") (codes "serve\n") (flat_map link_line (enumerate_from 0 verdicts)) (flat_map end_line ends) (missed_line missed) rest
 
--- a script and links are told apart
+-- a script and links have different heads
 no_script : (verdicts : List Verdict) (ends : List (ℕ × Cause)) (missed : ℕ) (us vs : List ℕ) → first_lines Play ++ us ≡ first_lines (Serve verdicts ends missed) ++ vs → ⊥
 no_script verdicts ends missed us vs same =
     let first : 112 ≡ 115 = ap (λ (text : List ℕ). get_or text 9 0) (same ∙ served verdicts ends missed vs) in

@@ -1,4 +1,4 @@
--- A text that begins with the first part of a log tells its game.
+-- A text that begins with the first part of a log determines its game.
 use Rattle.std.proofs.Common.{◌≡◌, ℕ, List, [], ◌∷◌, ◌++◌, length, map, get_or, drop, refl, sym, ap, subst, ◌∙◌, append_assoc, arith, ℤ, decimal}
 use Rattle.std.specs.Prelude.{codes}
 use Rattle.std.specs.Fmt.{signed_decimal}
@@ -76,7 +76,7 @@ keywords_differ m n words others e =
     let first : 112 ≡ 114 = ap (λ (ws : List (List ℕ)). get_or (get_or ws 1 []) 0 0) e in
     omega (arith, first)
 
--- what the words of an entry tell
+-- what the words of an entry mean
 record AreSame (caller other : ℕ) (call called : CashCall) (reply answered : CashReply) : Type 0 where
   caller_same : caller ≡ other
   call_same : call ≡ called

@@ -13,7 +13,7 @@ use Rattle.log_text.specs.LogText.{auction_text, cash_text, histories_of, histor
 abbrev pub kept_text : AuctionHistory → List ℕ
 kept_text auction = auction_text auction.setup.good auction.history
 
--- so many numbers from a number
+-- this many numbers from a number
 abbrev numbers_from : ℕ → ℕ → List ℕ
 numbers_from from zero = []
 numbers_from from (suc count) = from ∷ numbers_from (from + 1) count

@@ -13,7 +13,7 @@ all_turned : {A : Type 0} (P : A → Type 0) (xs : List A) → AllByRecursion P 
 all_turned P [] all = tt
 all_turned P (x ∷ xs) all = subst (AllByRecursion P) (sym (reverse-append (x ∷ []) xs)) (all-append P (reverse xs) (x ∷ []) (all_turned P xs all.1) (all.0, tt))
 
--- all items of a list that is turned round are all of the list
+-- all items of a reversed list are all of the list
 pub all_reversed : {A : Type 0} (P : A → Type 0) (xs : List A) → AllByRecursion P (reverse xs) → AllByRecursion P xs
 all_reversed P xs all = subst (AllByRecursion P) (reverse-reverse xs) (all_turned P (reverse xs) all)
 

@@ -1,4 +1,4 @@
--- A sheet is found again in its text, whatever follows it.
+-- A sheet is determined by its text, whatever follows it.
 use Rattle.std.proofs.Common.{◌≡◌, ℕ, ◌+◌, ◌^◌, ◌<◌, ◌≤◌, List, [], ◌∷◌, ◌++◌, append_assoc, length, map, get_or, refl, sym, ap, ◌∙◌, arith, ℤ, pos, decimal}
 use Rattle.std.specs.Prelude.{codes, unsigned_abs, slice_index}
 use Rattle.std.specs.Fmt.{signed_decimal}

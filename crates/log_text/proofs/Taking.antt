@@ -74,7 +74,7 @@ abbrev pub bytes_of_parts : {A : Type 0} → (ℕ → A → List ℕ) → ℕ �
 bytes_of_parts bytes from [] = []
 bytes_of_parts bytes from (x ∷ xs) = bytes from x ++ bytes_of_parts bytes (from + 1) xs
 
--- something is so of each part and its number
+-- something holds of each part and its number
 abbrev pub AllFrom : {A : Type 0} → (ℕ → A → Type 0) → ℕ → List A → Type 0
 AllFrom P from [] = ⊤
 AllFrom P from (x ∷ xs) = P from x × AllFrom P (from + 1) xs

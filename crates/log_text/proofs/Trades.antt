@@ -1,4 +1,4 @@
--- Trades and entries of auctions are found again in their lines.
+-- Trades and entries of auctions are determined by their lines.
 use Rattle.std.proofs.Common.{◌≡◌, ℕ, ◌^◌, ◌<◌, true, false, not, eqb, List, [], ◌∷◌, ◌++◌, length, map, get_or, drop, refl, sym, ap, subst, ◌∙◌, append_assoc, arith, decimal}
 use Rattle.std.specs.Prelude.{codes}
 use Rattle.std.specs.Str.{all_ascii_digits}
@@ -85,7 +85,7 @@ trades_same g (t ∷ ts) (u ∷ us) rest more h k none none' e =
 entry_parts : (caller : ℕ) (call : Call) (reply : Reply) (rest : List ℕ) → entry_line caller call reply ++ rest ≡ decimal caller ++ 32 ∷ ((call_text call ++ 32 ∷ []) ++ 61 ∷ (32 ∷ (reply_text reply ++ 10 ∷ rest)))
 entry_parts caller call reply rest = simp append_assoc
 
--- what an entry's line tells
+-- what an entry's line means
 record AreSame (e f : Entry) (us vs : List ℕ) : Type 0 where
   caller : e.caller ≡ f.caller
   call : e.call ≡ f.call

@@ -1,4 +1,4 @@
--- Certificates are found again in their lines, whatever follows them.
+-- Certificates are determined by their lines, whatever follows them.
 use Rattle.std.proofs.Common.{◌≡◌, ℕ, zero, suc, ◌^◌, ◌<◌, ◌≤◌, ◌&&◌, true, eqb, leb, ltb, List, [], ◌∷◌, ◌++◌, append_assoc, length, map, drop, get_or, refl, sym, ap, ◌∙◌, arith, ℤ, pos}
 use Rattle.std.specs.Prelude.{codes, unsigned_abs}
 use Rattle.std.specs.Fmt.{signed_decimal}
@@ -32,7 +32,7 @@ text_cons line lines rest = pieces_cons ended line lines rest
 pub text_both : (xs ys : List (List ℕ)) (rest : List ℕ) → text_of (xs ++ ys) ++ rest ≡ text_of xs ++ (text_of ys ++ rest)
 text_both xs ys rest = ap (λ (text : List ℕ). text ++ rest) (flat_map-append ended xs ys) ∙ append_assoc (text_of xs) (text_of ys) rest
 
--- a line of a keyword and numbers has these numbers alone
+-- a line of a keyword and numbers has exactly these numbers
 pub numbers_same : (keyword : List ℕ) (ms ns : List ℤ) (us vs : List ℕ) → IsWord keyword → AllByRecursion IsSigned ms → AllByRecursion IsSigned ns →
     ended (row_text keyword ms) ++ us ≡ ended (row_text keyword ns) ++ vs → (ms ≡ ns) × (us ≡ vs)
 numbers_same keyword ms ns us vs word h k e =
@@ -64,7 +64,7 @@ prices_signed (price ∷ prices) h =
 prices_are : (prices : List ℕ) → are_prices prices ≡ true → AllByRecursion IsSigned (map pos prices)
 prices_are prices h = prices_signed prices (both_true (eqb (length prices) 28) (list_all (λ p. leb p 14001) prices) h).1
 
--- what a split of a certificate keeps
+-- what holds of a split of a certificate
 record IsSplit (depth client feature : ℕ) (children : Trees) : Type 0 where
   client_signed : IsSigned (pos client)
   feature_signed : IsSigned (pos feature)

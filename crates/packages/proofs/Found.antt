@@ -1,4 +1,4 @@
--- Every package stands in the list.
+-- Every package is in the list.
 use Rattle.std.proofs.Common.{◌≡◌, ℕ, ◌<◌, ◌&&◌, Bool, true, false, List, [], ◌∷◌, Contains, zero, suc, length, get_or, eqb, bytes_eq, IfSome, IsSome, IsTrue, is_some, inl, inr, not, Some, None as Nothing, Option, refl, sym, ap, subst, ◌∙◌, arith}
 use Rattle.std.proofs.lemmas.List.FromFn.{length-range_with_len, get_or-range_with_len}
 use Rattle.std.proofs.lemmas.List.Elements.{All-contains}
@@ -41,7 +41,7 @@ same_is (Trip hotel arrive depart nights) (Trip hotel' arrive' depart' nights') 
     let depart_is : depart ≡ depart' = grind (arith, nat_tests, parts.0) in
     cc
 
--- where it is a package, it stands in the list
+-- if it is a package, it is in the list
 unfoldable found : Package → Bool
 found p = list_all (λ q. list_any (same q) packages) (filter is_package (p ∷ []))
 
@@ -109,7 +109,7 @@ trip_found hotel arrive depart nights is =
     let at_z = at_each (λ z. found (Trip hotel arrive depart (x ∷ y ∷ z ∷ []))) 5 z at_y (night_ranges arrive depart nights 2 is.depart_in is.stays) in
     ap (λ nights. found (Trip hotel arrive depart nights)) (three_of nights is.three) ∙ at_z
 
--- a package stands in the list
+-- a package is in the list
 pub package_found : (p : Package) → is_package p ≡ true → Contains packages p
 package_found None h = (0, omega (arith, length-packages), get_or_from_slice_get packages 0 None None package_none)
 package_found (Trip hotel arrive depart nights) h = found_at (Trip hotel arrive depart nights) h (trip_found hotel arrive depart nights (ranges_of hotel arrive depart nights h))

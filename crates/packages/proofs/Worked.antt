@@ -42,7 +42,7 @@ good_prices : leaf_bound one_seat (λ client p. true) (1000 ∷ replicate 3 1750
 unfolding fan one_seat packages sum_below
 good_prices = refl
 
--- where nothing has a price, each client takes what it likes best
+-- if nothing has a price, each client takes what it likes best
 no_prices : leaf_bound one_seat (λ client p. true) (replicate 28 0) ≡ Some (pos 8650)
 unfolding fan one_seat packages sum_below
 no_prices = refl

@@ -1,4 +1,4 @@
--- A text is refused at its first bad line, where a reader goes from line to line and reads just the texts of a kind.
+-- A text is refused at its first bad line, if a reader goes from line to line and reads exactly the texts of a kind.
 use Rattle.std.proofs.Common.{◌≡◌, ℕ, suc, ◌+◌, ◌-◌, ◌<◌, ◌≤◌, ◌&&◌, inl, inr, Bool, true, false, ltb, List, [], ◌∷◌, ◌++◌, Result, Ok, Err, length, map, take, refl, sym, ap, subst, ◌∙◌, arith, append_assoc, length-append}
 use Rattle.std.proofs.Math.Seq.{take-length}
 use Rattle.std.proofs.lemmas.Bool.Decides.{nat_tests}
@@ -15,13 +15,13 @@ use Rattle.reading_laws.proofs.Spots.{AllLack, Front, with_end, parts_lack, fron
 abbrev pub left_of : Bool → List ℕ → Remaining
 left_of skips text = lines_from skips 1 (parts_of 10 text)
 
--- where no reader refuses within what some lines begin with, this one doesn't
+-- if no reader refuses within what some lines begin with, this one doesn't
 pub nothing_within : {E : Type 0} (IsAt : E → ℕ → Type 0) (is_calm : List ℕ → Bool) (left : Remaining) (front : List NumberedLine) (fault : E) → Within IsAt is_calm Never front left fault → ⊥
 nothing_within IsAt is_calm left front fault w = w.refused
 
 module _ {X E : Type 0} (IsAt : E → ℕ → Type 0) (is_calm : List ℕ → Bool) (In : Remaining → E → Type 0) (skips : Bool) (read : Reader X E) (IsText : List ℕ → Type 0)
     (found : (text : List ℕ) (value : X) → read (left_of skips text) ≡ Ok value → IsText text) (only : (text : List ℕ) → IsText text → (value : X) × (read (left_of skips text) ≡ Ok value)) where
-  -- where so many lines before a place would have been read with others after them, they begin a text of the kind
+  -- if this many lines before a place would have been read with others after them, they begin a text of the kind
   begins : (text : List ℕ) (prior parts : List (List ℕ)) (front : List NumberedLine) (more : List (List ℕ)) → parts_of 10 text ≡ prior ++ parts → HasPart parts → Front skips 1 prior front → Ends IsAt is_calm In read front more
       → Begins IsText text (length prior)
   begins text prior parts front more are h f e =
@@ -54,7 +54,7 @@ module _ {X E : Type 0} (IsAt : E → ℕ → Type 0) (is_calm : List ℕ → Bo
   before_next : (text : List ℕ) (count : ℕ) → Begins IsText text count → Begins IsText text (suc count - 1)
   before_next text count h = let same : suc count - 1 ≡ count = omega arith in subst (Begins IsText text) (sym same) h
 
-  -- a text that goes with another so far has the same parts up to a line
+  -- a text that agrees with another so far has the same parts up to a line
   taken_to : (text other : List ℕ) (prior : List (List ℕ)) (bytes next : List ℕ) (after : List (List ℕ)) → parts_of 10 text ≡ prior ++ bytes ∷ next ∷ after → take (suc (length prior)) (lines_of other) ≡ take (suc (length prior)) (lines_of text)
       → take (length (prior ++ bytes ∷ [])) (lines_of other) ≡ map with_end (prior ++ bytes ∷ [])
   taken_to text other prior bytes next after are same =
@@ -94,7 +94,7 @@ module _ {X E : Type 0} (IsAt : E → ℕ → Type 0) (is_calm : List ℕ → Bo
         };
       }
 
-  -- a text that goes with another to its end is that text
+  -- a text that agrees with another to its end is that text
   whole_to : (text other : List ℕ) (prior : List (List ℕ)) (rest : List ℕ) → parts_of 10 text ≡ prior ++ rest ∷ [] → take (suc (length prior)) (lines_of other) ≡ take (suc (length prior)) (lines_of text) → parts_of 10 other ≡ parts_of 10 text
   whole_to text other prior rest are same = same_end prior rest (parts_of 10 other) (last_lacks prior rest (subst AllLack are (parts_lack text))) (has_part 10 other) taken ∙ sym are where
     whole : lines_of text ≡ map with_end prior ++ rest ∷ []
@@ -141,7 +141,7 @@ module _ {X E : Type 0} (IsAt : E → ℕ → Type 0) (is_calm : List ℕ → Bo
           ]
         ]
 
-    -- a text that goes with one of the kind so far does so before
+    -- a text that agrees with one of the kind so far does so before
     begins_less : (text : List ℕ) (fewer count : ℕ) → fewer ≤ count → Begins IsText text count → Begins IsText text fewer
     begins_less text fewer count le b = (b.0, b.1, agree_before fewer count (lines_of b.0) (lines_of text) le b.2)
 

@@ -1,4 +1,4 @@
--- Readers that go from line to line: what they were given so far decides where they refuse, and wherever they refuse some lines would have been read.
+-- Readers that go from line to line: the lines so far decide where they refuse, and wherever they refuse some lines would have been read.
 use Rattle.std.proofs.Common.{◌≡◌, ℕ, ◌⊎◌, inl, inr, true, false, Bool, List, [], ◌∷◌, ◌++◌, Result, Ok, Err, map, refl, sym, ap, subst, ◌∙◌, append_assoc, append-nil}
 use Rattle.std.specs.List.{AllByRecursion}
 use Rattle.tac_base.proofs.Signed.{Lacks}

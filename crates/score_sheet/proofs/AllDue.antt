@@ -1,4 +1,4 @@
--- What is found for the eight agents is a sheet.
+-- The scores computed for the eight agents are a sheet.
 use Rattle.std.proofs.Common.{◌≡◌, ℕ, ◌<◌, List, length, map, get_or, sym, ap, ◌∙◌, subst, arith, Result, Ok, Some}
 use Rattle.std.specs.Prelude.{slice_get, IfOk}
 use Rattle.std.proofs.lemmas.List.{length-map, get_or-map}

@@ -76,7 +76,7 @@ made_called pasts good caller e inside =
     let more = entries_more e (past_at pasts good) caller in
     omega (arith, swapped, more)
 
--- what a caller made, where it has at most so many entries of each good
+-- what a caller made, if it has at most this many entries of each good
 pub made_most : (pasts : List (List Entry)) (caller most : ℕ) → ((good : ℕ) → entries_of (past_at pasts good) caller ≤ most) → made pasts caller ≤ length pasts * most
 made_most [] caller most few = omega arith
 made_most (past ∷ pasts) caller most few =

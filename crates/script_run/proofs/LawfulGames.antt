@@ -1,4 +1,4 @@
--- A game that one thread plays to its end is lawful.
+-- A game that one thread plays to its end is legal.
 use Rattle.std.proofs.Common.{◌≡◌, ℕ, ◌+◌, ◌<◌, ◌≤◌, List, [], ◌∷◌, length, map, reverse, get_or, refl, sym, ap, ◌∙◌, subst, arith}
 use Rattle.std.specs.Prelude.{Ok}
 use Rattle.std.specs.List.{All, AllByRecursion, enumerate_from, range_with_len}

@@ -1,4 +1,4 @@
--- Each step of a game that one thread plays keeps its histories lawful.
+-- Each step of a game that one thread plays keeps its histories legal.
 use Rattle.std.proofs.Common.{◌≡◌, ℕ, zero, suc, ◌+◌, ◌-◌, ◌<◌, ◌≤◌, Bool, true, false, cond, List, [], ◌∷◌, ◌++◌, length, get_or, refl, sym, ap, ◌∙◌, subst, arith, length-set}
 use Rattle.std.specs.Prelude.{◌==◌, nat_le, replicate, sum_by, None, Some, Result, Ok, Err}
 use Rattle.std.specs.List.{All, AllByRecursion}
@@ -52,7 +52,7 @@ pub record IsLawfulState (game : GameFile) (state : GameState) : Type 0 where
   pub cash : IsLegalCash state.cash
   pub matched : (w : CashEntry → ℕ) → sum_by w (posts_of state.cash) ≡ owed w 0 state.pasts
 
--- what is so of all pasts stays so where it is so of the one with an entry more
+-- what holds of all pasts stays so if it holds of the one with an entry more
 each_past : (P : ℕ → List Entry → Type 0) (pasts : List (List Entry)) (good : ℕ) (e : Entry) → good < length pasts → P good (e ∷ past_at pasts good) →
     ((other : ℕ) → P other (past_at pasts other)) → (other : ℕ) → P other (past_at (with_entry pasts good e) other)
 each_past P pasts good e inside here all other = dite (ℕ_discrete good other)

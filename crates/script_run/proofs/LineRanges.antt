@@ -22,7 +22,7 @@ use Rattle.script_run.specs.LawfulGames.{IsAsked, IsLine}
 abbrev read : GameLine → Result GameLine ScriptReason
 read line = Ok line
 
--- a line that was read is in range where the one that was made is
+-- a line that was read is in range if the one that was made is
 same_line : (made line : GameLine) → read made ≡ read line → IsLine made → IsLine line
 same_line made line e is = let same : made ≡ line = cc in subst IsLine same is
 

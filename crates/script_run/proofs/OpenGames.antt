@@ -65,7 +65,7 @@ pub position_is : (auctions : List AuctionHistory) (good : ℕ) (a : AuctionHist
     length a.history ≡ length (past_at (pasts_of auctions) good)
 position_is auctions good a inside here = sym (length-reverse a.history) ∙ ap length (sym (one_past auctions good a inside here))
 
--- the setups stay where one auction goes on
+-- the setups stay the same when one auction changes
 pub same_setups : (auctions : List AuctionHistory) (good : ℕ) (a b : AuctionHistory) → a ≡ get_or auctions good a → b.setup ≡ a.setup →
     setups_of (set auctions good b) ≡ setups_of auctions
 same_setups auctions good a b here same = map-set_same (λ (x : AuctionHistory). x.setup) auctions good b a (same ∙ ap (λ (x : AuctionHistory). x.setup) here)
@@ -104,7 +104,7 @@ room_there auctions good a caller most is room =
     ap (λ (h : List Entry). entries_of h caller) (one_past auctions good a is.inside is.here) in
     omega (arith, room, past, length-part a.history caller, entries_of-reverse a.history caller)
 
--- what a closed game is seen as, from the auctions that it keeps
+-- a closed game as contracts see it, from the auctions that it keeps
 pub closed_from : (game : GameFile) (n : ℕ) (auctions : List AuctionHistory) → setups_of auctions ≡ map (λ (good : ℕ). setup_of good game) (range_with_len n (length auctions)) →
     map (auction_with game) (enumerate_from n (pasts_of auctions)) ≡ auctions
 closed_from game n [] is = refl

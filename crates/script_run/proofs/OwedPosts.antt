@@ -106,6 +106,6 @@ posts_more w cash good position e =
 pub posts_read : (w : CashEntry → ℕ) (cash : List CashEntry) (agent : ℕ) → sum_by w (posts_of (cash ++ reading_of cash agent ∷ [])) ≡ sum_by w (posts_of cash)
 posts_read w cash agent = ap (sum_by w) (filter-append (λ (x : CashEntry). is_post x.call) cash (reading_of cash agent ∷ []) ∙ append-nil (posts_of cash))
 
--- the posts are those that are due where they weigh the same
+-- the posts are those that are due if they have the same weight
 pub matched_is : (pasts : List (List Entry)) (cash : List CashEntry) → ((w : CashEntry → ℕ) → sum_by w (posts_of cash) ≡ owed w 0 pasts) → Matched (map reverse pasts) cash
 matched_is pasts cash same w = same w ∙ sym (owed_from w 0 pasts)

@@ -38,7 +38,7 @@ length-script_past (line ∷ lines) = ap suc (length-script_past lines)
 
 -- ---- the auction of some lines
 
--- a line that is no line too many leaves its caller a call
+-- a line within the limits leaves its caller a call
 pub has_room : (lines : List HotelLine) (read : Result HotelLine ScriptReason) (line : HotelLine) → judged lines read ≡ Ok line → lines_of lines (asked line).0 < cap (asked line).0
 has_room lines (Err reason) line good = absurd cc
 has_room lines (Ok first) line good = by_tests (nat_le 8256 (length lines)) (nat_le (cap (asked first).0) (lines_of lines (asked first).0)) refl good

@@ -72,7 +72,7 @@ both_le : (a b : Bool) → one_if (a && b) ≤ one_if a
 both_le true b = one_if_le b
 both_le false b = omega arith
 
--- a count that goes up by one at one place, where there was room
+-- a count that rises by one at one place, if there was room
 still_few : (agent good other place old new : ℕ) → new ≡ old + one_if ((agent == other) && (good == place)) → old ≤ 1024 → (agent ≡ other → good ≡ place → old < 1024) → new ≤ 1024
 still_few agent good other place old new is few room = dite (ℕ_discrete agent other)
     (λ a. dite (ℕ_discrete good place)
@@ -120,7 +120,7 @@ counted_call game state counts counts' read agent good call is low there few mor
       clock_all = let same = made_after game state agent good clock call inside in let old = is.clock_all in omega arith;
     }
 
--- what an agent with calls left is told
+-- the answer to an agent with calls left
 pub told_call : (game : GameFile) (state state' : GameState) (agent good caller position : ℕ) (call : Call) (reply : Reply) → entries_of (past_at state.pasts good) agent < 1024 →
     caller ≡ agent → position ≡ length (past_at state.pasts good) → reply ≡ (entry_at game state.pasts caller good call).reply → state' ≡ called game caller good call state →
     ◌≡◌ {A = Said × GameState} (At position reply, state') (call_turn game agent good call state)
@@ -256,7 +256,7 @@ drop_past [] n is = drop_nil (n + 1)
 drop_past (y ∷ xs) zero is = absurd cc
 drop_past {A = A} (y ∷ xs) (suc n) is = ap (λ (k : ℕ). drop {A = A} k (y ∷ xs)) (add-one (suc n)) ∙ (ap (λ (k : ℕ). drop {A = A} k xs) (sym (add-one n)) ∙ drop_past xs n is)
 
--- where the schedule gives no call, none is left
+-- if the schedule gives no call, none is left
 pub none_left : (game told : GameFile) (tick n : ℕ) (got : Option (ℕ × Call)) → told ≡ game → got ≡ slice_get (schedule.calls_at told tick) n → got ≡ None →
     drop n (schedule.calls_at game tick) ≡ drop (n + 1) (schedule.calls_at game tick)
 none_left game told tick n got is asked none =
@@ -310,7 +310,7 @@ clock_step game told state counts read tick n good call is counted due_all whole
 abbrev pub begun_tick : GameState → ℕ → GameState
 begun_tick state tick = record { pasts = state.pasts; cash = state.cash; ticks = tick }
 
--- what is so while the clock makes the calls of a tick
+-- the invariant while the clock makes the calls of a tick
 pub record IsTicking (game : GameFile) (first : GameState) (tick n : ℕ) (seen : SeenGame) : Type 0 where
   pub is : seen.game ≡ game
   pub ticks : tick ≡ seen.state.ticks

@@ -1,4 +1,4 @@
--- `==` of two points says whether they are one.
+-- `==` of two points says whether they are equal.
 use Rattle.std.proofs.Common.{◌≡◌, arith}
 use Rattle.std.specs.Bool.{Decides}
 use Rattle.std.proofs.lemmas.Bool.Decides.{Decides-int_eq, Decides-eqb}

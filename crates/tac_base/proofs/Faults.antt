@@ -94,7 +94,7 @@ pub bid_sizes : (points : List Point) → fault_of points ≡ None → All (λ (
 bid_sizes [] h = cc
 bid_sizes (point ∷ points) h = All-from_recursion _ (point ∷ points) (full_points 0 0 (point ∷ points) h)
 
--- the first of two faults stays where the second changes
+-- the first of two faults stays if the second changes
 either_stays : (first rest other : Option BidFault) (fault : BidFault) → option_or first rest ≡ Some fault → (rest ≡ Some fault → other ≡ Some fault) → option_or first other ≡ Some fault
 either_stays None rest other fault h more = more h
 either_stays (Some found) rest other fault h more = h

@@ -1,4 +1,4 @@
--- What a word that is a numeral is, and what a number is printed as.
+-- The numerals among words, and the text of a number.
 use Rattle.std.proofs.Common.{◌≡◌, ℕ, zero, suc, ◌+◌, ◌-◌, ◌*◌, ◌^◌, ◌<◌, ◌≤◌, Bool, true, false, cond, not, ◌&&◌, eqb, ltb, leb, List, [], ◌∷◌, Option, Some, None, length, get_or, drop, add-one, refl, sym, ap, subst, ◌∙◌, arith, rules, ℤ, pos, decimal, inl, inr}
 use Rattle.std.proofs.lemmas.Bool.Decides.{nat_tests}
 use Rattle.std.proofs.lemmas.Option.{cond_some}
@@ -118,7 +118,7 @@ numeral_again digits n lt few =
 
 -- ---- a numeral of few digits has a small number
 
--- a numeral of at most so many digits has a number of so many
+-- a numeral of at most this many digits has a number of this many
 pub numeral_limit : (digits limit : ℕ) (word : List ℕ) (n : ℕ) → digits ≤ limit → numeral digits word ≡ Some n → n < 10 ^ limit
 unfolding numeral
 numeral_limit digits limit word n few h =

@@ -1,4 +1,4 @@
--- The code of an outcome that was told.
+-- The code of an outcome.
 use Rattle.std.proofs.Common.{◌≡◌, ℕ, Bool, true, false, refl, sym, ◌∙◌, inl, inr}
 use Rattle.std.specs.Prelude.{◌==◌, ◌⊎◌, MatchBool}
 use Rattle.std.proofs.lemmas.Bool.{eqb-true}
@@ -7,7 +7,7 @@ use Rattle.tac_io.specs.States.{SinkState}
 use Rattle.tac_commands.specs.Outcomes.{Outcome, code_of}
 use Rattle.tac_commands.specs.Telling.{Tells}
 
--- it is 4 where the count of the sink rose, or the outcome's
+-- it is 4 if the count of the sink rose, or the outcome's
 abbrev pub IsCoded : SinkState → SinkState → ℕ → Outcome → Type 0
 IsCoded sink sink' code outcome = ((code ≡ 4) × Rose sink.faults sink'.faults) ⊎ (code ≡ code_of outcome)
 
@@ -20,12 +20,12 @@ pub coded : (outcome : Outcome) (sink sink' : SinkState) (code : ℕ) → Tells 
 coded outcome sink sink' code told = coded_by (code == 4) sink sink' code outcome _ _ refl told
 
 module _ (sink sink' : SinkState) (code : ℕ) (outcome : Outcome) where
-  -- where the outcome has the code from its cause alone, the code told does too
+  -- if the outcome has the code only from its cause, so has the program
   pub told_only : (due : ℕ) (Cause : Type 0) → (due ≡ 4 → ⊥) → (code_of outcome ≡ due → Cause) → IsCoded sink sink' code outcome → code ≡ due → Cause
   told_only due Cause not_four cause (inl four) is = absurd (not_four (sym is ∙ four.0))
   told_only due Cause not_four cause (inr same) is = cause (sym same ∙ is)
 
-  -- where the outcome always has the code, or that of memory, it is told, or a write failed
+  -- if the outcome always has the code, or that of memory, the program ends with it, or a write failed
   pub told_always : (due : ℕ) → (code_of outcome ≡ due) ⊎ (code_of outcome ≡ 7) → IsCoded sink sink' code outcome → (code ≡ due) ⊎ (code ≡ 4) ⊎ (code ≡ 7)
   told_always due either (inl four) = inr (inl four.0)
   told_always due (inl is_due) (inr same) = inl (same ∙ is_due)

@@ -49,7 +49,7 @@ module _ (files files' : FilesState) (outcome : Outcome) where
   unsound_due None allowed unsound quiet = absurd unsound
   unsound_due (Some command) allowed unsound quiet = causes.unsound_due files' outcome (steps_of command) files quiet unsound allowed
 
-  -- where the files are good that are read, the code is one of these, and 9 only of a log that is not sound
+  -- if the files that are read are good, the code is one of these, and 9 only if a log is not sound
   abbrev IsReadyCode : Option Command → ℕ → Type 0
   IsReadyCode command code = (code ≡ 0) ⊎ (code ≡ 5) ⊎ (code ≡ 6) ⊎ (code ≡ 7) ⊎ ((code ≡ 9) × HasUnsoundLog files.content command)
 

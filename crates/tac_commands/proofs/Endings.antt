@@ -30,7 +30,7 @@ tells allows sink sink' sink'' (ends.Refused refusal) code ended finished =
 
 -- ---- a command whose text may be cut off
 
--- the first part stands, and then the line that tells want of memory was written, or not all of it
+-- the first part was written, and then the line for refused memory, or not all of it
 cut_by : (b : Bool) (text : List ℕ) (sink sink' sink'' : SinkState) (code : ℕ) → TookWhole sink sink' text →
     MatchBool b (TookPart sink' sink'' (refusal_end Memory).1) ((code ≡ 7) × TookWhole sink' sink'' (refusal_end Memory).1) →
     MatchBool b (TookPart sink sink'' (text ++ (refusal_end Memory).1)) ((code ≡ 7) × TookWhole sink sink'' (text ++ (refusal_end Memory).1))
@@ -51,7 +51,7 @@ pub tells_or_cut : (allows : Outcome → Type 0) (sink sink' sink'' : SinkState)
 tells_or_cut allows sink sink' sink'' end code (inl ended) finished = tells allows sink sink' sink'' end code ended finished
 tells_or_cut allows sink sink' sink'' end code (inr cut) finished = (Cut cut.0, cut.1, tells_cut cut.0 sink sink' sink'' end code cut.2 finished)
 
--- a command that allows some outcomes allows them also where more are allowed
+-- a command that allows some outcomes allows them also if more are allowed
 ends_weaker : (P Q : Outcome → Type 0) (sink sink' : SinkState) (end : End) → ((outcome : Outcome) → P outcome → Q outcome) → Ends P sink sink' end → Ends Q sink sink' end
 ends_weaker P Q sink sink' ends.Done more ended = (ended.0, more (Done ended.0) ended.1, ended.2)
 ends_weaker P Q sink sink' ends.Unsound more ended = (ended.0, more (Unsound ended.0) ended.1, ended.2)

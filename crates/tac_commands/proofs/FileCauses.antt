@@ -143,30 +143,30 @@ module _ (files' : FilesState) (outcome : Outcome) where
   audit_refuses_none code game log refusing is (inl unsound) = let nine = unsound.0 in grind (arith, refusing, is, nine)
   audit_refuses_none code game log refusing is (inr seven) = grind (arith, refusing, is, seven)
 
-  -- a later file is refused where one was read
+  -- a later file is refused if this one was read
   later_refused : (told : Content) (code : ℕ) (file : NamedFile) (next : Value file.kind → Steps) (value : Value file.kind) → IsRead told file.kind file.name value →
       IfSome told (λ _. HasRefused told code (next value)) → IfSome told (λ _. HasRefused told code (Reads file next))
   later_refused None code file next value is refused = tt
   later_refused (Some given) code file next value is refused = inr (value, good given file value is, refused)
 
-  -- the same behind a log that is sound
+  -- the same after a log that is sound
   behind_sound : (told : Content) (P Q : Type 0) → (P → Q) → IfSome told (λ _. P) → IfSome told (λ _. Q)
   behind_sound None P Q f p = tt
   behind_sound (Some given) P Q f p = f p
 
-  -- it always comes there, or that of memory
+  -- it always comes then, or that of memory
   due_at : (files : FilesState) (code : ℕ) (file : NamedFile) → refused_code file.kind ≡ code → IsQuiet files.faults files'.faults → StopsSo files files' file.kind file.name (code_of outcome) → (code_of outcome ≡ code) ⊎ (code_of outcome ≡ 7)
   due_at files code file is quiet (inl fault) = absurd (quiet_did_not_rise files.faults files'.faults quiet fault.1)
   due_at files code file is quiet (inr (inl memory)) = inr memory.0
   due_at files code file is quiet (inr (inr refused)) = inl (refused.0 ∙ is)
 
-  -- a file that is good is not refused, but there may be no memory for it
+  -- a file that is good is not refused, but memory may be refused for it
   good_at : (files : FilesState) (file : NamedFile) (value : Value file.kind) → Holds files.content file value → IsQuiet files.faults files'.faults → StopsSo files files' file.kind file.name (code_of outcome) → code_of outcome ≡ 7
   good_at files file value good quiet (inl fault) = absurd (quiet_did_not_rise files.faults files'.faults quiet fault.1)
   good_at files file value good quiet (inr (inl memory)) = memory.0
   good_at files file value good quiet (inr (inr refused)) = absurd (good_no_fault files.content file value refused.1.0 good refused.1.1)
 
-  -- a log that is sound stops no run, but there may be no memory for the audit
+  -- a log that is sound stops no run, but memory may be refused for the audit
   sound_at : (game : GameFile) (log : LoggedGame) → IsSound game log → StoppedSo game log (code_of outcome) → code_of outcome ≡ 7
   sound_at game log sound (inl unsound) = absurd (unsound.1 sound)
   sound_at game log sound (inr seven) = seven
@@ -235,7 +235,7 @@ module _ (files' : FilesState) (outcome : Outcome) where
     own_refuses_none code (inl two) own is = (last (code_of outcome) own).no_game (is ∙ two)
     own_refuses_none code (inr eight) own is = (last (code_of outcome) own).no_text (is ∙ eight)
 
-    -- the code of a refused file comes only where a file is refused that is read
+    -- the code of a refused file comes only if a file that is read is refused
     pub refused_only : (code : ℕ) → IsRefusing code → (steps : Steps) → EndsWithin Own steps → (files : FilesState) → Runs steps files files' outcome → code_of outcome ≡ code →
         IfSome files.content (λ _. HasRefused files.content code steps)
     refused_only code refusing (Reads file next) own files (inl read) is =
@@ -247,7 +247,7 @@ module _ (files' : FilesState) (outcome : Outcome) where
     refused_only code refusing (Audits game log IsDue next) own files (inr stop) is = absurd (audit_refuses_none code game log refusing is (audit_stopped game log IsDue outcome stop.0))
     refused_only code refusing (EndsWith allows) own files run is = absurd (own_refuses_none code refusing (own outcome run.0) is)
 
-    -- that of a log that is not sound only where such a log is audited
+    -- that of an unsound log only if such a log is audited
     pub unsound_only : (steps : Steps) → EndsWithin Own steps → (files : FilesState) → Runs steps files files' outcome → code_of outcome ≡ 9 →
         IfSome files.content (λ _. HasUnsound files.content steps)
     unsound_only (Reads file next) own files (inl read) is =
@@ -259,7 +259,7 @@ module _ (files' : FilesState) (outcome : Outcome) where
         here_unsound files.content game log IsDue next (unsound_here game log is (audit_stopped game log IsDue outcome stop.0))
     unsound_only (EndsWith allows) own files run is = absurd ((last (code_of outcome) (own outcome run.0)).no_unsound is)
 
-    -- where all files are good that are read, the code is one of the last step, or that of memory, or a log is not sound
+    -- if all files that are read are good, the code is one of the last step, or that of memory, or a log is not sound
     abbrev IsReadyEnd : Content → Steps → Type 0
     IsReadyEnd content steps = Own (code_of outcome) ⊎ (code_of outcome ≡ 7) ⊎ ((code_of outcome ≡ 9) × HasUnsound content steps)
 

@@ -1,4 +1,4 @@
--- What is in the ranges of logs is what the law of logs speaks of.
+-- Games in the ranges of logs meet the premises of the law of logs.
 use Rattle.std.proofs.Common.{◌≡◌, ℕ, ◌+◌, ◌≤◌, List, [], ◌∷◌, length, map, refl, ap, ◌∙◌, arith, ℤ, unsigned_abs}
 use Rattle.std.specs.List.{AllByRecursion, enumerate_from, range_with_len}
 use Rattle.std.proofs.lemmas.Int.{ints}

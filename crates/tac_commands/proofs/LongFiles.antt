@@ -1,4 +1,4 @@
--- What a file that is too long is read as, and what a script or a log is that is not.
+-- How a file that is too long is read, and a script or a log that is not.
 use Rattle.std.proofs.Common.{◌≡◌, ℕ, suc, ◌<◌, ◌≤◌, List, length, true, false, ap, ◌∙◌, arith}
 use Rattle.std.specs.Prelude.{nat_lt, replicate, Result, Ok, Err, Some, None}
 use Rattle.std.proofs.lemmas.Bool.Decides.{nat_tests}

@@ -16,7 +16,7 @@ EndsWithin Own (Reads file next) = (value : Value file.kind) → EndsWithin Own 
 EndsWithin Own (Audits game log IsDue next) = EndsWithin Own next
 EndsWithin Own (EndsWith allows) = (outcome : Outcome) → allows outcome → Own (code_of outcome)
 
--- of a text that is written
+-- for a text that is written
 abbrev pub IsWritten : ℕ → Type 0
 IsWritten code = (code ≡ 0) ⊎ (code ≡ 7)
 
@@ -35,7 +35,7 @@ table_code : (pairs : List (List ℕ × List ℕ)) (played : List (GameFile × L
 table_code [] played = λ outcome allowed. writes _ outcome allowed
 table_code (pair ∷ pairs) played = λ game log. table_code pairs (played ++ (game, log) ∷ [])
 
--- of a command that needs no links
+-- for a command that needs no links
 batch_code : (command : BatchCommand) → EndsWithin IsWritten (batch_steps command)
 batch_code (Hotel script) = λ lines outcome allowed. writes _ outcome allowed
 batch_code (Show name) = λ game outcome allowed. writes _ outcome allowed
@@ -48,7 +48,7 @@ batch_code (Trial seed count) = λ outcome allowed. writes _ outcome allowed
 batch_code (Audit name log_name) = λ game log outcome allowed. writes _ outcome allowed
 batch_code (Table pairs) = table_code pairs []
 
--- of any command
+-- for any command
 abbrev pub OwnCode : Command → ℕ → Type 0
 OwnCode (Batch command) code = IsWritten code
 OwnCode (Serve asked) code = (code ≡ 0) ⊎ (code ≡ 5) ⊎ (code ≡ 6) ⊎ (code ≡ 7)

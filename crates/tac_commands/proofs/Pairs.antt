@@ -12,7 +12,7 @@ pairs_within [] = omega arith
 pairs_within (word ∷ []) = omega arith
 pairs_within (game ∷ log ∷ words) = let rest = pairs_within words in omega (arith, rest)
 
--- the pair at an index is that of the words at twice the index and behind that
+-- the pair at an index is that of the words at twice the index and after that
 at_twice : {A : Type 0} (f : A → List ℕ) (words : List A) (i k : ℕ) (game log : A) → k ≡ 2 * i → slice_get words k ≡ Some game → slice_get words (suc k) ≡ Some log →
     drop i (paired (map f words)) ≡ (f game, f log) ∷ drop (suc i) (paired (map f words))
 at_twice f [] i k game log twice is_game is_log = absurd (cc)
@@ -42,7 +42,7 @@ named_at f words i first second game log inside is_first is_second game_is log_i
     let is_log : slice_get words (2 * i + 1) ≡ Some second = slice_get_read words (length words) (2 * i + 1) second refl inside is_second in
     subst (λ (x : List ℕ). left ≡ (x, log) ∷ later) (sym game_is) (subst (λ (y : List ℕ). left ≡ (f first, y) ∷ later) (sym log_is) (pair_at f words i first second is_game is_log))
 
--- behind half of the words no pair is left
+-- after half of the words no pair is left
 pub none_left : {A : Type 0} (f : A → List ℕ) (words : List A) (half : ℕ) → length words ≤ 2 * half + 1 → drop half (paired (map f words)) ≡ []
 none_left f words half within =
     let few = pairs_within (map f words) in

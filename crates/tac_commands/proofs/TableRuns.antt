@@ -106,7 +106,7 @@ module _ {A : Type 0} (f : A → List ℕ) (words : List A) (i : ℕ) (first sec
 pub none_yet : (all : List (List ℕ × List ℕ)) (files : FilesState) (standings : Kept) → StandsFor standings [] → GoesOn all all 0 files files standings
 none_yet all files standings stands = record { played = []; count_is = refl; stands = stands; goes_on = λ last outcome run. run }
 
--- behind the last pair
+-- after the last pair
 pub all_done : {A : Type 0} (f : A → List ℕ) (words : List A) (i half : ℕ) (files files' : FilesState) (standings : Kept) → i ≡ half → length words ≤ 2 * half + 1 →
     GoesOn (paired (map f words)) (drop i (paired (map f words))) i files files' standings → GoesOn (paired (map f words)) [] half files files' standings
 all_done f words i half files files' standings is within goes_on =

@@ -1,4 +1,4 @@
--- A name has one file, and reading it one answer.
+-- A name has at most one file, and reading it one answer.
 use Rattle.std.proofs.Common.{◌≡◌, List, ℕ, Option, Some}
 use Rattle.std.specs.Prelude.{Result, Ok, Err}
 

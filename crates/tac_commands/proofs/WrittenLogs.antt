@@ -1,4 +1,4 @@
--- What is read again of a log that was written, and what is found in it.
+-- Reading a written log again, and auditing it.
 use Rattle.std.proofs.Common.{◌≡◌, ℕ, ◌≤◌, List, ◌++◌, length, refl, sym, ap, ◌∙◌, subst, inl, inr, append_assoc}
 use Rattle.std.specs.Prelude.{◌⊎◌, codes, Ok}
 use Rattle.std.proofs.lemmas.List.{append_cancel_left}

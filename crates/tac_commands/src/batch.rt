@@ -102,8 +102,8 @@ fn solve_file<F: Files, K: Sink>(alloc: Global, name: &str, files: &mut F, out: 
     }
 }
 
-/// Runs a command that needs no links. It selects its files in order, up to one that is not read or to a log that is not sound; no name was selected before,
-/// each name has at most 1024 bytes, and the counts of a trial and of a table are within their limits. A refusal is left for `finish` to write.
+/// Runs a command that needs no links. It selects its files in order, up to one that is not read or a log that is not sound. No name was
+/// selected before, each has at most 1024 bytes, and the counts of a trial and a table are within their limits. `finish` writes a refusal.
 pub(crate) fn run_batch<R: Threads + Sync, F: Files, K: Sink>(
     rt: &R,
     alloc: Global,

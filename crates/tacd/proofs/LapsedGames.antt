@@ -32,7 +32,7 @@ kept_by true game played text sink sink' code log none four told = cut_off game 
 kept_by false game played text sink sink' code log none four told =
     (Done text, (log, none told.0), subst (λ b. MatchBool b (TookPart sink sink' text) ((code ≡ 0) × TookWhole sink sink' text)) (sym four) told)
 
--- the code stays where it is not 0, or no tick lapsed
+-- the code stays if it is not 0, or no tick lapsed
 kept : (game : GameFile) (played : Played) (sink sink' : SinkState) (code : ℕ) (outcome : Outcome) → LogAllows game played outcome → Tells outcome sink sink' code →
     (code ≡ 0 → missed played ≡ 0) → (o : Outcome) × PlayedAllows game played o × Tells o sink sink' code
 kept game played sink sink' code (Done text) log told none = kept_by (code == 4) game played text sink sink' code log none refl told
@@ -41,7 +41,7 @@ kept game played sink sink' code (Unsound text) log told none = absurd log
 kept game played sink sink' code (Cut text) first told none = (Cut text, first, told)
 kept game played sink sink' code (Refused refusal) log told none = absurd log
 
--- code 6 stands in the place of 0 where a tick lapsed
+-- code 6 replaces 0 if a tick lapsed
 lapsed : (game : GameFile) (played : Played) (sink sink' : SinkState) (outcome : Outcome) → LogAllows game played outcome → Tells outcome sink sink' 0 →
     0 < missed played → (o : Outcome) × PlayedAllows game played o × Tells o sink sink' 6
 lapsed game played sink sink' (Done text) log told some = (Lapsed text, (log, some), (refl, told.1))
@@ -50,7 +50,7 @@ lapsed game played sink sink' (Unsound text) log told some = absurd log
 lapsed game played sink sink' (Cut text) first told some = let is = told.0 in absurd (omega (arith, is))
 lapsed game played sink sink' (Refused refusal) log told some = absurd log
 
--- so it is with the code that is given
+-- the same for the code that is returned
 pub by_code : (game : GameFile) (played : Played) (sink sink' : SinkState) (count : ℕ) (code : Code) (outcome : Outcome) → LogAllows game played outcome →
     Tells outcome sink sink' (number_of code) → missed played ≡ count → (o : Outcome) × PlayedAllows game played o × Tells o sink sink' (number_of (lapsed_code code count))
 by_code game played sink sink' zero Success outcome log told is = kept game played sink sink' 0 outcome log told (λ none. is)

@@ -1,4 +1,4 @@
--- The cash that a sheet is made of is what the posts add up to, and so in each game that was played over links.
+-- The cash in a sheet is what the posts add up to, in each game that was played over links.
 use Rattle.std.proofs.Common.{◌≡◌, ℕ, ◌≤◌, List, [], ◌∷◌, ◌++◌, map, fold, refl, sym, ap, ◌∙◌, subst, inl, inr, arith, ℤ, pos, ◌+ℤ◌, Option, Some, None}
 use Rattle.std.specs.Prelude.{reverse, Result, IfSome}
 use Rattle.std.specs.Global.{Vec}

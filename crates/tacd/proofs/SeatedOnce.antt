@@ -1,4 +1,4 @@
--- Each seat is given once, and a seat is taken exactly where it was given.
+-- Each seat is given once, and a seat is taken exactly if it was given.
 use Rattle.std.proofs.Common.{◌≡◌, ℕ, ◌+◌, ◌<◌, ◌≤◌, Bool, true, false, cond, List, [], ◌∷◌, length, get_or, set, refl, sym, ap, ◌∙◌, subst, arith, eq-eqb, ne_eqb, length-set, filter}
 use Rattle.std.specs.Prelude.{◌||◌, nat_lt}
 use Rattle.std.specs.List.{AllByRecursion, fold}
@@ -21,7 +21,7 @@ is_taken seats agent = get_or seats.taken agent false
 seatings_more : (verdict : Verdict) (verdicts : List Verdict) (agent : ℕ) → seatings (verdict ∷ verdicts) agent ≡ cond (gives_seat agent verdict) 1 0 + seatings verdicts agent
 seatings_more verdict verdicts agent = sum_by-cons (λ (v : Verdict). cond (gives_seat agent v) 1 0) verdict verdicts
 
--- ---- a seat is taken where it was taken before, or given
+-- ---- a seat is taken if it was taken before, or given
 
 or_true : (b : Bool) → (b || true) ≡ true
 or_true true = refl

@@ -50,7 +50,7 @@ use Rattle.tacd.specs.Service.{IsLogOf, PlayedAllows}
 use Rattle.tacd.specs.SoundLogs.{IsSoundLogOf, TellsSoundly}
 use Rattle.tacd.proofs.SeatedOnce.{is_taken, taken_after, given_once, same_kept}
 
--- ---- who has no part has no entry
+-- ---- a caller without a part has no entry
 
 none_of : {E : Type 0} (caller_of : E → ℕ) (caller n : ℕ) (history : List E) → part_from caller_of caller n history ≡ [] → list_any (λ e. caller_of e == caller) history ≡ false
 none_of caller_of caller n [] none = refl
@@ -111,7 +111,7 @@ module _ (game : GameFile) (verdicts : List Verdict) (ends : List (ℕ × Cause)
     matched = played.legal_game.matched;
   }
 
-  -- who has no seat has no entry
+  -- an agent without a seat has no entry
   absent : (head : Head) (sheet : List Scored) (agent : ℕ) → IsAbsent closed agent → sound.IsAbsent (told_of head closed sheet) agent
   absent head sheet agent none = record {
     calls = λ good low. none_of (λ (e : Entry). e.caller) agent 0 (history_at closed good)
@@ -137,7 +137,7 @@ few_missed ticker ticker' missed all =
 module _ {L : Type 0} (state : L → LinkState) (may_answer : List ℕ → Result Request RequestFault → Type 0) (text : Said → List ℕ) (game : GameFile)
     (pending pending' : Option (List L)) (verdicts : List Verdict) (ends : List (ℕ × Cause)) (closed : ClosedGame) (links : List L)
     (played : IsPlayed state may_answer text game pending pending' verdicts ends closed links) where
-  -- an agent's seat is taken where it was given
+  -- an agent's seat is taken if it was given
   seat_is : (agent : ℕ) → agent ≤ 7 → is_taken (seats_given game verdicts) agent ≡ nat_lt 0 (seatings verdicts agent)
   seat_is agent low =
       let free : get_or (replicate 8 false) agent false ≡ false = get_or-replicate 8 agent false false (omega (arith, low)) in

@@ -23,7 +23,7 @@ with_end : (line : List ℕ) (block : Option (List ℕ × Remaining)) → option
 with_end line None = refl
 with_end line (Some b) = ap (λ (bytes : List ℕ). Some (bytes, b.1)) (sym (append_assoc line (10 ∷ []) b.0))
 
--- a block is the same whatever lines are said to be left before
+-- a block is the same whatever lines are said to come before
 same_block : (number count : ℕ) (left : Remaining) (others lines : List NumberedLine) → block_in number count (record left { lines = others }) lines ≡ block_in number count left lines
 same_block number zero left others lines = refl
 same_block number (suc count) left others [] = refl

@@ -1,4 +1,4 @@
--- Lines that are printed are cut again, and none of them is taken for a comment.
+-- Printed lines are cut again, and none of them is taken for a comment.
 use Rattle.std.proofs.Common.{◌≡◌, ◌≢◌, ℕ, suc, ◌+◌, ◌*◌, ◌^◌, ◌<◌, ◌≤◌, Bool, true, false, not, ◌&&◌, eqb, List, [], ◌∷◌, ◌++◌, length, map, drop, refl, ap, ◌∙◌, append_assoc, arith, ℤ, pos, negsuc, lit<, subst}
 use Rattle.std.specs.Prelude.{slice_index, unsigned_abs}
 use Rattle.std.specs.Fmt.{signed_decimal}
@@ -18,7 +18,7 @@ use Rattle.text_forms.specs.Rows.{most_digits, is_in, all_in, row_text}
 use Rattle.text_forms.proofs.Joins.{parts_more}
 use Rattle.text_forms.proofs.RowLaws.{is_column, number_tiny, numbers_lack}
 
--- a line of at most so many bytes with no line end in it that is no comment
+-- a line of at most this many bytes with no line end in it that is no comment
 pub record IsLine (most : ℕ) (line : List ℕ) : Type 0 where
   pub lacks : Lacks 10 line
   pub kept : is_comment line ≡ false

@@ -1,4 +1,4 @@
--- What stands where arriving units have taken their partners, one after the other.
+-- What stands after arriving units have taken their partners, one after the other.
 use Rattle.std.proofs.Common.{◌≡◌, ℕ, Bool, true, false, cond, List, [], ◌∷◌, ◌++◌, refl, sym, ap, ◌∙◌, arith, Option, Some, None}
 use Rattle.std.specs.Prelude.{not, ◌||◌, ◌==◌, filter, count_by}
 use Rattle.auction_rules.specs.declared.units.BidUnit.{BidUnit}
@@ -16,7 +16,7 @@ abbrev pub untaken : List BidUnit → List BidUnit → List BidUnit
 untaken standing [] = standing
 untaken standing (u ∷ arriving) = untaken (not_taken (partner standing u) standing) arriving
 
--- a pair takes one standing unit away, where the arriving one is of the agent
+-- a pair takes one standing unit away, if the arriving one is of the agent
 take_pair : (agent : ℕ) (u v : BidUnit) (away standing : List BidUnit) → u.agent ≡ agent →
     others agent (without (filter (λ x. not (same_unit x v)) standing) away) ≡ others agent (without standing (u ∷ v ∷ away))
 take_pair agent u v away [] own = refl

@@ -1,4 +1,4 @@
--- Two sides stay as a book keeps them where a unit is put in or some are taken out.
+-- Two sides stay as a book keeps them when a unit is inserted or some are removed.
 use Rattle.std.proofs.Common.{◌≡◌, ℕ, zero, suc, ◌+◌, ◌<◌, ◌≤◌, Bool, true, false, cond, List, [], ◌∷◌, ◌++◌, length, map, get_or, refl, sym, ap, subst, ◌∙◌, arith, length-append}
 use Rattle.std.specs.Prelude.{not, ◌==◌, sum_by, count_by, filter}
 use Rattle.std.specs.List.{All, AllByRecursion, insert, position_or_len}
@@ -62,7 +62,7 @@ all_counted (u ∷ units) h =
       counted-cons u units 7,
     )
 
--- where no agent has more than 16 units, and one has fewer, there are fewer than 128
+-- if no agent has more than 16 units, and one has fewer, there are fewer than 128
 room_by : (agent : ℕ) (count : ℕ → ℕ) → agent ≤ 7 → ((a : ℕ) → count a ≤ 16) → count agent < 16 → count 0 + count 1 + count 2 + count 3 + count 4 + count 5 + count 6 + count 7 < 128
 room_by zero count le few lt = omega (arith, lt, few 1, few 2, few 3, few 4, few 5, few 6, few 7)
 room_by (suc zero) count le few lt = omega (arith, few 0, lt, few 2, few 3, few 4, few 5, few 6, few 7)
@@ -83,7 +83,7 @@ room agent buys sells le held lt =
     let parts = length-append (map (on_side true) buys) (map (on_side false) sells) in
     (omega (arith, all, few, parts, length-map buys (on_side true)), omega (arith, all, few, parts, length-map buys (on_side true), length-map sells (on_side false)))
 
--- what is so of all units is so of the one at a place
+-- what holds of all units holds of the one at a place
 pub all_at : (P : BidUnit → Type 0) (units : List BidUnit) (i : ℕ) (u : BidUnit) → i < length units → u ≡ get_or units i u → All P units → P u
 all_at P units i u lt is all = at_place units i lt is (recursion_from_All P units all)
   where

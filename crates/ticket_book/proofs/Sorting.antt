@@ -1,4 +1,4 @@
--- A unit that is put in its place keeps a side in order, and a filter does.
+-- Inserting a unit in its place keeps a side in order, and so does a filter.
 use Rattle.std.proofs.Common.{◌≡◌, ℕ, zero, suc, ◌+◌, ◌≤◌, Bool, true, false, cond, not, List, [], ◌∷◌, length, refl, sym, subst, ◌∙◌, arith, Option, Some, None}
 use Rattle.std.specs.Prelude.{nat_lt}
 use Rattle.std.specs.List.{AllByRecursion, insert, position, position_or_len, filter}
@@ -18,7 +18,7 @@ pub not_back : (buys : Bool) (u v : ShownUnit) → goes_first buys u v ≡ true 
 not_back true u v h = grind (arith, nat_tests)
 not_back false u v h = grind (arith, nat_tests)
 
--- what does not go before v does not go before u, where u goes before v
+-- if u goes before v, what does not go before v does not go before u
 before_both : (buys : Bool) (u v w : ShownUnit) → goes_first buys u v ≡ true → goes_first buys w v ≡ false → goes_first buys w u ≡ false
 before_both true u v w h k = grind (arith, nat_tests)
 before_both false u v w h k = grind (arith, nat_tests)

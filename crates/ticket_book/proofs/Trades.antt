@@ -54,7 +54,7 @@ bid_spends good standing arriving trades is few = record {
     ones : AllByRecursion (λ (t : Trade). t.units ≡ 1) trades
     ones = subst (AllByRecursion (λ (t : Trade). t.units ≡ 1)) (sym is) (one_unit good (pairs standing arriving))
 
--- nobody trades with itself, and no price is above 10000 where those of the standing units are not
+-- nobody trades with itself, and no price is above 10000 if those of the standing units are not
 pub trades_priced : (good : ℕ) (standing arriving : List BidUnit) (trades : List Trade) → All (λ u. u.price ≤ 10000) standing → trades ≡ ticket_trades good standing arriving →
     All (λ t. t.buyer ≢ t.seller) trades × All (λ t. t.price ≤ 10000) trades
 trades_priced good standing arriving trades priced is =

@@ -1,4 +1,4 @@
--- No two standing units have the same place, so that what stands trades alike in whatever order it is looked at.
+-- No two standing units have the same place, so the standing units trade alike in whatever order they are looked at.
 use Rattle.std.proofs.Common.{◌≡◌, ℕ, ◌+◌, ◌≤◌, Bool, true, false, cond, List, [], ◌∷◌, ◌++◌, map, refl, sym, ap, ◌∙◌, subst, arith, Option, Some, None, inl, inr}
 use Rattle.std.specs.Prelude.{not, ◌&&◌, ◌||◌, ◌==◌, filter, find, count_by}
 use Rattle.std.specs.List.{AllByRecursion, list_all}
@@ -26,7 +26,7 @@ use Rattle.ticket_book.proofs.Sided.{sum_by-map}
 
 -- ---- ties
 
--- whether two units have one price, position and index
+-- whether two units have the same price, position and index
 abbrev pub tie : BidUnit → BidUnit → Bool
 tie u v = (u.price == v.price) && ((u.position == v.position) && (u.index == v.index))
 
@@ -71,7 +71,7 @@ in_among u (v ∷ us) is = by_test (same_unit u v) refl is (in_among u us)
     by_test true same found later = inl (same_is u v same)
     by_test false same found later = inr (later found)
 
--- two units that tie are one
+-- two units that tie are the same
 abbrev pub AreUntied : List BidUnit → Type 0
 AreUntied units = (u v : BidUnit) → among u units ≡ true → among v units ≡ true → tie u v ≡ true → u ≡ v
 

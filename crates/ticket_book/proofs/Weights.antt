@@ -1,4 +1,4 @@
--- Lists of the same units, each as often, answer the same to whatever asks for no order.
+-- Lists of the same units, each equally often, agree on everything that does not depend on order.
 use Rattle.std.proofs.Common.{◌≡◌, ℕ, ◌+◌, ◌≤◌, Bool, true, false, cond, List, [], ◌∷◌, ◌++◌, map, refl, sym, ap, ◌∙◌, subst, arith, Option, Some, None}
 use Rattle.std.specs.Prelude.{◌||◌, not, nat_lt, max, min, sum_by, count_by, filter, fold}
 use Rattle.std.specs.List.{AllByRecursion, list_any}
@@ -85,7 +85,7 @@ left_of_alike (Some bid) xs ys same = left_alike bid.agent bid.position 0 bid.po
 
 -- ---- quotes
 
--- what is so of the prices of those that pass a test
+-- what holds of the prices of those that pass a test
 from_prices : (P : ℕ → Type 0) (test : BidUnit → Bool) (us : List BidUnit) → AllByRecursion P (map (λ u. u.price) (filter test us)) → Each (λ u. test u ≡ true → P u.price) us
 from_prices P test [] h = tt
 from_prices P test (u ∷ us) h = by_test (test u) refl h (from_prices P test us)

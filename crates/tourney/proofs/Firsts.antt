@@ -1,4 +1,4 @@
--- Each word once, in the order in which they are first met.
+-- Each word once, in the order in which they first appear.
 use Rattle.std.proofs.Common.{◌≡◌, ℕ, List, [], ◌∷◌, ◌++◌, true, false, not, filter, ◌||◌, refl, ap, ◌∙◌}
 use Rattle.std.specs.List.{list_any, IsDistinct, AllByRecursion}
 use Rattle.std.specs.Str.{bytes_eq}
@@ -17,7 +17,7 @@ any_others : (w x : List ℕ) → bytes_eq x w ≡ false → (words : List (List
 any_others w x ne [] = refl
 any_others w x ne (y ∷ ys) = cases (bytes_eq x y) (λ e. rw e (rw (turned y w false (apart x y w e ne)) (any_others w x ne ys))) (λ n. rw n (ap (λ b. bytes_eq w y || b) (any_others w x ne ys)))
 
--- a word is among the first ones where it is among all
+-- a word is among the first ones exactly if it is among all
 pub firsts_any : (w : List ℕ) (words : List (List ℕ)) → list_any (bytes_eq w) (firsts words) ≡ list_any (bytes_eq w) words
 firsts_any w [] = refl
 firsts_any w (x ∷ xs) = cases (bytes_eq w x) (λ e. rw e refl) (λ n. rw n (any_others w x (turned w x false n) (firsts xs) ∙ firsts_any w xs))
@@ -28,14 +28,14 @@ others_end x w words e = filter-append (λ other. not (bytes_eq x other)) words 
 others_more : (x w : List ℕ) (words : List (List ℕ)) → bytes_eq x w ≡ false → others x (words ++ w ∷ []) ≡ others x words ++ w ∷ []
 others_more x w words n = filter-append (λ other. not (bytes_eq x other)) words (w ∷ []) ∙ rw n refl
 
--- a new word is met last
+-- a new word comes last
 pub firsts_new : (w : List ℕ) (words : List (List ℕ)) → list_any (bytes_eq w) words ≡ false → firsts (words ++ w ∷ []) ≡ firsts words ++ w ∷ []
 firsts_new w [] none = refl
 firsts_new w (x ∷ xs) none =
     let differs = first_fails (bytes_eq w x) (list_any (bytes_eq w) xs) none in
     ap (λ (ws : List (List ℕ)). x ∷ others x ws) (firsts_new w xs (second_fails (bytes_eq w x) (list_any (bytes_eq w) xs) none)) ∙ ap (λ (ws : List (List ℕ)). x ∷ ws) (others_more x w (firsts xs) (turned w x false differs))
 
--- a word that was met changes nothing
+-- a word that appeared before changes nothing
 pub firsts_known : (w : List ℕ) (words : List (List ℕ)) → list_any (bytes_eq w) words ≡ true → firsts (words ++ w ∷ []) ≡ firsts words
 firsts_known w [] some = absurd cc
 firsts_known w (x ∷ xs) some = cases (list_any (bytes_eq w) xs)

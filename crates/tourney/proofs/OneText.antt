@@ -20,7 +20,7 @@ use Rattle.tourney.proofs.OneAverage.{one_average}
 abbrev words_of : Results → List (List ℕ)
 words_of rs = map (λ (result : List ℕ × ℤ). result.0) rs
 
--- a word that was met has a game
+-- a word that appeared has a game
 some_game : (rs : Results) (word : List ℕ) → list_any (bytes_eq word) (words_of rs) ≡ true → 1 ≤ games_in rs word
 some_game [] word met = absurd cc
 some_game (r ∷ rs) word met =

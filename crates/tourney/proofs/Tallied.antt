@@ -49,7 +49,7 @@ tally_other rs r word n =
     plus_none : (n : ℕ) → n + 0 ≡ n
     plus_none n = omega arith
 
--- a word that was not met has no tally
+-- a word that did not appear has no tally
 pub tally_none : (rs : Results) (word : List ℕ) → list_any (bytes_eq word) (map (λ (result : List ℕ × ℤ). result.0) rs) ≡ false → tally_of rs word ≡ no_tally
 tally_none [] word none = refl
 tally_none (r ∷ rs) word none = cases (bytes_eq word r.0) (λ e. absurd (no_clash (bytes_eq word r.0) (list_any (bytes_eq word) (map (λ (result : List ℕ × ℤ). result.0) rs)) e none)) (λ n. rw n (tally_none rs word (second_fails (bytes_eq word r.0) (list_any (bytes_eq word) (map (λ (result : List ℕ × ℤ). result.0) rs)) none)))

@@ -60,7 +60,7 @@ thrice_total = (refl, refl, refl, refl)
 
 -- ---- seats
 
--- those that have no seat count for nothing, and a team may have another agent's place in another game
+-- agents without a seat do not count, and a team may have another agent's place in another game
 seats_teams : teams (served ∷ traded ∷ []) ≡ codes "a" ∷ numbered_seats
 unfolding served traded game_of log_of scored
 seats_teams = refl

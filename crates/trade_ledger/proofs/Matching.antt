@@ -1,4 +1,4 @@
--- A cash history is matched where the posts of each caller are those due to its own entries; and then its totals are those of the trades.
+-- A cash history is matched if the posts of each caller are those due to its own entries; then its totals are those of the trades.
 use Rattle.std.proofs.Common.{◌≡◌, ◌≢◌, ℕ, zero, suc, ◌+◌, ◌*◌, ◌≤◌, Bool, true, false, cond, eqb, List, [], ◌∷◌, ◌++◌, map, fold, length, sum_by, sym, refl, ap, ◌∙◌, arith, eq-eqb, ne_eqb, ℤ, pos, negsuc, ◌+ℤ◌, ◌-ℤ◌, slice_index_or}
 use Rattle.std.specs.List.{flat_map, enumerate_from, AllByRecursion}
 use Rattle.std.proofs.lemmas.Int.{ints}
@@ -62,7 +62,7 @@ module _ {E : Type 0} (caller_of : E → ℕ) (f : ℕ × E → ℕ) where
         part_sum 8 n x h,
       )
 
--- where callers past the eighth have no part, no entry is theirs
+-- if callers past the eighth have no part, no entry is theirs
 module _ {E : Type 0} (caller_of : E → ℕ) where
   none_later : (c n : ℕ) (x : E) (h : List E) → part_from caller_of c n (x ∷ h) ≡ [] → (caller_of x ≢ c) × (part_from caller_of c (n + 1) h ≡ [])
   none_later c n x h none = dite (ℕ_discrete (caller_of x) c)
@@ -104,7 +104,7 @@ bare n (e ∷ cash) = ap (λ (l : List CashEntry). e ∷ l) (bare (n + 1) cash)
 abbrev by : CashEntry → ℕ
 by e = e.caller
 
--- the posts of a cash history weigh what those of its nine parts weigh
+-- the posts of a cash history have the weight of those of its nine parts
 pub posts_by_parts : (w : CashEntry → ℕ) (cash : List CashEntry) → AllByRecursion (λ (e : CashEntry). e.caller ≤ 8) cash
     → sum_by w (posts_of cash) ≡ nine (λ c. sum_by w (posts_of (map (λ p. p.1) (part by cash c))))
 posts_by_parts w cash called =
@@ -173,7 +173,7 @@ pub due_by_parts : (w : CashEntry → ℕ) (histories : List (List Entry)) → A
     → sum_by w (due_posts (map (enumerate_from 0) histories)) ≡ nine (λ c. sum_by w (due_posts (parts_of histories c)))
 due_by_parts w histories called = due_parts w 0 histories called
 
--- where the posts of each of nine callers are those that are due to its own entries, the cash history is matched
+-- if the posts of each of nine callers are those that are due to its own entries, the cash history is matched
 pub matched_by_parts : (histories : List (List Entry)) (cash : List CashEntry) → AllByRecursion (λ h. AllByRecursion (λ (e : Entry). e.caller ≤ 8) h) histories → AllByRecursion (λ (e : CashEntry). e.caller ≤ 8) cash
     → ((c : ℕ) → c ≤ 8 → HoldSame (posts_of (map (λ p. p.1) (part by cash c))) (due_posts (parts_of histories c))) → Matched histories cash
 matched_by_parts histories cash called called' each w =

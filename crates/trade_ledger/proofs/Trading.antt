@@ -1,4 +1,4 @@
--- What one trade changes of the holdings.
+-- What one trade changes in the holdings.
 use Rattle.std.proofs.Common.{◌≡◌, ℕ, zero, suc, ◌<◌, ◌≤◌, eqb, Bool, true, false, cond, List, [], ◌∷◌, length, map, fold, set, get_or, sum_by, sym, refl, ap, ◌∙◌, subst, arith, lit<, eq-eqb, ne_eqb, length-set, ℤ, pos, ◌+ℤ◌, ◌-ℤ◌, ◌≤ℤ◌, neg_ℤ}
 use Rattle.std.proofs.lemmas.List.{get_or-set_same, get_or-set_other}
 use Rattle.std.proofs.lemmas.Int.{ints}
@@ -52,7 +52,7 @@ get_or-moved held t party inside inside' = let first = get_or-given held t party
     get_or-set_other (given held t) t.seller party (get_or (given held t) t.seller (pos 0) +ℤ neg_ℤ (pos t.units)) (pos 0) (λ e. ne (sym e)) in
     omega (arith, ints))
 
--- the same where the code names the places and the units otherwise
+-- the same if the code names the places and the units otherwise
 pub given_is : (held : List ℤ) (t : Trade) (buyer : ℕ) (units : ℤ) → buyer ≡ t.buyer → units ≡ pos t.units → set held buyer (get_or held buyer (pos 0) +ℤ units) ≡ given held t
 given_is held t buyer units place value = λ i. set held (place i) (get_or held (place i) (pos 0) +ℤ value i)
 
@@ -104,7 +104,7 @@ after_at : (held : List ℤ) (t : Trade) (party : ℕ) → party ≤ 8 → All I
 after_at held t party low all = subst IsHolding (get_or-nine (λ k. get_or held k (pos 0) +ℤ net_units (t ∷ []) k) party low ∙ ap (λ (z : ℤ). get_or held party (pos 0) +ℤ z) (net_units_one t party))
     (all party (pos 0) (omega arith))
 
--- where no holding leaves its range by a trade, neither sum on the way is large
+-- if no holding leaves its range by a trade, neither intermediate sum is large
 pub buyer_fits : (held : List ℤ) (t : Trade) → t.buyer ≤ 8 → t.units < 256 → All IsHolding (held_after held (t ∷ []))
     → (neg_ℤ (pos 1000000) ≤ℤ (get_or held t.buyer (pos 0) +ℤ pos t.units)) × ((get_or held t.buyer (pos 0) +ℤ pos t.units) ≤ℤ pos 1000255)
 buyer_fits held t low few all =

@@ -79,6 +79,6 @@ module _ {E : Type 0} (caller_of : E → ℕ) where
   all_from n (x ∷ h) small =
       omega (arith, all_from (n + 1) h small.1, nine_once (caller_of x) small.0, long 0 n x h, long 1 n x h, long 2 n x h, long 3 n x h, long 4 n x h, long 5 n x h, long 6 n x h, long 7 n x h, long 8 n x h)
 
-  -- where nobody but nine callers has an entry, their parts have as many entries as the history
+  -- if only nine callers have entries, their parts have as many entries as the history
   pub nine_parts : (h : List E) → AllByRecursion (λ e. caller_of e ≤ 8) h → length h ≡ nine (λ c. length (part caller_of h c))
   nine_parts h small = all_from 0 h small

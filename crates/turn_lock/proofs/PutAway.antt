@@ -1,4 +1,4 @@
--- A seat that is put away: the machine has it as a struct of its badge, and it owns what its badge owns.
+-- The lock's own seat: the machine has it as a struct of its badge, and it owns what its badge owns.
 use Rattle.std.proofs.Common.{List, [], ◌∷◌, refl}
 use seplogic.Ra.Ura.{Ura}
 use mir.Val.{Val, vstruct, vcons, vnil}

@@ -1,4 +1,4 @@
--- Each step on the table of a lock keeps its rule.
+-- Each step on the table of a lock keeps its invariant.
 use Rattle.std.proofs.Common.{◌≡◌, ◌≢◌, ℕ, ◌+◌, ◌%◌, ◌^◌, ◌<◌, ◌≤◌, List, [], ◌∷◌, ◌++◌, length, take, set, get_or, sum_by, sym, refl, ap, ◌∙◌, subst, arith, ◌⊎◌, inl, inr, ⊎_elim, length-set, length-append, Option, Some, None}
 use Rattle.std.proofs.lemmas.List.Sums.{sum_by_push}
 use mathlib.Core.Option.{Option as Option_, some, none, some-injective, some-ne-none}
@@ -138,7 +138,7 @@ module _ {S G E : Type 0} (setup : S → G) (history : S → List E) (legal : G 
   few_wait s r = let t = r.tickets in let c = r.counted in let sm = r.small.0 in let f = r.few in let n = r.seats in
       let a = sum_by-le_length waits s.views (λ i v e. let k = r.each i v e in let g = k.flags in omega arith) in omega arith
 
-  -- while a pass has the turn no other has it
+  -- while a pass has the turn, no other has it
   unheld : (s : St) (r : Rule s) (id : ℕ) (v u : V) (i : ℕ) {y : G} {h : List E} → get_elem? s.views id ≡ some v → v.live ≡ 1 → v.held ≡ Some (y, h) → i ≢ id
       → get_elem? s.views i ≡ some u → u.held ≡ None
   unheld s r id v u i {y} {h} at up held ne there = let f = ((r.each id v at).pass up).held y h held in let ku = r.each i u there in
@@ -187,7 +187,7 @@ module _ {S G E : Type 0} (setup : S → G) (history : S → List E) (legal : G 
   unchanged : (s : St) (r : Rule s) (i id : ℕ) (m : M) → get_elem? s.views id ≡ some m.0 → Rule (stepped s i (get_or s.words i 0) id m.1 m.0 keeps)
   unchanged s r i id m at = subst (λ (x : List ℕ × List V). Rule record { words = x.0; homes = s.homes; views = x.1 }) (λ k. (sym (set-get_or s.words i 0) k, sym (set_again s.views id m.0 at) k)) r
 
-  -- a pass with a ticket looks at the board, and takes the state where the count is its ticket
+  -- a pass with a ticket polls the board, and takes the state if the count is its ticket
   looks_at : (slots id : ℕ) (v : V) → v.live ≡ 1 → v.waits ≡ 1 → v.held ≡ None → Allows Rule slots id (v, []) 1 (λ n. n) (looked setup history caller_of (step slots 1 0 0 none) (v, []))
   looks_at slots id v up one free s r _ at _ = let x : ℕ = get_or s.words 1 0 in let is : x ≡ packed (board the_setup r.log) = ap (λ (l : List ℕ). get_or l 1 0) r.words in
       let count : x % 16777216 ≡ length r.log = ap (λ (n : ℕ). n % 16777216) is ∙ (packed_count (board the_setup r.log) r.small ∙ r.counted) in

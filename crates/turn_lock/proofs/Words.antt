@@ -1,4 +1,4 @@
--- A board that fits its word is found in it again.
+-- A board that fits its word can be read back from it.
 use Rattle.std.proofs.Common.{◌≡◌, ℕ, ◌+◌, ◌*◌, ◌/◌, ◌%◌, ◌<◌, ◌≤◌, eqb, Bool, true, false, cond, ap, arith}
 use Rattle.tac_base.specs.declared.calls.Board.{Board}
 use Rattle.turn_lock.specs.BoardWord.{IsSmall, packed, unpacked}

@@ -4,7 +4,7 @@ use Rattle.std.specs.List.{zip}
 use Rattle.draw_maker.specs.ClosingOrders.{exchanged, made_order}
 use Rattle.draw_maker.proofs.closing_orders.order_of.Given as goal
 
--- the exchanges that are left make the order
+-- the swaps that are left make the order
 abbrev pub invariant-loop-i : goal.invariant-loop-i
 invariant-loop-i l = record {
   count : length l.order ≡ 8;
