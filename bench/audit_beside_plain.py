@@ -1,11 +1,11 @@
 #!/usr/bin/env python3
-"""Takes the time of `tac audit` on a log of 52 MB, beside `wc -l`, a plain reader in Python and a plain replay in C++ of the same log.
+"""Measures the time of `tac audit` on a log of 52 MB, beside `wc -l`, a plain reader in Python and a plain replay in C++ of the same log.
 
     taskset -c 0 bench/audit_beside_plain.py crates/tacd/out/tacd
 
 The log is that of all bids that eight agents can make in a game, 1024 each in each of the 28 auctions, of 16 points each. They come before the first
-tick. No seat is bought, rooms are bid for with rising dollars, and odd agents buy all the tickets that even ones offer. Each command runs so many times,
-and the least and the greatest of its processor times, user and system, and of its wall times are told in seconds.
+tick. No seat is bought, rooms are bid for at rising prices, and odd agents buy all the tickets that even ones offer. Each command runs --runs times;
+the output has the least and the greatest of its processor times, user and system, and of its wall times, in seconds.
 """
 
 import argparse
@@ -18,7 +18,7 @@ import time
 from pathlib import Path
 
 HERE = Path(__file__).resolve().parent
-BIDS = 1024  # of an agent in an auction
+BIDS = 1024  # of each agent in each auction
 
 
 def points(agent, good, number):
@@ -54,7 +54,7 @@ def write_log(tac, place):
 
 
 def run(words):
-    """What a command writes, and its processor and wall time in seconds."""
+    """A command's output, and its processor and wall time in seconds."""
     before, start = resource.getrusage(resource.RUSAGE_CHILDREN), time.monotonic()
     done = subprocess.run(words, stdout=subprocess.PIPE, text=True, check=True)
     wall, after = time.monotonic() - start, resource.getrusage(resource.RUSAGE_CHILDREN)

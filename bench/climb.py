@@ -1,5 +1,5 @@
 #!/usr/bin/env python3
-"""Seeks accounts that `tac solve` finds hard: climbs from random accounts with clients that want alike, by the lines of their certificates.
+"""Searches for accounts that are hard for `tac solve`: climbs from random accounts with similar clients, by the lines of their certificates.
 
     bench/climb.py --tac crates/tacd/out/tacd --starts 20 --seconds 600 --keep hard
 
@@ -63,7 +63,7 @@ def read(file):
 
 
 def lines_of(tac, account, limit):
-    """The lines of the account's certificate; none where the limit of seconds is passed."""
+    """The lines of the account's certificate; None if it takes longer than the limit."""
     with tempfile.NamedTemporaryFile("w", suffix=".account") as file:
         file.write(text_of(account))
         file.flush()

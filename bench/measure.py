@@ -1,12 +1,12 @@
 #!/usr/bin/env python3
-"""Takes the processor time of `tac solve` on accounts, beside GLPK, CBC and HiGHS on the same integer program, in one run.
+"""Measures the processor time of `tac solve` on accounts, beside GLPK, CBC and HiGHS on the same integer program, in one run.
 
     taskset -c 0 bench/measure.py --tac crates/tacd/out/tacd ACCOUNT ..
 
-A solver that is not installed (Debian: glpk-utils, coinor-cbc, python3-scipy) is left out. The program has a variable for each client and each of
-its packages whose goods are there, a row for each good and one for each client. Times are the least of --rounds runs in milliseconds of user and
-system time, less the program's own start on an empty problem; HiGHS is called within this process. Each total is compared. A ratio is to the
-fastest peer, and is not counted where both are under a millisecond.
+A solver that is not installed (Debian: glpk-utils, coinor-cbc, python3-scipy) is left out. The integer program has a variable for each client and
+each package whose goods the account has, a row for each good and one for each client. Times are the least of --rounds runs in milliseconds of user
+and system time, less the solver's own start on an empty problem; HiGHS is called within this process. The totals are compared. A ratio is to the
+fastest other solver, and is not counted if both are under a millisecond.
 """
 
 import argparse
@@ -26,7 +26,7 @@ EMPTY = "Maximize\nx\nSubject To\nc: x <= 1\nBinary\nx\nEnd\n"
 
 
 def run(words, check=True):
-    """What a process writes, and the milliseconds of a processor that it takes."""
+    """A process's output, and its processor time in milliseconds."""
     before = resource.getrusage(resource.RUSAGE_CHILDREN)
     done = subprocess.run(words, stdout=subprocess.PIPE, check=check)
     after = resource.getrusage(resource.RUSAGE_CHILDREN)
@@ -72,7 +72,7 @@ def highs(account):
 
 
 def peers(place):
-    """The solvers that are installed, each with the time of its start."""
+    """The installed solvers, each with its start time."""
     empty = f"{place}/empty.lp"
     Path(empty).write_text(EMPTY)
     found = {name: (call, min(call(empty)[1] for _ in range(20))) for name, call in (("glpsol", glpk), ("cbc", cbc)) if shutil.which(name)}
@@ -85,7 +85,7 @@ def peers(place):
 
 
 def time_of(call, start, given, rounds):
-    """The total, and the least time of some rounds."""
+    """The total, and the least time of all rounds."""
     results = [call(given) for _ in range(rounds)]
     return results[0][0], max(0, min(result[1] for result in results) - start)
 

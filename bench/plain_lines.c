@@ -1,6 +1,6 @@
-/* A bare echo of bytes over TCP, and eight agents that keep many lines on their way. bench/serve_beside_echo.py builds and runs it.
+/* A bare echo of bytes over TCP, and eight agents that keep many requests in flight. bench/serve_beside_echo.py builds and runs it.
 
-       plain_lines echo PORT              sends back what each of eight links gives, a thread for each, and ends with the last
+       plain_lines echo PORT              sends back what each of eight links sends, a thread for each, and ends with the last
        plain_lines ask PORT LINES DEPTH GREETED
 
    Each of eight agents greets with its seat word, waits for GREETED lines, and sends LINES requests, at most DEPTH of them without a reply. It
@@ -82,7 +82,7 @@ static int request(char *text, int number) {
                        : sprintf(text, "bid %d ((1 70) (1 65))\n", good);
 }
 
-/* Reads what is there, and says how many lines ended in it. */
+/* Reads what is there, and returns how many lines ended in it. */
 static int lines_read(int link) {
     char bytes[ROOM];
     ssize_t count = read(link, bytes, sizeof bytes);

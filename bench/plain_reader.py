@@ -1,9 +1,9 @@
 #!/usr/bin/env python3
-"""Reads the log of a game as docs/FORMATS.md, "The log", has it, and judges nothing: the form and the numbers of each line.
+"""Reads the log of a game by docs/FORMATS.md, "The log", and checks only the form and the numbers of each line.
 
     bench/plain_reader.py my.log
 
-It writes how much it read, or `text L 1` with the first line at which no log goes on, as `tac audit` does. It is there to be compared with.
+It writes how much it read, or `text L 1` with the first line that fits no log, as `tac audit` does. It is a baseline for the audit.
 """
 
 import argparse
@@ -25,7 +25,7 @@ class BadLine(Exception):
 
 
 class Lines:
-    """The lines of a text, each read once. The number of the last one that was given is kept."""
+    """The lines of a text, each read once. The number of the last one is kept."""
 
     def __init__(self, text):
         self.lines = text.split("\n")
@@ -42,7 +42,7 @@ class Lines:
         return self.number < len(self.lines) and self.lines[self.number].split(" ", 1)[0] == word
 
     def take(self, form, *highest):
-        """The parts of the next line. The first of them are numbers, none above its greatest."""
+        """The parts of the next line. The first of them are numbers within their limits."""
         found = form.fullmatch(self.next())
         if not found:
             raise BadLine
@@ -111,7 +111,7 @@ def read_cash_entry(lines):
 
 
 def read_tree(lines, number, left, depth):
-    """A certificate of so many lines. It gives the lines that are left, and where there are too few the line of its number is bad."""
+    """A certificate of this many lines. It returns the lines that are left; if there are too few, the line of its number is bad."""
     if left == 0:
         lines.number = number
         raise BadLine

@@ -1,8 +1,8 @@
-// Plays the log of a game again by docs/GAME.md, simply, and says `sound`, or the first line that is not as it is due.
+// Replays the log of a game by docs/GAME.md, in a simple way, and says `sound`, or the first line that is wrong.
 //
 //     g++ -std=c++17 -O2 bench/plain_replay.cpp -o plain_replay && ./plain_replay my.game my.log
 //
-// It is there to be compared with `tac audit`, and shares nothing with it: each call of the 28 auctions is made again, and what the log should say of it
+// It is a baseline for `tac audit`, and shares nothing with it: each call of the 28 auctions is made again, and what the log should say of it
 // is compared byte by byte; so are the posts and readings of the cash book, the scores with their certificates, and the head.
 #include <algorithm>
 #include <array>
@@ -29,7 +29,7 @@ struct Game {
     Client clients[AGENTS][8];
 };
 
-Game read_game(const char* file) {  // it is taken to be a good one
+Game read_game(const char* file) {  // the file is assumed to be good
     Game game;
     std::fill(game.rooms, game.rooms + 8, 16);
     std::ifstream lines(file);
@@ -56,7 +56,7 @@ Game read_game(const char* file) {  // it is taken to be a good one
     return game;
 }
 
-// A line of the log, read from its start. What is not as it is due is thrown.
+// A line of the log, read from its start. A wrong line is thrown.
 struct Line {
     long place;
     string_view rest;
@@ -125,7 +125,7 @@ Call call_in(Line& line) {
     return call;
 }
 
-// What stands of an agent's bid. Of a point the units with the lower numbers go first.
+// What stands of an agent's bid. The units of a point with the lower indices go first.
 struct Standing { long place = 0; vector<Point> points; };
 struct Unit { int agent, price; long place; };
 
@@ -135,7 +135,7 @@ public:
         for (int agent = 0; agent < AGENTS; agent++) holding[agent] = game.endow[agent][good];
     }
 
-    // The reply to the call at a place, as the log has it. The trades that it makes are left in `trades`.
+    // The reply to the call at a position, as the log has it. `trades` then holds its trades.
     string act(long place, int caller, const Call& call) {
         trades.clear();
         string refusal = refused(caller, call);
@@ -184,7 +184,7 @@ private:
         return offered >= need ? "" : "no belowquote " + to_string(need) + " " + to_string(price + 1) + " " + to_string(offered);
     }
 
-    // All standing units of a hotel, those of higher prices first, and then those of earlier bids.
+    // All standing units of a hotel, by falling price and then by the position of their bids.
     vector<Unit> units() const {
         vector<Unit> all;
         for (int agent = 0; agent < AGENTS; agent++)
@@ -226,7 +226,7 @@ private:
         drop_empty();
     }
 
-    // The standing point of the other side that a unit of an agent meets first, and whose it is.
+    // The standing point of the other side that a unit of an agent meets first, and its owner.
     std::pair<Point*, int> best_other(int caller, int sign) {
         Point* best = nullptr;
         int whose = 0;
@@ -281,7 +281,7 @@ private:
     }
 
     const Game& game;
-    int good, price;  // of a hotel the price that it published last
+    int good, price;  // for a hotel the published price
     bool closed = false;
     std::array<Standing, AGENTS> stands;
 };
@@ -304,7 +304,7 @@ struct Replay {
     Log& log;
     bool served = false, seated[AGENTS] = {};
     long cash[AGENTS] = {}, holding[AGENTS][GOODS] = {};
-    std::map<std::pair<int, long>, string> posts = {};  // what is due of each entry with a trade, until it was posted
+    std::map<std::pair<int, long>, string> posts = {};  // the posts that are due and were not yet made
 
     void head() {
         log.next().end("taclog 1");
@@ -402,7 +402,7 @@ struct Replay {
 struct Package { int hotel = 0, come = 0, go = 0, features[4] = {}; vector<int> goods = {}; };
 
 vector<Package> all_packages() {
-    vector<Package> all(1);  // the first is to stay at home
+    vector<Package> all(1);  // the first is the empty package
     for (int hotel = 0; hotel < 2; hotel++)
         for (int come = 1, trip = 1 + 10 * hotel; come <= 4; come++)
             for (int go = come + 1; go <= 5; go++, trip++)
@@ -439,7 +439,7 @@ struct Sheet {
     Replay& replay;
     Log& log;
     vector<Package> packages = all_packages();
-    int fixed[8][4] = {};  // of each client the features that splits above gave it, -1 where there is none
+    int fixed[8][4] = {};  // for each client the features fixed by splits above, -1 for none
 
     void score(int agent) {
         Line line = log.next().due("score " + to_string(agent) + " ");
@@ -465,7 +465,7 @@ struct Sheet {
         return total;
     }
 
-    // A node of a certificate and those below it. Gives the number of their lines.
+    // A node of a certificate and those below it. Returns the number of their lines.
     long node(int agent, long claim, int depth) {
         Line line = log.next();
         if (!line.skip("split ")) return leaf(line.due("leaf"), agent, claim);

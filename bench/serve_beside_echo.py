@@ -1,11 +1,11 @@
 #!/usr/bin/env python3
-"""Takes the rate of `tac serve` with eight agents that keep many lines on their way, beside a bare echo in C under the same agents.
+"""Measures the rate of `tac serve` with eight agents that keep many requests in flight, beside a bare echo in C under the same agents.
 
     bench/serve_beside_echo.py crates/tacd/out/tacd
 
 An agent sends 42,000 requests: a quote, a holding and a bid in turn, in all 28 auctions, at most --depth of them without a reply. The clock ticks
-meanwhile. The rounds go in turn, and of each the requests a second of all agents, the median and the 99th percentile of the time from a line to its reply
-in microseconds, the server's processor time in microseconds a request and the most memory that it had resident are told.
+meanwhile. The rounds alternate; for each the output has the requests a second of all agents, the median and the 99th percentile of the time from a line to
+its reply in microseconds, the server's processor time in microseconds per request, and its peak resident memory.
 """
 
 import argparse
@@ -21,7 +21,7 @@ sys.path.insert(0, str(HERE.parent / "examples"))
 
 from children import free_port  # noqa: E402
 
-LINES = 42000  # of an agent: 1,000 calls in each auction, where it may make 1,024
+LINES = 42000  # of each agent: 1,000 calls in each auction, of at most 1,024
 
 
 def listens(port):
@@ -30,7 +30,7 @@ def listens(port):
 
 
 def measure(server, client, port, greeted, depth):
-    """What the agents tell of a server, its processor time in seconds and its memory in megabytes."""
+    """The agents' figures for a server, its processor time in seconds and its memory in megabytes."""
     with tempfile.TemporaryFile() as out:
         process = subprocess.Popen([str(word) for word in server], stdout=out)
         while not listens(port):
@@ -47,7 +47,7 @@ def main():
     parser = argparse.ArgumentParser(description=__doc__, formatter_class=argparse.RawDescriptionHelpFormatter)
     parser.add_argument("tac", help="the file of tac")
     parser.add_argument("--rounds", type=int, default=5, help="how often each server is measured; 5")
-    parser.add_argument("--depth", type=int, default=64, help="the most lines of an agent on their way; 64")
+    parser.add_argument("--depth", type=int, default=64, help="the most requests of an agent in flight; 64")
     given = parser.parse_args()
     with tempfile.TemporaryDirectory() as place:
         client, game = Path(place) / "plain_lines", Path(place) / "game"

@@ -1,10 +1,10 @@
 #!/usr/bin/env python3
-"""Takes the time of `tac worth` on accounts, beside 57 runs of GLPK's `glpsol` on each: the account, and one unit more and less of each good.
+"""Measures the time of `tac worth` on accounts, beside 57 runs of GLPK's `glpsol` on each: the account, and one unit more and less of each good.
 
     taskset -c 0 bench/worth_beside_glpk.py crates/tacd/out/tacd ACCOUNT ..
 
-GLPK gets a program with a variable for each client and each of its packages whose goods are there, a row for each good and one for each client.
-Times are processor time, user and system, in milliseconds: of `tac worth` the least of three runs, start included; of the 57 runs of glpsol the sum,
+GLPK gets an integer program with a variable for each client and each package whose goods the account has, a row for each good and one for each client.
+Times are processor time, user and system, in milliseconds: for `tac worth` the least of three runs, start included; for the 57 runs of glpsol the sum,
 less 57 times its own start. Each total is compared with GLPK's. The last lines have the medians and the worst.
 """
 
@@ -17,7 +17,7 @@ import subprocess
 import tempfile
 from pathlib import Path
 
-LIMIT = 200_000  # the most of a good that an account holds, and is short of
+LIMIT = 200_000  # the greatest holding of a good in an account, in absolute value
 
 
 def packages():
@@ -74,7 +74,7 @@ def program(holdings, clients):
 
 
 def run(words):
-    """What a process writes, and the milliseconds of a processor that it takes."""
+    """A process's output, and its processor time in milliseconds."""
     before = resource.getrusage(resource.RUSAGE_CHILDREN)
     done = subprocess.run(words, stdout=subprocess.PIPE, check=True)
     after = resource.getrusage(resource.RUSAGE_CHILDREN)
@@ -86,7 +86,7 @@ def glpk(text, place):
     problem, solution = os.path.join(place, "problem.lp"), os.path.join(place, "solution")
     Path(problem).write_text(text)
     _, time = run(["glpsol", "--lp", problem, "--write", solution])
-    # Lines of the solution: c .. for notes, and s mip ROWS COLUMNS o TOTAL where the total is the best.
+    # Lines of the solution: c .. for comments, and s mip ROWS COLUMNS o TOTAL if the total is optimal.
     found = next(line.split() for line in Path(solution).read_text().splitlines() if line.startswith("s "))
     assert found[4] == "o", found
     return round(float(found[5])), time

@@ -12,7 +12,7 @@ def free_port():
 
 
 class EightAgents:
-    """While it is entered, agent `seat` sends `lines_of(seat)` once the port listens, and reads to the end what stands in `sent` then."""
+    """A context in which agent `seat` sends `lines_of(seat)` once the port listens; `sent` then has all that it received."""
 
     def __init__(self, port, lines_of):
         self.port, self.ended, self.sent = port, threading.Event(), {}

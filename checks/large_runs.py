@@ -1,9 +1,9 @@
 #!/usr/bin/env python3
-"""Runs the program where the tests stop: a long script, its log, a table of all 64 pairs, and a served game with live quotes.
+"""Runs the program on inputs larger than those of the tests: a long script, its log, a table of 64 games, and a served game with live quotes.
 
-A contract allows the status 7 and the line `memory` wherever memory may be refused, so that a program that says so for no cause keeps its
-contracts; these runs have memory enough, and 7 is wrong in each. It is run after `rt ci`, which leaves the program at crates/tacd/out/tacd. It
-ends with 0 where each run ended as it has to, with 1 where one did not, and says nothing and ends with 0 where there is no program."""
+A contract allows the status 7 and the line `memory` wherever memory may be refused, so a program that says so without cause meets its
+contracts; these runs have enough memory, and 7 is wrong in each. It runs after `rt ci`, which leaves the program at crates/tacd/out/tacd. It
+ends with 0 if each run ended as expected, with 1 if one did not, and prints nothing and ends with 0 if there is no program."""
 import argparse
 import pathlib
 import subprocess
@@ -18,12 +18,12 @@ CALLS = 1024  # that an agent may make in one auction
 
 
 def long_script():
-    """All requests that eight agents can make in 28 auctions, of which nothing comes: 229,376."""
+    """All requests that eight agents can make in 28 auctions, without any trade: 229,376."""
     return "".join(f"{agent} own {good}\n" for _ in range(CALLS) for good in range(28) for agent in range(8))
 
 
 def lines_of(seat):
-    """What an agent sends that bids in each hotel and asks for its quotes."""
+    """The lines of an agent that bids in each hotel and asks for its quotes."""
     return f"hello seat{seat}\n" + "".join(f"bid {good} ((1 {100 + seat}))\nquote {good}\n" for good in range(8, 16)) + "quit\n"
 
 
@@ -32,7 +32,7 @@ def ran(program, words):
 
 
 def served(program, game):
-    """A served game of eight agents: what the program left, and whether each agent was sent its last line."""
+    """A served game of eight agents: how the program ended, and whether each agent was sent its last line."""
     port = free_port()
     with EightAgents(port, lines_of) as agents:
         done = ran(program, ["serve", game, str(port), "5"])
@@ -40,12 +40,12 @@ def served(program, game):
 
 
 def log_in(text):
-    """The log that the text of a play ends with."""
+    """The log at the end of the output of `play`."""
     return text[text.index(b"taclog 1\n"):]
 
 
 def shown(program, folder):
-    """Each run by its name, and whether it ended as it has to."""
+    """Each run by its name, and whether it ended as expected."""
     script, log, other, live = (folder / name for name in ("script", "log", "other", "live"))
     script.write_text(long_script())
     played = ran(program, ["play", GAME, script])

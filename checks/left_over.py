@@ -1,11 +1,11 @@
 #!/usr/bin/env python3
-"""Ends each script around the server in several ways, and looks whether a process that it started is left.
+"""Ends each script around the server in several ways, and checks whether a process that it started is left.
 
     checks/left_over.py
 
-Each script runs to its end, and is ended by SIGINT, SIGTERM, SIGHUP and SIGKILL at three moments; in the tournament an agent hangs, and ignores all that
-can be ignored. All that a script starts inherits a variable of its environment, by which it is found in /proc, so this wants Linux. It takes some
-three minutes, is no part of `rt ci`, and ends with 0 where nothing is left, and with 1 where something is.
+Each script runs to its end, and is ended by SIGINT, SIGTERM, SIGHUP and SIGKILL at three moments; in the tournament an agent hangs, and ignores every
+signal that can be ignored. All that a script starts inherits an environment variable, by which it is found in /proc, so this needs Linux. It takes some
+three minutes, is not part of `rt ci`, and ends with 0 if nothing is left, and with 1 if something is.
 """
 
 import argparse
@@ -36,7 +36,7 @@ while True:
 
 
 def scripts(place):
-    """Each script's name and its words, which may be those of a game that waits for its agents, or of one that runs."""
+    """Each script's name and its words; the lobby comes twice, waiting for its agents and running a game."""
     game = str(TOP / "examples" / "first.game")
     hanger = Path(place, "hanger.py")
     hanger.write_text(HANGER)

@@ -1,6 +1,6 @@
-/* Refuses one growth of memory. Loaded before the C library by refused_memory.py: of the calls of malloc and realloc after the process has
-   begun, the one of the number REFUSED answers that there is no memory. How many there were stands in the file COUNTED, as a number of eight
-   bytes, which is shared while the process runs, since a program may end without a word. */
+/* Refuses one growth of memory. refused_memory.py loads it before the C library: of the calls of malloc and realloc after the process has
+   begun, the one with the number REFUSED fails. The file COUNTED has their number in eight bytes; it is mapped while the process runs, since
+   a program may end without running exit handlers. */
 #define _GNU_SOURCE
 #include <dlfcn.h>
 #include <fcntl.h>

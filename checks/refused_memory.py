@@ -1,10 +1,10 @@
 #!/usr/bin/env python3
-"""Refuses each growth of memory of a command in turn, and looks at what is left.
+"""Refuses each growth of memory of a command in turn, and checks how the run ends.
 
-Each run has to end as it does with memory, or with status 7. With 7 it has written the line `memory` alone; or, where a game was played, the
+Each run has to end as it does with memory, or with status 7. With 7 it has written only the line `memory`; or, if a game was played, the
 first part of its text, maybe more of it, and then that line. It is run after `rt ci`, which leaves the program at
-crates/tacd/out/tacd; of a command with more than MOST growths (2000) some in between are left out, evenly. It wants a C compiler. It ends
-with 0 where each run ended as it has to."""
+crates/tacd/out/tacd; if a command has more than MOST growths (2000), evenly spaced ones are tried. It needs a C compiler. It ends
+with 0 if each run ended as it has to."""
 import argparse
 import contextlib
 import os
@@ -24,26 +24,26 @@ ACCOUNT = str(EXAMPLES / "one_seat.account")
 
 
 def lines_of(seat):
-    """What an agent sends that takes a seat and asks for one on a flight."""
+    """The lines of an agent that takes a seat and bids for a flight."""
     return f"hello seat{seat}\nbid 0 ((1 400))\ncash\nquit\n"
 
 
 def ran(program, words, environment, port=None):
-    """The status and the text of one run, with eight agents where there is a port."""
+    """The status and the text of one run, with eight agents if there is a port."""
     with EightAgents(port, lines_of) if port else contextlib.nullcontext():
         done = subprocess.run([program, *words], env={**os.environ, **environment}, stdin=subprocess.DEVNULL, stdout=subprocess.PIPE, timeout=60)
     return done.returncode, done.stdout
 
 
 def is_cut(text, whole, may_be_cut):
-    """Whether it is what stands where memory was refused: the line alone, or after the beginning of the whole text."""
+    """Whether this is a text for refused memory: the line alone, or after the beginning of the whole text."""
     if text == b"memory\n":
         return True
     return may_be_cut and text.endswith(b"memory\n") and (whole is None or whole.startswith(text[: -len(b"memory\n")]))
 
 
 def tried(program, shim, name, words, most, may_be_cut=False, served=False):
-    """Refuses each growth of a command in turn. Answers how many runs ended otherwise than they have to."""
+    """Refuses each growth of a command in turn. Returns how many runs ended wrongly."""
     with tempfile.TemporaryDirectory() as folder:
         counted = f"{folder}/counted"
         port = free_port() if served else None

@@ -1,9 +1,9 @@
 #!/usr/bin/env python3
 """Runs the program for each exit status that a shell can bring about, and compares what it ends with.
 
-A contract speaks of the code that `tac` answers, and none of what the process ends with. It is run after `rt ci`, which
-leaves the program at crates/tacd/out/tacd. It ends with 0 where each status is the one due, with 1 where one differs, and says nothing and
-ends with 0 where there is no program."""
+Contracts speak of the code that `tac` answers, but not of the exit status of the process. It runs after `rt ci`, which
+leaves the program at crates/tacd/out/tacd. It ends with 0 if each status is the one due, with 1 if one differs, and prints nothing and
+ends with 0 if there is no program."""
 import argparse
 import pathlib
 import resource
@@ -17,7 +17,7 @@ GAME = str(TOP / "examples" / "first.game")
 
 
 def little_memory():
-    """Leaves the process room for itself and its libraries, and not for a game."""
+    """Limits the memory of the process to enough for itself and its libraries, but not for a game."""
     resource.setrlimit(resource.RLIMIT_AS, (32 << 20, 32 << 20))
 
 

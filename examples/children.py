@@ -1,5 +1,5 @@
-"""What the scripts share: the file of tac, free ports, and processes that end with the script that started them, however it ends: by its last line, by
-ctrl-C, or killed."""
+"""What the scripts share: the file of tac, free ports, and processes that end with the script that started them, however it ends: normally, by ctrl-C,
+or killed."""
 
 import os
 import signal
@@ -15,15 +15,15 @@ TICKS = 54
 
 
 def free_port():
-    """A port that no program listens at now."""
+    """A port on which no program listens now."""
     with socket.socket() as probe:
         probe.bind(("127.0.0.1", 0))
         return probe.getsockname()[1]
 
 
-# The guard is a shell at the other end of a pipe, which ends when the script has ended. Each process that is started leaves its number in a folder
-# before it becomes what it is to be. Then the guard takes the folder away, so that nothing more begins, and ends the group of each number in it: it
-# asks first, so that they can end what they started elsewhere, and a second later kills.
+# The guard is a shell that reads from a pipe, which closes when the script ends. Each process writes its number into a folder before it executes its
+# program. Then the guard moves the folder away, so that nothing more begins, and ends the process group of each number in it: first by SIGTERM, so that
+# they can end what they started elsewhere, and a second later by SIGKILL.
 GUARD = """
 trap '' INT TERM HUP
 read -r end
@@ -38,7 +38,7 @@ START = ': > "$0/$$" && exec "$@"'
 
 
 class Children:
-    """Starts processes, each the head of a process group of its own, so that what it starts ends with it."""
+    """Starts processes, each the leader of a process group of its own, so that what it starts ends with it."""
 
     def __init__(self):
         self.place = Path(tempfile.mkdtemp(prefix="children"))
@@ -54,7 +54,7 @@ class Children:
         except (ProcessLookupError, PermissionError):
             pass  # it has ended already
         try:
-            os.remove(self.place / str(child.pid))  # before its number may be another's
+            os.remove(self.place / str(child.pid))  # before another process may get its number
         except FileNotFoundError:
             pass  # it had not begun
         return child.wait()

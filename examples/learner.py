@@ -1,5 +1,5 @@
 #!/usr/bin/env python3
-"""Learns the most that it pays for a room, against seven agents that pay at most 200 dollars: each try is a game in steps."""
+"""Learns the highest price to bid for a room, against seven agents that bid at most 200 dollars; each try is a game in steps."""
 
 import argparse
 import random
@@ -34,7 +34,7 @@ def play(game, seed, most):
 
 
 parser = argparse.ArgumentParser(description=__doc__)
-parser.add_argument("games", nargs="?", type=int, default=10, help="how many games it learns from (10)")
+parser.add_argument("games", nargs="?", type=int, default=10, help="the number of games (10)")
 given = parser.parse_args()
 
 game, best = Game(), (float("-inf"), 100)

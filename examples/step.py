@@ -1,4 +1,4 @@
-"""A game in steps, by `tac play`, for agents that learn. No time passes: the same requests in the same order give the same game.
+"""A game in steps, by `tac play`, for agents that learn. There is no real time: the same requests in the same order give the same game.
 
     from step import Game
     game = Game()                                    # Game("my.game") for a file; reset(seed) makes one
@@ -7,14 +7,14 @@
         actions = {agent: ["own 8"] for agent in game.agents}
         observations, rewards, terminations, truncations, infos = game.step(actions)
 
-The calls have the forms of PettingZoo's parallel interface, without its spaces: an action is a list of request lines, as docs/PROTOCOL.md has
-them, but for `quit`; what is not given asks nothing. In each step the requests are asked in the order in which they are given, agent by agent, and
+The calls are those of PettingZoo's parallel interface, without its spaces: an action is a list of request lines as in docs/PROTOCOL.md,
+except `quit`; an agent without an action asks nothing. In each step the requests are asked in the order in which they are given, agent by agent, and
 then a tick comes. An observation has the tick, the quotes of all goods after it as (bid, ask, closed), and the replies to the agent's own requests.
-At reset `infos` has what each agent is told at first: its tickets and its clients. After the 54th step the game is over: the rewards are the scores,
-and all others are 0. `game.log` is then the log.
+At reset `infos` has what each agent knows at first: its tickets and its clients. After the 54th step the game is over: the rewards are the scores;
+before, they are 0. `game.log` is then the log.
 
-Each step plays the script so far again: 5 milliseconds of a processor, and some 2 more for each 1000 requests so far, so half a second to a second where
-eight agents have asked all that a script may have. The file of tac is crates/tacd/out/tacd, or what the variable TAC says.
+Each step plays the script so far again: 5 milliseconds of a processor, and some 2 more for each 1000 requests so far, so half a second to a second when
+eight agents have asked all that a script may have. The file of tac is crates/tacd/out/tacd, or the one that the variable TAC names.
 """
 
 import subprocess
@@ -27,7 +27,7 @@ GOODS = 28
 
 
 def run(*words):
-    """What tac writes. Where it refuses, that is an error with its text."""
+    """The output of tac. A refusal raises an error with its text."""
     try:
         done = subprocess.run([PROGRAM, *map(str, words)], stdout=subprocess.PIPE, text=True)
     except FileNotFoundError:
@@ -49,11 +49,11 @@ class Game:
         self.agents = []
 
     def shown(self):
-        """The lines of the game file, each in words."""
+        """The lines of the game file, each split into words."""
         return [line.split() for line in run("show", self.file).splitlines()]
 
     def reset(self, seed=None, options=None):
-        """Begins the game of the file, or one that is made from a seed."""
+        """Begins the game of the file, or one made from a seed."""
         if not self.given:
             self.file.write_text(run("make", 0 if seed is None else seed))
         lines = self.shown()
@@ -88,7 +88,7 @@ class Game:
         return observations, rewards, *ends, infos
 
     def observe(self, askers):
-        """The replies to the requests of those who asked last, and the quotes of all goods, which change nothing."""
+        """The replies to the requests of this step, and the quotes of all goods; asking for quotes changes nothing."""
         quotes = [f"0 quote {good}" for good in range(GOODS)]
         self.script.write_text("".join(line + "\n" for line in self.lines + quotes))
         told = run("play", self.file, self.script).split("\n", self.replies + len(askers) + GOODS)

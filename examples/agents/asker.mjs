@@ -3,8 +3,8 @@
 //
 //     node examples/agents/asker.mjs HOST PORT WORD [--pause SECONDS]
 //
-// It buys the trip of its first client: both seats at once, and a room for each night, for which it bids anew where the quote has come to
-// its bid. When the game is over it says what it holds, and ends. It wants Node 18 or later, and nothing beside it.
+// It buys the trip of its first client: both seats at once, and a room for each night, for which it bids again when the quote has reached
+// its bid. When the game is over it prints what it holds, and ends. It needs Node 18 or later, and nothing else.
 import net from "node:net";
 import readline from "node:readline";
 import { setTimeout as sleep } from "node:timers/promises";
@@ -13,7 +13,7 @@ import { parseArgs } from "node:util";
 const MOST_FOR_A_SEAT = 600; // dollars
 const MOST_FOR_A_ROOM = 300; // dollars
 
-// A connection to the server, which may still be starting: it is tried for two minutes.
+// A connection to the server, which may still be starting: it retries for two minutes.
 async function connect(host, port) {
   for (let tries = 1; ; tries += 1) {
     const socket = net.connect(port, host);
@@ -44,7 +44,7 @@ class Link {
     return value;
   }
 
-  // Takes a seat by its word, and waits until the game begins. The lines of admission are lines of words for every agent.
+  // Takes a seat by its word, and waits until the game begins. Admission is in lines of words for every agent.
   async greet(word) {
     this.socket.write(`hello ${word}\n`);
     const first = await this.line();
@@ -58,7 +58,7 @@ class Link {
     }
   }
 
-  // Sends a request, and gives its reply. Where the server had no memory to read the line nothing was asked, and it is sent again.
+  // Sends a request, and returns its reply. If the server had no memory to read the line, nothing was asked, and it is sent again.
   async ask(request) {
     for (;;) {
       this.socket.write(JSON.stringify(request) + "\n");
@@ -67,13 +67,13 @@ class Link {
     }
   }
 
-  // Bids for one unit, in place of the earlier bid there.
+  // Bids for one unit, which replaces the earlier bid there.
   bid(auction, price) {
     return this.ask({ do: "bid", auction, points: [[1, price]] });
   }
 }
 
-// The goods of a client's trip: the seats in and out, and the rooms.
+// The goods of a client's trip: the inbound and the outbound seat, and the rooms.
 function trip({ arrive, depart, premium }) {
   const hotel = premium > 100 ? 12 : 8;
   const rooms = [];
@@ -81,7 +81,7 @@ function trip({ arrive, depart, premium }) {
   return { seats: [arrive - 1, depart + 2], rooms };
 }
 
-// Bids for the rooms whose quote has come to what stands. `standing` has the dollars of the standing bids.
+// Bids for the rooms whose quote has reached the standing bid. `standing` has the dollars of the standing bids.
 async function bidForRooms(link, rooms, standing) {
   for (const room of rooms) {
     const { quote, open } = await link.ask({ do: "quote", auction: room });

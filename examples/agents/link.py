@@ -1,4 +1,4 @@
-"""A link to the server, as docs/PROTOCOL.md tells it: lines of words, one reply line for each request line."""
+"""A link to the server, as in docs/PROTOCOL.md: lines of words, one reply line for each request line."""
 
 import argparse
 import os
@@ -10,19 +10,19 @@ import time
 from pathlib import Path
 from dataclasses import dataclass, field
 
-INBOUND = range(0, 4)  # seats in on days 1..4
-OUTBOUND = range(4, 8)  # seats out on days 2..5
+INBOUND = range(0, 4)  # inbound seats on days 1..4
+OUTBOUND = range(4, 8)  # outbound seats on days 2..5
 HOTELS = range(8, 16)  # Shoreline Shanties, nights 1..4, and then Tampa Towers
 TICKETS = range(16, 28)  # alligator wrestling, amusement park, museum, nights 1..4 of each
 
 
 def inbound(day):
-    """The seat in on a day, 1..4."""
+    """The inbound seat on a day, 1..4."""
     return day - 1
 
 
 def outbound(day):
-    """The seat out on a day, 2..5."""
+    """The outbound seat on a day, 2..5."""
     return day + 2
 
 
@@ -37,13 +37,13 @@ def ticket(kind, night):
 
 
 def program():
-    """The file of tac: what the variable TAC says, or the built one where this file lies in a clone."""
+    """The file of tac: the one that the variable TAC names, or the built one if this file is in a clone."""
     built = [place / "crates/tacd/out/tacd" for place in Path(__file__).resolve().parents]
     return os.environ.get("TAC") or next((str(file) for file in built if file.exists()), "tac")
 
 
 def solve(holdings, clients):
-    """What 28 holdings are worth to the clients at best, in dollars, by `tac solve`. None where the program is not at hand."""
+    """The best total of 28 holdings for the clients, in dollars, by `tac solve`. None if there is no program."""
     lines = ["account", " ".join(["hold", *map(str, holdings)])]
     for number, client in enumerate(clients):
         lines.append(" ".join(map(str, ["client", number, client.arrive, client.depart, client.premium, *client.values])))
@@ -58,7 +58,7 @@ def solve(holdings, clients):
 
 
 def connect(host, port):
-    """A connection to the server, which may still be starting: it is tried for two minutes."""
+    """A connection to the server, which may still be starting: it retries for two minutes."""
     deadline = time.monotonic() + 120
     while True:
         try:
@@ -84,7 +84,7 @@ class Client:
 
 @dataclass
 class Quote:
-    """A board: how many entries it shows, the highest buy, the lowest sell or the price, and whether the auction is closed."""
+    """A board: how many entries it shows, the highest bid, the lowest ask or the price, and whether the auction is closed."""
 
     count: int
     bid: int
@@ -120,7 +120,7 @@ class Link:
         return link
 
     def line(self):
-        """The next line that the server sends. Where the link was closed or failed, the agent ends and says so."""
+        """The next line that the server sends. If the link was closed or failed, the agent exits with a message."""
         try:
             line = self.lines.readline()
         except OSError:
@@ -130,7 +130,7 @@ class Link:
         return line.rstrip("\n")
 
     def ask(self, request):
-        """Sends a request line, and gives its reply line."""
+        """Sends a request line, and returns its reply line."""
         try:
             self.stream.sendall(request.encode("ascii") + b"\n")
         except OSError:
@@ -138,7 +138,7 @@ class Link:
         return self.line()
 
     def bid(self, good, *points):
-        """Bids points, each units and dollars, in place of the whole earlier bid there."""
+        """Bids points, each units and dollars, which replace the whole earlier bid there."""
         return self.ask(f"bid {good} ({' '.join(f'({units} {price})' for units, price in points)})")
 
     def quote(self, good):
@@ -146,7 +146,7 @@ class Link:
         return Quote(int(words[0][1:]), int(words[2]), int(words[3]), words[4] == "closed")
 
     def read(self, request):
-        """The number that a reading is answered. Where it is refused, as with `no spent`, the agent ends and says so."""
+        """The number that answers a reading. If it is refused, for example by `no spent`, the agent exits with a message."""
         reply = self.ask(request)
         words = reply.split()
         if words[1:2] != request.split()[:1]:
@@ -172,7 +172,7 @@ def arguments(what):
     parser.add_argument("host")
     parser.add_argument("port", type=int)
     parser.add_argument("word", help="the seat word of the agent")
-    # A session has 65,536 lines: at two seconds they last for the slowest game.
-    parser.add_argument("--pause", type=float, default=2.0, metavar="SECONDS", help="how long it waits between two looks; a tick or less is good")
+    # A session has 65,536 lines: with a pause of two seconds they last for the slowest game.
+    parser.add_argument("--pause", type=float, default=2.0, metavar="SECONDS", help="the time between two rounds of requests; a tick or less is good")
     given = parser.parse_args()
     return given.host, given.port, given.word, given.pause

@@ -1,8 +1,8 @@
 #!/usr/bin/env python3
 """Buys a fixed plan: for each client the trip that it prefers, in the hotel that its premium pays for.
 
-It buys the flights at once, bids for the rooms 50 dollars above the quote, at most 300, and anew where the quote has come to its bid, until
-the game is over. It keeps the tickets that it has.
+It buys the flights at once, and bids for the rooms 50 dollars above the quote, at most 300, and again when the quote has reached its bid, until
+the game is over. It keeps its tickets.
 """
 
 import time
@@ -33,11 +33,11 @@ def buy_seats(link, needs):
 
 
 def bid_for_rooms(link, needs, standing, most=MOST_FOR_A_ROOM):
-    """Bids for the rooms of the plan where the quote has come to what stands. `standing` has the dollars of the standing bids."""
+    """Bids for the rooms of the plan whose quote has reached the standing bid. `standing` has the dollars of the standing bids."""
     for good in HOTELS:
         quote = link.quote(good)
         price = min(quote.ask + 50, most)
-        # A bid takes the place of the earlier one, so it is worth a call only where the quote has come to that and more can be bid.
+        # A bid replaces the earlier one, so it is worth a call only if the quote has reached that and a higher bid is allowed.
         if needs[good] and not quote.closed and standing[good] <= quote.ask and standing[good] < price:
             link.bid(good, (needs[good], price))
             standing[good] = price

@@ -1,9 +1,9 @@
 #!/usr/bin/env python3
 """Buys trips as planner.py does, with a little more for rooms, and trades tickets.
 
-Of each ticket type it asks what one ticket more, or one less, would change for its clients: each has one of a type, on a night of its stay.
-It bids for the night where one more brings the most, a little below that, and offers a ticket of the night where one less costs the least, a
-little above. It does so again and again, 500 times at most, and then waits for the end of the game.
+For each ticket type it computes what one ticket more, or one less, would change for its clients: each uses one of a type, on a night of its stay.
+It bids for the night for which one more brings the most, a little below that value, and offers a ticket of the night for which one less costs the
+least, a little above that value. It repeats this at most 500 times, and then waits for the end of the game.
 """
 
 import time
@@ -13,13 +13,13 @@ from link import Link, arguments, ticket
 from planner import bid_for_rooms, buy_seats, plan
 
 MOST_FOR_A_ROOM = 350  # dollars
-MARGIN = 10  # dollars that it wants to gain by a trade
+MARGIN = 10  # dollars that a trade has to gain
 MOST_ROUNDS = 500  # an agent has 1024 calls in each auction, and a round takes at most two of a ticket's
 NIGHTS = range(1, 5)
 
 
 def value(clients, kind, held):
-    """What the tickets of a type, so many of each night, are worth to the clients: the keenest come first, and others make room for them."""
+    """What the tickets of a type, `held` of each night, are worth to the clients: a matching in which clients with higher values come first."""
     places = [night for night in NIGHTS for _ in range(held[night])]
     users = [None] * len(places)
 
@@ -36,7 +36,7 @@ def value(clients, kind, held):
 
 
 def trade(link, kind, standing):
-    """Bids for one ticket of the type, and offers one. `standing` has the points of each bid, and what was held when it was made."""
+    """Bids for one ticket of the type, and offers one. `standing` has the points of each bid, and the holding when it was made."""
     held = {night: max(0, link.own(ticket(kind, night))) for night in NIGHTS}
     now = value(link.clients, kind, held)
     gain = {night: value(link.clients, kind, held | {night: held[night] + 1}) - now for night in NIGHTS}
@@ -50,11 +50,11 @@ def trade(link, kind, standing):
             points.append((-1, loss[night] + MARGIN))
         good = ticket(kind, night)
         if (held[night], points) == standing.get(good, (held[night], [])):
-            continue  # nothing of it was traded since, and nothing is to be changed
+            continue  # nothing was traded since, and the bid stays the same
         if points:
             link.bid(good, *points)
         else:
-            link.ask(f"withdraw {good}")  # where all of it was traded, this is refused and changes nothing
+            link.ask(f"withdraw {good}")  # if all of it was traded, this is refused and changes nothing
         standing[good] = held[night], points
 
 

@@ -1,5 +1,5 @@
 #!/usr/bin/env python3
-"""Only watches: it tells which auctions close, in which order, and at which quotes. It makes no call, since a quote is none."""
+"""Only watches: it prints in which order the hotels close, and at which quotes. It makes no call of an auction, since a quote is none."""
 
 import time
 
