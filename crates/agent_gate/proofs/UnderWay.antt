@@ -35,7 +35,7 @@ use Rattle.agent_gate.proofs.DeskTurns.{HasMade, due_lawful, made_more, all_made
 
 -- ---- the next answer, whatever comes after the bytes that were taken
 
--- a link that tells what it has left, and nothing else
+-- a link whose remaining bytes are known, and nothing else of it
 abbrev leaving : List ℕ → LinkState
 leaving left = record { taken = None; left = Some left; sent = None; reads = 0; writes = 0 }
 

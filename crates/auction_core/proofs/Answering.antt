@@ -1,4 +1,4 @@
--- Who calls, and what an agent is told of its own state.
+-- Who calls, and the answer to an agent's reading.
 use Rattle.std.proofs.Common.{◌≡◌, ℕ, ◌≤◌, ◌==◌, Bool, true, false, cond, List, [], ◌∷◌, ap, ◌∙◌, arith, ℤ, pos, get_or, Some, None}
 use Rattle.std.proofs.lemmas.Bool.Decides.{nat_tests}
 use Rattle.tac_base.specs.declared.bids.Point.{Point}
@@ -28,7 +28,7 @@ is_agent caller agent is = by_test (caller == 8) is
     by_test true is = absurd cc
     by_test false is = cc
 
--- what a book of holdings tells of an agent is the agent's holding
+-- what a book of holdings shows of an agent is the agent's holding
 pub held_is : (setup : Setup) (past : List Entry) (held : List ℤ) (party : ℕ) → party ≤ 8 → held ≡ held_by setup past → get_or held party (pos 0) ≡ holding setup past party
 held_is setup past held party le holds = ap (λ (h : List ℤ). get_or h party (pos 0)) holds ∙ get_or-nine (holding setup past) party le
 

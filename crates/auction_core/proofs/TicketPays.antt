@@ -1,4 +1,4 @@
--- Tickets: no agent buys more units at a price or more than units that arrive, or stand of others, bid so much.
+-- Tickets: no agent buys more units at a price or more than arriving or others' standing units bid so much.
 use Rattle.std.proofs.Common.{◌≡◌, ℕ, ◌+◌, ◌≤◌, Bool, true, false, cond, List, [], ◌∷◌, ◌++◌, refl, sym, ◌∙◌, subst, arith, Option, Some, None}
 use Rattle.std.specs.Prelude.{⊤, not, ◌&&◌, ◌==◌, nat_le, filter, sum_by, count_by}
 use Rattle.std.specs.List.{AllByRecursion}

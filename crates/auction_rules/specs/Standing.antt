@@ -33,7 +33,7 @@ gone rules (e ∷ past) =
 abbrev pub stand : Rules → List Entry → List BidUnit
 stand rules past = left_standing past (gone rules past)
 
--- so many units, signed as those of a point
+-- this many units, signed like those of a point
 abbrev pub signed_as : ℤ → ℕ → ℤ
 signed_as units count = if buys_of units then pos count else neg_ℤ (pos count)
 

@@ -47,7 +47,7 @@ fn falling_price_reaches_a_bid(rt: HostRuntime) -> Result<(), Fail> {
     Ok(())
 }
 
-/// Two of four units are sold at once, each point by itself, and the others are taken back.
+/// Two of four units are sold at once, each point by itself, and the others are withdrawn.
 #[test]
 fn withdrawal_takes_back_what_is_left(rt: HostRuntime) -> Result<(), Fail> {
     let mut fills = Fills::new();

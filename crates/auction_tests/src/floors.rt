@@ -35,7 +35,7 @@ fn point(units: i8, price: u16) -> Point {
     Point { units, price }
 }
 
-/// Whether a bid is taken at the position, with so many units bought and sold.
+/// Whether a bid is taken at the position, with these units bought and sold.
 fn is_taken(outcome: &Outcome, at: u32, units: (u8, u8)) -> bool {
     match outcome {
         Outcome::At {

@@ -30,13 +30,13 @@ abbrev pub followed_by : Option Point → Option (List Point) → Option (List P
 followed_by None others = None
 followed_by (Some point) others = option_map (λ points. point ∷ points) others
 
--- the points of so many words
+-- the points of this many words
 abbrev pub points_from : List (List ℕ) → Option (List Point)
 points_from [] = Some []
 points_from (left ∷ []) = None
 points_from (left ∷ right ∷ words) = followed_by (point_of left right) (points_from words)
 
--- the points of a text: `(`, the points parted by single spaces, `)`
+-- the points of a text: `(`, the points separated by single spaces, `)`
 unfoldable pub points_of : List ℕ → Option (List Point)
 points_of text = if nat_le 2 (length text) && (slice_index text 0 == 40 && last text == 41) then points_from (words_of (take (length text - 2) (drop 1 text))) else None
 

@@ -16,7 +16,7 @@ right_word point = decimal point.price ++ 41 ∷ []
 abbrev pub point_words : Point → List (List ℕ)
 point_words point = left_word point ∷ right_word point ∷ []
 
--- `(`, the points parted by single spaces, `)`
+-- `(`, the points separated by single spaces, `)`
 abbrev pub spelling : List Point → List ℕ
 spelling points = 40 ∷ (join_with_byte 32 (flat_map point_words points) ++ 41 ∷ [])
 

@@ -25,7 +25,7 @@ unfolding first_words
 words_range zero words = All-nil (IsBetween 0 4294967295)
 words_range (suc n) words = All-cons (IsBetween 0 4294967295) (pcg32 words).0 _ (let below = word_below words in (omega arith, omega arith)) (words_range n (pcg32 words).1)
 
--- a part of so many words
+-- a part of this many words
 pub record IsPart (size : ℕ) (part : List ℕ) : Type 0 where
   pub count : length part ≡ size
   pub range : AllBetween 0 4294967295 part

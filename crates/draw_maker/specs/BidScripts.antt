@@ -20,7 +20,7 @@ pub record IsBidLine (line : List ℕ) : Type 0 where
   pub lawful : fault_of (point ∷ []) ≡ None
   pub spelled : line ≡ bid_line agent good point
 
--- so many bids, and at most as many ticks as a game has, in lines
+-- this many bids, and at most as many ticks as a game has, in lines
 pub record IsBidScript (count : ℕ) (text : List ℕ) : Type 0 where
   pub lines : List (List ℕ)
   pub in_lines : text ≡ text_of lines

@@ -6,7 +6,7 @@ use Rattle.std.proofs.lemmas.Nat.{mul-le}
 use Rattle.std.specs.Int.{int_div_euclid, int_max, int_min}
 use Rattle.auction_rules.specs.FlightRule.{drift, change, clamped}
 
--- a number is within so many of 0
+-- a number is within a distance of 0
 abbrev pub Within : ℕ → ℤ → Type 0
 Within n z = unsigned_abs z ≤ n
 

@@ -65,6 +65,6 @@ said_words (Fault fault) = fault_words fault
 said_words TooLong = codes "no" ∷ codes "toolong" ∷ []
 said_words Bye = codes "bye" ∷ []
 
--- the line, without its line end: the words, parted by single spaces
+-- the line, without its line end: the words, separated by single spaces
 abbrev pub said_text : Said → List ℕ
 said_text said = join_with_byte 32 (said_words said)

@@ -35,7 +35,7 @@ form_words (QuoteForm number) = codes "quote" ∷ decimal number ∷ []
 form_words CashForm = codes "cash" ∷ []
 form_words QuitForm = codes "quit" ∷ []
 
--- the words, parted by single spaces
+-- the words, separated by single spaces
 abbrev pub form_text : Form → List ℕ
 form_text form = join_with_byte 32 (form_words form)
 

@@ -96,7 +96,7 @@ IsFreeOf game log (flaws.Unposted good position) = good < 28 → HasPost log goo
 IsFreeOf game log (flaws.Score agent) = HasDueScore game log agent
 IsFreeOf game log flaws.Head = IsSoundHead log log.head
 
--- ---- which flaw is told
+-- ---- which flaw is reported
 
 -- the kinds of flaws in their order
 abbrev pub turn_of : Flaw → ℕ

@@ -26,7 +26,7 @@ regroup {A} front x (Ok others) = ap (λ (xs : List A). Ok (xs, others.1)) (simp
 regroup front x (Err fault) = refl
 
 module _ {A : Type 0} (step : ℕ → Remaining → Result (A × Remaining) BadLine) (front : List A) where
-  -- ---- so many parts
+  -- ---- a fixed number of parts
 
   pub one_more : (count i : ℕ) (left : Remaining) (x : A) (after : Remaining) → i < count → step i left ≡ Ok (x, after) →
       with_front (front ++ x ∷ []) (repeat (count - (i + 1)) (i + 1) step after) ≡ with_front front (repeat (count - i) i step left)

@@ -252,7 +252,7 @@ parts_of_lines_again (line ∷ lines) h =
     let made : text_of (line ∷ lines) ≡ line ++ 10 ∷ text_of lines = flat_map-cons (λ l. l ++ 10 ∷ []) line lines ∙ append_assoc line (10 ∷ []) (text_of lines) in
     ap (parts_of 10) made ∙ parts_more 10 line (text_of lines) h.0 ∙ ap (λ (ls : List (List ℕ)). line ∷ ls) (parts_of_lines_again lines h.1)
 
--- so many lines were taken
+-- this many lines were taken
 record TookBlock (count : ℕ) (lines : List (List ℕ)) (left : Remaining) (x : List ℕ × Remaining) : Type 0 where
   taken : List (List ℕ)
   count_is : length taken ≡ count

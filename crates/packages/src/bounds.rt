@@ -107,7 +107,7 @@ fn best_margin<N: Narrowing>(
     most
 }
 
-/// The sum of a bound so far, after so many clients, and one more client's margin.
+/// The sum of a bound so far, after this many clients, and one more client's margin.
 fn added(bound: Option<i64>, other: Option<i64>, number: usize) -> Option<i64>
     requires number { number < 8 }
     requires low { ForSome bound (λ n. negsuc (2000000 * number) ≤ℤ n) }

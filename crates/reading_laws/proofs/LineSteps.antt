@@ -1,4 +1,4 @@
--- Steps that read a line by its form, and so many parts one after another.
+-- Steps that read a line by its form, and a number of parts one after another.
 use Rattle.std.proofs.Common.{◌≡◌, ℕ, zero, suc, ◌+◌, ◌<◌, ◌≤◌, ◌⊎◌, inl, inr, Bool, true, List, [], ◌∷◌, Result, Ok, Err, refl, arith}
 use Rattle.text_forms.specs.declared.lines.Reason.{Reason}
 use Rattle.text_forms.specs.declared.lines.Reason.TheVariants.{TextEnd}

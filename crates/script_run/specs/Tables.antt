@@ -16,7 +16,7 @@ use Rattle.script_run.specs.GameStates.{GameState, past_at, readings_of}
 abbrev pub made : List (List Entry) → ℕ → ℕ
 made pasts caller = sum_by (λ past. entries_of past caller) pasts
 
--- the clock's calls of so many ticks
+-- the clock's calls of this many ticks
 abbrev pub due : GameFile → ℕ → ℕ
 due game ticks = sum_by (λ tick. length (schedule.calls_at game tick)) (take ticks schedule.ticks)
 

@@ -18,7 +18,7 @@ pub positive_is : (o : Option ℕ) (z : ℤ) → option_map pos o ≡ Some z →
 positive_is None z h = absurd cc
 positive_is (Some n) z h = (n, refl, cc)
 
--- what a word with a number of at most so many digits is
+-- the form of a word with a number of at most this many digits
 pub record IsSigned (digits : ℕ) (word : List ℕ) (z : ℤ) : Type 0 where
   pub spelled : word ≡ signed_decimal z
   pub short : length (decimal (unsigned_abs z)) ≤ digits
@@ -52,7 +52,7 @@ limit_by : (digits limit : ℕ) (first : ℕ) (rest : List ℕ) (z : ℤ) (b : B
 limit_by digits limit first rest z true few h = let o = opposite_is (numeral digits rest) z h in rw o.2 (numeral_limit digits limit rest (suc o.0) few o.1)
 limit_by digits limit first rest z false few h = let o = positive_is (numeral digits (first ∷ rest)) z h in rw o.2 (numeral_limit digits limit (first ∷ rest) o.0 few o.1)
 
--- a signed numeral of at most so many digits has a number of so many
+-- a signed numeral of at most this many digits has a number of this many
 pub signed_limit : (digits limit : ℕ) (word : List ℕ) (z : ℤ) → digits ≤ limit → signed_numeral digits word ≡ Some z → unsigned_abs z < 10 ^ limit
 unfolding signed_numeral
 signed_limit digits limit [] z few h = absurd cc

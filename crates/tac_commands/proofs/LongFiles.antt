@@ -48,7 +48,7 @@ longer n zeros is = (zeros, omega (arith, is))
 some_long : (n : ℕ) → (bytes : List ℕ) × (n < length bytes)
 some_long n = longer n (replicate (suc n) 0) (length-replicate (suc n) 0)
 
--- a file that was found too long, where files are told or not
+-- a file that was found too long, whether files are known or not
 pub told_long : (content : Content) (kind : FileKind) (name : List ℕ) → IsTooLong content name (most_bytes kind) → HasFault content kind name TooLong
 told_long None kind name long = let some = some_long (most_bytes kind) in (some.0, tt, long_file kind some.0 some.1)
 told_long (Some files) kind name long = (long.0, long.1, long_file kind long.0 long.2)

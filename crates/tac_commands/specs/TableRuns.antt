@@ -38,7 +38,7 @@ EndsAtPair files files' pair game_name log_name fault =
     (played : List (GameFile × LoggedGame)) (later : List (List ℕ × List ℕ)) → length played ≡ pair →
     Runs (table_steps played ((game_name, log_name) ∷ later)) files files' (outcome_of fault)
 
--- The standings are those of this many games of the first pairs, and a table goes on from here: the outcome of the remaining pairs is that
+-- The standings are those of this many games of the first pairs, and a table continues from here: the outcome of the remaining pairs is that
 -- of all.
 pub record GoesOn (all left : List (List ℕ × List ℕ)) (count : ℕ) (files files' : FilesState) (standings : Kept) : Type 0 where
   pub played : List (GameFile × LoggedGame)

@@ -185,7 +185,7 @@ module _ {L : Type 0} (state : L → LinkState) (may_answer : List ℕ → Resul
         (log.due ∙ text_is (head_of played.head) played.closed log.sheet),
   )
 
-  -- the log of that game that is told is sound
+  -- the log of that game that is written is sound
   pub tells_soundly : (outcome : Outcome) → PlayedAllows game played outcome → TellsSoundly game played outcome
   tells_soundly (Done told) allows = log_soundly told allows.0
   tells_soundly (Lapsed told) allows = log_soundly told allows.0

@@ -83,7 +83,7 @@ one_taken skips number count rest line after cut test =
 
 -- ---- several lines of a block
 
--- some lines were taken off a text, so many are due
+-- some lines were taken off a text, and this many are due
 pub record AreTaken (skips : Bool) (text : List ℕ) (count : ℕ) (rest : List ℕ) (due : ℕ) : Type 0 where
   pub front : List ℕ
   pub whole : text ≡ front ++ rest

@@ -167,7 +167,7 @@ pub parts_lines : {A : Type 0} (lines : ℕ → A → List (List ℕ)) (P : A �
 parts_lines lines P most count each [] from few h = tt
 parts_lines lines P most count each (x ∷ xs) from few h = lines_append most (lines from x) (lines_of_parts lines (from + 1) xs) (each from x (omega (arith, few)) (All-head P x xs h)) (parts_lines lines P most count each xs (from + 1) (omega (arith, few)) (All-tail P x xs h))
 
--- parts of so many lines each
+-- parts of this many lines each
 pub count_parts : {A : Type 0} (lines : ℕ → A → List (List ℕ)) (P : A → Type 0) (count : ℕ) → ((i : ℕ) (x : A) → P x → length (lines i x) ≡ count) → (xs : List A) (from : ℕ) → All P xs → length (lines_of_parts lines from xs) ≡ count * length xs
 count_parts lines P count each [] from h = omega arith
 count_parts lines P count each (x ∷ xs) from h =

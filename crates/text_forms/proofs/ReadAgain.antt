@@ -31,7 +31,7 @@ repeat_again {A} step lines P most again (x ∷ xs) from few h numbers more afte
     let regrouped : (lines from x ++ lines_of_parts lines (from + 1) xs) ++ more ≡ lines from x ++ (lines_of_parts lines (from + 1) xs ++ more) = append_assoc (lines from x) (lines_of_parts lines (from + 1) xs) more in
     (rest.0, ap (λ (ls : List (List ℕ)). repeat (suc (length xs)) from step (ahead numbers ls after)) regrouped ∙ rw (first.1, rest.1) refl)
 
--- so many parts
+-- this many parts
 pub parts_again : {A : Type 0} (step : ℕ → Remaining → Result (A × Remaining) BadLine) (lines : ℕ → A → List (List ℕ)) (P : A → Type 0) (count : ℕ) → Again step lines P count
     → (xs : List A) → length xs ≡ count → All P xs → (numbers : List ℕ) (more : List (List ℕ)) (after : Remaining)
     → (m : List ℕ) × (repeat count 0 step (ahead numbers (lines_of_parts lines 0 xs ++ more) after) ≡ Ok (xs, ahead m more after))

@@ -158,7 +158,7 @@ impl Sides {
         gone
     }
 
-    /// The units of a bid trade with those of other agents. What is left of them then stands in place of the agent's earlier units. `fills`
+    /// The units of a bid trade with those of other agents. What is left of them then replaces the agent's earlier units. `fills`
     /// then holds the trades.
     pub(crate) fn trade(&mut self, good: Good, bid: &Placed, fills: &mut Fills)
         ensures trades { fills.new ≡ rule.ticket_trades good (both self.old) (spec.units_of bid.now) }

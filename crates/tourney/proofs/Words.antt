@@ -17,7 +17,7 @@ same word other e = (bytes_eq-Decides word other).0 e
 pub turned : (word other : List ℕ) (b : Bool) → bytes_eq word other ≡ b → bytes_eq other word ≡ b
 turned word other b e = laws.symm other word ∙ e
 
--- a word that is equal to one and not to another tells them apart
+-- words are different if a third is equal to only one of them
 pub apart : (word one other : List ℕ) → bytes_eq word one ≡ true → bytes_eq word other ≡ false → bytes_eq one other ≡ false
 apart word one other e n = sym (laws.congr word one other e) ∙ n
 

@@ -5,7 +5,7 @@ use Rattle.auction_core.specs.ClosedGame.{all_goods}
 use Rattle.log_text.proofs.Trades.{goods_of}
 use Rattle.auction_tests.proofs.logs.auctions_of.Goals as goal
 
--- so many numbers from one on
+-- this many numbers from one on
 abbrev numbers : ℕ → ℕ → List ℕ
 numbers from zero = []
 numbers from (suc n) = from ∷ numbers (suc from) n
