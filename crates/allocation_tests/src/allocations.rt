@@ -1,14 +1,8 @@
 // Whole searches, and their text.
+use crate::accounts::{ONE_SEAT, WRESTLING_FANS, account};
 use allocator::{print_solved, solve};
 use bound_cert::check;
-use game_text::{Account, read_account};
-use std::alloc::Global;
 use std::test::Fail;
-
-/// Clients that want days 1 to 2, and two of them the ticket for alligator wrestling.
-const WRESTLING_FANS: &str = "client 0 1 2 50 100 0 0\nclient 1 1 2 50 150 0 0\n\
-    client 2 1 2 50 0 0 0\nclient 3 1 2 50 0 0 0\nclient 4 1 2 50 0 0 0\n\
-    client 5 1 2 50 0 0 0\nclient 6 1 2 50 0 0 0\nclient 7 1 2 50 0 0 0\n";
 
 /// Clients for whom many packages gain the same, so that the relaxation has many steps that gain nothing.
 const EQUAL_GAINS: &str = "client 0 1 5 55 112 155 170\nclient 1 3 5 140 104 90 79\n\
@@ -22,11 +16,7 @@ const HALF_DOLLARS: &str = "client 0 4 5 67 200 100 200\nclient 1 4 5 67 200 100
 
 /// Holdings and clients, and what the best allocation is worth; an integer-program solver gives the totals of the last two.
 const ACCOUNTS: [(&str, &str, u32); 4] = [
-    (
-        "1 0 0 0 2 0 0 0 2 0 0 0 0 0 0 0 1 0 0 0 0 0 0 0 0 0 0 0",
-        WRESTLING_FANS,
-        1150,
-    ),
+    (ONE_SEAT, WRESTLING_FANS, 1150),
     (
         "8 8 8 8 8 8 8 8 8 8 8 8 8 8 8 8 8 8 8 8 8 8 8 8 8 8 8 8",
         WRESTLING_FANS,
@@ -43,12 +33,6 @@ const ACCOUNTS: [(&str, &str, u32); 4] = [
         9241,
     ),
 ];
-
-/// The account of holdings and the lines of its clients.
-fn account(alloc: Global, hold: &str, clients: &str) -> Result<Account, Fail> {
-    let text = format!(in alloc; "account\nhold {hold}\n{clients}end\n")?;
-    Ok(read_account(text.as_bytes())?)
-}
 
 #[test]
 fn accounts_have_their_best_totals_and_print_them_first(rt: HostRuntime) -> Result<(), Fail> {

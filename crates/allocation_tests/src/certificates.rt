@@ -1,20 +1,7 @@
+use crate::accounts::{ONE_SEAT, WRESTLING_FANS, account};
 use bound_cert::{CertFault, check, print_cert, read_cert};
-use game_text::{Account, read_account};
 use std::alloc::{AllocError, Global};
 use std::test::Fail;
-
-/// The account of holdings whose clients want days 1 to 2, and two of them the ticket for alligator wrestling.
-fn account(alloc: Global, hold: &str) -> Result<Account, Fail> {
-    let text = format!(in alloc;
-        "account\nhold {hold}\nclient 0 1 2 50 100 0 0\nclient 1 1 2 50 150 0 0\n\
-        client 2 1 2 50 0 0 0\nclient 3 1 2 50 0 0 0\nclient 4 1 2 50 0 0 0\n\
-        client 5 1 2 50 0 0 0\nclient 6 1 2 50 0 0 0\nclient 7 1 2 50 0 0 0\nend\n"
-    )?;
-    Ok(read_account(text.as_bytes())?)
-}
-
-/// One seat in and one ticket, two seats out and two rooms.
-const ONE_SEAT: &str = "1 0 0 0 2 0 0 0 2 0 0 0 0 0 0 0 1 0 0 0 0 0 0 0 0 0 0 0";
 
 const NO_GOODS: &str = "0 0 0 0 0 0 0 0 0 0 0 0 0 0 0 0 0 0 0 0 0 0 0 0 0 0 0 0";
 
@@ -58,7 +45,7 @@ fn certificates_hold_for_what_they_bound_and_are_printed_as_read(
         (NO_GOODS, free.as_slice(), 0, false),
         (NO_GOODS, free.as_slice(), 14000, true),
     ] {
-        let account = account(rt.alloc(), hold)?;
+        let account = account(rt.alloc(), hold, WRESTLING_FANS)?;
         let cert = read_cert(rt.alloc(), text)?;
         assert_eq!(rt; check(&account, claim, &cert), holds);
         let printed = print_cert(rt.alloc(), &cert)?;

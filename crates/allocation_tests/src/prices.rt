@@ -1,27 +1,23 @@
 // Prices of whole accounts.
+use crate::accounts::{ONE_SEAT, WRESTLING_FANS, account};
 use dual_bound::{Choice, dual_prices};
-use game_text::{Account, read_account};
 use packages::{Package, leaf_bound};
-use relaxation::Relaxation;
+use relaxation::{Relaxation, Split};
 use std::test::Fail;
 
-/// Clients that want days 1 to 2, and two of them the ticket for alligator wrestling; one seat in, two out, two rooms and one
-/// ticket.
-const ONE_SEAT: &str = "account\nhold 1 0 0 0 2 0 0 0 2 0 0 0 0 0 0 0 1 0 0 0 0 0 0 0 0 0 0 0\n\
-    client 0 1 2 50 100 0 0\nclient 1 1 2 50 150 0 0\nclient 2 1 2 50 0 0 0\nclient 3 1 2 50 0 0 0\n\
-    client 4 1 2 50 0 0 0\nclient 5 1 2 50 0 0 0\nclient 6 1 2 50 0 0 0\nclient 7 1 2 50 0 0 0\nend\n";
-
-fn one_seat() -> Result<Account, Fail> {
-    Ok(read_account(ONE_SEAT.as_bytes())?)
-}
+/// Clients of whose relaxation the best solution, which is the only one, has halves of packages.
+const HALVES: &str =
+    "client 0 3 4 144 200 0 200\nclient 1 3 5 103 0 0 200\nclient 2 2 3 103 0 0 0\n\
+    client 3 1 4 102 200 0 200\nclient 4 1 3 85 200 200 200\nclient 5 1 5 62 137 74 172\n\
+    client 6 4 5 141 177 46 0\nclient 7 2 5 105 200 200 200\n";
 
 #[test]
 fn dual_prices_bound_what_is_left_by_its_best_total(rt: HostRuntime) -> Result<(), Fail> {
-    let account = one_seat()?;
+    let account = account(rt.alloc(), ONE_SEAT, WRESTLING_FANS)?;
     let all = Choice::none();
     // Client 1 stays at home, so that client 0 takes the seat and the ticket.
     let home = all.with(1, 0, 0);
-    assert!(rt; home.is_fixed(1, 0) && !home.is_fixed(0, 0));
+    assert_eq!(rt; (home.fixed[1][0], home.fixed[0][0]), (Some(0), None));
     for (choice, best) in [(&all, 1150), (&home, 1100)] {
         let prices = dual_prices(&account, choice);
         assert_eq!(rt; leaf_bound(&account, choice, &prices), Some(best));
@@ -31,7 +27,7 @@ fn dual_prices_bound_what_is_left_by_its_best_total(rt: HostRuntime) -> Result<(
 
 #[test]
 fn relaxation_gives_whole_packages_and_prices(rt: HostRuntime) -> Result<(), Fail> {
-    let account = one_seat()?;
+    let account = account(rt.alloc(), ONE_SEAT, WRESTLING_FANS)?;
     let mut relaxation = Relaxation::new(&account);
     relaxation.repair(0);
     let mut due = [Package::None; 8];
@@ -42,11 +38,68 @@ fn relaxation_gives_whole_packages_and_prices(rt: HostRuntime) -> Result<(), Fai
         nights: [1, 0, 0],
     };
     assert_eq!(rt; relaxation.packages(), due);
-    assert!(rt; relaxation.branching_priority(1, 0) <= 0.0);
     assert!(rt; !relaxation.decide(0));
-    // All parts are worth at most 1150, and only the part where client 1 takes the trip is worth more than 1100.
-    let priced = relaxation.priced(&relaxation.prices_for(1150));
-    let left = relaxation.after_split(1, 0, &priced, 1100.0, 1000000.0);
-    assert!(rt; left > 2500.0 && left < 2502.0);
+    Ok(())
+}
+
+#[test]
+fn split_leaves_least_to_search(rt: HostRuntime) -> Result<(), Fail> {
+    let account = account(
+        rt.alloc(),
+        "2 5 4 2 0 4 3 -1 3 3 -1 2 4 2 1 2 -1 1 -1 5 5 4 3 3 4 1 0 2",
+        HALVES,
+    )?;
+    let relaxation = Relaxation::new(&account);
+    let prices = relaxation.prices_for(6052);
+    // The three free features have two values each with half a share. By an LP solver a part is worth at most 6150 where client 2's trip is
+    // fixed, 6085 where client 0's night in the museum is, and 6052 where client 7's night in the amusement park is.
+    let mut fixed = [[Some(0); 4]; 8];
+    fixed[0] = [Some(0), Some(0), Some(0), None];
+    fixed[2] = [None, Some(0), Some(0), Some(0)];
+    fixed[7] = [Some(0), Some(0), None, Some(0)];
+    let park = Split {
+        client: 7,
+        feature: 2,
+    };
+    assert_eq!(rt; relaxation.next_split(&fixed, &prices, 6052), Some(park));
+    fixed[7] = [Some(0); 4];
+    let museum = Split {
+        client: 0,
+        feature: 3,
+    };
+    assert_eq!(rt; relaxation.next_split(&fixed, &prices, 6052), Some(museum));
+    Ok(())
+}
+
+#[test]
+fn split_has_the_fewest_open_parts_where_packages_are_whole(rt: HostRuntime) -> Result<(), Fail> {
+    // Some of each good is left over, so each client has a package that is worth most to it, 8650 dollars together, and all prices are 0.
+    let account = account(
+        rt.alloc(),
+        "9 9 9 9 9 9 9 9 9 9 9 9 9 9 9 9 9 9 9 9 9 9 9 9 9 9 9 9",
+        WRESTLING_FANS,
+    )?;
+    let relaxation = Relaxation::new(&account);
+    let prices = relaxation.prices_for(8649);
+    // To clients 2 to 7 a ticket for night 1 is worth as much as none: only their ticket features have two best values, which leave room.
+    let mut fixed = [[None; 4]; 8];
+    let ticket = Split {
+        client: 2,
+        feature: 1,
+    };
+    assert_eq!(rt; relaxation.next_split(&fixed, &prices, 8649), Some(ticket));
+    // Of the rest, each trip leaves two values open, since the worse hotel takes only 50 dollars, and a ticket's night one.
+    for client in 2..8 {
+        fixed[client] = [None, Some(0), Some(0), Some(0)];
+    }
+    let night = Split {
+        client: 0,
+        feature: 1,
+    };
+    assert_eq!(rt; relaxation.next_split(&fixed, &prices, 8550), Some(night));
+    assert_eq!(rt;
+        relaxation.next_split(&[[Some(0); 4]; 8], &prices, 8550),
+        None
+    );
     Ok(())
 }

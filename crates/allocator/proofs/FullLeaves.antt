@@ -1,5 +1,5 @@
 -- Where every feature is fixed, the scarcity prices leave no more than the packages' worth.
-use Rattle.std.proofs.Common.{◌≡◌, ℕ, zero, suc, ◌+◌, ◌*◌, ◌/◌, ◌%◌, ◌<◌, ◌≤◌, ◌⊎◌, ◌&&◌, ℤ, pos, ◌+ℤ◌, ◌-ℤ◌, ◌≤ℤ◌, Bool, true, false, cond, List, [], ◌∷◌, Option, Some, None, is_some, IfNone, map, length, get_or, leb, int_le, inl, inr, refl, sym, ap, subst, ◌∙◌, arith}
+use Rattle.std.proofs.Common.{◌≡◌, ℕ, zero, suc, ◌+◌, ◌*◌, ◌<◌, ◌≤◌, ◌⊎◌, ◌&&◌, ℤ, pos, ◌+ℤ◌, ◌-ℤ◌, ◌≤ℤ◌, Bool, true, false, cond, List, [], ◌∷◌, Option, Some, None, is_some, map, length, get_or, leb, int_le, inl, inr, refl, sym, ap, subst, ◌∙◌, arith}
 use Rattle.std.specs.List.{filter, slice_get}
 use Rattle.std.proofs.lemmas.Int.{ints}
 use Rattle.std.proofs.Math.Nat.{mul-le-mul_left}
@@ -20,8 +20,9 @@ use Rattle.bound_cert.specs.Certificate.{is_within}
 use Rattle.bound_cert.proofs.Duality.{all_cost, cost_together, sum_below_le}
 use Rattle.allocator.specs.Scarcity.{scarcity_price}
 use Rattle.dual_bound.proofs.Greatest.{greatest_at_most, parts_of}
-use Rattle.dual_bound.specs.Choices.{fits, fixed_at, has_fixed, chosen}
-use Rattle.allocator.specs.Searching.{IsFull, AreLeft, IsOut}
+use Rattle.dual_bound.specs.Choices.{fits, has_fixed, chosen}
+use Rattle.relaxation.specs.Splits.{IsFull}
+use Rattle.allocator.specs.Searching.{AreLeft, IsOut}
 
 -- packages with the same features are the same
 same_trip : (hotel arrive depart : ℕ) (nights : List ℕ) (hotel' arrive' depart' : ℕ) (nights' : List ℕ)
@@ -189,12 +190,3 @@ row_same row feature p q lt is hp hq =
 -- where every feature is fixed, what is left to a client has the same values
 pub full_same : (choice : List (List (Option ℕ))) → IsFull choice → AreFixed (chosen choice)
 full_same choice full = λ client feature client_in feature_in p q hp hq. row_same (get_or choice client []) feature p q feature_in (full client feature client_in feature_in) hp hq
-
--- where no free place was found among the 32, every feature is fixed
-pub full_of_places : {X : Type 0} (choice : List (List (Option ℕ))) (found : Option X) (place : ℕ) → 32 ≤ place → IfNone found ((k : ℕ) → k < place → is_some (fixed_at choice (k / 4) (k % 4)) ≡ true) → IfNone found (IsFull choice)
-full_of_places choice (Some x) place far h = h
-full_of_places choice None place far h = λ client feature client_in feature_in.
-    let client_is : (4 * client + feature) / 4 ≡ client = omega arith in
-    let feature_is : (4 * client + feature) % 4 ≡ feature = omega arith in
-    let at = h (4 * client + feature) (omega arith) in
-    subst (λ j. is_some (fixed_at choice j feature) ≡ true) client_is (subst (λ j. is_some (fixed_at choice ((4 * client + feature) / 4) j) ≡ true) feature_is at)

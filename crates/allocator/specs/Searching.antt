@@ -1,22 +1,17 @@
 -- What the search keeps; for private clauses.
-use Rattle.std.specs.Prelude.{◌≡◌, ℕ, ◌<◌, true, false, List, Option, Some, is_some, slice_get, slice_index_or}
+use Rattle.std.specs.Prelude.{◌≡◌, ℕ, ◌<◌, true, false, List, Some, slice_get, slice_index_or}
 use Rattle.game_text.specs.Accounts.{AccountFile}
 use Rattle.packages.specs.declared.travel_packages.Package.{Package}
 use Rattle.packages.specs.declared.travel_packages.Package.TheVariants as kinds
 use Rattle.packages.specs.Packages.{is_package}
 use Rattle.packages.specs.Listing.{packages}
 use Rattle.packages.specs.Bounds.{Narrowing}
-use Rattle.dual_bound.specs.Choices.{fixed_at}
 use Rattle.packages.specs.BestTotal.{IsFeasible, total_of}
 
 -- a feasible allocation and what it is worth
 pub record IsReached (account : AccountFile) (allocation : List Package) (total : ℕ) : Type 0 where
   pub feasible : IsFeasible account allocation
   pub worth : total_of account.clients allocation ≡ total
-
--- every feature of the eight clients is fixed
-abbrev pub IsFull : List (List (Option ℕ)) → Type 0
-IsFull choice = (client feature : ℕ) → client < 8 → feature < 4 → is_some (fixed_at choice client feature) ≡ true
 
 -- no package is left to the client
 abbrev pub IsOut : Narrowing → ℕ → Type 0

@@ -6,7 +6,6 @@ mod printing;
 mod scarcity;
 mod searching;
 mod solving;
-mod splits;
 
 pub use printing::{append_solved, print_solved};
 pub use solving::{Solved, solve};

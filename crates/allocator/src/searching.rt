@@ -10,19 +10,19 @@ ghost use Rattle.packages.specs.Stocks.{stock_of};
 ghost use Rattle.bound_cert.specs.Trees as trees;
 ghost use Rattle.bound_cert.specs.Trees.{is_tree};
 ghost use Rattle.bound_cert.specs.Views.{tree_of};
+ghost use Rattle.relaxation.specs.Splits.{IsFull};
 ghost use Rattle.dual_bound.specs.Choices.{chosen, fixed_count};
 ghost use Rattle.dual_bound.specs.Ceilings.{IsCeiling};
 ghost use Rattle.bound_cert.specs.Certificate.{holds, is_within};
-ghost use Rattle.allocator.specs.Searching.{IsFull, IsReached};
+ghost use Rattle.allocator.specs.Searching.{IsReached};
 
 use crate::candidates::{better_choice, first_choice};
 use crate::scarcity::scarcity_prices;
-use crate::splits::{Split, next_split};
 use bound_cert::CertNode;
 use dual_bound::{Choice, Quote, is_enough, worth};
 use game_text::Account;
 use packages::{Package, Prices, value_count};
-use relaxation::Relaxation;
+use relaxation::{Relaxation, Split};
 use std::alloc::{AllocError, Global};
 
 /// At most so many features are decided in one dive.
@@ -152,7 +152,8 @@ pub(crate) fn explore(
     if quote.holds(&left.worths, best.total) {
         return Ok(leaf(&quote.prices));
     }
-    let Some(Split { client, feature }) = next_split(choice, left, &quote.prices, best.total) else {
+    let Some(Split { client, feature }) = left.next_split(&choice.fixed, &quote.prices, best.total)
+    else {
         return Ok(leaf(&full_prices(account, choice, best)));
     };
     let mut children = Vec::new(alloc);

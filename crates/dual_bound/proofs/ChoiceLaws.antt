@@ -8,7 +8,8 @@ use Rattle.std.proofs.lemmas.List.{get_or-set_same, get_or-set_other, get_or_def
 use Rattle.std.proofs.lemmas.List.Sums.{sum_by-set, sum_by-le, count_by-le-length}
 use Rattle.packages.specs.declared.travel_packages.Package.{Package}
 use Rattle.packages.specs.Features.{feature_of, narrowed}
-use Rattle.dual_bound.specs.Choices.{fits, fixed_at, has_fixed, chosen, fixed_count, with_fixed, IsChoice}
+use Rattle.relaxation.specs.Splits.{fixed_at}
+use Rattle.dual_bound.specs.Choices.{fits, has_fixed, chosen, fixed_count, with_fixed, IsChoice}
 
 second : (a x y z : Bool) → (a && (x && (y && z))) ≡ ((a && (true && (y && z))) && x)
 second true x y z = and_comm x (y && z)
@@ -96,10 +97,6 @@ count_free choice client feature h client_in feature_in free =
     ] in
     let bound = sum_by-le (λ r. count_by is_some r) 4 (with_fixed choice client feature 0) (rows_short (with_fixed choice client feature 0) four) in
     omega (arith, bound, length-set choice client row', h.eight, count_with choice client feature 0 h client_in feature_in free)
-
-pub none_of : (o : Option ℕ) → is_some o ≡ false → o ≡ None
-none_of None h = refl
-none_of (Some n) h = cc
 
 fits_is : (o : Option ℕ) (value x : ℕ) → o ≡ Some value → fits o x ≡ true → x ≡ value
 fits_is None value x is h = cc

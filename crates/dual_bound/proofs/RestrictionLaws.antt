@@ -7,7 +7,8 @@ use Rattle.packages.specs.declared.travel_packages.Package.{Package}
 use Rattle.packages.specs.Features.{feature_of}
 use Rattle.packages.specs.Listing.{packages}
 use Rattle.relaxation.specs.Tables.{dollars_at, IsNarrowed, KeepsOthers}
-use Rattle.dual_bound.specs.Choices.{chosen, fits, fixed_at, has_fixed}
+use Rattle.relaxation.specs.Splits.{fixed_at}
+use Rattle.dual_bound.specs.Choices.{chosen, fits, has_fixed}
 use Rattle.dual_bound.specs.Restrictions.{IsNarrowedBy, IsRestricted, KeepsLeft}
 use Rattle.dual_bound.proofs.ChoiceLaws.{fixed_fits}
 

@@ -4,10 +4,7 @@ use Rattle.std.specs.List.{sum_by}
 use Rattle.packages.specs.declared.travel_packages.Package.{Package}
 use Rattle.packages.specs.Bounds.{Narrowing}
 use Rattle.packages.specs.Features.{feature_of, values_of}
-
--- the fixed value of a client's feature, if there is one
-abbrev pub fixed_at : List (List (Option ℕ)) → ℕ → ℕ → Option ℕ
-fixed_at choice client feature = slice_index_or (slice_index_or choice client []) feature None
+use Rattle.relaxation.specs.Splits.{fixed_at}
 
 -- a value is the fixed one, or none is fixed
 abbrev pub fits : Option ℕ → ℕ → Bool

@@ -1,5 +1,6 @@
-ghost use Rattle.std.specs.Prelude.{◌≡◌, ℕ, ◌+◌, ◌<◌, false, None, is_some};
+ghost use Rattle.std.specs.Prelude.{◌≡◌, ℕ, ◌+◌, ◌<◌, None};
 ghost use Rattle.packages.specs.Features.{feature_of, narrowed, values_of};
+ghost use Rattle.relaxation.specs.Splits.{fixed_at};
 ghost use Rattle.dual_bound.specs.Choices as choices;
 ghost use Rattle.packages.specs.Packages.{IsPackage};
 
@@ -66,22 +67,10 @@ impl Choice {
     pub(crate) fn at(&self, client: u8, feature: u8) -> Option<u8>
         requires client { client < 8 }
         requires feature { feature < 4 }
-        ensures { result ≡ choices.fixed_at self.now client feature }
+        ensures { result ≡ fixed_at self.now client feature }
     {
         let fixed = &self.fixed[usize::from(client)];
         fixed[usize::from(feature)]
-    }
-
-    /// Whether a client's feature is fixed. The client's number is 0..7, the feature's 0..3.
-    pub fn is_fixed(&self, client: u8, feature: u8) -> bool
-        requires client { client < 8 }
-        requires feature { feature < 4 }
-        ensures value { result ≡ is_some (choices.fixed_at self.now client feature) }
-        ensures few { result ≡ false → choices.fixed_count self.now < 32 }
-    {
-        // The count rests on the choice's form, which is known where it is read.
-        let _fixed = &self.fixed;
-        self.at(client, feature).is_some()
     }
 
     /// A client's feature has a value.
@@ -103,7 +92,7 @@ impl Choice {
         requires client { client < 8 }
         requires feature { feature < 4 }
         requires value { value < values_of feature }
-        requires free { choices.fixed_at self.now client feature ≡ None }
+        requires free { fixed_at self.now client feature ≡ None }
         ensures value { result ≡ choices.with_fixed self.now client feature value }
         ensures left { choices.chosen result ≡ narrowed (choices.chosen self.now) client feature value }
         ensures count { choices.fixed_count result ≡ choices.fixed_count self.now + 1 }

@@ -11,9 +11,10 @@ mod primal_simplex;
 mod relaxing;
 mod rounding;
 mod shares;
+mod splits;
 mod tableau;
 mod worths;
 
-pub use branching::{OpenParts, Priced};
 pub use relaxing::Relaxation;
+pub use splits::Split;
 pub use worths::Worths;

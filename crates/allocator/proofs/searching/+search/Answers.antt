@@ -1,16 +1,29 @@
-use Rattle.std.proofs.Common.{◌≡◌, ◌+◌, ◌-◌, ◌<◌, true, [], ◌∷◌, length-append, sym, ap, subst, ◌∙◌, rules, arith}
+use Rattle.std.proofs.Common.{◌≡◌, ℕ, ◌+◌, ◌-◌, ◌<◌, true, List, [], ◌∷◌, Option, None, length-append, sym, ap, subst, ◌∙◌, rules, arith}
 use Rattle.game_text.specs.Accounts.{IsAccount}
 use Rattle.packages.specs.Bounds.{stock_value}
 use Rattle.bound_cert.specs.Trees.{is_tree}
 use Rattle.bound_cert.specs.Views.{tree_of, forest_of}
 use Rattle.bound_cert.specs.Certificate.{holds}
 use Rattle.packages.specs.Features.{narrowed}
-use Rattle.dual_bound.specs.Choices.{chosen, fixed_count}
+use Rattle.relaxation.specs.Splits.{fixed_at}
+use Rattle.dual_bound.specs.Choices.{chosen, fixed_count, IsChoice}
 use Rattle.dual_bound.specs.Ceilings.{IsCeiling}
 use Rattle.dual_bound.proofs.CeilingLaws.{ceiling_narrowed}
+use Rattle.dual_bound.proofs.ChoiceLaws.{count_free}
 use Rattle.allocator.proofs.Claims.{all_hold_more}
 use Rattle.allocator.proofs.Growing.{all_hold-push, are_trees-push, holds-split, is_tree-split, leaf_fits}
 use Rattle.allocator.proofs.searching.+search.Goals as goal
+
+-- where a feature is left to split by, fewer than 32 are fixed
+few_fixed : (fixed now : List (List (Option ℕ))) (client feature : ℕ) → IsChoice fixed → fixed ≡ now → client < 8 → feature < 4 → fixed_at fixed client feature ≡ None → fixed_count now < 32
+few_fixed fixed now client feature form is client_in feature_in free = subst (λ choice. fixed_count choice < 32) is (count_free fixed client feature form client_in feature_in free)
+
+pub explore-loop-value-init : goal.explore-loop-value-init
+explore-loop-value-init t c =
+    let split = c.in-Some.field-0 in
+    let few = few_fixed c.choice.inside.fixed c.args.choice.now split.client split.feature c.choice.invariant c.choice.view_is c.in-Some.ensures.client c.in-Some.ensures.feature c.in-Some.ensures.free in
+    let deep : c.args.level < 32 = omega (arith, c.requires.level, few) in
+    search rules
 
 pub explore-loop-value-preserved : goal.explore-loop-value-preserved
 explore-loop-value-preserved t c =
@@ -24,6 +37,7 @@ explore-loop-value-preserved t c =
     let hold : holds c.args.account.now total (narrowed left client feature l.value) (tree_of child) ≡ true =
     subst (λ n. holds c.args.account.now total n (tree_of child) ≡ true) c.with-next.ensures.left c.in_ok-child.ensures.holds in
     record {
+      few = l.invariant.few;
       reached = c.in_ok-child.ensures.reached;
       grows = omega (arith, c.in_ok-child.ensures.grows, l.invariant.grows);
       count = rw c.in_ok-push.ensures.items (length-append l.children.items (child ∷ []) ∙ omega (arith, l.invariant.count));
@@ -49,14 +63,12 @@ explore-returns-clause-holds t c =
 pub explore-returns-clause-fits : goal.explore-returns-clause-fits
 explore-returns-clause-fits t c =
     let l = c.loop-value in
-    let deep : c.args.level < 32 = omega (arith, c.requires.level, c.in-Some.ensures.few) in
-    is_tree-split c.args.level c.in-Some.field-0.client c.in-Some.field-0.feature l.children deep c.in-Some.ensures.client c.in-Some.ensures.feature (omega (arith, l.invariant.count, c.value_count-value-end.ensures)) l.invariant.fit
+    is_tree-split c.args.level c.in-Some.field-0.client c.in-Some.field-0.feature l.children l.invariant.few c.in-Some.ensures.client c.in-Some.ensures.feature (omega (arith, l.invariant.count, c.value_count-value-end.ensures)) l.invariant.fit
 
 pub explore-explore_part-requires : goal.explore-explore_part-requires
 explore-explore_part-requires t c =
     let account = c.args.account.now in
     let ranges = subst IsAccount c.account.view_is c.account.invariant in
-    let deep : c.args.level < 32 = omega (arith, c.requires.level, c.in-Some.ensures.few) in
     let level : c.args.level + 1 ≡ fixed_count c.with-next.result = omega (arith, c.requires.level, c.with-next.ensures.count) in
     let table = c.narrow.new.self.worths.dollars in
     let narrow = ceiling_narrowed account ranges (chosen c.args.choice.now) c.in-Some.field-0.client c.in-Some.field-0.feature c.loop-value.value c.args.left.now.worths.dollars table c.requires.ceiling c.narrow.ensures.keeps in

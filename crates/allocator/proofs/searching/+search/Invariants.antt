@@ -1,4 +1,4 @@
-use Rattle.std.proofs.Common.{◌≡◌, ◌+◌, ◌-◌, ◌*◌, ◌≤◌, true, length}
+use Rattle.std.proofs.Common.{◌≡◌, ◌+◌, ◌-◌, ◌*◌, ◌<◌, ◌≤◌, true, length}
 use Rattle.bound_cert.specs.Trees.{are_trees}
 use Rattle.bound_cert.specs.Views.{forest_of}
 use Rattle.dual_bound.specs.Choices.{chosen}
@@ -14,6 +14,7 @@ decreases-explore_part l = 2 * (32 - l.level) + 1
 
 abbrev pub invariant-explore-loop-value : goal.invariant-explore-loop-value
 invariant-explore-loop-value l = record {
+  few : l.level < 32;
   reached : IsReached l.account l.best.allocation l.best.total;
   grows : l.initial.best.total ≤ l.best.total;
   count : length l.children.items ≡ l.value;

@@ -1,5 +1,0 @@
-use Rattle.std.proofs.Common.{◌<◌, IfSome}
-use Rattle.relaxation.proofs.relaxing.Relaxation.most_undecided.Given as goal
-
-abbrev pub invariant-loop-place : goal.invariant-loop-place
-invariant-loop-place l = IfSome l.found (λ place. place < 32)
