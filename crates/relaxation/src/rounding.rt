@@ -11,8 +11,8 @@ use packages::Prices;
 use std::num::saturating_f64_to_u16;
 use tac_base::limits::DUAL_PRICE;
 
-/// At most so many prices are kept to whole dollars in turn.
-const MOST_KEPT: u32 = 56;
+/// One more than the prices that can be kept at whole dollars in turn.
+const MOST_KEPT: u32 = 29;
 
 /// The whole number below a price, at most the greatest price.
 fn whole(price: f64) -> u16
@@ -150,8 +150,8 @@ impl Tableau {
         None
     }
 
-    /// The same with whole prices that are worth no more than so much, where they are found: one price after the other is kept to the
-    /// whole dollar above it or below it.
+    /// The same with whole prices that are worth no more than so much, if they are found: one price after the other is kept at the whole
+    /// dollar above it or, if that is worth too much, below it.
     fn with_whole_prices(&self, worths: &Worths, most: f64) -> Option<Tableau> {
         let mut limits = Limits::none();
         let mut found = *self;
@@ -160,12 +160,12 @@ impl Tableau {
                 return Some(found);
             };
             let below = f64::from(found.price(good, TOLERANCE));
-            let before = limits;
             limits.low[good] = below + 1.0;
+            limits.high[good] = below + 1.0;
             let mut other = found;
             other.solve(worths, &limits);
             if other.value() > most + TOLERANCE {
-                limits = before;
+                limits.low[good] = below;
                 limits.high[good] = below;
                 other = found;
                 other.solve(worths, &limits);
