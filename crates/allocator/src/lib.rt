@@ -6,6 +6,7 @@ mod printing;
 mod scarcity;
 mod searching;
 mod solving;
+mod symmetry;
 
 pub use printing::{append_solved, print_solved};
 pub use solving::{Solved, solve};

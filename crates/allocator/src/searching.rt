@@ -1,5 +1,5 @@
 // The search for the best allocation, which leaves a certificate behind it.
-ghost use Rattle.std.specs.Prelude.{◌≡◌, ℕ, ◌+◌, ◌-◌, ◌<◌, ◌≤◌, ◌⊎◌, true, length, IfOk};
+ghost use Rattle.std.specs.Prelude.{◌≡◌, ℕ, ◌+◌, ◌-◌, ◌<◌, ◌≤◌, ◌⊎◌, true, length, IfOk, IfSome, IfNone, None};
 ghost use Rattle.std.specs.List.{All};
 ghost use Rattle.tac_base.specs.declared.limits.TheConstants.{CERTIFICATE_DEPTH, BEST_TOTAL};
 ghost use Rattle.packages.specs.Packages.{IsPackage};
@@ -10,7 +10,7 @@ ghost use Rattle.packages.specs.Stocks.{stock_of};
 ghost use Rattle.bound_cert.specs.Trees as trees;
 ghost use Rattle.bound_cert.specs.Trees.{is_tree};
 ghost use Rattle.bound_cert.specs.Views.{tree_of};
-ghost use Rattle.relaxation.specs.Splits.{IsFull};
+ghost use Rattle.relaxation.specs.Splits.{fixed_at, IsFull};
 ghost use Rattle.dual_bound.specs.Choices.{chosen, fixed_count};
 ghost use Rattle.dual_bound.specs.Ceilings.{IsCeiling};
 ghost use Rattle.bound_cert.specs.Certificate.{holds, is_within};
@@ -18,6 +18,7 @@ ghost use Rattle.allocator.specs.Searching.{IsReached};
 
 use crate::candidates::{better_choice, first_choice};
 use crate::scarcity::scarcity_prices;
+use crate::symmetry::{Hint, exchanged, hint_of_part, like_split};
 use bound_cert::CertNode;
 use dual_bound::{Choice, Quote, is_enough, worth};
 use game_text::Account;
@@ -128,6 +129,26 @@ pub(crate) fn leaf(prices: &Prices) -> CertNode
     CertNode::Leaf(*prices)
 }
 
+/// The next split: by the feature of a client that is like the one that was split by last, or else by what the relaxation says.
+fn next_split(
+    choice: &Choice,
+    left: &Relaxation,
+    prices: &Prices,
+    total: u32,
+    hint: Hint<'_>,
+) -> Option<Split>
+    ensures client { IfSome result (λ split. split.client < 8) }
+    ensures feature { IfSome result (λ split. split.feature < 4) }
+    ensures free { IfSome result (λ split. fixed_at choice.now split.client split.feature ≡ None) }
+    ensures full { IfNone result (IsFull choice.now) }
+{
+    let like = like_split(choice, hint);
+    if like.is_some() {
+        return like;
+    }
+    left.next_split(&choice.fixed, prices, total)
+}
+
 /// Searches what a choice leaves, where so many features are fixed. After an error the best is a feasible allocation still.
 #[cycle(search)]
 pub(crate) fn explore(
@@ -136,6 +157,7 @@ pub(crate) fn explore(
     level: u8,
     choice: &Choice,
     left: &Relaxation,
+    hint: Hint<'_>,
     best: &mut Found,
 ) -> Result<CertNode, AllocError>
     requires level { level ≡ fixed_count choice.now }
@@ -152,16 +174,59 @@ pub(crate) fn explore(
     if quote.holds(&left.worths, best.total) {
         return Ok(leaf(&quote.prices));
     }
-    let Some(Split { client, feature }) = left.next_split(&choice.fixed, &quote.prices, best.total)
-    else {
+    let Some(split) = next_split(choice, left, &quote.prices, best.total, hint) else {
         return Ok(leaf(&full_prices(account, choice, best)));
     };
+    explore_parts(
+        alloc, account, level, choice, left, split, &quote, hint, best,
+    )
+}
+
+/// Searches the parts of a split. After an error the best is a feasible allocation still.
+#[cycle(search)]
+fn explore_parts(
+    alloc: Global,
+    account: &Account,
+    level: u8,
+    choice: &Choice,
+    left: &Relaxation,
+    split: Split,
+    known: &Quote,
+    hint: Hint<'_>,
+    best: &mut Found,
+) -> Result<CertNode, AllocError>
+    requires level { level ≡ fixed_count choice.now }
+    requires ceiling { IsCeiling account.now (chosen choice.now) left.now.worths.dollars }
+    requires stock { known.now.stock_value ≡ stock_value account.now.holdings known.now.prices }
+    requires client { split.client < 8 }
+    requires feature { split.feature < 4 }
+    requires free { fixed_at choice.now split.client split.feature ≡ None }
+    requires reached { IsReached account.now best.old.allocation best.old.total }
+    ensures reached { IsReached account.now best.new.allocation best.new.total }
+    ensures grows { best.old.total ≤ best.new.total }
+    ensures holds { IfOk result (λ node. holds account.now best.new.total (chosen choice.now) (tree_of node) ≡ true) }
+    ensures fits { IfOk result (λ node. is_tree (CERTIFICATE_DEPTH - level) (tree_of node) ≡ true) }
+{
+    // The proof rests on the ranges of the account and of the choice, which are known where they are read.
+    let _holdings = &account.holdings;
+    let _fixed = &choice.fixed;
+    let Split { client, feature } = split;
     let mut children = Vec::new(alloc);
     for value in 0..value_count(feature) {
         let next = choice.with(client, feature, value);
         let mut part = *left;
         part.narrow(client, feature, value);
-        let child = explore_part(alloc, account, level + 1, &next, &mut part, &quote, best)?;
+        let hint = hint_of_part(hint, split, value, &children, &left.worths);
+        let child = explore_by(
+            alloc,
+            account,
+            level + 1,
+            &next,
+            &mut part,
+            known,
+            hint,
+            best,
+        )?;
         children.push(child)?;
     }
     Ok(CertNode::Split {
@@ -171,8 +236,7 @@ pub(crate) fn explore(
     })
 }
 
-/// Searches a part that is not solved yet, where so many features are fixed, unless prices that are known bound it. After an error the
-/// best is a feasible allocation still.
+/// Searches a part that is not solved yet, unless prices that are known bound it. After an error the best is a feasible allocation still.
 #[cycle(search)]
 fn explore_part(
     alloc: Global,
@@ -181,6 +245,7 @@ fn explore_part(
     choice: &Choice,
     part: &mut Relaxation,
     known: &Quote,
+    hint: Hint<'_>,
     best: &mut Found,
 ) -> Result<CertNode, AllocError>
     requires level { level ≡ fixed_count choice.now }
@@ -199,5 +264,72 @@ fn explore_part(
     }
     part.repair(best.total);
     offer_near(level, account, part, best);
-    explore(alloc, account, level, choice, part, best)
+    explore(alloc, account, level, choice, part, hint, best)
+}
+
+/// Searches a part that is not solved yet, by the splits and the prices of a part that is like it, if the hint has one, as far as they hold here
+/// too. After an error the best is a feasible allocation still.
+#[cycle(search)]
+fn explore_by(
+    alloc: Global,
+    account: &Account,
+    level: u8,
+    choice: &Choice,
+    part: &mut Relaxation,
+    known: &Quote,
+    hint: Hint<'_>,
+    best: &mut Found,
+) -> Result<CertNode, AllocError>
+    requires level { level ≡ fixed_count choice.now }
+    requires ceiling { IsCeiling account.now (chosen choice.now) part.old.worths.dollars }
+    requires stock { known.now.stock_value ≡ stock_value account.now.holdings known.now.prices }
+    requires reached { IsReached account.now best.old.allocation best.old.total }
+    ensures reached { IsReached account.now best.new.allocation best.new.total }
+    ensures grows { best.old.total ≤ best.new.total }
+    ensures holds { IfOk result (λ node. holds account.now best.new.total (chosen choice.now) (tree_of node) ≡ true) }
+    ensures fits { IfOk result (λ node. is_tree (CERTIFICATE_DEPTH - level) (tree_of node) ≡ true) }
+{
+    // The proof rests on the account's ranges, which are known where it is read.
+    let _holdings = &account.holdings;
+    let Hint::Like { node, one, other } = hint else {
+        return explore_part(alloc, account, level, choice, part, known, hint, best);
+    };
+    match node {
+        CertNode::Leaf(prices) => {
+            let quote = Quote::new(account, prices);
+            explore_part(
+                alloc,
+                account,
+                level,
+                choice,
+                part,
+                &quote,
+                Hint::Nothing,
+                best,
+            )
+        }
+        CertNode::Split {
+            client,
+            feature,
+            ..
+        } => {
+            let (client, feature) = (*client, *feature);
+            let split = exchanged(Split { client, feature }, one, other);
+            if split.client < 8 && split.feature < 4 && !split.is_fixed(&choice.fixed) {
+                return explore_parts(
+                    alloc, account, level, choice, part, split, known, hint, best,
+                );
+            }
+            explore_part(
+                alloc,
+                account,
+                level,
+                choice,
+                part,
+                known,
+                Hint::Nothing,
+                best,
+            )
+        }
+    }
 }

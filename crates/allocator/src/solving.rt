@@ -9,6 +9,7 @@ ghost use Rattle.dual_bound.specs.Ceilings.{IsCeiling};
 ghost use Rattle.allocator.specs.Searching.{IsReached};
 
 use crate::searching::{Found, explore, leaf, offer_near};
+use crate::symmetry::Hint;
 use bound_cert::{Cert, CertNode};
 use dual_bound::{Choice, settled_quote};
 use game_text::Account;
@@ -49,7 +50,7 @@ fn explore_all(
             return Ok(leaf(&quote.prices));
         }
     }
-    explore(alloc, account, 0, &all, relaxation, best)
+    explore(alloc, account, 0, &all, relaxation, Hint::Nothing, best)
 }
 
 /// Finds a best allocation of an account's goods to its clients, by depth-first search. The one of several and the

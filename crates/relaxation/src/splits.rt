@@ -52,8 +52,8 @@ impl Split {
         }
     }
 
-    /// Whether the client's feature has a fixed value.
-    fn is_fixed(self, fixed: &[[Option<u8>; 4]; 8]) -> bool
+    /// Whether the client's feature has a fixed value. The client's number is 0..7, the feature's 0..3.
+    pub fn is_fixed(self, fixed: &[[Option<u8>; 4]; 8]) -> bool
         requires client { self.client < 8 }
         requires feature { self.feature < 4 }
         ensures { result ≡ is_some (fixed_at fixed.now self.client self.feature) }

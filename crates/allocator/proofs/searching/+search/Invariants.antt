@@ -6,14 +6,20 @@ use Rattle.bound_cert.specs.Certificate.{all_hold}
 use Rattle.allocator.specs.Searching.{IsReached}
 use Rattle.allocator.proofs.searching.+search.Given as goal
 
+abbrev pub decreases-explore_parts : goal.decreases-explore_parts
+decreases-explore_parts l = 4 * (32 - l.level)
+
 abbrev pub decreases-explore : goal.decreases-explore
-decreases-explore l = 2 * (32 - l.level)
+decreases-explore l = 4 * (32 - l.level) + 1
 
 abbrev pub decreases-explore_part : goal.decreases-explore_part
-decreases-explore_part l = 2 * (32 - l.level) + 1
+decreases-explore_part l = 4 * (32 - l.level) + 2
 
-abbrev pub invariant-explore-loop-value : goal.invariant-explore-loop-value
-invariant-explore-loop-value l = record {
+abbrev pub decreases-explore_by : goal.decreases-explore_by
+decreases-explore_by l = 4 * (32 - l.level) + 3
+
+abbrev pub invariant-explore_parts-loop-value : goal.invariant-explore_parts-loop-value
+invariant-explore_parts-loop-value l = record {
   few : l.level < 32;
   reached : IsReached l.account l.best.allocation l.best.total;
   grows : l.initial.best.total ≤ l.best.total;

@@ -1,0 +1,148 @@
+// Parts of a search that are like others: clients to whom all packages are worth the same may be exchanged.
+ghost use Rattle.std.specs.Prelude.{◌≡◌, ◌<◌, None, IfSome};
+ghost use Rattle.relaxation.specs.Splits.{fixed_at};
+
+use bound_cert::CertNode;
+use dual_bound::Choice;
+use relaxation::{Split, Worths};
+
+/// What may help to search a part. A certificate that comes of it is tested like any other, so that a wrong hint costs time alone.
+#[derive(Clone, Copy)]
+pub(crate) enum Hint<'a> {
+    /// Nothing is known.
+    Nothing,
+    /// The part has this value of a split. The parts of the lesser values were searched; the worths are those before the split.
+    Part {
+        before: &'a [CertNode],
+        split: Split,
+        value: u8,
+        worths: &'a Worths,
+    },
+    /// This is the certificate of a part that is the same but for two clients, which are exchanged.
+    Like {
+        node: &'a CertNode,
+        one: u8,
+        other: u8,
+    },
+}
+
+/// Whether each package is worth the same to two clients, 0..7.
+fn are_alike(worths: &Worths, one: u8, other: u8) -> bool
+    requires one { one < 8 }
+    requires other { other < 8 }
+{
+    for number in 0..393 {
+        let worth = worths.dollars[393 * usize::from(one) + number];
+        if worth != worths.dollars[393 * usize::from(other) + number] {
+            return false;
+        }
+    }
+    true
+}
+
+/// Whether a client is like the one that was split by before, 0..7.
+fn is_like(worths: &Worths, client: u8, split: Split) -> bool
+    requires { client < 8 }
+{
+    client != split.client && split.client < 8 && are_alike(worths, client, split.client)
+}
+
+/// In a part of a split by a client's feature, the split by the same feature of the first client that was like it and has it free.
+pub(crate) fn like_split(choice: &Choice, hint: Hint<'_>) -> Option<Split>
+    ensures client { IfSome result (λ split. split.client < 8) }
+    ensures feature { IfSome result (λ split. split.feature < 4) }
+    ensures free { IfSome result (λ split. fixed_at choice.now split.client split.feature ≡ None) }
+{
+    let Hint::Part { split, worths, .. } = hint else {
+        return None;
+    };
+    let feature = split.feature;
+    if feature > 3 {
+        return None;
+    }
+    for client in 0..8 {
+        let other = Split { client, feature };
+        if !other.is_fixed(&choice.fixed) && is_like(worths, client, split) {
+            return Some(other);
+        }
+    }
+    None
+}
+
+/// The part of a certificate after a split, if it is a split by this client's feature.
+fn part_of(node: &CertNode, split: Split, value: u8) -> Option<&CertNode> {
+    match node {
+        CertNode::Split {
+            client,
+            feature,
+            children,
+        } if *client == split.client && *feature == split.feature => children.get(usize::from(
+            value,
+        )),
+        _ => None,
+    }
+}
+
+/// The split with two clients exchanged.
+pub(crate) fn exchanged(split: Split, one: u8, other: u8) -> Split {
+    let client = if split.client == one {
+        other
+    } else if split.client == other {
+        one
+    } else {
+        split.client
+    };
+    Split {
+        client,
+        feature: split.feature,
+    }
+}
+
+/// What a part of a split with this value is like, if a hint for the split tells it. Of two clients that are alike, that the one has the first
+/// value and the other the second is like the reverse.
+fn like_part<'a>(hint: Hint<'a>, split: Split, value: u8) -> Option<Hint<'a>> {
+    match hint {
+        Hint::Nothing => None,
+        Hint::Part {
+            before,
+            split: last,
+            value: last_value,
+            worths,
+        } => {
+            let is_exchange = value < last_value && split.feature == last.feature;
+            if !is_exchange || split.client > 7 || !is_like(worths, split.client, last) {
+                return None;
+            }
+            let first = before.get(usize::from(value))?;
+            let node = part_of(first, split, last_value)?;
+            Some(Hint::Like {
+                node,
+                one: last.client,
+                other: split.client,
+            })
+        }
+        Hint::Like { node, one, other } => {
+            let node = part_of(node, exchanged(split, one, other), value)?;
+            Some(Hint::Like { node, one, other })
+        }
+    }
+}
+
+/// What may help to search the part of a split with this value, after those of the lesser values, where the worths are those before the split.
+pub(crate) fn hint_of_part<'a>(
+    hint: Hint<'a>,
+    split: Split,
+    value: u8,
+    before: &'a [CertNode],
+    worths: &'a Worths,
+) -> Hint<'a> {
+    match like_part(hint, split, value) {
+        Some(part) => part,
+        None => Hint::Part {
+            before,
+            split,
+            value,
+            worths,
+        },
+    }
+}
