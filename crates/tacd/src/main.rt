@@ -15,7 +15,8 @@ mod tcp_links;
 mod tests;
 mod top;
 
-ghost use Rattle.std.specs.Prelude.{◌≤◌, ◌↔◌, All, IfOk, IsTrue, string_len};
+ghost use Rattle.std.specs.Prelude.{◌≡◌, ◌≤◌, ◌↔◌, All, IfOk, IsTrue, MatchResult, string_len};
+ghost use Rattle.tac_commands.specs.declared.refusals.Refusal.TheVariants.{Usage};
 
 use host_files::HostFiles;
 use sleep_ticker::SleepTicker;
@@ -35,8 +36,7 @@ fn command_line<R: Env + AllocGlobal>(rt: &R) -> Result<Vec<String>, Refusal>
     ensures { IfOk result (λ words. All (λ word. string_len word ≤ NAME_BYTES) words.items) }
 {
     match collected(rt) {
-        Ok(words) if are_short(&words) => Ok(words),
-        Ok(_) => Err(Refusal::Usage),
+        Ok(words) => short(words),
         Err(error) if error.kind() == ErrorKind::OutOfMemory => Err(Refusal::Memory),
         Err(_) => Err(Refusal::Usage),
     }
@@ -48,6 +48,19 @@ fn collected<R: Env + AllocGlobal>(rt: &R) -> io::Result<Vec<String>> {
         words.push(word)?;
     }
     Ok(words)
+}
+
+/// The words, where each is short enough for the name of a file.
+fn short(words: Vec<String>) -> Result<Vec<String>, Refusal>
+    ensures { MatchResult result
+        (λ kept. (kept ≡ words) × All (λ word. string_len word ≤ NAME_BYTES) words.items)
+        (λ refusal. (refusal ≡ Usage) × (All (λ word. string_len word ≤ NAME_BYTES) words.items → ⊥)) }
+{
+    if are_short(&words) {
+        Ok(words)
+    } else {
+        Err(Refusal::Usage)
+    }
 }
 
 /// Whether each word is short enough for the name of a file.

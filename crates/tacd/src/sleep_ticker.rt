@@ -1,5 +1,7 @@
 // The ticker of the system: a clock.
-ghost use Rattle.std.specs.Prelude.{◌≡◌, None};
+ghost use Rattle.std.specs.Duration.{as_nanos, max_nanos};
+ghost use Rattle.std.specs.Prelude.{◌≡◌, ◌*◌, ◌-◌, min, None, Some, IfSome, MatchResult};
+ghost use Rattle.tac_io.specs.Counts.{HasCause};
 
 use std::rt::Clock;
 use std::sync::Wait;
@@ -42,14 +44,23 @@ impl SleepTicker {
         }
     }
 
+    /// How long the time of a tick is still to come, where so much time is over since the first wait began.
+    fn left(&self, tick: u8, over: Duration) -> Duration
+        ensures { as_nanos result ≡ min (as_nanos self.now.pace * tick) max_nanos - as_nanos over }
+    {
+        let due = self.pace.saturating_mul(u32::from(tick));
+        due.saturating_sub(over)
+    }
+
     /// Sleeps until the time of a tick, if it is still to come.
     fn sleep<R: Wait + Clock>(&mut self, rt: &R, tick: u8) -> io::Result<()>
         ensures faults { self.new.faults ≡ self.old.faults }
+        ensures pace { self.new.pace ≡ self.old.pace }
+        ensures start { IfSome self.old.start (λ start. self.new.start ≡ Some start) }
     {
         let now = Instant::now(rt)?;
         let start = *self.start.get_or_insert(now);
-        let due = self.pace.saturating_mul(u32::from(tick));
-        thread::sleep(rt, due.saturating_sub(now.saturating_duration_since(start)));
+        thread::sleep(rt, self.left(tick, now.saturating_duration_since(start)));
         Ok(())
     }
 }
@@ -67,11 +78,20 @@ impl Ticker for SleepTicker {
 
     ghost state = { λ s. record { paced = None; waited = None; faults = s.faults } };
 
-    fn pace(&mut self, milliseconds: u16) {
+    fn pace(&mut self, milliseconds: u16)
+        ensures faults { self.new.faults ≡ self.old.faults }
+        ensures pace { as_nanos self.new.pace ≡ milliseconds * 1_000_000 }
+        ensures start { self.new.start ≡ self.old.start }
+    {
         self.pace = Duration::from_millis(u64::from(milliseconds));
     }
 
-    fn wait<R: Wait + Clock>(&mut self, rt: &R, tick: Tick) -> Result<SleptDue, SleptLapse> {
+    fn wait<R: Wait + Clock>(&mut self, rt: &R, tick: Tick) -> Result<SleptDue, SleptLapse>
+        ensures tick { MatchResult result (λ due. due.tick ≡ tick) (λ lapse. lapse.tick ≡ tick) }
+        ensures cause { HasCause self.old.faults self.new.faults result }
+        ensures pace { self.new.pace ≡ self.old.pace }
+        ensures start { IfSome self.old.start (λ start. self.new.start ≡ Some start) }
+    {
         match self.sleep(rt, tick.get()) {
             Ok(()) => Ok(SleptDue { tick }),
             Err(_) => {
