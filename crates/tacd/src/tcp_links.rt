@@ -1,5 +1,5 @@
 // The links of the system: TCP connections.
-ghost use Rattle.std.specs.Prelude.{◌≡◌, None};
+ghost use Rattle.std.specs.Prelude.{◌≡◌, None, IfOk, IsOk, IsSome};
 ghost use Rattle.std.specs.Io.KnownBytes.{ReadConsumes, WriteAppends};
 ghost use Rattle.tac_io.specs.Counts.{HasCause};
 ghost use Rattle.tac_io.specs.Told.{Reads, Takes};
@@ -95,6 +95,42 @@ impl<'a, R: Net<Listener = TcpListener, Stream = TcpStream>> TcpLinks<'a, R> {
             faults: 0,
         }
     }
+
+    /// The link of a connection. None is a fault, and not the end of the links, since peers may come at any time.
+    fn link_or_fault(
+        &mut self,
+        stream: Option<TcpStream>,
+    ) -> Result<Option<TcpLink<TcpStream>>, Failed>
+        ensures link { IfOk result IsSome }
+        ensures some { IsSome stream → IsOk result }
+        ensures listener { self.new.listener ≡ self.old.listener }
+        ensures cause { HasCause self.old.faults self.new.faults result }
+    {
+        match stream {
+            Some(stream) => Ok(Some(TcpLink::new(stream))),
+            None => {
+                self.faults = self.faults.saturating_add(1);
+                Err(Failed)
+            }
+        }
+    }
+}
+
+/// Waits for a connection, and gives it; None if it cannot be waited for any more.
+fn accept(listener: &TcpListener) -> Option<TcpStream> {
+    for _ in 0..u64::MAX {
+        match listener.accept() {
+            Ok((stream, _)) => {
+                // A reply is one short line, to be sent at once. If that cannot be set, it is sent all the same.
+                let _ = stream.set_nodelay(true);
+                return Some(stream);
+            }
+            // A peer that went away before it was taken ends no game.
+            Err(error) if error.kind() == ErrorKind::ConnectionAborted => {}
+            Err(_) => return None,
+        }
+    }
+    None
 }
 
 impl<'a, R: Net<Listener = TcpListener, Stream = TcpStream>> Links for TcpLinks<'a, R> {
@@ -123,21 +159,8 @@ impl<'a, R: Net<Listener = TcpListener, Stream = TcpStream>> Links for TcpLinks<
     }
 
     fn next(&mut self) -> Result<Option<TcpLink<TcpStream>>, Failed> {
-        let listener = self.listener.as_ref().unwrap();
-        for _ in 0..u64::MAX {
-            match listener.accept() {
-                Ok((stream, _)) => {
-                    // A reply is one short line, to be sent at once. If that cannot be set, it is sent all the same.
-                    let _ = stream.set_nodelay(true);
-                    return Ok(Some(TcpLink::new(stream)));
-                }
-                // A peer that went away before it was taken ends no game.
-                Err(error) if error.kind() == ErrorKind::ConnectionAborted => {}
-                Err(_) => break,
-            }
-        }
-        self.faults = self.faults.saturating_add(1);
-        Err(Failed)
+        let stream = accept(self.listener.as_ref().unwrap());
+        self.link_or_fault(stream)
     }
 
     fn faults(&self) -> u64 {
