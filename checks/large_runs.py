@@ -14,6 +14,8 @@ from eight_agents import EightAgents, free_port
 
 TOP = pathlib.Path(__file__).resolve().parent.parent
 GAME = str(TOP / "examples" / "first.game")
+GAME_BYTES = 1_048_576  # that a game file may have
+TEXT_BYTES = 67_108_864  # that a script, a log or an account may have
 CALLS = 1024  # that an agent may make in one auction
 
 
@@ -46,7 +48,7 @@ def log_in(text):
 
 def shown(program, folder):
     """Each run by its name, and whether it ended as expected."""
-    script, log, other, live = (folder / name for name in ("script", "log", "other", "live"))
+    script, log, other, live, long = (folder / name for name in ("script", "log", "other", "live", "long"))
     script.write_text(long_script())
     played = ran(program, ["play", GAME, script])
     yield "a script of 229,376 requests", played.returncode == 0
@@ -63,6 +65,13 @@ def shown(program, folder):
     yield "a served game with live quotes", done.returncode == 0 and are_heard
     log.write_bytes(done.stdout)
     yield "the audit of its log", ran(program, ["audit", live, log]).stdout == b"sound\n"
+    game = pathlib.Path(GAME).read_bytes()
+    for size, is_due in ((GAME_BYTES, lambda done: done.returncode == 0), (GAME_BYTES + 1, lambda done: (done.returncode, done.stdout) == (2, b"game too long\n"))):
+        long.write_bytes(b"#".ljust(size - len(game) - 1, b"-") + b"\n" + game)
+        yield f"a game of {size} bytes", is_due(ran(program, ["show", long]))
+    long.write_bytes(bytes(TEXT_BYTES + 1))
+    done = ran(program, ["solve", long])
+    yield "an account that is too long", (done.returncode, done.stdout) == (8, b"text too long\n")
 
 
 def main():
