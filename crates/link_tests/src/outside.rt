@@ -197,7 +197,8 @@ fn held(alloc: Global, lines_sent: &LinesSent, other: &LinesSent) -> Result<Held
         other: Arc::try_clone(other)?,
         lines: 11,
     };
-    Ok(HeldLink::new(alloc, bytes, 100, Arc::try_clone(lines_sent)?, Some(hold))?)
+    let link = MemLink::new(alloc, bytes, 100, 100, Vec::new(alloc), Vec::new(alloc))?;
+    Ok(HeldLink::new(link, Arc::try_clone(lines_sent)?, Some(hold)))
 }
 
 // Welcomes a link and replies to each of its two lines. Says whether both came, the second not

@@ -179,7 +179,8 @@ fn held(
         other: Arc::try_clone(other)?,
         lines,
     };
-    Ok(HeldLink::new(alloc, bytes, 1000, Arc::try_clone(sent)?, Some(hold))?)
+    let link = link(alloc, &bytes)?;
+    Ok(HeldLink::new(link, Arc::try_clone(sent)?, Some(hold)))
 }
 
 // The agents and the clock wait for one another in a ring: each agent for the first reply to the next one, the last agent for the calls of

@@ -33,12 +33,19 @@ impl Faults {
         }
     }
 
+    // The number of the next call.
+    pub(crate) fn next(&self) -> u64
+        ensures { result ≡ one_more self.now.made }
+    {
+        self.made.saturating_add(1)
+    }
+
     // Counts a call, and says whether it is to fail.
     pub(crate) fn next_fails(&mut self) -> bool
         ensures fails { IsTrue result ↔ IsNextToFail self.old }
         ensures made { self.new ≡ record self.old { made = one_more self.old.made } }
     {
-        self.made = self.made.saturating_add(1);
+        self.made = self.next();
         self.failing.contains(&self.made)
     }
 

@@ -26,7 +26,9 @@ pub struct MemLink {
 }
 
 impl MemLink {
-    ghost use Rattle.tac_io.specs.MemLink.{link_left, link_most, link_reads, link_room, link_sent, link_taken, link_writes};
+    ghost use Rattle.std.specs.Prelude.{Err};
+    ghost use Rattle.tac_io.specs.Calls.{one_more};
+    ghost use Rattle.tac_io.specs.MemLink.{ReadsNext, link_left, link_most, link_reads, link_room, link_sent, link_taken, link_writes};
 
     /// A link that gives `bytes`, and has room for `room` bytes that it is sent. A read gives at
     /// most `most_at_once` bytes, and at least one where one is left. The reads that are to fail are
@@ -59,6 +61,21 @@ impl MemLink {
         })
     }
 
+    // The number of the next read, counted from 1.
+    pub(crate) fn next_read(&self) -> u64
+        ensures { result ≡ one_more (link_reads self.now).made }
+    {
+        self.reads.next()
+    }
+
+    // Makes a read that fails.
+    pub(crate) fn fail_read(&mut self) -> Failed
+        ensures { ReadsNext self.old self.new (Err result) [] }
+    {
+        self.reads.next_fails();
+        self.reads.add()
+    }
+
     // The bytes that it still has to give.
     pub(crate) fn left(&self) -> &[u8]
         ensures { result.now ≡ link_left self.now }
@@ -75,34 +92,17 @@ impl MemLink {
 }
 
 impl Link for MemLink {
-    ghost use Rattle.std.specs.Prelude.{◌≡◌, ◌+◌, ◌⊎◌, ◌↔◌, ◌<◌, ◌++◌, [], Some, IsErr, IfOk, OnErr, length, take, min};
-    ghost use Rattle.tac_io.specs.Calls.{IsNextToFail, after_call};
-    ghost use Rattle.tac_io.specs.Counts.{HasCause};
-    ghost use Rattle.tac_io.specs.MemLink.{link_left, link_most, link_reads, link_room, link_sent, link_share, link_taken, link_writes};
+    ghost use Rattle.std.specs.Prelude.{◌↔◌, ◌<◌, IsErr, IfOk, length};
+    ghost use Rattle.tac_io.specs.Calls.{IsNextToFail};
+    ghost use Rattle.tac_io.specs.MemLink.{ReadsNext, WritesNext, link_reads, link_share, link_state};
 
-    ghost state = { λ s. record {
-      taken = Some (link_taken s);
-      left = Some (link_left s);
-      sent = Some (link_sent s);
-      reads = (link_reads s).faults;
-      writes = (link_writes s).faults;
-    } };
+    ghost state = { link_state };
 
     fn read(&mut self, into: &mut [u8]) -> Result<usize, Failed>
         requires { 0 < length into.old }
         ensures fails { IsErr result ↔ IsNextToFail (link_reads self.old) }
         ensures share { IfOk result (λ n. n ≡ link_share self.old (length into.new)) }
-        ensures end { IfOk result (λ n. n ≡ 0 → link_left self.old ≡ []) }
-        ensures given { IfOk result (λ n. link_left self.old ≡ take n into.new ++ link_left self.new) }
-        ensures taken { IfOk result (λ n. link_taken self.new ≡ link_taken self.old ++ take n into.new) }
-        ensures kept { OnErr result (link_left self.new ≡ link_left self.old) }
-        ensures kept_taken { OnErr result (link_taken self.new ≡ link_taken self.old) }
-        ensures sent { link_sent self.new ≡ link_sent self.old }
-        ensures room { link_room self.new ≡ link_room self.old }
-        ensures most { link_most self.new ≡ link_most self.old }
-        ensures reads { link_reads self.new ≡ after_call (link_reads self.old) result }
-        ensures writes { link_writes self.new ≡ link_writes self.old }
-        ensures cause { HasCause (link_reads self.old).faults (link_reads self.new).faults result }
+        ensures next { ReadsNext self.old self.new result into.new }
     {
         if self.reads.next_fails() {
             return Err(self.reads.add());
@@ -115,19 +115,7 @@ impl Link for MemLink {
 
     fn write(&mut self, piece: &[u8]) -> Result<usize, Failed>
         requires { 0 < length piece.now }
-        ensures fails { IsErr result ↔ (IsNextToFail (link_writes self.old) ⊎ (link_room self.old ≡ 0)) }
-        ensures share { IfOk result (λ n. n ≡ min (length piece.now) (link_room self.old)) }
-        ensures some { IfOk result (λ n. 0 < n) }
-        ensures sent { IfOk result (λ n. link_sent self.new ≡ link_sent self.old ++ take n piece.now) }
-        ensures room { IfOk result (λ n. link_room self.new + n ≡ link_room self.old) }
-        ensures kept { OnErr result (link_sent self.new ≡ link_sent self.old) }
-        ensures kept_room { OnErr result (link_room self.new ≡ link_room self.old) }
-        ensures taken { link_taken self.new ≡ link_taken self.old }
-        ensures left { link_left self.new ≡ link_left self.old }
-        ensures most { link_most self.new ≡ link_most self.old }
-        ensures reads { link_reads self.new ≡ link_reads self.old }
-        ensures writes { link_writes self.new ≡ after_call (link_writes self.old) result }
-        ensures cause { HasCause (link_writes self.old).faults (link_writes self.new).faults result }
+        ensures { WritesNext self.old self.new result piece.now }
     {
         let count = piece.len().min(self.room);
         if self.writes.next_fails() || count == 0 {
