@@ -10,7 +10,7 @@ use std::rt::Clock;
 use std::sync::Wait;
 use std::test::Fail;
 use tac_base::{Good, Tick};
-use tac_io::{MemTicker, Ticker};
+use tac_io::{Look, LookingTicker, MemTicker, Ticker};
 
 /// A floor of a game, with the desks of an agent and of the clock.
 fn begin_two(alloc: Global, game: &Game) -> Result<(Floor, Desk, Desk), Fail>
@@ -51,45 +51,18 @@ fn clock_makes_the_calls_of_lapsed_ticks_too(rt: HostRuntime) -> Result<(), Fail
     Ok(())
 }
 
-/// A ticker that looks on: a tick lapses unless the first flight has an entry for each tick before it.
+/// Looks on: a tick is due where the first flight has an entry for each tick before it.
 #[derive(Drop)]
-struct LookingTicker<'a> {
+struct FlightLook<'a> {
     floor: &'a Floor,
     desk: Desk,
-    lapses: u64,
     ghost own: { desk_ids desk ≡ floor_ids floor.now },
 }
 
-impl Ticker for LookingTicker<'_> {
-    ghost use Rattle.std.specs.Prelude.{None};
-
-    type Due = Tick;
-
-    type Lapse = Tick;
-
-    ghost due_tick = { λ due. due };
-
-    ghost lapse_tick = { λ lapse. lapse };
-
-    ghost state = { λ s. record { paced = None; waited = None; faults = s.lapses } };
-
-    fn pace(&mut self, _milliseconds: u16) {}
-
-    fn wait<R: Wait + Clock>(&mut self, _rt: &R, tick: Tick) -> Result<Tick, Tick> {
+impl Look for FlightLook<'_> {
+    fn is_due(&mut self, _pace: Option<u16>, tick: Tick) -> bool {
         let board = self.desk.quote(self.floor, Good::default());
-        if board.count == u32::from(tick.get() - 1) {
-            return Ok(tick);
-        }
-        self.lapses = self.lapses.saturating_add(1);
-        Err(tick)
-    }
-
-    fn late(&mut self, lapse: Tick) -> Tick {
-        lapse
-    }
-
-    fn faults(&self) -> u64 {
-        self.lapses
+        board.count == u32::from(tick.get() - 1)
     }
 }
 
@@ -97,11 +70,10 @@ impl Ticker for LookingTicker<'_> {
 fn clock_waits_tick_by_tick(rt: HostRuntime) -> Result<(), Fail> {
     let game = Game::default();
     let (floor, agent, clock) = begin_two(rt.alloc(), &game)?;
-    let mut ticker = LookingTicker {
+    let mut ticker = LookingTicker::new(FlightLook {
         floor: &floor,
         desk: agent,
-        lapses: 0,
-    };
+    });
     let end = run_clock(&rt, &floor, clock, &game, &mut ticker);
     assert_eq!(rt; end.missed, 0);
     assert_eq!(rt; ticker.faults(), 0);

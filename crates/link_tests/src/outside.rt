@@ -13,8 +13,9 @@ use std::test::Fail;
 use std::thread::join;
 use tac_base::Tick;
 use tac_io::{
-    Failed, FileFault, Files, HeldLink, Hold, LineGot, Lines, LinesSent, Link, Links, MemFile,
-    MemFiles, MemLink, MemLinks, MemSink, MemTicker, Sink, Ticker, read_file, write_all,
+    Failed, FileFault, Files, HeldLink, Hold, LineGot, Lines, LinesSent, Link, Links, Look,
+    LookingTicker, MemFile, MemFiles, MemLink, MemLinks, MemSink, MemTicker, Sink, Ticker,
+    read_file, write_all,
 };
 
 // A file `hello` of these five bytes, a file `empty`, and a file `long` of 200,000 bytes.
@@ -185,6 +186,27 @@ fn a_ticker_lapses_at_a_stated_tick(rt: HostRuntime) -> Result<(), Fail> {
     assert!(rt; !is_due(&rt, &mut ticker, Tick::new(2)?));
     assert!(rt; is_due(&rt, &mut ticker, Tick::new(3)?));
     assert_eq!(rt; ticker.faults(), 1);
+    Ok(())
+}
+
+// Each even tick is due at a pace of 100 milliseconds.
+#[derive(Drop)]
+struct EvenLook;
+
+impl Look for EvenLook {
+    fn is_due(&mut self, pace: Option<u16>, tick: Tick) -> bool {
+        pace == Some(100) && tick.get() % 2 == 0
+    }
+}
+
+#[test]
+fn a_looking_ticker_lapses_where_no_tick_is_due(rt: HostRuntime) -> Result<(), Fail> {
+    let mut ticker = LookingTicker::new(EvenLook);
+    assert!(rt; ticker.wait(&rt, Tick::new(2)?).is_err());
+    assert!(rt; is_due(&rt, &mut ticker, Tick::new(2)?));
+    assert!(rt; !is_due(&rt, &mut ticker, Tick::new(3)?));
+    assert!(rt; is_due(&rt, &mut ticker, Tick::new(4)?));
+    assert_eq!(rt; ticker.faults(), 2);
     Ok(())
 }
 

@@ -11,7 +11,10 @@ use std::test::Fail;
 use std::thread::Threads;
 use std::time::Clock;
 use tac_base::{Agent, Tick};
-use tac_io::{HeldLink, Hold, LinesSent, Link, MemLink, MemLinks, MemTicker, Ticker};
+use tac_io::{
+    HeldLink, Hold, LinesSent, Link, Look, LookingTicker, MOST_TURNS, MemLink, MemLinks, MemTicker,
+    Ticker, was_sent,
+};
 
 /// A link that gives these bytes.
 fn link(alloc: Global, bytes: &[u8]) -> Result<MemLink, Fail> {
@@ -114,52 +117,17 @@ fn no_game_is_played_where_links_fail(rt: HostRuntime) -> Result<(), Fail> {
     Ok(())
 }
 
-/// How often the wait for tick 2 looks at the lines that a link was sent.
-const MOST_LOOKS: u32 = 1_000_000_000;
-
-/// A ticker that shows the tick that is waited for. Tick 2 lapses unless a link is sent the ten lines of its welcome and a reply.
+/// Shows the tick that is waited for. Tick 2 is due once a link was sent the ten lines of its welcome and a reply.
 #[derive(Drop)]
-struct MeetingTicker {
+struct MeetingLook {
     shown: LinesSent,
     awaited: LinesSent,
-    lapses: u64,
 }
 
-/// Looks until the link was sent its first reply, and says whether it was.
-fn is_replied(sent: &AtomicU64) -> bool {
-    (0..MOST_LOOKS).any(|_| sent.load(Ordering::SeqCst) >= 11)
-}
-
-impl Ticker for MeetingTicker {
-    ghost use Rattle.std.specs.Prelude.{None};
-
-    type Due = Tick;
-
-    type Lapse = Tick;
-
-    ghost due_tick = { λ due. due };
-
-    ghost lapse_tick = { λ lapse. lapse };
-
-    ghost state = { λ s. record { paced = None; waited = None; faults = s.lapses } };
-
-    fn pace(&mut self, _milliseconds: u16) {}
-
-    fn wait<R: Wait + Clock>(&mut self, _rt: &R, tick: Tick) -> Result<Tick, Tick> {
+impl Look for MeetingLook {
+    fn is_due(&mut self, _pace: Option<u16>, tick: Tick) -> bool {
         self.shown.store(u64::from(tick.get()), Ordering::SeqCst);
-        if tick.get() != 2 || is_replied(&self.awaited) {
-            return Ok(tick);
-        }
-        self.lapses = self.lapses.saturating_add(1);
-        Err(tick)
-    }
-
-    fn late(&mut self, lapse: Tick) -> Tick {
-        lapse
-    }
-
-    fn faults(&self) -> u64 {
-        self.lapses
+        tick.get() != 2 || was_sent(&self.awaited, 11, MOST_TURNS)
     }
 }
 
@@ -198,11 +166,10 @@ fn sessions_overlap(rt: HostRuntime) -> Result<(), Fail> {
         sent = next;
     }
     all.push(held(alloc, 7, &sent, &shown, 2)?)?;
-    let mut ticker = MeetingTicker {
+    let mut ticker = LookingTicker::new(MeetingLook {
         shown,
         awaited: first,
-        lapses: 0,
-    };
+    });
     let Ok(end) = played(&rt, alloc, all, 0, &mut ticker)? else {
         return Err("no game".into());
     };

@@ -15,7 +15,7 @@ use tac_base::limits::TICKS;
 /// A tick that was waited for.
 #[derive(Drop)]
 pub struct MemDue {
-    tick: Tick,
+    pub(crate) tick: Tick,
 }
 
 impl Model for MemDue {
@@ -29,7 +29,7 @@ impl Model for MemDue {
 /// A tick whose wait lapsed.
 #[derive(Drop)]
 pub struct MemLapse {
-    tick: Tick,
+    pub(crate) tick: Tick,
 }
 
 impl Model for MemLapse {
