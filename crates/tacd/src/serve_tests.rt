@@ -55,14 +55,10 @@ fn link(
     read: u64,
     write: u64,
 ) -> Result<MemLink, Fail> {
-    Ok(MemLink::new(
-        alloc,
-        bytes.to_vec(alloc)?,
-        most_at_once,
-        room,
-        vec![in alloc; read]?,
-        vec![in alloc; write]?,
-    )?)
+    let bytes = bytes.to_vec(alloc)?;
+    let reads = vec![in alloc; read]?;
+    let writes = vec![in alloc; write]?;
+    Ok(MemLink::new(alloc, bytes, most_at_once, room, reads, writes)?)
 }
 
 // Links that give these bytes, as many at once as stated, in order.
@@ -118,25 +114,33 @@ const FOUR_HEADS: &str =
 const WELCOME: &str =
     "welcome 0\nendow 0 0 0 0 0 0 0 0 0 0 0 0 0\nclient 0 0 1 2 100 0 0 100\nclient 0 1 1 2 100 0 0 100\nclient 0 2 1 2 100 0 0 100\nclient 0 3 1 2 100 0 0 100\nclient 0 4 1 2 100 0 0 100\nclient 0 5 1 2 100 0 0 100\nclient 0 6 1 2 100 0 0 100\nclient 0 7 1 2 100 0 0 100\n";
 
+// What the four are sent.
+const FOUR_SENT: &[(&str, &str)] = &[
+    (WELCOME, "bye\n"),
+    ("", "refused wrongword\n"),
+    ("", "refused taken\n"),
+    ("", "refused syntax\n"),
+];
+
+// The call of the links that fails, and what those that were taken were sent. The first call listens, and each later one gives a link.
+const LINKS_FAIL: &[(u64, &[(&str, &str)])] = &[
+    (1, &[]),
+    (3, &[("", "")]),
+    (5, &[("", ""), ("", ""), ("", "")]),
+];
+
 #[test]
 fn games_are_served_or_their_links_fail(rt: HostRuntime) -> Result<(), Fail> {
     let alloc = rt.alloc();
-    let told = [
-        (WELCOME, "bye\n"),
-        ("", "refused wrongword\n"),
-        ("", "refused taken\n"),
-        ("", "refused syntax\n"),
-    ];
     for most_at_once in [1_000, 1] {
         let given = links(alloc, &FOUR, most_at_once)?;
-        let served = check(&rt, alloc, given, NO_FAULT, 0, FOUR_HEADS, &told)?;
+        let served = check(&rt, alloc, given, NO_FAULT, 0, FOUR_HEADS, FOUR_SENT)?;
         let text = str::from_utf8(served.text.as_slice())?;
         assert!(rt; text.find("\nscore 7 0 0 0 0\n").is_some());
     }
-    // The first call listens, and each later one gives a link.
-    for (failing, sent) in [(1, &[][..]), (3, &[("", "")]), (5, &[("", ""); 3])] {
+    for (failing, sent) in LINKS_FAIL {
         let faults = Faults {
-            links: failing,
+            links: *failing,
             ..NO_FAULT
         };
         let given = links(alloc, &SEATED, 1_000)?;
@@ -147,28 +151,24 @@ fn games_are_served_or_their_links_fail(rt: HostRuntime) -> Result<(), Fail> {
         write: 1,
         ..NO_FAULT
     };
-    let served = check(
-        &rt,
-        alloc,
-        links(alloc, &FOUR, 1_000)?,
-        faults,
-        4,
-        "",
-        &told,
-    )?;
+    let given = links(alloc, &FOUR, 1_000)?;
+    let served = check(&rt, alloc, given, faults, 4, "", FOUR_SENT)?;
     assert!(rt; served.text.is_empty() && served.played);
     Ok(())
 }
 
+// How many bytes a line has, what comes behind it, what the link is sent then, and the cause of its end.
+const LONG_LINES: &[(usize, &str, &str, &str)] = &[
+    (512, "\n", "no syntax\n", "end"),
+    (513, "\nquit\n", "no toolong\nbye\n", "quit"),
+    (513, "", "", "end"),
+];
+
 #[test]
 fn a_line_has_at_most_512_bytes(rt: HostRuntime) -> Result<(), Fail> {
     let alloc = rt.alloc();
-    for (count, rest, sent, cause) in [
-        (512, "\n", "no syntax\n", "end"),
-        (513, "\nquit\n", "no toolong\nbye\n", "quit"),
-        (513, "", "", "end"),
-    ] {
-        let line = "a".repeat(alloc, count)?;
+    for (count, rest, sent, cause) in LONG_LINES {
+        let line = "a".repeat(alloc, *count)?;
         let bytes = format!(in alloc; "hello seat0\n{line}{rest}")?;
         let head = format!(in alloc;
             "taclog 1\nserve\nlink 0 seated 0\nend 0 {cause}\nmissed 0\n"
@@ -188,10 +188,8 @@ fn a_line_has_at_most_512_bytes(rt: HostRuntime) -> Result<(), Fail> {
 }
 
 // How many entries of the clock stand in the log.
-fn count_clock(text: &[u8]) -> usize {
-    text.split(|byte| *byte == b'\n')
-        .filter(|line| line.starts_with(b"8 "))
-        .count()
+fn count_clock(text: &[u8]) -> Result<usize, Fail> {
+    Ok(str::from_utf8(text)?.matches("\n8 ").count())
 }
 
 #[test]
@@ -205,26 +203,32 @@ fn at_most_64_links_are_taken(rt: HostRuntime) -> Result<(), Fail> {
     let given = links(alloc, &[b"hi\n".as_slice(); 65], 1_000)?;
     let sent = [("", "refused syntax\n"); 64];
     let served = check(&rt, alloc, given, NO_FAULT, 0, head.as_str(), &sent)?;
-    assert_eq!(rt; count_clock(&served.text), 480);
+    assert_eq!(rt; count_clock(&served.text)?, 480);
     Ok(())
 }
+
+// What links give, the room that they have, and the read and the write that fails.
+const FAULTY: &[(&[u8], usize, u64, u64)] = &[
+    (b"hello seat0\nown 0\nown ", 10_000, 2, 0),
+    (b"hello seat1\nown 0\n", 10_000, 0, 1),
+    (b"hello seat2\n", 10_000, 1, 0),
+    (b"hello seat3\nown 0\n", 60, 0, 0),
+];
+
+const FAULTY_HEADS: &str =
+    "taclog 1\nserve\nlink 0 seated 0\nlink 1 seated 1\nlink 2 lost\nlink 3 seated 3\nend 0 readfault\nend 1 writefault\nend 3 writefault\nmissed 0\nauction 0 55\n";
 
 #[test]
 fn the_fault_of_a_link_ends_its_session_alone(rt: HostRuntime) -> Result<(), Fail> {
     let alloc = rt.alloc();
-    let broken = link(alloc, b"hello seat0\nown 0\nown ", 1_000, 10_000, 2, 0)?;
-    let unheard = link(alloc, b"hello seat1\nown 0\n", 1_000, 10_000, 0, 1)?;
-    let lost = link(alloc, b"hello seat2\n", 1_000, 10_000, 1, 0)?;
-    let full = link(alloc, b"hello seat3\nown 0\n", 1_000, 60, 0, 0)?;
-    let given = vec![in alloc; broken, unheard, lost, full]?;
+    let mut given = Vec::new(alloc);
+    for (bytes, room, read, write) in FAULTY {
+        given.push(link(alloc, bytes, 1_000, *room, *read, *write)?)?;
+    }
     let served = serve(&rt, alloc, given, NO_FAULT)?;
     assert_eq!(rt; served.code, 0);
     let text = str::from_utf8(served.text.as_slice())?;
-    assert!(rt;
-        text.starts_with(
-            "taclog 1\nserve\nlink 0 seated 0\nlink 1 seated 1\nlink 2 lost\nlink 3 seated 3\nend 0 readfault\nend 1 writefault\nend 3 writefault\nmissed 0\nauction 0 55\n"
-        )
-    );
+    assert!(rt; text.starts_with(FAULTY_HEADS));
     assert!(rt; text.find("\n0 own = own 0 ()\n").is_some());
     let welcome = "welcome 3\nendow 3 0 0 0 0 0 0 0 0 0 0 0 0\nclient 3 0 1 2 100 0 0 100\n";
     assert_eq!(rt; served.ended.len(), 4);
@@ -235,12 +239,15 @@ fn the_fault_of_a_link_ends_its_session_alone(rt: HostRuntime) -> Result<(), Fai
     Ok(())
 }
 
+// The first tick that lapses, the first behind it that does not, and how many of them the log tells.
+const LAPSES: &[(u64, u64, &str)] = &[(20, 21, "missed 1"), (1, 55, "missed 54")];
+
 #[test]
 fn the_calls_of_lapsed_ticks_are_made(rt: HostRuntime) -> Result<(), Fail> {
     let alloc = rt.alloc();
-    for (first, end, missed) in [(20, 21, "missed 1"), (1, 55, "missed 54")] {
+    for (first, end, missed) in LAPSES {
         let mut lapsing = Vec::new(alloc);
-        for tick in first..end {
+        for tick in *first..*end {
             lapsing.push(tick)?;
         }
         let mut ticker = MemTicker::new(alloc, lapsing)?;
@@ -256,7 +263,7 @@ fn the_calls_of_lapsed_ticks_are_made(rt: HostRuntime) -> Result<(), Fail> {
         let text = str::from_utf8(served.text.as_slice())?;
         let head = format!(in alloc; "\nend 0 quit\n{missed}\nauction 0 54\n")?;
         assert!(rt; text.find(head.as_str()).is_some(), "{missed}");
-        assert_eq!(rt; count_clock(&served.text), 480);
+        assert_eq!(rt; count_clock(&served.text)?, 480);
         assert!(rt; text.ends_with("\nend\n"));
     }
     Ok(())
@@ -340,28 +347,18 @@ fn the_pace_is_set_before_the_first_wait(rt: HostRuntime) -> Result<(), Fail> {
 // A link of an agent, which counts the lines that it was sent and may wait for those of another.
 fn held(
     alloc: Global,
-    lines: &[&str],
+    bytes: &[u8],
     sent: &LinesSent,
     hold: Option<Hold>,
 ) -> Result<HeldLink, Fail> {
-    let mut bytes = Vec::new(alloc);
-    for line in lines {
-        bytes.extend_from_slice(line.as_bytes())?;
-        bytes.push(b'\n')?;
-    }
-    Ok(HeldLink::new(alloc, bytes, 10_000, Arc::try_clone(sent)?, hold)?)
+    let bytes = bytes.to_vec(alloc)?;
+    let sent = Arc::try_clone(sent)?;
+    Ok(HeldLink::new(alloc, bytes, 10_000, sent, hold)?)
 }
 
 // What an agent asks in JSON.
-const JSON_ASKED: [&str; 7] = [
-    "hello seat0",
-    "{\"do\":\"bid\",\"auction\":0,\"points\":[[1,300]]}",
-    "{\"auction\":0,\"do\":\"quote\"}",
-    "{\"do\":\"bid\",\"auction\":0,\"points\":[]}",
-    "{\"do\":\"own\",\"auction\":28}",
-    "{\"do\":\"cash\",\"x\":1}",
-    "{\"do\":\"quit\"}",
-];
+const JSON_ASKED: &[u8] =
+    b"hello seat0\n{\"do\":\"bid\",\"auction\":0,\"points\":[[1,300]]}\n{\"auction\":0,\"do\":\"quote\"}\n{\"do\":\"bid\",\"auction\":0,\"points\":[]}\n{\"do\":\"own\",\"auction\":28}\n{\"do\":\"cash\",\"x\":1}\n{\"do\":\"quit\"}\n";
 
 // What it is told after its welcome.
 const JSON_TOLD: &str =
@@ -372,7 +369,7 @@ fn agents_may_speak_json(rt: HostRuntime) -> Result<(), Fail> {
     let alloc = rt.alloc();
     let sent = Arc::new(alloc, AtomicU64::new(0))?;
     let mut links = Vec::new(alloc);
-    links.push(held(alloc, &JSON_ASKED, &sent, None)?)?;
+    links.push(held(alloc, JSON_ASKED, &sent, None)?)?;
     // The clock's first tick comes after the ten lines of the welcome and the six answers.
     let mut ticker = PacedTicker {
         pace: None,
@@ -396,6 +393,16 @@ fn agents_may_speak_json(rt: HostRuntime) -> Result<(), Fail> {
     Ok(())
 }
 
+// What the agents of the other seats ask.
+const OTHERS: &[&[u8]] = &[
+    b"hello seat2\nquit\n",
+    b"hello seat3\nquit\n",
+    b"hello seat4\nquit\n",
+    b"hello seat5\nquit\n",
+    b"hello seat6\nquit\n",
+    b"hello seat7\nquit\n",
+];
+
 #[test]
 fn sessions_run_beside_one_another(rt: HostRuntime) -> Result<(), Fail> {
     let alloc = rt.alloc();
@@ -415,26 +422,19 @@ fn sessions_run_beside_one_another(rt: HostRuntime) -> Result<(), Fail> {
     let mut links = Vec::new(alloc);
     links.push(held(
         alloc,
-        &["hello seat0", "own 0", "quit"],
+        b"hello seat0\nown 0\nquit\n",
         &first,
         Some(for_second),
     )?)?;
     links.push(held(
         alloc,
-        &["hello seat1", "own 0", "quit"],
+        b"hello seat1\nown 0\nquit\n",
         &second,
         Some(for_first),
     )?)?;
-    for greeting in [
-        "hello seat2",
-        "hello seat3",
-        "hello seat4",
-        "hello seat5",
-        "hello seat6",
-        "hello seat7",
-    ] {
+    for bytes in OTHERS {
         let others = Arc::new(alloc, AtomicU64::new(0))?;
-        links.push(held(alloc, &[greeting, "quit"], &others, None)?)?;
+        links.push(held(alloc, bytes, &others, None)?)?;
     }
     let served = serve(&rt, alloc, links, NO_FAULT)?;
     assert_eq!(rt; served.code, 0);

@@ -104,30 +104,49 @@ pub(crate) fn run<R: Threads + Sync + Wait + Clock>(
     run_over(rt, alloc, line, files, Vec::new(alloc), &mut ticker, faults)
 }
 
-// The game that lies beside the plain one: one with a bad line 20, or one with one room of the first night and live quotes.
-#[derive(Clone, Copy)]
-enum Second {
-    BadLine,
-    Live,
-}
-
-// The text of that game.
-fn second_game(alloc: Global, second: Second) -> Result<String, Fail> {
-    match second {
-        Second::BadLine => plain_game(alloc, "client 0 0 2 2 100 0 0 100\n"),
-        Second::Live => {
-            let nights = "rooms 1 16 16 16 16 16 16 16\nquotes live\n";
-            game_with(alloc, 2, nights, FIRST_CLIENT)
-        }
-    }
-}
-
-// Runs a line over the plain game and the second one, an account and a script. Fails where the code is another, the text does not begin with
-// the first of the parts, or lacks one of them, or the first is alone and not the whole text.
-fn check_beside<R: Threads + Sync + Wait + Clock>(
+// What a line writes over files, without faults.
+pub(crate) fn written<R: Threads + Sync + Wait + Clock>(
     rt: &R,
     alloc: Global,
-    second: Second,
+    line: &str,
+    files: &[(&str, &[u8])],
+) -> Result<String, Fail> {
+    let ran = run(rt, alloc, line, files, NO_FAULT)?;
+    Ok(String::from_str(alloc, str::from_utf8(ran.text.as_slice())?)?)
+}
+
+// The log of the plain game, played by a script.
+pub(crate) fn log_of<R: Threads + Sync + Wait + Clock>(
+    rt: &R,
+    alloc: Global,
+    script: &str,
+) -> Result<String, Fail> {
+    let game = plain_game(alloc, FIRST_CLIENT)?;
+    let script = String::from_str(alloc, script)?;
+    let files = [("game", game.as_bytes()), ("script", script.as_bytes())];
+    let text = written(rt, alloc, "play game script", &files)?;
+    let start = text.find("taclog 1\n").ok_or("no log")?;
+    let log = text.get(start..).ok_or("no log")?;
+    Ok(String::from_str(alloc, log)?)
+}
+
+// The text with its first part that is the first of the two made the other.
+pub(crate) fn changed(alloc: Global, text: &str, change: &(&str, &str)) -> Result<String, Fail> {
+    let (before, behind) = text.split_once(change.0).ok_or("no such part")?;
+    let mut whole = String::from_str(alloc, before)?;
+    whole.push_str(change.1)?;
+    whole.push_str(behind)?;
+    Ok(whole)
+}
+
+// A line, the script beside it, the read that fails, 0 for none, and what is due: the code, and the parts of the text.
+type Case<'a> = (&'a str, &'a str, u64, u8, &'a [&'a str]);
+
+// Runs a line over the plain game, one with a bad line 20, one with a scarce night and live quotes, an account and a script. Fails where the
+// code is another, the text does not begin with the first of the parts, or lacks one of them, or the first is alone and not the whole text.
+fn check<R: Threads + Sync + Wait + Clock>(
+    rt: &R,
+    alloc: Global,
     line: &str,
     script: &str,
     faults: Faults,
@@ -135,11 +154,13 @@ fn check_beside<R: Threads + Sync + Wait + Clock>(
     parts: &[&str],
 ) -> Result<(), Fail> {
     let game = plain_game(alloc, FIRST_CLIENT)?;
-    let second = second_game(alloc, second)?;
+    let bad = plain_game(alloc, BAD_CLIENT)?;
+    let live = game_with(alloc, 2, LIVE, FIRST_CLIENT)?;
     let script = String::from_str(alloc, script)?;
     let files = [
         ("game", game.as_bytes()),
-        ("second", second.as_bytes()),
+        ("bad", bad.as_bytes()),
+        ("live", live.as_bytes()),
         ("account", ONE_SEAT),
         ("script", script.as_bytes()),
     ];
@@ -151,26 +172,20 @@ fn check_beside<R: Threads + Sync + Wait + Clock>(
     Ok(())
 }
 
-// The same beside the game with a bad line.
-fn check<R: Threads + Sync + Wait + Clock>(
+// Checks each case.
+fn check_all<R: Threads + Sync + Wait + Clock>(
     rt: &R,
     alloc: Global,
-    line: &str,
-    script: &str,
-    faults: Faults,
-    code: u8,
-    parts: &[&str],
+    cases: &[Case<'_>],
 ) -> Result<(), Fail> {
-    check_beside(
-        rt,
-        alloc,
-        Second::BadLine,
-        line,
-        script,
-        faults,
-        code,
-        parts,
-    )
+    for (line, script, read, code, parts) in cases {
+        let faults = Faults {
+            read: *read,
+            ..NO_FAULT
+        };
+        check(rt, alloc, line, script, faults, *code, parts)?;
+    }
+    Ok(())
 }
 
 // Whether the text begins with the first of the parts, and has the others; or is the first, where that is alone.
@@ -186,6 +201,12 @@ fn has_parts(text: &str, parts: &[&str]) -> bool {
 
 // The line of the first client.
 pub(crate) const FIRST_CLIENT: &str = "client 0 0 1 2 100 0 0 100\n";
+
+// The same, whose client leaves on the day on which it comes.
+pub(crate) const BAD_CLIENT: &str = "client 0 0 2 2 100 0 0 100\n";
+
+// A scarce night, and quotes that move with each bid.
+const LIVE: &str = "rooms 1 16 16 16 16 16 16 16\nquotes live\n";
 
 // Agent 0 buys 15 rooms.
 const HOTEL: &str = "0 bid ((15 100))\nclose\n";
@@ -226,322 +247,349 @@ pub(crate) fn plain_game(alloc: Global, line_20: &str) -> Result<String, Fail> {
 
 // The same of a version, with the lines of hotel nights and quotes that it has.
 fn game_with(alloc: Global, version: u8, nights: &str, first: &str) -> Result<String, Fail> {
-    let mut text = format!(in alloc;
-        "tac {version}\nwords seat0 seat1 seat2 seat3 seat4 seat5 seat6 seat7\n"
-    )?;
-    for good in 0..8 {
-        write!(text, "flight {good} 300 10")?;
-        for _ in 0..53 {
-            text.push_str(" 10")?;
-        }
-        text.push_str("\n")?;
-    }
-    text.push_str("close 8 9 10 11 12 13 14 15\n")?;
-    text.push_str(nights)?;
-    for agent in 0..8 {
-        write!(text, "endow {agent} 0 0 0 0 0 0 0 0 0 0 0 0\n")?;
-    }
-    for agent in 0..8 {
-        for client in 0..8 {
-            if agent == 0 && client == 0 {
-                text.push_str(first)?;
-            } else {
-                write!(text, "client {agent} {client} 1 2 100 0 0 100\n")?;
-            }
-        }
-    }
-    text.push_str("end\n")?;
-    Ok(text)
+    let flights = flight_lines(alloc)?;
+    let agents = agent_lines(alloc)?;
+    let clients = client_lines(alloc)?;
+    Ok(format!(in alloc;
+        "tac {version}\nwords seat0 seat1 seat2 seat3 seat4 seat5 seat6 seat7\n{flights}close 8 9 10 11 12 13 14 15\n{nights}{agents}{first}{clients}end\n"
+    )?)
 }
+
+// The lines of the flights.
+fn flight_lines(alloc: Global) -> Result<String, Fail> {
+    let mut lines = String::new(alloc);
+    let steps = " 10".repeat(alloc, 54)?;
+    for good in 0..8 {
+        write!(lines, "flight {good} 300{steps}\n")?;
+    }
+    Ok(lines)
+}
+
+// The lines of the agents' tickets.
+fn agent_lines(alloc: Global) -> Result<String, Fail> {
+    let mut lines = String::new(alloc);
+    for agent in 0..8 {
+        write!(lines, "endow {agent} 0 0 0 0 0 0 0 0 0 0 0 0\n")?;
+    }
+    Ok(lines)
+}
+
+// The lines of the clients but the first.
+fn client_lines(alloc: Global) -> Result<String, Fail> {
+    let mut lines = String::new(alloc);
+    for number in 1..64 {
+        let (agent, client) = (number / 8, number % 8);
+        write!(lines, "client {agent} {client} 1 2 100 0 0 100\n")?;
+    }
+    Ok(lines)
+}
+
+// A script, and its code and text.
+const HOTELS: &[(&str, u8, &str)] = &[
+    ("close\n", 0, "@0 sold 0 0\n"),
+    ("", 0, ""),
+    (
+        "0 bid ((15 100))\nclose\n",
+        0,
+        "@0 taken 0 0\n@1 sold 15 0\ntrade 0 8 15 0\n",
+    ),
+    (
+        "0 bid ((15 200))\n1 bid ((1 150))\n2 bid ((1 150))\nclose\n",
+        0,
+        "@0 taken 0 0\n@1 taken 0 0\n@2 taken 0 0\n@3 sold 16 150\ntrade 0 8 15 150\ntrade 1 8 1 150\n",
+    ),
+    (
+        "0 bid ((13 100))\n1 bid ((3 120))\npublish\n2 bid ((14 101))\n1 bid ((3 101))\nclose\n",
+        0,
+        "@0 taken 0 0\n@1 taken 0 0\n@2 done\n@3 taken 0 0\n@4 taken 0 0\n@5 sold 16 101\ntrade 1 8 2 101\ntrade 2 8 14 101\n",
+    ),
+    (
+        "close\n0 bid ((1 5))\nclose\n",
+        0,
+        "@0 sold 0 0\n@1 no closed\n@2 no closed\n",
+    ),
+    (
+        "0 bid ((15 10))\npublish\n0 bid ((1 1))\n",
+        0,
+        "@0 taken 0 0\n@1 done\n@2 no belowquote 15 1 1\n",
+    ),
+    ("8 bid ((1 5))\n", 8, "text 1 1\n"),
+    (
+        "0 bid ((1 100) (1 101) (1 102) (1 103) (1 104) (1 105) (1 106) (1 107) (1 108) (1 109) (1 110) (1 111) (1 112) (1 113) (1 114) (1 115))\nclose\n",
+        0,
+        "@0 taken 0 0\n@1 sold 16 100\ntrade 0 8 16 100\n",
+    ),
+    (
+        "0 bid ((13 100))\n1 bid ((3 120))\npublish\n1 bid ((2 150) (1 100))\n",
+        0,
+        "@0 taken 0 0\n@1 taken 0 0\n@2 done\n@3 no belowquote 3 101 2\n",
+    ),
+    ("0 bid ((-1 5))\n", 0, "@0 no sell\n"),
+    ("0 own\n", 0, "@0 own 0 ()\n"),
+    (
+        "0 bid ((15 100))\nclose\n0 own\n",
+        0,
+        "@0 taken 0 0\n@1 sold 15 0\ntrade 0 8 15 0\n@2 own 15 ()\n",
+    ),
+    ("close\n0 bid ((01 5))\n", 8, "text 2 2\n"),
+    ("close\n0 bid\n", 8, "text 2 1\n"),
+    ("close\nclose", 8, "text 2 3\n"),
+];
 
 #[test]
 fn hotels_are_run_from_scripts(rt: HostRuntime) -> Result<(), Fail> {
     let alloc = rt.alloc();
-    for (script, code, text) in [
-        ("close\n", 0, "@0 sold 0 0\n"),
-        ("", 0, ""),
-        (
-            "0 bid ((15 100))\nclose\n",
-            0,
-            "@0 taken 0 0\n@1 sold 15 0\ntrade 0 8 15 0\n",
-        ),
-        (
-            "0 bid ((15 200))\n1 bid ((1 150))\n2 bid ((1 150))\nclose\n",
-            0,
-            "@0 taken 0 0\n@1 taken 0 0\n@2 taken 0 0\n@3 sold 16 150\ntrade 0 8 15 150\ntrade 1 8 1 150\n",
-        ),
-        (
-            "0 bid ((13 100))\n1 bid ((3 120))\npublish\n2 bid ((14 101))\n1 bid ((3 101))\nclose\n",
-            0,
-            "@0 taken 0 0\n@1 taken 0 0\n@2 done\n@3 taken 0 0\n@4 taken 0 0\n@5 sold 16 101\ntrade 1 8 2 101\ntrade 2 8 14 101\n",
-        ),
-        (
-            "close\n0 bid ((1 5))\nclose\n",
-            0,
-            "@0 sold 0 0\n@1 no closed\n@2 no closed\n",
-        ),
-        (
-            "0 bid ((15 10))\npublish\n0 bid ((1 1))\n",
-            0,
-            "@0 taken 0 0\n@1 done\n@2 no belowquote 15 1 1\n",
-        ),
-        ("8 bid ((1 5))\n", 8, "text 1 1\n"),
-        (
-            "0 bid ((1 100) (1 101) (1 102) (1 103) (1 104) (1 105) (1 106) (1 107) (1 108) (1 109) (1 110) (1 111) (1 112) (1 113) (1 114) (1 115))\nclose\n",
-            0,
-            "@0 taken 0 0\n@1 sold 16 100\ntrade 0 8 16 100\n",
-        ),
-        (
-            "0 bid ((13 100))\n1 bid ((3 120))\npublish\n1 bid ((2 150) (1 100))\n",
-            0,
-            "@0 taken 0 0\n@1 taken 0 0\n@2 done\n@3 no belowquote 3 101 2\n",
-        ),
-        ("0 bid ((-1 5))\n", 0, "@0 no sell\n"),
-        ("0 own\n", 0, "@0 own 0 ()\n"),
-        (
-            "0 bid ((15 100))\nclose\n0 own\n",
-            0,
-            "@0 taken 0 0\n@1 sold 15 0\ntrade 0 8 15 0\n@2 own 15 ()\n",
-        ),
-        ("close\n0 bid ((01 5))\n", 8, "text 2 2\n"),
-        ("close\n0 bid\n", 8, "text 2 1\n"),
-        ("close\nclose", 8, "text 2 3\n"),
-    ] {
-        check(&rt, alloc, "hotel script", script, NO_FAULT, code, &[text])?;
+    for (script, code, text) in HOTELS {
+        check(&rt, alloc, "hotel script", script, NO_FAULT, *code, &[text])?;
     }
     Ok(())
 }
 
-#[test]
-fn games_are_made_played_and_scored(rt: HostRuntime) -> Result<(), Fail> {
-    let alloc = rt.alloc();
-    let rows: [(&str, &str, &[&str]); 11] = [
-        (
-            "play game script",
-            "",
-            &[
-                "taclog 1\nplay\nauction 0 54\n",
-                "\ncash 0\nsheet\nscore 0 0 0 0 0\npackage 0 0 none\n",
-                "\nscore 7 0 0 0 0\npackage 7 0 none\n",
-            ],
-        ),
-        (
-            "play game script",
-            "0 quit\n",
-            &[
-                "0 bye\ntaclog 1\nplay\nauction 0 54\n",
-                "\ncash 0\nsheet\n",
-                "\nscore 7 0 0 0 0\n",
-            ],
-        ),
-        (
-            "play game script",
-            "0 bid 24 ((-1 60))\n1 bid 24 ((2 70))\n1 quote 24\n",
-            &[
-                "0 @0 taken 0 0\n1 @1 taken 1 0\n1 @2 quote 70 0 open\ntaclog 1\nplay\n",
-                "\n1 bid ((2 70)) = taken 1 0\ntrade 1 0 1 60\n",
-                "\nscore 0 0 60 1 -140\n",
-            ],
-        ),
-        (
-            "play game script",
-            BIDS,
-            &[
-                BIDS_TOLD,
-                "\n0 bid ((16 10000)) = taken 16 0\ntrade 0 8 16 300\n",
-                "\ncash 1\n0 post 0 0 -4800 0 0 0 0 0 0 0 4800\nsheet\n",
-                "\nscore 0 0 -4800 0 -4800\n",
-            ],
-        ),
-        (
-            "play game script",
-            TRADES,
-            &[
-                TRADES_TOLD,
-                "\nauction 8 2\n",
-                "\nauction 15 8\n",
-                "\nauction 16 1\n",
-                "\nauction 24 5\n1 bid ((-2 60)) = taken 0 0\n0 bid ((1 70)) = taken 1 0\ntrade 0 1 1 60\n2 bid ((1 70)) = taken 1 0\ntrade 2 1 1 60\n1 own = own -2 ()\n8 close = done\n",
-                "\ncash 6\n0 post 0 0 -300 0 0 0 0 0 0 0 300\n0 post 4 0 -300 0 0 0 0 0 0 0 300\n0 post 24 1 -60 60 0 0 0 0 0 0 0\n2 post 24 2 0 60 -60 0 0 0 0 0 0\n0 read = -660\n8 post 8 1 0 0 0 0 0 0 0 0 0\nsheet\n",
-                "\nscore 0 1100 -660 0 440\n",
-                "\nscore 1 0 120 2 -280\n",
-                "\nscore 2 0 -60 0 -60\n",
-                "\nscore 3 0 0 0 0\n",
-                "\nscore 4 0 0 0 0\n",
-                "\nscore 5 0 0 0 0\n",
-                "\nscore 6 0 0 0 0\n",
-                "\nscore 7 0 0 0 0\n",
-            ],
-        ),
-        (
-            "worth account",
-            "",
-            &[
-                "worth 1150\ngood 0 1000 1150\ngood 1 0 0\n",
-                "\ngood 11 0 0\ngood 12 50 0\ngood 13 0 0\ngood 14 0 0\ngood 15 0 0\ngood 16 0 150\ngood 17 0 0\n",
-                "\ngood 27 0 0\nbase\ntotal 1150\n",
-                "\nmore 0\ntotal 2150\n",
-                "\nless 0\ntotal 0\n",
-                "\nend\nend\n",
-            ],
-        ),
-        (
-            "worth script",
-            NOTHING_HELD,
-            &[
-                "worth 0\ngood 0 0 0\n",
-                "\ngood 16 0 0\n",
-                "\ngood 27 0 0\nbase\ntotal 0\n",
-            ],
-        ),
-        (
-            "upgrade game",
-            "",
-            &[
-                "tac 2\nwords seat0 seat1 ",
-                "\nclose 8 9 10 11 12 13 14 15\nrooms 16 16 16 16 16 16 16 16\nquotes minute\nendow 0 0 ",
-                "\nend\n",
-            ],
-        ),
-        (
-            "make 42",
-            "",
-            &[
-                "tac 1\nwords seat0 seat1 ",
-                "\nflight 0 360 27 3122475824 2211639955 ",
-            ],
-        ),
-        ("trial 7 0", "", &[IDLE_TRIAL]),
-        (
-            "solve account",
-            "",
-            &[
-                "total 1150\npackage 0 none\npackage 1 0 1 2 1 0 0\npackage 2 none\npackage 3 none\npackage 4 none\npackage 5 none\npackage 6 none\npackage 7 none\ncert ",
-                "\nend\n",
-            ],
-        ),
-    ];
-    for (line, script, parts) in rows {
-        check(&rt, alloc, line, script, NO_FAULT, 0, parts)?;
-    }
-    check_beside(
-        &rt,
-        alloc,
-        Second::Live,
-        "play second script",
+const GAMES: &[Case<'static>] = &[
+    (
+        "play game script",
+        "",
+        0,
+        0,
+        &[
+            "taclog 1\nplay\nauction 0 54\n",
+            "\ncash 0\nsheet\nscore 0 0 0 0 0\npackage 0 0 none\n",
+            "\nscore 7 0 0 0 0\npackage 7 0 none\n",
+        ],
+    ),
+    (
+        "play game script",
+        "0 quit\n",
+        0,
+        0,
+        &[
+            "0 bye\ntaclog 1\nplay\nauction 0 54\n",
+            "\ncash 0\nsheet\n",
+            "\nscore 7 0 0 0 0\n",
+        ],
+    ),
+    (
+        "play game script",
+        "0 bid 24 ((-1 60))\n1 bid 24 ((2 70))\n1 quote 24\n",
+        0,
+        0,
+        &[
+            "0 @0 taken 0 0\n1 @1 taken 1 0\n1 @2 quote 70 0 open\ntaclog 1\nplay\n",
+            "\n1 bid ((2 70)) = taken 1 0\ntrade 1 0 1 60\n",
+            "\nscore 0 0 60 1 -140\n",
+        ],
+    ),
+    (
+        "play game script",
+        BIDS,
+        0,
+        0,
+        &[
+            BIDS_TOLD,
+            "\n0 bid ((16 10000)) = taken 16 0\ntrade 0 8 16 300\n",
+            "\ncash 1\n0 post 0 0 -4800 0 0 0 0 0 0 0 4800\nsheet\n",
+            "\nscore 0 0 -4800 0 -4800\n",
+        ],
+    ),
+    (
+        "play game script",
+        TRADES,
+        0,
+        0,
+        &[
+            TRADES_TOLD,
+            "\nauction 8 2\n",
+            "\nauction 15 8\n",
+            "\nauction 16 1\n",
+            "\nauction 24 5\n1 bid ((-2 60)) = taken 0 0\n0 bid ((1 70)) = taken 1 0\ntrade 0 1 1 60\n2 bid ((1 70)) = taken 1 0\ntrade 2 1 1 60\n1 own = own -2 ()\n8 close = done\n",
+            "\ncash 6\n0 post 0 0 -300 0 0 0 0 0 0 0 300\n0 post 4 0 -300 0 0 0 0 0 0 0 300\n0 post 24 1 -60 60 0 0 0 0 0 0 0\n2 post 24 2 0 60 -60 0 0 0 0 0 0\n0 read = -660\n8 post 8 1 0 0 0 0 0 0 0 0 0\nsheet\n",
+            "\nscore 0 1100 -660 0 440\n",
+            "\nscore 1 0 120 2 -280\n",
+            "\nscore 2 0 -60 0 -60\n",
+            "\nscore 3 0 0 0 0\n",
+            "\nscore 4 0 0 0 0\n",
+            "\nscore 5 0 0 0 0\n",
+            "\nscore 6 0 0 0 0\n",
+            "\nscore 7 0 0 0 0\n",
+        ],
+    ),
+    (
+        "worth account",
+        "",
+        0,
+        0,
+        &[
+            "worth 1150\ngood 0 1000 1150\ngood 1 0 0\n",
+            "\ngood 11 0 0\ngood 12 50 0\ngood 13 0 0\ngood 14 0 0\ngood 15 0 0\ngood 16 0 150\ngood 17 0 0\n",
+            "\ngood 27 0 0\nbase\ntotal 1150\n",
+            "\nmore 0\ntotal 2150\n",
+            "\nless 0\ntotal 0\n",
+            "\nend\nend\n",
+        ],
+    ),
+    (
+        "worth script",
+        NOTHING_HELD,
+        0,
+        0,
+        &[
+            "worth 0\ngood 0 0 0\n",
+            "\ngood 16 0 0\n",
+            "\ngood 27 0 0\nbase\ntotal 0\n",
+        ],
+    ),
+    (
+        "upgrade game",
+        "",
+        0,
+        0,
+        &[
+            "tac 2\nwords seat0 seat1 ",
+            "\nclose 8 9 10 11 12 13 14 15\nrooms 16 16 16 16 16 16 16 16\nquotes minute\nendow 0 0 ",
+            "\nend\n",
+        ],
+    ),
+    (
+        "make 42",
+        "",
+        0,
+        0,
+        &[
+            "tac 1\nwords seat0 seat1 ",
+            "\nflight 0 360 27 3122475824 2211639955 ",
+        ],
+    ),
+    ("trial 7 0", "", 0, 0, &[IDLE_TRIAL]),
+    (
+        "solve account",
+        "",
+        0,
+        0,
+        &[
+            "total 1150\npackage 0 none\npackage 1 0 1 2 1 0 0\npackage 2 none\npackage 3 none\npackage 4 none\npackage 5 none\npackage 6 none\npackage 7 none\ncert ",
+            "\nend\n",
+        ],
+    ),
+    (
+        "play live script",
         "0 bid 8 ((1 50))\n0 quote 8\n1 bid 8 ((1 50))\n1 bid 8 ((1 51))\n1 quote 8\n",
-        NO_FAULT,
+        0,
         0,
         &[
             "0 @0 taken 0 0\n0 @1 quote 0 50 open\n1 @1 no belowquote 1 51 0\n1 @2 taken 0 0\n1 @3 quote 0 51 open\ntaclog 1\n",
             "\nauction 8 4\n",
             "\n8 close = sold 1 51\ntrade 1 8 1 51\n",
         ],
-    )
+    ),
+];
+
+#[test]
+fn games_are_made_played_and_scored(rt: HostRuntime) -> Result<(), Fail> {
+    check_all(&rt, rt.alloc(), GAMES)
 }
+
+// A part of a log that is left as it is.
+const KEPT: (&str, &str) = ("\nend\n", "\nend\n");
+
+// What is changed in the log, twice where one change is not enough, and what is written of it then.
+const JUDGED: &[((&str, &str), (&str, &str), u8, &str)] = &[
+    (KEPT, KEPT, 0, "sound\n"),
+    (
+        ("trade 0 1 1 60\n", "trade 0 1 1 61\n"),
+        KEPT,
+        9,
+        "unsound entry 24 1\n",
+    ),
+    (
+        ("auction 27 1\n8 close = done\n", "auction 27 0\n"),
+        KEPT,
+        9,
+        "unsound clock 27\n",
+    ),
+    (
+        ("0 read = -660\n", "0 read = -661\n"),
+        KEPT,
+        9,
+        "unsound cash 4\n",
+    ),
+    (
+        ("8 post 8 1 0 ", "8 post 8 0 0 "),
+        KEPT,
+        9,
+        "unsound post 5\n",
+    ),
+    (
+        ("cash 6\n", "cash 5\n"),
+        ("8 post 8 1 0 0 0 0 0 0 0 0 0\n", ""),
+        9,
+        "unsound unposted 8 1\n",
+    ),
+    (
+        ("score 0 1100 -660 0 440\n", "score 0 1100 -660 0 441\n"),
+        KEPT,
+        9,
+        "unsound score 0\n",
+    ),
+    (
+        ("taclog 1\nplay\n", "taclog 1\nserve\nmissed 0\n"),
+        KEPT,
+        9,
+        "unsound head\n",
+    ),
+    (("taclog 1\n", "taclog 2\n"), KEPT, 8, "text 1 1\n"),
+];
 
 #[test]
 fn logs_are_judged_by_their_games(rt: HostRuntime) -> Result<(), Fail> {
     let alloc = rt.alloc();
-    let game = plain_game(alloc, FIRST_CLIENT)?;
-    let files = [("game", game.as_bytes()), ("script", TRADES.as_bytes())];
-    let played = run(&rt, alloc, "play game script", &files, NO_FAULT)?;
-    let text = str::from_utf8(played.text.as_slice())?;
-    let (_, log) = text.split_once("taclog 1\n").ok_or("no log")?;
-    // What is changed in the log, twice where one change is not enough, and what is written of it then.
-    let kept = ("taclog 1\n", "taclog 1\n");
-    let rows: [((&str, &str), (&str, &str), u8, &str); 9] = [
-        (kept, kept, 0, "sound\n"),
-        (
-            ("trade 0 1 1 60\n", "trade 0 1 1 61\n"),
-            kept,
-            9,
-            "unsound entry 24 1\n",
-        ),
-        (
-            ("auction 27 1\n8 close = done\n", "auction 27 0\n"),
-            kept,
-            9,
-            "unsound clock 27\n",
-        ),
-        (
-            ("0 read = -660\n", "0 read = -661\n"),
-            kept,
-            9,
-            "unsound cash 4\n",
-        ),
-        (
-            ("8 post 8 1 0 ", "8 post 8 0 0 "),
-            kept,
-            9,
-            "unsound post 5\n",
-        ),
-        (
-            ("cash 6\n", "cash 5\n"),
-            ("8 post 8 1 0 0 0 0 0 0 0 0 0\n", ""),
-            9,
-            "unsound unposted 8 1\n",
-        ),
-        (
-            ("score 0 1100 -660 0 440\n", "score 0 1100 -660 0 441\n"),
-            kept,
-            9,
-            "unsound score 0\n",
-        ),
-        (
-            ("taclog 1\nplay\n", "taclog 1\nserve\nmissed 0\n"),
-            kept,
-            9,
-            "unsound head\n",
-        ),
-        (("taclog 1\n", "taclog 2\n"), kept, 8, "text 1 1\n"),
-    ];
-    for (first, second, code, told) in rows {
-        let whole = format!(in alloc; "taclog 1\n{log}")?;
-        let once = whole.replace(alloc, first.0, first.1)?;
-        let changed = once.replace(alloc, second.0, second.1)?;
+    let log = log_of(&rt, alloc, TRADES)?;
+    for (first, second, code, told) in JUDGED {
+        let once = changed(alloc, log.as_str(), first)?;
+        let twice = changed(alloc, once.as_str(), second)?;
         check(
             &rt,
             alloc,
             "audit game script",
-            changed.as_str(),
+            twice.as_str(),
             NO_FAULT,
-            code,
+            *code,
             &[told],
         )?;
     }
     Ok(())
 }
 
+// A line, a line of its script and how many of these there are, and what is due.
+const SPENT: &[(&str, &str, usize, u8, &[&str])] = &[
+    (
+        "hotel script",
+        "0 bid ((1 1))\n",
+        1025,
+        8,
+        &["text 1025 5\n"],
+    ),
+    ("hotel script", "0 own\n", 1025, 8, &["text 1025 5\n"]),
+    ("hotel script", "publish\n", 65, 8, &["text 65 5\n"]),
+    (
+        "play game script",
+        "0 own 24\n",
+        1025,
+        0,
+        &[
+            "0 @0 own 0 ()\n",
+            "\n0 @1023 own 0 ()\n0 no spent\ntaclog 1\n",
+            "\nauction 24 1025\n",
+            "\n0 own = own 0 ()\n8 close = done\n",
+        ],
+    ),
+];
+
 #[test]
 fn an_agent_has_1024_calls_and_a_clock_64(rt: HostRuntime) -> Result<(), Fail> {
     let alloc = rt.alloc();
-    let rows: [(&str, &str, usize, u8, &[&str]); 4] = [
-        (
-            "hotel script",
-            "0 bid ((1 1))\n",
-            1025,
-            8,
-            &["text 1025 5\n"],
-        ),
-        ("hotel script", "0 own\n", 1025, 8, &["text 1025 5\n"]),
-        ("hotel script", "publish\n", 65, 8, &["text 65 5\n"]),
-        (
-            "play game script",
-            "0 own 24\n",
-            1025,
-            0,
-            &[
-                "0 @0 own 0 ()\n",
-                "\n0 @1023 own 0 ()\n0 no spent\ntaclog 1\n",
-                "\nauction 24 1025\n",
-                "\n0 own = own 0 ()\n8 close = done\n",
-            ],
-        ),
-    ];
-    for (line, one, count, code, parts) in rows {
-        let script = one.repeat(alloc, count)?;
-        check(&rt, alloc, line, script.as_str(), NO_FAULT, code, parts)?;
+    for (line, one, count, code, parts) in SPENT {
+        let script = one.repeat(alloc, *count)?;
+        check(&rt, alloc, line, script.as_str(), NO_FAULT, *code, parts)?;
     }
     Ok(())
 }
@@ -551,104 +599,107 @@ fn games_are_shown_in_their_canonical_text(rt: HostRuntime) -> Result<(), Fail> 
     let alloc = rt.alloc();
     let game = plain_game(alloc, FIRST_CLIENT)?;
     let commented = format!(in alloc; "# game\n{game}")?;
-    let made = run(&rt, alloc, "make 42", &[], NO_FAULT)?;
-    let made = str::from_utf8(made.text.as_slice())?;
-    let files = [("game", game.as_bytes())];
-    let second = run(&rt, alloc, "upgrade game", &files, NO_FAULT)?;
-    let second = str::from_utf8(second.text.as_slice())?;
-    for (line, script, code, text) in [
-        ("show script", game.as_str(), 0, game.as_str()),
-        ("show script", commented.as_str(), 0, game.as_str()),
-        ("show script", made, 0, made),
-        ("upgrade script", "", 2, "game 1 7\n"),
-        ("show script", "", 2, "game 1 7\n"),
-    ] {
-        check(&rt, alloc, line, script, NO_FAULT, code, &[text])?;
-    }
-    for line in ["show script", "upgrade script"] {
-        check(&rt, alloc, line, second, NO_FAULT, 0, &[second])?;
-    }
-    Ok(())
-}
-
-#[test]
-fn other_words_and_bad_files_are_refused(rt: HostRuntime) -> Result<(), Fail> {
-    let alloc = rt.alloc();
-    for line in [
-        "",
-        "hotel",
-        "Hotel script",
-        "hotel script script",
-        "play script",
-        "audit",
-        "audit game",
-        "audit game script script",
-        "solve",
-        "worth",
-        "upgrade",
-        "make",
-        "make 042",
-        "make -1",
-        "make 18446744073709551616",
-        "trial 7 50001",
-        "trial 7 01",
-        "trial -7 0",
-        "serve script 0 5",
-        "serve script 65536 5",
-        "serve script 7411 60001",
-        "serve script 07411 5",
-        "serve script 7411",
-        "serve script 7411 5 JSON",
-        "serve script 7411 5 json json",
-    ] {
-        check(&rt, alloc, line, "", NO_FAULT, 1, &["usage\n"])?;
-    }
-    // A game is selected, read, and read at its end, before its script is selected; no script is selected where the game is refused.
-    for (line, script, read, code, text) in [
-        ("show second", "", 0, 2, "game 20 4\n"),
-        (
-            "play second script",
-            "0 quit\n0 cash\n",
-            0,
-            2,
-            "game 20 4\n",
-        ),
-        ("play second script", "", 4, 2, "game 20 4\n"),
-        ("play second script", "", 1, 3, "fault read\n"),
-        ("play game script", "0 quit\n0 cash\n", 0, 8, "text 2 2\n"),
-        ("play game script", "", 4, 3, "fault read\n"),
-        ("audit second script", "", 0, 2, "game 20 4\n"),
-        ("audit game script", "", 4, 3, "fault read\n"),
-        ("audit game script", "", 0, 8, "text 1 1\n"),
-        ("hotel other", "", 0, 3, "fault read\n"),
-        ("serve other 65535 60000", "", 0, 3, "fault read\n"),
-        ("hotel script", "close\n", 1, 3, "fault read\n"),
-        ("hotel script", "close\n", 2, 3, "fault read\n"),
-        ("hotel script", "close\n", 3, 3, "fault read\n"),
-        ("solve script", "", 0, 8, "text 1 7\n"),
-        ("solve script", "accounts\n", 0, 8, "text 1 1\n"),
-        ("worth script", "acount\n", 0, 8, "text 1 1\n"),
-        ("worth other", "", 0, 3, "fault read\n"),
-        (
-            "solve script",
-            "# two words\naccount 1\n",
-            0,
-            8,
-            "text 2 2\n",
-        ),
-        ("solve script", "account\nhold 1\n", 0, 8, "text 2 2\n"),
+    let made = written(&rt, alloc, "make 42", &[])?;
+    let upgraded = written(&rt, alloc, "upgrade game", &[("game", game.as_bytes())])?;
+    for (line, script, text) in &[
+        ("show script", &game, &game),
+        ("show script", &commented, &game),
+        ("show script", &made, &made),
+        ("show script", &upgraded, &upgraded),
+        ("upgrade script", &upgraded, &upgraded),
     ] {
         check(
             &rt,
             alloc,
             line,
-            script,
-            Faults { read, ..NO_FAULT },
-            code,
-            &[text],
+            script.as_str(),
+            NO_FAULT,
+            0,
+            &[text.as_str()],
         )?;
     }
     Ok(())
+}
+
+const NO_COMMANDS: &[&str] = &[
+    "",
+    "hotel",
+    "Hotel script",
+    "hotel script script",
+    "play script",
+    "audit",
+    "audit game",
+    "audit game script script",
+    "solve",
+    "worth",
+    "upgrade",
+    "make",
+    "make 042",
+    "make -1",
+    "make 18446744073709551616",
+    "trial 7 50001",
+    "trial 7 01",
+    "trial -7 0",
+    "serve script 0 5",
+    "serve script 65536 5",
+    "serve script 7411 60001",
+    "serve script 07411 5",
+    "serve script 7411",
+    "serve script 7411 5 JSON",
+    "serve script 7411 5 json json",
+];
+
+// A game is selected, read, and read at its end, before its script is selected; no script is selected where the game is refused.
+const REFUSED: &[Case<'static>] = &[
+    ("show bad", "", 0, 2, &["game 20 4\n"]),
+    (
+        "play bad script",
+        "0 quit\n0 cash\n",
+        0,
+        2,
+        &["game 20 4\n"],
+    ),
+    ("play bad script", "", 4, 2, &["game 20 4\n"]),
+    ("play bad script", "", 1, 3, &["fault read\n"]),
+    (
+        "play game script",
+        "0 quit\n0 cash\n",
+        0,
+        8,
+        &["text 2 2\n"],
+    ),
+    ("play game script", "", 4, 3, &["fault read\n"]),
+    ("audit bad script", "", 0, 2, &["game 20 4\n"]),
+    ("audit game script", "", 4, 3, &["fault read\n"]),
+    ("audit game script", "", 0, 8, &["text 1 1\n"]),
+    ("hotel other", "", 0, 3, &["fault read\n"]),
+    ("serve other 65535 60000", "", 0, 3, &["fault read\n"]),
+    ("hotel script", "close\n", 1, 3, &["fault read\n"]),
+    ("hotel script", "close\n", 2, 3, &["fault read\n"]),
+    ("hotel script", "close\n", 3, 3, &["fault read\n"]),
+    ("solve script", "", 0, 8, &["text 1 7\n"]),
+    ("solve script", "accounts\n", 0, 8, &["text 1 1\n"]),
+    ("worth script", "acount\n", 0, 8, &["text 1 1\n"]),
+    ("worth other", "", 0, 3, &["fault read\n"]),
+    (
+        "solve script",
+        "# two words\naccount 1\n",
+        0,
+        8,
+        &["text 2 2\n"],
+    ),
+    ("solve script", "account\nhold 1\n", 0, 8, &["text 2 2\n"]),
+    ("upgrade script", "", 0, 2, &["game 1 7\n"]),
+    ("show script", "", 0, 2, &["game 1 7\n"]),
+];
+
+#[test]
+fn other_words_and_bad_files_are_refused(rt: HostRuntime) -> Result<(), Fail> {
+    let alloc = rt.alloc();
+    for line in NO_COMMANDS {
+        check(&rt, alloc, line, "", NO_FAULT, 1, &["usage\n"])?;
+    }
+    check_all(&rt, alloc, REFUSED)
 }
 
 // How many runs end at a failed write, where the first write fails in the first of them, the second in the next, and so on until no write
@@ -678,6 +729,14 @@ fn count_failed<R: Threads + Sync + Wait + Clock>(
     Err(Fail::from("too many writes"))
 }
 
+// A line, how many bytes the sink takes at once, and how many writes fail at least.
+const WRITES: &[(&str, usize, u64)] = &[
+    ("hotel hotel", 1, 41),
+    ("show game", 100, 9),
+    ("solve account", 20, 9),
+    ("play game script", 1_000_000, 9),
+];
+
 #[test]
 fn each_write_fails_in_its_place(rt: HostRuntime) -> Result<(), Fail> {
     let alloc = rt.alloc();
@@ -688,16 +747,10 @@ fn each_write_fails_in_its_place(rt: HostRuntime) -> Result<(), Fail> {
         ("script", TRADES.as_bytes()),
         ("hotel", HOTEL.as_bytes()),
     ];
-    for (line, most_at_once, count) in [
-        ("hotel hotel", 1, 41),
-        ("show game", 100, 9),
-        ("solve account", 20, 9),
-        ("play game script", 1_000_000, 9),
-    ] {
-        assert!(rt;
-            count_failed(&rt, alloc, line, &files, most_at_once)? >= count,
-            "{line}"
-        );
+    for (line, most_at_once, least) in WRITES {
+        if count_failed(&rt, alloc, line, &files, *most_at_once)? < *least {
+            return Err(Fail::from(*line));
+        }
     }
     let no_byte = Faults {
         most_at_once: 0,
