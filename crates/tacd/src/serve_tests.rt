@@ -8,13 +8,16 @@ use std::alloc::Global;
 use std::io::{Read, Write};
 use std::net::TcpStream;
 use std::rt::Clock;
-use std::sync::atomic::{AtomicU64, Ordering};
+use std::sync::atomic::AtomicU64;
 use std::sync::{Arc, Wait};
 use std::test::Fail;
 use std::thread::Threads;
 use std::time::Instant;
 use tac_base::Tick;
-use tac_io::{HeldLink, Hold, LinesSent, Link, Links, MemLink, MemTicker, Ticker};
+use tac_io::{
+    HeldLink, Hold, LinesSent, Link, Links, Look, LookingTicker, MOST_TURNS, MemLink, MemTicker,
+    Ticker, was_sent,
+};
 
 // The words that serve the plain game.
 const SERVE: &str = "serve game 7411 5";
@@ -269,67 +272,27 @@ fn the_calls_of_lapsed_ticks_are_made(rt: HostRuntime) -> Result<(), Fail> {
     Ok(())
 }
 
-// How often a tick looks at the lines that a link was sent.
-const MOST_LOOKS: u32 = 1_000_000_000;
-
-// A ticker whose ticks come once a link was sent a number of lines. Each tick lapses that is waited for before a pace was set, or for which
-// the lines do not come.
+// Each tick is due once a link was sent a number of lines, at a pace of 5 milliseconds. Each that is waited for before that pace was set
+// lapses.
 #[derive(Drop)]
-struct PacedTicker {
-    pace: Option<u16>,
+struct PacedLook {
     sent: LinesSent,
     lines: u64,
-    lapses: u64,
 }
 
-// Looks until a link was sent so many lines, and says whether it was.
-fn was_sent(sent: &AtomicU64, lines: u64) -> bool {
-    (0..MOST_LOOKS).any(|_| sent.load(Ordering::SeqCst) >= lines)
-}
-
-impl Ticker for PacedTicker {
-    ghost use Rattle.std.specs.Prelude.{None};
-
-    type Due = Tick;
-
-    type Lapse = Tick;
-
-    ghost due_tick = { λ due. due };
-
-    ghost lapse_tick = { λ lapse. lapse };
-
-    ghost state = { λ s. record { paced = None; waited = None; faults = s.lapses } };
-
-    fn pace(&mut self, milliseconds: u16) {
-        self.pace = Some(milliseconds);
-    }
-
-    fn wait<R: Wait + Clock>(&mut self, _rt: &R, tick: Tick) -> Result<Tick, Tick> {
-        if self.pace.is_some() && was_sent(&self.sent, self.lines) {
-            return Ok(tick);
-        }
-        self.lapses = self.lapses.saturating_add(1);
-        Err(tick)
-    }
-
-    fn late(&mut self, lapse: Tick) -> Tick {
-        lapse
-    }
-
-    fn faults(&self) -> u64 {
-        self.lapses
+impl Look for PacedLook {
+    fn is_due(&mut self, pace: Option<u16>, _tick: Tick) -> bool {
+        pace == Some(5) && was_sent(&self.sent, self.lines, MOST_TURNS)
     }
 }
 
 #[test]
 fn the_pace_is_set_before_the_first_wait(rt: HostRuntime) -> Result<(), Fail> {
     let alloc = rt.alloc();
-    let mut ticker = PacedTicker {
-        pace: None,
+    let mut ticker = LookingTicker::new(PacedLook {
         sent: Arc::new(alloc, AtomicU64::new(0))?,
         lines: 0,
-        lapses: 0,
-    };
+    });
     let served = serve_by(
         &rt,
         alloc,
@@ -340,7 +303,6 @@ fn the_pace_is_set_before_the_first_wait(rt: HostRuntime) -> Result<(), Fail> {
     )?;
     assert_eq!(rt; served.code, 0);
     assert!(rt; served.text.starts_with(FOUR_HEADS.as_bytes()));
-    assert_eq!(rt; ticker.pace, Some(5));
     Ok(())
 }
 
@@ -351,9 +313,8 @@ fn held(
     sent: &LinesSent,
     hold: Option<Hold>,
 ) -> Result<HeldLink, Fail> {
-    let bytes = bytes.to_vec(alloc)?;
-    let sent = Arc::try_clone(sent)?;
-    Ok(HeldLink::new(alloc, bytes, 10_000, sent, hold)?)
+    let link = link(alloc, bytes, 10_000, 10_000, 0, 0)?;
+    Ok(HeldLink::new(link, Arc::try_clone(sent)?, hold))
 }
 
 // What an agent asks in JSON.
@@ -371,12 +332,7 @@ fn agents_may_speak_json(rt: HostRuntime) -> Result<(), Fail> {
     let mut links = Vec::new(alloc);
     links.push(held(alloc, JSON_ASKED, &sent, None)?)?;
     // The clock's first tick comes after the ten lines of the welcome and the six answers.
-    let mut ticker = PacedTicker {
-        pace: None,
-        sent,
-        lines: 16,
-        lapses: 0,
-    };
+    let mut ticker = LookingTicker::new(PacedLook { sent, lines: 16 });
     let line = "serve game 7411 5 json";
     let served = serve_by(&rt, alloc, line, links, NO_FAULT, &mut ticker)?;
     assert_eq!(rt; served.code, 0);
