@@ -195,6 +195,13 @@ fn count_clock(text: &[u8]) -> Result<usize, Fail> {
     Ok(str::from_utf8(text)?.matches("\n8 ").count())
 }
 
+// What 64 links and one too many ask, and what the 64 are sent.
+const UNSEATED: &[&[u8]] = &[HI; 65];
+
+const HI: &[u8] = b"hi\n";
+
+const TURNED_AWAY: &[(&str, &str)] = &[("", "refused syntax\n"); 64];
+
 #[test]
 fn at_most_64_links_are_taken(rt: HostRuntime) -> Result<(), Fail> {
     let alloc = rt.alloc();
@@ -203,9 +210,8 @@ fn at_most_64_links_are_taken(rt: HostRuntime) -> Result<(), Fail> {
         write!(head, "link {number} syntax\n")?;
     }
     head.push_str("missed 0\nauction 0 54\n")?;
-    let given = links(alloc, &[b"hi\n".as_slice(); 65], 1_000)?;
-    let sent = [("", "refused syntax\n"); 64];
-    let served = check(&rt, alloc, given, NO_FAULT, 0, head.as_str(), &sent)?;
+    let given = links(alloc, UNSEATED, 1_000)?;
+    let served = check(&rt, alloc, given, NO_FAULT, 0, head.as_str(), TURNED_AWAY)?;
     assert_eq!(rt; count_clock(&served.text)?, 480);
     Ok(())
 }
@@ -242,30 +248,36 @@ fn the_fault_of_a_link_ends_its_session_alone(rt: HostRuntime) -> Result<(), Fai
     Ok(())
 }
 
-// The first tick that lapses, the first behind it that does not, and how many of them the log tells.
-const LAPSES: &[(u64, u64, &str)] = &[(20, 21, "missed 1"), (1, 55, "missed 54")];
+// Serves the plain game to four links by a ticker that lapses from a tick on, up to another.
+fn serve_lapsing<R: Threads + Sync + Wait + Clock>(
+    rt: &R,
+    alloc: Global,
+    first: u64,
+    end: u64,
+) -> Result<Ran<MemLink>, Fail> {
+    let mut lapsing = Vec::new(alloc);
+    for tick in first..end {
+        lapsing.push(tick)?;
+    }
+    let mut ticker = MemTicker::new(alloc, lapsing)?;
+    let given = links(alloc, &FOUR, 1_000)?;
+    serve_by(rt, alloc, SERVE, given, NO_FAULT, &mut ticker)
+}
+
+// The first tick that lapses, the first behind it that does not, and what the log tells of them.
+const LAPSES: &[(u64, u64, &str)] = &[
+    (20, 21, "\nend 0 quit\nmissed 1\nauction 0 54\n"),
+    (1, 55, "\nend 0 quit\nmissed 54\nauction 0 54\n"),
+];
 
 #[test]
 fn the_calls_of_lapsed_ticks_are_made(rt: HostRuntime) -> Result<(), Fail> {
     let alloc = rt.alloc();
-    for (first, end, missed) in LAPSES {
-        let mut lapsing = Vec::new(alloc);
-        for tick in *first..*end {
-            lapsing.push(tick)?;
-        }
-        let mut ticker = MemTicker::new(alloc, lapsing)?;
-        let served = serve_by(
-            &rt,
-            alloc,
-            SERVE,
-            links(alloc, &FOUR, 1_000)?,
-            NO_FAULT,
-            &mut ticker,
-        )?;
+    for (first, end, told) in LAPSES {
+        let served = serve_lapsing(&rt, alloc, *first, *end)?;
         assert_eq!(rt; served.code, 6);
         let text = str::from_utf8(served.text.as_slice())?;
-        let head = format!(in alloc; "\nend 0 quit\n{missed}\nauction 0 54\n")?;
-        assert!(rt; text.find(head.as_str()).is_some(), "{missed}");
+        assert!(rt; text.find(told).is_some(), "{told}");
         assert_eq!(rt; count_clock(&served.text)?, 480);
         assert!(rt; text.ends_with("\nend\n"));
     }
