@@ -2,7 +2,7 @@
 use crate::accounts::{ONE_SEAT, WRESTLING_FANS, account};
 use dual_bound::{Choice, dual_prices};
 use packages::{Package, leaf_bound};
-use relaxation::{Relaxation, Split};
+use relaxation::{Relaxation, Split, SplitRule};
 use std::test::Fail;
 
 /// Clients of whose relaxation the best solution, which is the only one, has halves of packages.
@@ -38,12 +38,16 @@ fn relaxation_gives_whole_packages_and_prices(rt: HostRuntime) -> Result<(), Fai
         nights: [1, 0, 0],
     };
     assert_eq!(rt; relaxation.packages(), due);
+    assert_eq!(rt; relaxation.packages_if_worth_more(1149), Some(due));
+    assert_eq!(rt; relaxation.packages_if_worth_more(1150), None);
+    assert_eq!(rt; relaxation.prices_if_worth_no_more(1149), None);
+    assert!(rt; relaxation.prices_if_worth_no_more(1150).is_some());
     assert!(rt; !relaxation.decide(0));
     Ok(())
 }
 
 #[test]
-fn split_leaves_least_to_search(rt: HostRuntime) -> Result<(), Fail> {
+fn split_is_the_one_that_the_rule_says(rt: HostRuntime) -> Result<(), Fail> {
     let account = account(
         rt.alloc(),
         "2 5 4 2 0 4 3 -1 3 3 -1 2 4 2 1 2 -1 1 -1 5 5 4 3 3 4 1 0 2",
@@ -57,17 +61,34 @@ fn split_leaves_least_to_search(rt: HostRuntime) -> Result<(), Fail> {
     fixed[0] = [Some(0), Some(0), Some(0), None];
     fixed[2] = [None, Some(0), Some(0), Some(0)];
     fixed[7] = [Some(0), Some(0), None, Some(0)];
+    let least = SplitRule::LeastLeft;
     let park = Split {
         client: 7,
         feature: 2,
     };
-    assert_eq!(rt; relaxation.next_split(&fixed, &prices, 6052), Some(park));
+    assert_eq!(rt;
+        relaxation.next_split(least, &fixed, &prices, 6052),
+        Some(park)
+    );
+    // A trip has a greater priority than a night.
+    let trip = Split {
+        client: 2,
+        feature: 0,
+    };
+    let greatest = SplitRule::GreatestPriority;
+    assert_eq!(rt;
+        relaxation.next_split(greatest, &fixed, &prices, 6052),
+        Some(trip)
+    );
     fixed[7] = [Some(0); 4];
     let museum = Split {
         client: 0,
         feature: 3,
     };
-    assert_eq!(rt; relaxation.next_split(&fixed, &prices, 6052), Some(museum));
+    assert_eq!(rt;
+        relaxation.next_split(least, &fixed, &prices, 6052),
+        Some(museum)
+    );
     Ok(())
 }
 
@@ -80,6 +101,7 @@ fn split_has_the_fewest_open_parts_where_packages_are_whole(rt: HostRuntime) -> 
         WRESTLING_FANS,
     )?;
     let relaxation = Relaxation::new(&account);
+    let rule = SplitRule::LeastLeft;
     let prices = relaxation.prices_for(8649);
     // To clients 2 to 7 a ticket for night 1 is worth as much as none: only their ticket features have two best values, which leave room.
     let mut fixed = [[None; 4]; 8];
@@ -87,7 +109,10 @@ fn split_has_the_fewest_open_parts_where_packages_are_whole(rt: HostRuntime) -> 
         client: 2,
         feature: 1,
     };
-    assert_eq!(rt; relaxation.next_split(&fixed, &prices, 8649), Some(ticket));
+    assert_eq!(rt;
+        relaxation.next_split(rule, &fixed, &prices, 8649),
+        Some(ticket)
+    );
     // Of the rest, each trip leaves two values open, since the worse hotel takes only 50 dollars, and a ticket's night one.
     for client in 2..8 {
         fixed[client] = [None, Some(0), Some(0), Some(0)];
@@ -96,9 +121,12 @@ fn split_has_the_fewest_open_parts_where_packages_are_whole(rt: HostRuntime) -> 
         client: 0,
         feature: 1,
     };
-    assert_eq!(rt; relaxation.next_split(&fixed, &prices, 8550), Some(night));
     assert_eq!(rt;
-        relaxation.next_split(&[[Some(0); 4]; 8], &prices, 8550),
+        relaxation.next_split(rule, &fixed, &prices, 8550),
+        Some(night)
+    );
+    assert_eq!(rt;
+        relaxation.next_split(rule, &[[Some(0); 4]; 8], &prices, 8550),
         None
     );
     Ok(())

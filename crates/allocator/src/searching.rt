@@ -18,13 +18,13 @@ ghost use Rattle.allocator.specs.Searching.{IsReached};
 
 use crate::candidates::{better_choice, first_choice};
 use crate::scarcity::scarcity_prices;
-use crate::symmetry::{Hint, exchanged, hint_of_part, like_split};
+use crate::symmetry::{Hint, copied_prices, copied_split, hint_of_part, like_split};
 use bound_cert::CertNode;
 use dual_bound::{Choice, Quote, is_enough, worth};
 use game_text::Account;
 use packages::{Package, Prices, value_count};
-use relaxation::{Relaxation, Split};
-use std::alloc::{AllocError, Global};
+use relaxation::{Relaxation, Split, SplitRule};
+use std::alloc::{AllocFailed, Global};
 
 /// At most so many features are decided in one dive.
 const MOST_DECIDED: u32 = 12;
@@ -32,11 +32,74 @@ const MOST_DECIDED: u32 = 12;
 /// Dives begin on so many levels.
 const DIVE_LEVELS: u8 = 4;
 
-/// The best allocation found so far, and what it is worth in dollars.
+/// The first attempt may come to so many parts.
+const FIRST_PARTS: u64 = 100;
+
+/// Once both rules have come to a limit, it grows by this factor.
+const MORE_PARTS: u64 = 8;
+
+/// What a search carries along: the best allocation found so far, what it is worth in dollars, and how many parts the present attempt has come to.
 #[derive(Clone, Copy)]
 pub(crate) struct Found {
     pub(crate) allocation: [Package; 8],
     pub(crate) total: u32,
+    pub(crate) parts: u64,
+}
+
+/// How a search splits, and how many parts it may come to.
+#[derive(Clone, Copy)]
+pub(crate) struct Attempt {
+    rule: SplitRule,
+    parts: u64,
+}
+
+impl Attempt {
+    pub(crate) fn first() -> Attempt {
+        Attempt {
+            rule: SplitRule::LeastLeft,
+            parts: FIRST_PARTS,
+        }
+    }
+
+    /// What to try after it where it came to its limit: the other rule with the same limit, or after both the first one with a greater limit.
+    pub(crate) fn next(self) -> Attempt {
+        match self.rule {
+            SplitRule::LeastLeft => Attempt {
+                rule: SplitRule::GreatestPriority,
+                parts: self.parts,
+            },
+            SplitRule::GreatestPriority => Attempt {
+                rule: SplitRule::LeastLeft,
+                parts: self.parts.saturating_mul(MORE_PARTS),
+            },
+        }
+    }
+
+    /// What to try after it where it ended with so many parts: the plain rule with three quarters of them. If the plain rule ended, the first one
+    /// had come to its limit before, so nothing is tried. No split has fewer than five parts.
+    pub(crate) fn shorter(self, parts: u64) -> Option<Attempt> {
+        match self.rule {
+            SplitRule::LeastLeft if parts > 5 => Some(Attempt {
+                rule: SplitRule::GreatestPriority,
+                parts: parts - parts / 4,
+            }),
+            _ => None,
+        }
+    }
+}
+
+/// Why a search ends without a certificate.
+#[derive(Drop)]
+pub(crate) enum Stop {
+    Memory,
+    /// The attempt came to its limit of parts.
+    Parts,
+}
+
+impl From<AllocFailed<CertNode>> for Stop {
+    fn from(_: AllocFailed<CertNode>) -> Self {
+        Stop::Memory
+    }
 }
 
 /// Keeps the allocation where it is feasible and the best so far.
@@ -53,40 +116,36 @@ fn offer(account: &Account, chosen: &[Package; 8], best: &mut Found)
 {
     let total = worth(account, chosen);
     if total > best.total && is_enough(account, chosen) {
-        *best = Found {
-            allocation: *chosen,
-            total,
-        };
+        best.allocation = *chosen;
+        best.total = total;
     }
 }
 
-/// Offers the packages that the relaxation gives whole, and where it leaves some out, a greedy improvement of them. Says whether the
-/// relaxation is still worth more than the best.
-pub(crate) fn offer_left(account: &Account, relaxation: &Relaxation, best: &mut Found) -> bool
+/// Offers the packages that the relaxation gives whole, and where it leaves some out and is worth more than the best, a greedy improvement of
+/// them.
+fn offer_left(account: &Account, relaxation: &Relaxation, best: &mut Found)
     requires reached { IsReached account.now best.old.allocation best.old.total }
     ensures reached { IsReached account.now best.new.allocation best.new.total }
     ensures grows { best.old.total ≤ best.new.total }
 {
-    let whole = relaxation.packages();
-    offer(account, &whole, best);
-    if !relaxation.is_worth_more(best.total) {
-        return false;
+    offer(account, &relaxation.packages(), best);
+    if let Some(whole) = relaxation.packages_if_worth_more(best.total) {
+        offer(account, &better_choice(account, relaxation, &whole), best);
     }
-    offer(account, &better_choice(account, relaxation, &whole), best);
-    relaxation.is_worth_more(best.total)
 }
 
 /// Offers what a relaxation gives as it is decided feature by feature, a bounded number of times, while it is worth more than the best.
-pub(crate) fn dive(account: &Account, relaxation: &Relaxation, best: &mut Found)
+fn dive(account: &Account, relaxation: &Relaxation, best: &mut Found)
     requires reached { IsReached account.now best.old.allocation best.old.total }
     ensures reached { IsReached account.now best.new.allocation best.new.total }
     ensures grows { best.old.total ≤ best.new.total }
 {
     let mut left = *relaxation;
     for _ in 0..MOST_DECIDED {
-        if !left.decide(best.total) || !offer_left(account, &left, best) {
+        if !left.decide(best.total) {
             return;
         }
+        offer_left(account, &left, best);
     }
 }
 
@@ -96,7 +155,8 @@ pub(crate) fn offer_near(level: u8, account: &Account, relaxation: &Relaxation, 
     ensures reached { IsReached account.now best.new.allocation best.new.total }
     ensures grows { best.old.total ≤ best.new.total }
 {
-    if offer_left(account, relaxation, best) && level < DIVE_LEVELS {
+    offer_left(account, relaxation, best);
+    if level < DIVE_LEVELS {
         dive(account, relaxation, best);
     }
 }
@@ -129,8 +189,9 @@ pub(crate) fn leaf(prices: &Prices) -> CertNode
     CertNode::Leaf(*prices)
 }
 
-/// The next split: by the feature of a client that is like the one that was split by last, or else by what the relaxation says.
+/// The next split: by the feature of a client that is like the one that was split by last, or else by the rule.
 fn next_split(
+    rule: SplitRule,
     choice: &Choice,
     left: &Relaxation,
     prices: &Prices,
@@ -146,7 +207,7 @@ fn next_split(
     if like.is_some() {
         return like;
     }
-    left.next_split(&choice.fixed, prices, total)
+    left.next_split(rule, &choice.fixed, prices, total)
 }
 
 /// Searches what a choice leaves, where so many features are fixed. After an error the best is a feasible allocation still.
@@ -154,12 +215,13 @@ fn next_split(
 pub(crate) fn explore(
     alloc: Global,
     account: &Account,
+    attempt: Attempt,
     level: u8,
     choice: &Choice,
     left: &Relaxation,
     hint: Hint<'_>,
     best: &mut Found,
-) -> Result<CertNode, AllocError>
+) -> Result<CertNode, Stop>
     requires level { level ≡ fixed_count choice.now }
     requires ceiling { IsCeiling account.now (chosen choice.now) left.now.worths.dollars }
     requires reached { IsReached account.now best.old.allocation best.old.total }
@@ -174,12 +236,26 @@ pub(crate) fn explore(
     if quote.holds(&left.worths, best.total) {
         return Ok(leaf(&quote.prices));
     }
-    let Some(split) = next_split(choice, left, &quote.prices, best.total, hint) else {
+    let Some(split) = next_split(attempt.rule, choice, left, &quote.prices, best.total, hint) else {
         return Ok(leaf(&full_prices(account, choice, best)));
     };
     explore_parts(
-        alloc, account, level, choice, left, split, &quote, hint, best,
+        alloc, account, attempt, level, choice, left, split, &quote, hint, best,
     )
+}
+
+/// The quote by which a part is tested first: of the prices of the part that it is like, if a hint has them, and else the one of the split. Parts that
+/// are alike mostly have the same prices, so that the last quote serves again.
+fn quote_for(account: &Account, hint: Hint<'_>, last: &Quote, known: &Quote) -> Quote
+    requires last { last.now.stock_value ≡ stock_value account.now.holdings last.now.prices }
+    requires known { known.now.stock_value ≡ stock_value account.now.holdings known.now.prices }
+    ensures { result.stock_value ≡ stock_value account.now.holdings result.prices }
+{
+    match copied_prices(hint) {
+        Some(prices) if *prices == last.prices => *last,
+        Some(prices) => Quote::new(account, prices),
+        None => *known,
+    }
 }
 
 /// Searches the parts of a split. After an error the best is a feasible allocation still.
@@ -187,6 +263,7 @@ pub(crate) fn explore(
 fn explore_parts(
     alloc: Global,
     account: &Account,
+    attempt: Attempt,
     level: u8,
     choice: &Choice,
     left: &Relaxation,
@@ -194,7 +271,7 @@ fn explore_parts(
     known: &Quote,
     hint: Hint<'_>,
     best: &mut Found,
-) -> Result<CertNode, AllocError>
+) -> Result<CertNode, Stop>
     requires level { level ≡ fixed_count choice.now }
     requires ceiling { IsCeiling account.now (chosen choice.now) left.now.worths.dollars }
     requires stock { known.now.stock_value ≡ stock_value account.now.holdings known.now.prices }
@@ -212,18 +289,21 @@ fn explore_parts(
     let _fixed = &choice.fixed;
     let Split { client, feature } = split;
     let mut children = Vec::new(alloc);
+    let mut quote = *known;
     for value in 0..value_count(feature) {
         let next = choice.with(client, feature, value);
         let mut part = *left;
         part.narrow(client, feature, value);
         let hint = hint_of_part(hint, split, value, &children, &left.worths);
-        let child = explore_by(
+        quote = quote_for(account, hint, &quote, known);
+        let child = explore_part(
             alloc,
             account,
+            attempt,
             level + 1,
             &next,
             &mut part,
-            known,
+            &quote,
             hint,
             best,
         )?;
@@ -236,18 +316,20 @@ fn explore_parts(
     })
 }
 
-/// Searches a part that is not solved yet, unless prices that are known bound it. After an error the best is a feasible allocation still.
+/// Searches a part that is not solved yet: by the split of the part that it is like, if the hint has one, and else where the prices that are
+/// known do not bound it. An attempt that has come to its limit of parts stops here. After an error the best is a feasible allocation still.
 #[cycle(search)]
 fn explore_part(
     alloc: Global,
     account: &Account,
+    attempt: Attempt,
     level: u8,
     choice: &Choice,
     part: &mut Relaxation,
     known: &Quote,
     hint: Hint<'_>,
     best: &mut Found,
-) -> Result<CertNode, AllocError>
+) -> Result<CertNode, Stop>
     requires level { level ≡ fixed_count choice.now }
     requires ceiling { IsCeiling account.now (chosen choice.now) part.old.worths.dollars }
     requires stock { known.now.stock_value ≡ stock_value account.now.holdings known.now.prices }
@@ -259,77 +341,19 @@ fn explore_part(
 {
     // The proof rests on the account's ranges, which are known where it is read.
     let _holdings = &account.holdings;
+    if best.parts >= attempt.parts {
+        return Err(Stop::Parts);
+    }
+    best.parts += 1;
+    if let Some(split) = copied_split(choice, hint) {
+        return explore_parts(
+            alloc, account, attempt, level, choice, part, split, known, hint, best,
+        );
+    }
     if known.holds(&part.worths, best.total) {
         return Ok(leaf(&known.prices));
     }
     part.repair(best.total);
     offer_near(level, account, part, best);
-    explore(alloc, account, level, choice, part, hint, best)
-}
-
-/// Searches a part that is not solved yet, by the splits and the prices of a part that is like it, if the hint has one, as far as they hold here
-/// too. After an error the best is a feasible allocation still.
-#[cycle(search)]
-fn explore_by(
-    alloc: Global,
-    account: &Account,
-    level: u8,
-    choice: &Choice,
-    part: &mut Relaxation,
-    known: &Quote,
-    hint: Hint<'_>,
-    best: &mut Found,
-) -> Result<CertNode, AllocError>
-    requires level { level ≡ fixed_count choice.now }
-    requires ceiling { IsCeiling account.now (chosen choice.now) part.old.worths.dollars }
-    requires stock { known.now.stock_value ≡ stock_value account.now.holdings known.now.prices }
-    requires reached { IsReached account.now best.old.allocation best.old.total }
-    ensures reached { IsReached account.now best.new.allocation best.new.total }
-    ensures grows { best.old.total ≤ best.new.total }
-    ensures holds { IfOk result (λ node. holds account.now best.new.total (chosen choice.now) (tree_of node) ≡ true) }
-    ensures fits { IfOk result (λ node. is_tree (CERTIFICATE_DEPTH - level) (tree_of node) ≡ true) }
-{
-    // The proof rests on the account's ranges, which are known where it is read.
-    let _holdings = &account.holdings;
-    let Hint::Like { node, one, other } = hint else {
-        return explore_part(alloc, account, level, choice, part, known, hint, best);
-    };
-    match node {
-        CertNode::Leaf(prices) => {
-            let quote = Quote::new(account, prices);
-            explore_part(
-                alloc,
-                account,
-                level,
-                choice,
-                part,
-                &quote,
-                Hint::Nothing,
-                best,
-            )
-        }
-        CertNode::Split {
-            client,
-            feature,
-            ..
-        } => {
-            let (client, feature) = (*client, *feature);
-            let split = exchanged(Split { client, feature }, one, other);
-            if split.client < 8 && split.feature < 4 && !split.is_fixed(&choice.fixed) {
-                return explore_parts(
-                    alloc, account, level, choice, part, split, known, hint, best,
-                );
-            }
-            explore_part(
-                alloc,
-                account,
-                level,
-                choice,
-                part,
-                known,
-                Hint::Nothing,
-                best,
-            )
-        }
-    }
+    explore(alloc, account, attempt, level, choice, part, hint, best)
 }

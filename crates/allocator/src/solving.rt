@@ -8,7 +8,7 @@ ghost use Rattle.bound_cert.specs.Certificate.{holds, all_left};
 ghost use Rattle.dual_bound.specs.Ceilings.{IsCeiling};
 ghost use Rattle.allocator.specs.Searching.{IsReached};
 
-use crate::searching::{Found, explore, leaf, offer_near};
+use crate::searching::{Attempt, Found, Stop, explore, leaf, offer_near};
 use crate::symmetry::Hint;
 use bound_cert::{Cert, CertNode};
 use dual_bound::{Choice, settled_quote};
@@ -17,6 +17,10 @@ use packages::Package;
 use relaxation::Relaxation;
 use std::alloc::{AllocError, Global};
 use tac_base::Memory;
+use tac_base::limits::BEST_TOTAL;
+
+/// The last of so many attempts may come to 2 * 10^17 parts, more than any memory has room for.
+const MOST_ATTEMPTS: u32 = 36;
 
 /// A best allocation, and a certificate that no feasible allocation is worth more.
 #[derive(Debug, Drop)]
@@ -28,7 +32,9 @@ pub struct Solved {
     pub cert: Cert,
 }
 
-/// Searches the whole, for which prices may be enough.
+/// Searches the whole, for which prices may be enough. Otherwise it searches by one rule and by the other in turn, to more and more parts: a
+/// rule that leaves few parts of one account may leave a hundred times as many of another. It is `AllocError` too if there are more parts than
+/// memory has room for.
 fn explore_all(
     alloc: Global,
     account: &Account,
@@ -44,13 +50,57 @@ fn explore_all(
     // The proof rests on the account's ranges, which are known where it is read.
     let _holdings = &account.holdings;
     let all = Choice::none();
-    if !relaxation.is_worth_more(best.total) {
-        let quote = settled_quote(account, &all, relaxation);
+    if let Some(quote) = settled_quote(account, &all, relaxation, best.total) {
         if quote.holds(&relaxation.worths, best.total) {
             return Ok(leaf(&quote.prices));
         }
     }
-    explore(alloc, account, 0, &all, relaxation, Hint::Nothing, best)
+    let mut attempt = Attempt::first();
+    // The same attempt is made again for each better total.
+    for _ in 0..MOST_ATTEMPTS + BEST_TOTAL {
+        let before = best.total;
+        best.parts = 0;
+        let hint = Hint::Nothing;
+        match explore(alloc, account, attempt, 0, &all, relaxation, hint, best) {
+            Err(Stop::Memory) => return Err(AllocError),
+            Ok(root) if best.total == before => {
+                return Ok(shorter_of(alloc, account, attempt, relaxation, root, best));
+            }
+            Err(Stop::Parts) if best.total == before => attempt = attempt.next(),
+            // A better allocation was found on the way: less is left to search from its total on.
+            _ => (),
+        }
+    }
+    Err(AllocError)
+}
+
+/// The certificate of an attempt, or where the other rule needs less than three quarters of its parts, the other's.
+fn shorter_of(
+    alloc: Global,
+    account: &Account,
+    attempt: Attempt,
+    relaxation: &Relaxation,
+    root: CertNode,
+    best: &mut Found,
+) -> CertNode
+    requires ceiling { IsCeiling account.now all_left relaxation.now.worths.dollars }
+    requires reached { IsReached account.now best.old.allocation best.old.total }
+    requires holds { holds account.now best.old.total all_left (tree_of root) ≡ true }
+    requires fits { is_tree CERTIFICATE_DEPTH (tree_of root) ≡ true }
+    ensures reached { IsReached account.now best.new.allocation best.new.total }
+    ensures holds { holds account.now best.new.total all_left (tree_of result) ≡ true }
+    ensures fits { is_tree CERTIFICATE_DEPTH (tree_of result) ≡ true }
+{
+    let Some(other) = attempt.shorter(best.parts) else {
+        return root;
+    };
+    best.parts = 0;
+    let all = Choice::none();
+    let hint = Hint::Nothing;
+    match explore(alloc, account, other, 0, &all, relaxation, hint, best) {
+        Ok(less) => less,
+        Err(_) => root,
+    }
 }
 
 /// Finds a best allocation of an account's goods to its clients, by depth-first search. The one of several and the
@@ -66,6 +116,7 @@ pub fn solve(alloc: Global, account: &Account) -> Result<Solved, Memory>
     let mut best = Found {
         allocation: [Package::None; 8],
         total: 0,
+        parts: 0,
     };
     let relaxation = Relaxation::new(account);
     offer_near(0, account, &relaxation, &mut best);

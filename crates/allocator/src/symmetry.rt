@@ -4,6 +4,7 @@ ghost use Rattle.relaxation.specs.Splits.{fixed_at};
 
 use bound_cert::CertNode;
 use dual_bound::Choice;
+use packages::Prices;
 use relaxation::{Split, Worths};
 
 /// What may help to search a part. A certificate that comes of it is tested like any other, so that a wrong hint costs time alone.
@@ -84,7 +85,7 @@ fn part_of(node: &CertNode, split: Split, value: u8) -> Option<&CertNode> {
 }
 
 /// The split with two clients exchanged.
-pub(crate) fn exchanged(split: Split, one: u8, other: u8) -> Split {
+fn exchanged(split: Split, one: u8, other: u8) -> Split {
     let client = if split.client == one {
         other
     } else if split.client == other {
@@ -144,5 +145,42 @@ pub(crate) fn hint_of_part<'a>(
             value,
             worths,
         },
+    }
+}
+
+/// The split of the part that a hint says is like this one, with the clients exchanged, if that part is split and the feature is free here.
+pub(crate) fn copied_split(choice: &Choice, hint: Hint<'_>) -> Option<Split>
+    ensures client { IfSome result (λ split. split.client < 8) }
+    ensures feature { IfSome result (λ split. split.feature < 4) }
+    ensures free { IfSome result (λ split. fixed_at choice.now split.client split.feature ≡ None) }
+{
+    let Hint::Like { node, one, other } = hint else {
+        return None;
+    };
+    let CertNode::Split {
+        client,
+        feature,
+        ..
+    } = node
+    else {
+        return None;
+    };
+    let (client, feature) = (*client, *feature);
+    let split = exchanged(Split { client, feature }, one, other);
+    if split.client < 8 && split.feature < 4 && !split.is_fixed(&choice.fixed) {
+        Some(split)
+    } else {
+        None
+    }
+}
+
+/// The prices of the part that a hint says is like this one, if that part is not split.
+pub(crate) fn copied_prices<'a>(hint: Hint<'a>) -> Option<&'a Prices> {
+    match hint {
+        Hint::Like {
+            node: CertNode::Leaf(prices),
+            ..
+        } => Some(prices),
+        _ => None,
     }
 }

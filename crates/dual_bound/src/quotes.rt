@@ -11,7 +11,7 @@ use packages::{Prices, cost, package, stock_value};
 use relaxation::Worths;
 
 /// Prices, what each package costs at them, and what all goods cost that there are.
-#[derive(Drop)]
+#[derive(Clone, Copy)]
 pub struct Quote {
     pub prices: Prices,
     /// By the package's number 0..392.

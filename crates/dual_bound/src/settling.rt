@@ -188,19 +188,36 @@ pub fn dual_prices(account: &Account, choice: &Choice) -> Prices
     let mut left = Relaxation::new(account);
     choose(&mut left, choice);
     left.repair(0);
-    let quote = settled_quote(account, choice, &left);
+    let quote = settled_from(account, choice, &left, &left.prices());
     // The range of the prices is known where they are read.
     let _dollars = &quote.prices.dollars;
     quote.prices
 }
 
-/// Whole prices for what a choice leaves, of which no single one is worth moving by 50. The relaxation is of what the choice leaves.
-pub fn settled_quote(account: &Account, choice: &Choice, left: &Relaxation) -> Quote
+/// A quote of whole prices for what a choice leaves, of which no single one is worth moving by 50; none if the relaxation, which is of what the
+/// choice leaves, is worth more than a total in dollars.
+pub fn settled_quote(
+    account: &Account,
+    choice: &Choice,
+    left: &Relaxation,
+    total: u32,
+) -> Option<Quote>
+    requires { IsCeiling account.now (chosen choice.now) left.now.worths.dollars }
+    ensures settled { IfSome result (λ quote. settled.IsSettled account.now (chosen choice.now) quote.prices) }
+    ensures stock { IfSome result (λ quote. quote.stock_value ≡ stock_value account.now.holdings quote.prices) }
+{
+    let prices = left.prices_if_worth_no_more(total)?;
+    Some(settled_from(account, choice, left, &prices))
+}
+
+/// A quote of the prices to start from if packages that are left reach their bound, and else of prices moved from there until no single one
+/// is worth moving by 50. The relaxation is of what the choice leaves.
+fn settled_from(account: &Account, choice: &Choice, left: &Relaxation, start: &Prices) -> Quote
     requires { IsCeiling account.now (chosen choice.now) left.now.worths.dollars }
     ensures settled { settled.IsSettled account.now (chosen choice.now) result.prices }
     ensures stock { result.stock_value ≡ stock_value account.now.holdings result.prices }
 {
-    let quote = Quote::new(account, &left.prices());
+    let quote = Quote::new(account, start);
     if is_reached(account, choice, &left.worths, &quote, &left.packages()) {
         return quote;
     }

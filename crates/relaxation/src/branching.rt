@@ -36,11 +36,15 @@ impl Relaxation {
     }
 
     /// Fixes the feature of the greatest branching priority to that of its values with a share whose part is worth most, and solves what is
-    /// left as far as that tells whether it is worth more than a total in dollars. Says whether there is such a feature.
+    /// left as far as that tells whether it is worth more than a total in dollars. Where it is worth no more already, or there is no such
+    /// feature, it says no and changes nothing.
     pub fn decide(&mut self, total: u32) -> bool
         ensures decided { IsTrue result → IsDecided self.old.worths.dollars self.new.worths.dollars }
         ensures undecided { result ≡ false → self.new ≡ self.old }
     {
+        if !self.is_worth_more(total) {
+            return false;
+        }
         let Some(place) = first_place(&self.priorities()) else {
             return false;
         };

@@ -16,5 +16,5 @@ mod tableau;
 mod worths;
 
 pub use relaxing::Relaxation;
-pub use splits::Split;
+pub use splits::{Split, SplitRule};
 pub use worths::Worths;

@@ -56,7 +56,7 @@ impl Relaxation {
     }
 
     /// Whether the fractions are worth more together than a total in dollars.
-    pub fn is_worth_more(&self, total: u32) -> bool {
+    pub(crate) fn is_worth_more(&self, total: u32) -> bool {
         self.tableau.value() > f64::from(total) + TOLERANCE
     }
 }

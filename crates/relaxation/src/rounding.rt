@@ -88,6 +88,17 @@ impl Relaxation {
         self.prices_within(f64::from(whole(self.tableau.value() + 1.0 - TOLERANCE)))
     }
 
+    /// The same where the relaxation is worth no more than a total in dollars, and else none.
+    pub fn prices_if_worth_no_more(&self, total: u32) -> Option<Prices>
+        ensures { IfSome result ArePrices }
+    {
+        if self.is_worth_more(total) {
+            None
+        } else {
+            Some(self.prices())
+        }
+    }
+
     /// Whole prices by which the bound is no more than so much, if they are found, and else near those of the relaxation.
     fn prices_within(&self, most: f64) -> Prices {
         let (near, bound) = self.rounded(most);
@@ -137,13 +148,20 @@ impl Tableau {
         Prices { dollars }
     }
 
+    /// Whether the price of a good, 0..27, is between whole dollars.
+    pub(crate) fn is_between(&self, good: usize) -> bool
+        requires { good < 28 }
+    {
+        let price = self.prices[good].min(f64::from(DUAL_PRICE));
+        price - f64::from(self.price(good, TOLERANCE)) > TOLERANCE
+    }
+
     /// A good whose price is between whole dollars.
     fn fractional(&self) -> Option<usize>
         ensures { IfSome result (λ good. good < 28) }
     {
         for good in 0..28 {
-            let price = self.prices[good].min(f64::from(DUAL_PRICE));
-            if price - f64::from(self.price(good, TOLERANCE)) > TOLERANCE {
+            if self.is_between(good) {
                 return Some(good);
             }
         }

@@ -1,5 +1,5 @@
 // The shares that clients have of packages, and the packages that they have whole.
-ghost use Rattle.std.specs.Prelude.{◌≡◌, ◌<◌, length};
+ghost use Rattle.std.specs.Prelude.{◌≡◌, ◌<◌, length, IfSome};
 ghost use Rattle.std.specs.List.{All};
 ghost use Rattle.packages.specs.Packages.{IsPackage};
 
@@ -22,6 +22,18 @@ impl Relaxation {
             packages[client] = self.package_of(client);
         }
         packages
+    }
+
+    /// The same where the relaxation is worth more than a total in dollars, and else none.
+    pub fn packages_if_worth_more(&self, total: u32) -> Option<[Package; 8]>
+        ensures eight { IfSome result (λ packages. length packages ≡ 8) }
+        ensures lawful { IfSome result (All IsPackage) }
+    {
+        if self.is_worth_more(total) {
+            Some(self.packages())
+        } else {
+            None
+        }
     }
 
     /// The package that a client, 0..7, has whole, if it has one.

@@ -7,11 +7,14 @@ use crate::charges::charges;
 use crate::columns::GOODS;
 use crate::relaxing::Relaxation;
 use crate::rounding::row_of;
-use crate::tableau::TOLERANCE;
+use crate::tableau::{Row, TOLERANCE};
 use packages::Prices;
 
 /// More than any split leaves to search.
 const MOST_LEFT: f64 = 1.0e30;
+
+/// The unit in dollars by which prices are moved a little: by 121 to 1,444 of it, a different number for each good.
+const MOVED: f64 = 0.00001;
 
 /// Below the margin of any package that is left.
 const LEAST_MARGIN: f64 = -1000000.0;
@@ -23,6 +26,16 @@ pub struct Split {
     pub feature: u8,
 }
 
+/// How a search chooses what to split by next. Which rule leaves fewer parts differs from account to account.
+#[derive(Clone, Copy)]
+pub enum SplitRule {
+    /// The split whose parts are worth least beyond the total.
+    LeastLeft,
+    /// The split of the greatest branching priority: a trip before a ticket. Where clients want the same, one takes the other's place and no
+    /// part is worth less until trips are fixed, so that what parts are worth does not tell which split is better.
+    GreatestPriority,
+}
+
 /// What packages cost at whole prices, and what these prices bound, both in dollars, as far as floating point tells.
 #[derive(Clone, Copy)]
 struct Priced {
@@ -30,9 +43,19 @@ struct Priced {
     bound: f64,
 }
 
+/// What packages cost at the prices of the relaxation, and where those prices that are between whole dollars are a little higher or lower.
+#[derive(Drop)]
+struct Moved {
+    at: [f64; 393],
+    above: [f64; 393],
+    below: [f64; 393],
+}
+
 /// The parts of a split that prices leave open. Of two splits the lesser one leaves less to search.
 #[derive(Clone, Copy, PartialEq, Eq, PartialOrd, Ord)]
 struct OpenParts {
+    /// Whether ties that hold the prices of the relaxation between whole dollars are as many in some part as in all.
+    is_tied: bool,
     /// Whether the split leaves the prices of the relaxation as little room as they have.
     is_tight: bool,
     /// How many parts are open, at most 21.
@@ -64,11 +87,12 @@ impl Split {
 }
 
 impl Relaxation {
-    /// The client's feature to split by next, of those that are not fixed; None where all are fixed. It is the one that leaves least to
-    /// search beyond a total in dollars, or where none has a branching priority, the one with the fewest parts open at the prices.
-    /// `fixed` has, by client 0..7 and feature 0..3, the fixed value, or none.
+    /// The client's feature to split by next, of those that are not fixed; None where all are fixed. It is the one that the rule says, or
+    /// where the relaxation is worth no more than a total in dollars or nothing has a branching priority, the one with the fewest parts open
+    /// at the prices. `fixed` has, by client 0..7 and feature 0..3, the fixed value, or none.
     pub fn next_split(
         &self,
+        rule: SplitRule,
         fixed: &[[Option<u8>; 4]; 8],
         prices: &Prices,
         total: u32,
@@ -78,30 +102,50 @@ impl Relaxation {
         ensures free { IfSome result (λ split. fixed_at fixed.now split.client split.feature ≡ None) }
         ensures full { IfNone result (IsFull fixed.now) }
     {
-        let priced = self.priced(prices);
-        let found = self.least_split(fixed, &priced, total);
-        if found.is_some() {
-            return found;
+        if self.is_worth_more(total) {
+            let found = match rule {
+                SplitRule::LeastLeft => self.least_split(fixed, prices, f64::from(total)),
+                SplitRule::GreatestPriority => self.first_split(fixed),
+            };
+            if found.is_some() {
+                return found;
+            }
         }
-        self.least_open(fixed, &priced, f64::from(total))
+        self.least_open(fixed, prices, f64::from(total))
     }
 
-    /// The split that leaves least to search of those with a branching priority, where the relaxation is worth more than a total. Those of
-    /// the greatest priority are looked at first, so that the others need not be looked at for long.
+    /// The split of the greatest branching priority of those that are not fixed, if one has any.
+    fn first_split(&self, fixed: &[[Option<u8>; 4]; 8]) -> Option<Split>
+        ensures client { IfSome result (λ split. split.client < 8) }
+        ensures feature { IfSome result (λ split. split.feature < 4) }
+        ensures free { IfSome result (λ split. fixed_at fixed.now split.client split.feature ≡ None) }
+    {
+        let mut priorities = self.priorities();
+        for _ in 0..32 {
+            let place = first_place(&priorities)?;
+            priorities[place] = 0.0;
+            let split = Split::at(place);
+            if !split.is_fixed(fixed) {
+                return Some(split);
+            }
+        }
+        None
+    }
+
+    /// The split that leaves least to search of those with a branching priority. Those of the greatest priority are looked at first, so
+    /// that the others need not be looked at for long.
     fn least_split(
         &self,
         fixed: &[[Option<u8>; 4]; 8],
-        priced: &Priced,
-        total: u32,
+        prices: &Prices,
+        total: f64,
     ) -> Option<Split>
         ensures client { IfSome result (λ split. split.client < 8) }
         ensures feature { IfSome result (λ split. split.feature < 4) }
         ensures free { IfSome result (λ split. fixed_at fixed.now split.client split.feature ≡ None) }
     {
+        let priced = self.priced(prices);
         let mut best = None;
-        if !self.is_worth_more(total) {
-            return best;
-        }
         let mut least = MOST_LEFT;
         let mut priorities = self.priorities();
         for _ in 0..32 {
@@ -112,7 +156,7 @@ impl Relaxation {
             let split = Split::at(place);
             let is_free = !split.is_fixed(fixed);
             if is_free {
-                let after = self.after_split(place / 4, place % 4, priced, f64::from(total), least);
+                let after = self.after_split(place / 4, place % 4, &priced, total, least);
                 if after < least {
                     best = Some(split);
                     least = after;
@@ -122,22 +166,26 @@ impl Relaxation {
         best
     }
 
-    /// The split with the fewest parts open; those that leave the prices of the relaxation no more room come last.
-    fn least_open(&self, fixed: &[[Option<u8>; 4]; 8], priced: &Priced, total: f64) -> Option<Split>
+    /// The split with the fewest parts open. Those that keep the ties which hold prices between whole dollars come after all others, and of equal
+    /// ones those that leave the prices no more room.
+    fn least_open(&self, fixed: &[[Option<u8>; 4]; 8], prices: &Prices, total: f64) -> Option<Split>
         ensures client { IfSome result (λ split. split.client < 8) }
         ensures feature { IfSome result (λ split. split.feature < 4) }
         ensures free { IfSome result (λ split. fixed_at fixed.now split.client split.feature ≡ None) }
         ensures full { IfNone result (IsFull fixed.now) }
     {
+        let priced = self.priced(prices);
+        let moved = self.moved();
         let mut best = None;
         let mut least = OpenParts {
+            is_tied: true,
             is_tight: true,
             count: 21,
         };
         for place in 0..32 {
             let split = Split::at(place);
             if !split.is_fixed(fixed) {
-                let open = self.open_parts(place / 4, place % 4, priced, total);
+                let open = self.open_parts(place / 4, place % 4, &priced, &moved, total);
                 if best.is_none() || open < least {
                     best = Some(split);
                     least = open;
@@ -175,7 +223,14 @@ impl Relaxation {
     }
 
     /// The parts of a split by a client's feature in which whole prices leave more than a total in dollars.
-    fn open_parts(&self, client: usize, feature: usize, priced: &Priced, total: f64) -> OpenParts
+    fn open_parts(
+        &self,
+        client: usize,
+        feature: usize,
+        priced: &Priced,
+        moved: &Moved,
+        total: f64,
+    ) -> OpenParts
         requires client { client < 8 }
         requires feature { feature < 4 }
         ensures { result.count ≤ 21 }
@@ -186,27 +241,71 @@ impl Relaxation {
                 count += 1;
             }
         }
+        let at = self.best_margins(client, feature, &moved.at);
         OpenParts {
-            is_tight: !self.gives_room(client, feature),
+            is_tied: !self.unties(client, feature, moved, &at),
+            is_tight: !self.gives_room(client, &at),
             count,
         }
     }
 
     /// Whether packages with several values of a client's feature gain as much for it, at the prices of the relaxation, as it gains. Each
-    /// such package keeps the prices from moving, and each part of a split is rid of those with another value.
-    fn gives_room(&self, client: usize, feature: usize) -> bool
-        requires client { client < 8 }
-        requires feature { feature < 4 }
+    /// such package keeps the prices from moving, and each part of a split is rid of those with another value. `at` has the best margin of each value.
+    fn gives_room(&self, client: usize, at: &[f64; 21]) -> bool
+        requires { client < 8 }
     {
-        let prices = &self.tableau.prices;
-        let margins = self.best_margins(client, feature, &charges(&self.worths.features, prices));
         let mut count: u8 = 0;
-        for margin in &margins {
-            if *margin > prices[GOODS + client] - TOLERANCE {
+        for margin in at {
+            if *margin > self.tableau.prices[GOODS + client] - TOLERANCE {
                 count += 1;
             }
         }
         count > 1
+    }
+
+    /// Whether each part of a split has a smaller bend than all of the client's packages together. What a client gains is convex in the prices. It
+    /// has a bend where its best packages use different goods at prices between whole dollars, and that keeps these prices from whole dollars.
+    fn unties(&self, client: usize, feature: usize, moved: &Moved, at: &[f64; 21]) -> bool
+        requires client { client < 8 }
+        requires feature { feature < 4 }
+    {
+        let above = self.best_margins(client, feature, &moved.above);
+        let below = self.best_margins(client, feature, &moved.below);
+        let best = greatest(at);
+        let bend = greatest(&above) + greatest(&below) - 2.0 * best;
+        let mut most = 0.0;
+        for value in 0..21 {
+            let is_best = at[value] > best - TOLERANCE;
+            let left = above[value] + below[value] - 2.0 * at[value];
+            if is_best && left > most {
+                most = left;
+            }
+        }
+        most < bend - TOLERANCE
+    }
+
+    /// What packages cost at the prices of the relaxation, and near them.
+    fn moved(&self) -> Moved {
+        let features = &self.worths.features;
+        Moved {
+            at: charges(features, &self.tableau.prices),
+            above: charges(features, &self.prices_moved(MOVED)),
+            below: charges(features, &self.prices_moved(-MOVED)),
+        }
+    }
+
+    /// The prices of the relaxation with those between whole dollars moved, each good's by the square of another number: sums of squares rarely agree,
+    /// so that packages that use different goods are moved apart.
+    fn prices_moved(&self, step: f64) -> Row {
+        let mut prices = self.tableau.prices;
+        let mut weight = 10.0;
+        for good in 0..28 {
+            weight += 1.0;
+            if self.tableau.is_between(good) {
+                prices[good] += step * weight * weight;
+            }
+        }
+        prices
     }
 
     /// What packages cost at whole prices, and what these bound, in dollars.

@@ -32,7 +32,7 @@ explore_parts-loop-value-preserved t c =
     let client = c.args.split.client in
     let feature = c.args.split.feature in
     let child = c.in_ok-child.child in
-    let total = c.explore_by.new.best.total in
+    let total = c.explore_part.new.best.total in
     let fits : is_tree (31 - c.args.level) (tree_of child) ≡ true = subst (λ d. is_tree d (tree_of child) ≡ true) (omega arith) c.in_ok-child.ensures.fits in
     let hold : holds c.args.account.now total (narrowed left client feature l.value) (tree_of child) ≡ true =
     subst (λ n. holds c.args.account.now total n (tree_of child) ≡ true) c.with-next.ensures.left c.in_ok-child.ensures.holds in
@@ -40,6 +40,7 @@ explore_parts-loop-value-preserved t c =
       few = l.invariant.few;
       reached = c.in_ok-child.ensures.reached;
       grows = omega (arith, c.in_ok-child.ensures.grows, l.invariant.grows);
+      stock = search rules;
       count = rw c.in_ok-push.ensures.items (length-append l.children.items (child ∷ []) ∙ omega (arith, l.invariant.count));
       hold = rw c.in_ok-push.ensures.items (all_hold-push c.args.account.now total left client feature 0 l.value l.children.items child
           (all_hold_more c.args.account.now l.best.total total left client feature 0 (forest_of l.children.items) l.invariant.hold c.in_ok-child.ensures.grows) (omega (arith, l.invariant.count)) hold);
@@ -65,15 +66,15 @@ explore_parts-returns-clause-fits t c =
     let l = c.loop-value in
     is_tree-split c.args.level c.args.split.client c.args.split.feature l.children l.invariant.few c.requires.client c.requires.feature (omega (arith, l.invariant.count, c.value_count-value-end.ensures)) l.invariant.fit
 
-pub explore_parts-explore_by-requires : goal.explore_parts-explore_by-requires
-explore_parts-explore_by-requires t c =
+pub explore_parts-explore_part-requires : goal.explore_parts-explore_part-requires
+explore_parts-explore_part-requires t c =
     let account = c.args.account.now in
     let ranges = subst IsAccount c.account.view_is c.account.invariant in
     let level : c.args.level + 1 ≡ fixed_count c.with-next.result = omega (arith, c.requires.level, c.with-next.ensures.count) in
     let table = c.narrow.new.self.worths.dollars in
     let narrow = ceiling_narrowed account ranges (chosen c.args.choice.now) c.args.split.client c.args.split.feature c.loop-value.value c.args.left.now.worths.dollars table c.requires.ceiling c.narrow.ensures.keeps in
     let ceiling = subst (λ left. IsCeiling account left table) (sym c.with-next.ensures.left) narrow in
-    (search rules, (level, (ceiling, (c.requires.stock, c.loop-value.invariant.reached))))
+    (search rules, (level, (ceiling, (c.quote_for-quote.ensures, c.loop-value.invariant.reached))))
 
 pub explore-explore_parts-requires : goal.explore-explore_parts-requires
 explore-explore_parts-requires t c =

@@ -1,28 +1,27 @@
 use Rattle.std.proofs.Common.{◌≡◌, ◌+◌, ◌-◌, ◌*◌, ◌<◌, ◌≤◌, true, length}
 use Rattle.bound_cert.specs.Trees.{are_trees}
 use Rattle.bound_cert.specs.Views.{forest_of}
+use Rattle.packages.specs.Bounds.{stock_value}
 use Rattle.dual_bound.specs.Choices.{chosen}
 use Rattle.bound_cert.specs.Certificate.{all_hold}
 use Rattle.allocator.specs.Searching.{IsReached}
 use Rattle.allocator.proofs.searching.+search.Given as goal
 
 abbrev pub decreases-explore_parts : goal.decreases-explore_parts
-decreases-explore_parts l = 4 * (32 - l.level)
+decreases-explore_parts l = 3 * (32 - l.level)
 
 abbrev pub decreases-explore : goal.decreases-explore
-decreases-explore l = 4 * (32 - l.level) + 1
+decreases-explore l = 3 * (32 - l.level) + 1
 
 abbrev pub decreases-explore_part : goal.decreases-explore_part
-decreases-explore_part l = 4 * (32 - l.level) + 2
-
-abbrev pub decreases-explore_by : goal.decreases-explore_by
-decreases-explore_by l = 4 * (32 - l.level) + 3
+decreases-explore_part l = 3 * (32 - l.level) + 2
 
 abbrev pub invariant-explore_parts-loop-value : goal.invariant-explore_parts-loop-value
 invariant-explore_parts-loop-value l = record {
   few : l.level < 32;
   reached : IsReached l.account l.best.allocation l.best.total;
   grows : l.initial.best.total ≤ l.best.total;
+  stock : l.quote.stock_value ≡ stock_value l.account.holdings l.quote.prices;
   count : length l.children.items ≡ l.value;
   hold : all_hold l.account l.best.total (chosen l.choice) l.client l.feature 0 (forest_of l.children.items) ≡ true;
   fit : are_trees (31 - l.level) (forest_of l.children.items) ≡ true;

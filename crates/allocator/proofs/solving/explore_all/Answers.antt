@@ -1,4 +1,4 @@
-use Rattle.std.proofs.Common.{◌≡◌, true, IfOk, ap, subst, ◌∙◌}
+use Rattle.std.proofs.Common.{◌≡◌, true, ap, subst, ◌∙◌}
 use Rattle.packages.specs.Bounds.{Narrowing}
 use Rattle.bound_cert.specs.Certificate.{holds}
 use Rattle.bound_cert.specs.Views.{tree_of}
@@ -8,8 +8,8 @@ use Rattle.allocator.proofs.Growing.{leaf_fits}
 use Rattle.allocator.proofs.solving.explore_all.Goals as goal
 
 pub returns-then-holds-clause-fits : goal.returns-then-holds-clause-fits
-returns-then-holds-clause-fits c = leaf_fits 32 c.leaf.result c.settled_quote-quote.result.prices c.leaf.ensures.view (c.leaf.ensures.fits 32)
+returns-then-holds-clause-fits c = leaf_fits 32 c.leaf.result c.in-Some.quote.prices c.leaf.ensures.view (c.leaf.ensures.fits 32)
 
-pub returns-clause-holds : goal.returns-clause-holds
-returns-clause-holds c =
-    subst (λ (left : Narrowing). IfOk c.explore.result (λ root. holds c.args.account.now c.explore.new.best.total left (tree_of root) ≡ true)) (ap chosen c.none-all.ensures ∙ chosen_nothing) c.explore.ensures.holds
+pub shorter_of-requires-clause-holds : goal.shorter_of-requires-clause-holds
+shorter_of-requires-clause-holds c =
+    subst (λ (left : Narrowing). holds c.args.account.now c.explore.new.best.total left (tree_of c.in-Ok.root) ≡ true) (ap chosen c.none-all.ensures ∙ chosen_nothing) c.in-Ok.ensures.holds

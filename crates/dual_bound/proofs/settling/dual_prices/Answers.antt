@@ -6,8 +6,8 @@ use Rattle.dual_bound.specs.Ceilings.{IsCeiling}
 use Rattle.dual_bound.proofs.CeilingLaws.{ceiling_left}
 use Rattle.dual_bound.proofs.settling.dual_prices.Goals as goal
 
-pub settled_quote-quote-requires : goal.settled_quote-quote-requires
-settled_quote-quote-requires c =
+pub settled_from-quote-requires : goal.settled_from-quote-requires
+settled_from-quote-requires c =
     let account = c.args.account.now in
     let ranges = subst IsAccount c.account.view_is c.account.invariant in
     let left = chosen c.args.choice.now in
