@@ -4,6 +4,8 @@
     bench/search_as_rust.py FOLDER            writes FOLDER/src and builds FOLDER/solve by rustc
     FOLDER/solve solve ACCOUNT                prints the lines `total` and `cert` that `tac solve` prints, so bench/climb.py --tac takes it
     FOLDER/solve ACCOUNT ..                   a line each: total, lines and leaves of the certificate, milliseconds
+    FOLDER/solve plain ACCOUNT ..             the same, and the leaves of plain branching, which starts with the best total and splits by the
+                                              greatest branching priority whatever part's relaxation is worth more
 
 It takes `packages`, `relaxation`, `dual_bound` and `allocator` from crates/, leaves out what only proofs need, and writes small stand-ins for the crates
 below them. The certificates have the same lines as the proved program's. Edit FOLDER/src and call rustc again to try a change.
@@ -30,9 +32,11 @@ impl Good {
     pub fn hotel_night(hotel: u8, night: u8) -> Good { Good(8 + 4 * hotel + night - 1) }
     pub fn ticket_night(kind: u8, night: u8) -> Good { Good(16 + 4 * kind + night - 1) }
 }
-pub mod limits { pub const DUAL_PRICE: u16 = 14_001; }
+pub mod limits { pub const DUAL_PRICE: u16 = 14_001; pub const BEST_TOTAL: u32 = 14_000; }
+pub struct AllocError;
+pub struct AllocFailed<T>(pub T);
 pub struct Memory;
-impl From<()> for Memory { fn from(_: ()) -> Memory { Memory } }
+impl From<AllocError> for Memory { fn from(_: AllocError) -> Memory { Memory } }
 """,
     "game_text.rs": "pub struct Account { pub clients: [crate::tac_base::Client; 8], pub holdings: [i32; 28] }\n",
     "bound_cert.rs": """pub enum CertNode { Leaf(crate::packages::Prices), Split { client: u8, feature: u8, children: Vec<CertNode> } }
@@ -60,10 +64,28 @@ fn read(file: &str) -> game_text::Account {
     game_text::Account { clients: clients.try_into().ok().unwrap(), holdings: rows[0].clone().try_into().unwrap() }
 }
 
+/// The leaves of plain branching; from ten million on it splits no more.
+fn plain_leaves(left: &relaxation::Relaxation, total: u32, leaves: &mut u64) {
+    let priorities = left.priorities();
+    let greatest = (0..32).fold(0, |most, place| if priorities[place] > priorities[most] { place } else { most });
+    if *leaves >= 10_000_000 || !left.is_worth_more(total) || priorities[greatest] == 0.0 {
+        *leaves += 1;
+        return;
+    }
+    let (client, feature) = (greatest as u8 / 4, greatest as u8 % 4);
+    for value in 0..packages::value_count(feature) {
+        let mut part = *left;
+        part.narrow(client, feature, value);
+        part.repair(total);
+        plain_leaves(&part, total, leaves);
+    }
+}
+
 fn main() {
     let words: Vec<String> = std::env::args().skip(1).collect();
     let asked = words.len() == 2 && words[0] == "solve";
-    for file in &words[usize::from(asked)..] {
+    let with_plain = words.first().is_some_and(|word| word == "plain");
+    for file in &words[usize::from(asked || with_plain)..] {
         let account = read(file);
         let start = std::time::Instant::now();
         let solved = allocator::solve(&account).ok().unwrap();
@@ -72,7 +94,13 @@ fn main() {
         if asked {
             println!("total {}\\ncert {lines}", solved.total);
         } else {
-            println!("{file} total {} lines {lines} leaves {leaves} ms {spent:.2}", solved.total);
+            print!("{file} total {} lines {lines} leaves {leaves} ms {spent:.2}", solved.total);
+            if with_plain {
+                let mut others = 0;
+                plain_leaves(&relaxation::Relaxation::new(&account), solved.total, &mut others);
+                print!(" plain {others}");
+            }
+            println!();
         }
     }
 }
@@ -109,8 +137,9 @@ def as_rust(text, crate):
     text = re.sub(r"\bsaturating_f64_to_u16\(", "(|number: f64| number as u16)(", text)
     text = re.sub(r"derive\(([^)]*)\)", lambda found: "derive(" + ", ".join(name for name in found.group(1).split(", ") if name not in ("Drop", "Debug")) + ")", text)
     text = re.sub(r"\balloc: Global,|\balloc,", "", text)
-    text = text.replace("Vec::new(alloc)", "Vec::new()").replace("children.push(child)?", "children.push(child)").replace("AllocError>", "()>")
+    text = text.replace("Vec::new(alloc)", "Vec::new()").replace("children.push(child)?", "children.push(child)")
     text = text.replace("crate::", f"crate::{crate}::").replace("pub(crate)", "pub")
+    text = re.sub(r"\b(AllocError|AllocFailed)\b", r"crate::tac_base::\1", text)
     return re.sub(rf"\buse ({'|'.join(CRATES)}|tac_base|game_text|bound_cert)::", r"use crate::\1::", text)
 
 
