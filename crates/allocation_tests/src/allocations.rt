@@ -14,10 +14,11 @@ const HALF_DOLLARS: &str = "client 0 4 5 67 200 100 200\nclient 1 4 5 67 200 100
     client 2 4 5 67 200 100 200\nclient 3 4 5 148 200 100 200\nclient 4 4 5 56 200 100 200\n\
     client 5 4 5 83 200 100 200\nclient 6 4 5 133 100 100 100\nclient 7 4 5 143 100 100 100\n";
 
-/// Clients of three kinds. By each rule the search leaves more parts than the first limit, so that it begins anew.
-const THREE_KINDS: &str = "client 0 2 4 50 47 200 0\nclient 1 2 4 100 47 200 0\n\
-    client 2 4 5 80 200 200 0\nclient 3 2 4 100 47 200 0\nclient 4 4 5 80 200 0 0\n\
-    client 5 2 4 100 47 200 0\nclient 6 4 5 80 200 0 0\nclient 7 4 5 80 200 200 0\n";
+/// Clients of whom several want the same. By the first rule the search leaves more parts than its limit, so that it begins anew.
+const SAME_WISHES: &str = "client 0 3 5 100 200 200 200\nclient 1 3 5 100 200 200 200\n\
+    client 2 3 5 100 200 200 200\nclient 3 3 4 100 49 99 0\n\
+    client 4 3 4 100 49 99 0\nclient 5 3 4 100 49 99 0\n\
+    client 6 3 5 100 200 200 200\nclient 7 3 5 100 200 200 200\n";
 
 /// Holdings and clients, and what the best allocation is worth; an integer-program solver gives the totals of the last three.
 const ACCOUNTS: [(&str, &str, u32); 5] = [
@@ -38,9 +39,9 @@ const ACCOUNTS: [(&str, &str, u32); 5] = [
         9241,
     ),
     (
-        "1 3 1 1 1 3 3 3 0 5 2 2 2 1 2 0 0 2 1 1 0 1 1 0 0 0 5 1",
-        THREE_KINDS,
-        6627,
+        "8 3 5 7 7 4 4 8 6 7 1 3 8 3 1 4 6 1 6 2 8 0 5 1 8 8 8 0",
+        SAME_WISHES,
+        9149,
     ),
 ];
 

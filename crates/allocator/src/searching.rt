@@ -33,10 +33,10 @@ const MOST_DECIDED: u32 = 12;
 const DIVE_LEVELS: u8 = 4;
 
 /// The first attempt may come to so many parts.
-const FIRST_PARTS: u64 = 100;
+const FIRST_PARTS: u64 = 2000;
 
 /// Once both rules have come to a limit, it grows by this factor.
-const MORE_PARTS: u64 = 8;
+const MORE_PARTS: u64 = 4;
 
 /// What a search carries along: the best allocation found so far, what it is worth in dollars, and how many parts the present attempt has come to.
 #[derive(Clone, Copy)]
@@ -75,11 +75,12 @@ impl Attempt {
         }
     }
 
-    /// What to try after it where it ended with so many parts: the plain rule with three quarters of them. If the plain rule ended, the first one
-    /// had come to its limit before, so nothing is tried. No split has fewer than five parts.
-    pub(crate) fn shorter(self, parts: u64) -> Option<Attempt> {
+    /// What to try after it where it ended with so many parts: the plain rule with three quarters of them, unless that ended by itself from the same
+    /// total. No split has fewer than five parts.
+    pub(crate) fn shorter(self, parts: u64, has_risen: bool) -> Option<Attempt> {
         match self.rule {
-            SplitRule::LeastLeft if parts > 5 => Some(Attempt {
+            SplitRule::GreatestPriority if !has_risen => None,
+            _ if parts > 5 => Some(Attempt {
                 rule: SplitRule::GreatestPriority,
                 parts: parts - parts / 4,
             }),

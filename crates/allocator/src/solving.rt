@@ -19,8 +19,8 @@ use std::alloc::{AllocError, Global};
 use tac_base::Memory;
 use tac_base::limits::BEST_TOTAL;
 
-/// The last of so many attempts may come to 2 * 10^17 parts, more than any memory has room for.
-const MOST_ATTEMPTS: u32 = 36;
+/// The last of so many attempts may come to 5 * 10^14 parts, more than any memory has room for.
+const MOST_ATTEMPTS: u32 = 40;
 
 /// A best allocation, and a certificate that no feasible allocation is worth more.
 #[derive(Debug, Drop)]
@@ -63,22 +63,23 @@ fn explore_all(
         let hint = Hint::Nothing;
         match explore(alloc, account, attempt, 0, &all, relaxation, hint, best) {
             Err(Stop::Memory) => return Err(AllocError),
-            Ok(root) if best.total == before => {
-                return Ok(shorter_of(alloc, account, attempt, relaxation, root, best));
+            Ok(root) => {
+                let other = attempt.shorter(best.parts, best.total > before);
+                return Ok(shorter_of(alloc, account, other, relaxation, root, best));
             }
             Err(Stop::Parts) if best.total == before => attempt = attempt.next(),
             // A better allocation was found on the way: less is left to search from its total on.
-            _ => (),
+            Err(Stop::Parts) => (),
         }
     }
     Err(AllocError)
 }
 
-/// The certificate of an attempt, or where the other rule needs less than three quarters of its parts, the other's.
+/// The certificate that was found, or where another attempt ends too, the other's.
 fn shorter_of(
     alloc: Global,
     account: &Account,
-    attempt: Attempt,
+    other: Option<Attempt>,
     relaxation: &Relaxation,
     root: CertNode,
     best: &mut Found,
@@ -91,7 +92,7 @@ fn shorter_of(
     ensures holds { holds account.now best.new.total all_left (tree_of result) ≡ true }
     ensures fits { is_tree CERTIFICATE_DEPTH (tree_of result) ≡ true }
 {
-    let Some(other) = attempt.shorter(best.parts) else {
+    let Some(other) = other else {
         return root;
     };
     best.parts = 0;
