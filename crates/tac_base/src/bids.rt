@@ -271,4 +271,13 @@ impl Left {
     {
         self.list.as_slice()
     }
+    /// A copy of the points.
+    #[tactic(auto, using(crate::proofs::Faults::list_points))]
+    pub fn copy(&self) -> Self
+        ensures { result ≡ self.now }
+    {
+        Left {
+            list: copied(self.list.as_slice()),
+        }
+    }
 }

@@ -1,9 +1,11 @@
 ghost use Rattle.std.specs.Prelude.{◌≡◌, ℕ, ◌+◌, ◌<◌, ◌≤◌, ◌↔◌, List, [], ◌∷◌, ◌++◌, Option, Some, None, length};
+ghost use Rattle.std.specs.Slice.Iter.{iter_rest};
 
 use crate::limits::ENTRY_TRADES;
 use crate::{Caller, Good, Left, Party, Points, Tick};
 use arrayvec::ArrayVec;
 use std::marker::Model;
+use std::slice;
 
 /// A number of units of a good, each at the price.
 #[derive(Clone, Copy, Debug, Default, PartialEq, Eq)]
@@ -63,6 +65,21 @@ impl Fills {
         self.list.push(trade);
     }
 
+    /// How many trades there are.
+    pub fn len(&self) -> usize
+        ensures value { result ≡ length self.now }
+        ensures few { result ≤ ENTRY_TRADES }
+    {
+        self.list.len()
+    }
+
+    /// The trades in order, one by one.
+    pub fn iter(&self) -> slice::Iter<'_, Trade>
+        ensures { iter_rest result ≡ self.now }
+    {
+        self.list.iter()
+    }
+
     /// The trades in order.
     pub fn as_slice(&self) -> &[Trade]
         ensures value { result.now ≡ self.now }
@@ -109,6 +126,25 @@ pub enum Call {
     Close,
 }
 
+impl Call {
+    /// A copy of the call.
+    pub fn copy(&self) -> Self
+        ensures { result ≡ self.now }
+    {
+        match self {
+            Call::Bid(points) => Call::Bid(points.copy()),
+            Call::Withdraw => Call::Withdraw,
+            Call::Own => Call::Own,
+            Call::Update { tick, draw } => Call::Update {
+                tick: *tick,
+                draw: *draw,
+            },
+            Call::Publish => Call::Publish,
+            Call::Close => Call::Close,
+        }
+    }
+}
+
 /// What an auction answers: the first four replies are to admitted calls, the others are refusals.
 /// The refusals are tried in this order, which is our own rule.
 #[derive(Debug, Drop)]
@@ -133,6 +169,39 @@ pub enum Reply {
     SelfCross,
     /// A hotel bid that offers fewer units than it needs at the price `at` or more, in dollars.
     BelowQuote { need: u8, at: u16, offered: u8 },
+}
+
+impl Reply {
+    /// A copy of the reply.
+    pub fn copy(&self) -> Self
+        ensures { result ≡ self.now }
+    {
+        match self {
+            Reply::Taken { bought, sold } => Reply::Taken {
+                bought: *bought,
+                sold: *sold,
+            },
+            Reply::Own { holding, left } => Reply::Own {
+                holding: *holding,
+                left: left.copy(),
+            },
+            Reply::Sold { units, price } => Reply::Sold {
+                units: *units,
+                price: *price,
+            },
+            Reply::Done => Reply::Done,
+            Reply::Closed => Reply::Closed,
+            Reply::WrongCall => Reply::WrongCall,
+            Reply::NoBid => Reply::NoBid,
+            Reply::Sell => Reply::Sell,
+            Reply::SelfCross => Reply::SelfCross,
+            Reply::BelowQuote { need, at, offered } => Reply::BelowQuote {
+                need: *need,
+                at: *at,
+                offered: *offered,
+            },
+        }
+    }
 }
 
 /// One call of a history with its reply.

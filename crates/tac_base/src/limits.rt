@@ -1,5 +1,14 @@
 //! The limits of the game and of its texts, each in one place; code, clauses and definitions cite it. All of them are our own rules.
 
+/// The agents of a game, numbered from 0.
+pub const AGENTS: u8 = 8;
+
+/// The callers of an auction: the agents, and then the clock.
+pub const CALLERS: u8 = 9;
+
+/// The goods of a game, numbered from 0.
+pub const GOODS: u8 = 28;
+
 /// The most calls of an agent in one auction, refused ones included.
 pub const AGENT_CALLS: u32 = 1_024;
 
@@ -56,6 +65,9 @@ pub const LINK_BYTES: u32 = 67_108_864;
 
 /// The most links that a served game takes.
 pub const LINKS: u32 = 64;
+
+/// The most links of a log that is read.
+pub const LOG_LINKS: u32 = 255;
 
 /// The most files that a command reads: a game and a log of each of 64 games.
 pub const FILE_NAMES: usize = 128;
