@@ -11,10 +11,10 @@ mod flight_calls;
 mod hotel_calls;
 mod order_book;
 mod storing;
-mod terms;
+mod auction_setup;
 mod ticket_calls;
 
 pub use auction::Auction;
 pub use closed::Closed;
-pub use entries::{Happened, Struck};
-pub use terms::Terms;
+pub use entries::{AuctionEntry, Struck};
+pub use auction_setup::AuctionSetup;

@@ -38,7 +38,7 @@ impl Floor {
     ghost use Rattle.auction_rules.specs.Legal.{Legal};
     ghost use Rattle.auction_core.specs.ClosedGame.{all_goods};
     ghost use Rattle.auction_core.specs.Setups.{setup_of};
-    ghost use Rattle.trade_ledger.specs.CashHistory.{IsLegalCash, total_of};
+    ghost use Rattle.trade_ledger.specs.CashHistory.{IsLegalCash, cash_total};
     ghost use Rattle.trade_ledger.specs.Posts.{Matched, trades_of_all};
     ghost use Rattle.floor.specs.Desks.{IsNewDesk, setup_at};
     ghost use Rattle.floor.specs.Floors.{floor_ids, starts_of, AreDesksOf, AreAllDesksOf};
@@ -79,7 +79,7 @@ impl Floor {
         ensures callers { All (λ e. e.caller ≤ 8) result.cash }
         ensures borne_out { All (λ d. IsBorneOut result d) desks.items }
         ensures matched { Matched (map (λ auction. auction.history) result.auctions) result.cash }
-        ensures totals { (party : ℕ) → party ≤ 8 → total_of result.cash party ≡ dollars (trades_of_all (map (λ auction. auction.history) result.auctions)) party }
+        ensures totals { (party : ℕ) → party ≤ 8 → cash_total result.cash party ≡ dollars (trades_of_all (map (λ auction. auction.history) result.auctions)) party }
         ensures taken { All TakesLawfulBids result.auctions }
     {
         let Floor {

@@ -4,7 +4,6 @@
 mod fault;
 mod head_part;
 mod known;
-mod piece;
 mod play_part;
 mod ranges;
 mod scores_part;

@@ -3,10 +3,10 @@
 
 mod admission;
 mod arrivals;
-mod crew;
-mod ending;
+mod sessions;
+mod session_ends;
 mod run;
 mod seating;
-mod stage;
+mod play;
 
 pub use run::{GameEnd, RunFault, run_game};

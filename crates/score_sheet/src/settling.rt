@@ -3,7 +3,7 @@ ghost use Rattle.std.specs.Prelude.{◌≡◌, map};
 ghost use Rattle.std.specs.List.{All};
 ghost use Rattle.trade_ledger.specs.CashKeeping.{IsWithin};
 ghost use Rattle.tac_base.specs.Goods.{agents};
-ghost use Rattle.score_sheet.specs.Settlement.{holdings_of, cash_of, settlement_of};
+ghost use Rattle.score_sheet.specs.Settlement.{holdings_of, cash_gained, settlement_of};
 ghost use Rattle.score_sheet.specs.SettledRanges.{AreHoldings};
 
 use crate::gains::gain_of_game;
@@ -59,7 +59,7 @@ fn all_holdings(closed: &Closed) -> [[i32; 28]; 8]
 
 /// What each agent has gained.
 fn all_cash(closed: &Closed) -> [i64; 8]
-    ensures value { result ≡ map (cash_of closed.now.auctions) agents }
+    ensures value { result ≡ map (cash_gained closed.now.auctions) agents }
     ensures range { All (IsWithin 1000000000000000) result }
 {
     let mut cash = [0; 8];

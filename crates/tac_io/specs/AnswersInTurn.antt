@@ -21,5 +21,5 @@ IsFirst Budget line all others = all ≡ (Budget, []) ∷ []
 
 -- Where it is told what is left, the answer is the first of those to come, and then the others come.
 abbrev pub IsInTurn : Held → Held → LinkState → LinkState → ℕ → ℕ → LineGot → Type 0
-IsInTurn old new before after count count' got =
-    IfSome before.left (λ bytes. IfSome after.left (λ rest. IsFirst got new.line (answers_left old bytes count) (answers_left new rest count')))
+IsInTurn held held' before after count count' got =
+    IfSome before.left (λ bytes. IfSome after.left (λ rest. IsFirst got held'.line (answers_left held bytes count) (answers_left held' rest count')))

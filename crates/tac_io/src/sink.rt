@@ -2,7 +2,7 @@
 ghost use Rattle.std.specs.Prelude.{◌≡◌, ◌<◌, length};
 ghost use Rattle.tac_io.specs.Counts.{HasCause};
 ghost use Rattle.tac_io.specs.States.{SinkState};
-ghost use Rattle.tac_io.specs.Told.{Takes};
+ghost use Rattle.tac_io.specs.Known.{Takes};
 
 use crate::Failed;
 

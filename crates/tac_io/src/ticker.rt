@@ -5,7 +5,7 @@ ghost use Rattle.std.specs.declared.option.Option.TheVariants.{Some};
 ghost use Rattle.tac_base.specs.declared.limits.TheConstants.{TICKS};
 ghost use Rattle.tac_io.specs.Counts.{HasCause};
 ghost use Rattle.tac_io.specs.States.{TickerState};
-ghost use Rattle.tac_io.specs.Told.{and_then_told};
+ghost use Rattle.tac_io.specs.Known.{known_then};
 
 use std::rt::Clock;
 use std::sync::Wait;
@@ -42,7 +42,7 @@ pub trait Ticker {
             (λ due. due_tick due ≡ tick)
             (λ lapse. lapse_tick lapse ≡ tick) }
         ensures waited { (state self.new).waited
-            ≡ and_then_told (state self.old).waited ((tick, is_err result) ∷ []) }
+            ≡ known_then (state self.old).waited ((tick, is_err result) ∷ []) }
         ensures paced { (state self.new).paced ≡ (state self.old).paced }
         ensures cause { HasCause (state self.old).faults (state self.new).faults result };
 
