@@ -20,7 +20,7 @@ use crate::candidates::{better_choice, first_choice};
 use crate::scarcity::scarcity_prices;
 use crate::symmetry::{Hint, copied_prices, copied_split, hint_of_part, like_split};
 use bound_cert::CertNode;
-use dual_bound::{Choice, Quote, is_enough, allocation_worth};
+use dual_bound::{Choice, Quote, allocation_worth, is_enough};
 use game_text::Account;
 use packages::{Package, Prices, value_count};
 use relaxation::{Relaxation, Split, SplitRule};

@@ -8,13 +8,13 @@ ghost use Rattle.auction_core.specs.Loggable.{IsLoggable};
 ghost use Rattle.auction_core.specs.Stored.{IsShown};
 ghost use Rattle.auction_core.specs.Struck.{struck_of};
 
+use crate::auction_setup::AuctionSetup;
 use crate::book::Book;
 use crate::copies::{same_call, same_reply};
 use crate::effects::{apply_all, nets};
 use crate::entries::{AuctionEntry, Struck};
 use crate::order_book::OrderBook;
 use crate::storing::{entry_at, part_of, store};
-use crate::auction_setup::AuctionSetup;
 use game_text::Game;
 use std::alloc::Global;
 use std::marker::Model;

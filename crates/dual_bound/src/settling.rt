@@ -11,7 +11,7 @@ ghost use Rattle.dual_bound.specs.Settled as settled;
 ghost use Rattle.dual_bound.specs.Ceilings.{IsCeiling};
 ghost use Rattle.dual_bound.specs.Restrictions.{IsNarrowedBy, IsRestricted};
 
-use crate::allocations::{is_enough, allocation_worth};
+use crate::allocations::{allocation_worth, is_enough};
 use crate::choices::Choice;
 use crate::quotes::Quote;
 use game_text::Account;

@@ -10,12 +10,10 @@ use crate::opening::{empty_hands, open, open_cash, seat};
 use auction_core::{Auction, Closed};
 use game_text::Game;
 use std::alloc::Global;
+use tac_base::limits::GOODS;
 use tac_base::{Good, Memory};
 use trade_ledger::CashBook;
 use turn_lock::TurnLock;
-
-/// How many goods there are.
-const GOODS: u8 = 28;
 
 /// The 28 auctions of a game, in the order of goods, and its cash book, each under a lock of its own.
 #[derive(Drop)]

@@ -1,4 +1,5 @@
-//! The log of a game: its histories, and then the sheet with its scores, are written.
+//! The log of a game: its histories, and then the sheet with its scores, are written. How a log is read, and when it is sound,
+//! is given again from `log_reader`.
 #![tactic(auto)]
 
 mod fault;
@@ -12,6 +13,7 @@ mod sheet_part;
 
 pub use fault::LogWriteFault;
 pub use line_protocol::LogHead;
+pub use log_reader::{Log, LogFault, LogHistory, ScoreLine, read_log};
 pub use log_text::{one_game, one_log, one_sheet, print_score, trade_line};
 pub use play_part::write_play_part;
 pub use ranges::log_ranges;

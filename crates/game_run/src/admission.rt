@@ -12,11 +12,11 @@ use agent_gate::Gate;
 use game_text::Game;
 use line_protocol::Verdict;
 use tac_base::Agent;
-use tac_base::limits::LINKS;
+use tac_base::limits::{AGENTS, LINKS};
 use tac_io::{Failed, LineGot, Lines, Link, Links};
 
-/// How many seats there are.
-const SEATS: usize = 8;
+/// How many seats there are: one for each agent.
+const SEATS: usize = AGENTS as usize;
 
 /// What a link without a seat is sent.
 fn refusal(verdict: &Verdict) -> &'static [u8]

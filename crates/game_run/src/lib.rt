@@ -3,10 +3,10 @@
 
 mod admission;
 mod arrivals;
-mod sessions;
-mod session_ends;
+mod play;
 mod run;
 mod seating;
-mod play;
+mod session_ends;
+mod sessions;
 
 pub use run::{GameEnd, RunFault, run_game};

@@ -6,9 +6,9 @@ ghost use Rattle.tac_io.specs.declared.lines.Lines.{Lines};
 ghost use Rattle.clock_events.specs.Clocking.{WaitsForAll};
 ghost use Rattle.game_run.specs.GameSessions.{IsReadyForEnds, IsOpenFloor, IsPlayedThrough};
 
-use crate::sessions::run_all;
-use crate::session_ends::SessionEnds;
 use crate::seating::agent_seats;
+use crate::session_ends::SessionEnds;
+use crate::sessions::run_all;
 use agent_gate::Dialect;
 use auction_core::Closed;
 use clock_events::ClockEnd;

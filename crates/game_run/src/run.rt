@@ -8,8 +8,8 @@ ghost use Rattle.game_run.specs.Outcomes.{IsGameEnd, IsRunFault};
 
 use crate::admission::admit;
 use crate::arrivals::Arrivals;
-use crate::session_ends::{SessionEnds, in_order, without_sessions};
 use crate::play::{Finished, OpenFloor, begin_floor, play_out};
+use crate::session_ends::{SessionEnds, in_order, without_sessions};
 use agent_gate::Dialect;
 use auction_core::Closed;
 use game_text::Game;
@@ -19,7 +19,7 @@ use std::sync::Wait;
 use std::thread::Threads;
 use std::time::Clock;
 use tac_base::Memory;
-use tac_base::limits::LINKS;
+use tac_base::limits::{AGENTS, LINKS};
 use tac_io::{Lines, Link, Links, Ticker};
 
 /// A game that was played.
@@ -49,14 +49,11 @@ pub(crate) struct Reserved<L> {
     pub(crate) links: Vec<L>,
 }
 
-/// How many agents there are.
-const AGENTS: usize = 8;
-
 // No agent has lines.
 fn no_lines<L: Drop>(alloc: Global) -> Result<Vec<Option<Lines<L>>>, Memory>
     ensures { IfOk result (λ lines. lines.items ≡ replicate 8 None) }
 {
-    let mut lines = Vec::with_capacity(alloc, AGENTS)?;
+    let mut lines = Vec::with_capacity(alloc, usize::from(AGENTS))?;
     for _ in 0..AGENTS {
         lines.push_reserved(None);
     }

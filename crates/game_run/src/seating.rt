@@ -2,7 +2,7 @@
 ghost use Rattle.std.specs.Prelude.{◌≡◌, ◌∷◌, ◌++◌, [], ◌≤◌, ◌+◌, map, vec_len};
 ghost use Rattle.game_run.specs.Seatings.{eight_of, four_of, two_of};
 
-use crate::sessions::{Eight, Four, AgentSeat, Two};
+use crate::sessions::{AgentSeat, Eight, Four, Two};
 use floor::Desk;
 use tac_io::Lines;
 

@@ -10,7 +10,7 @@ use crate::headers::{end_at, title_of};
 use std::marker::Model;
 use tac_base::Client;
 use tac_base::limits::{HOLDING, TEXT_BYTES};
-use text_forms::{BadLine, Column, Digits, TextLines, Part, Reason, at_line, read_row, repeat};
+use text_forms::{BadLine, Column, Digits, Part, Reason, TextLines, at_line, read_row, repeat};
 
 /// An agent's clients and its holdings of the goods. The ranges are our own.
 #[derive(Clone, Copy, Debug, PartialEq, Eq)]
@@ -93,7 +93,11 @@ impl Part for Owned {
 
     ghost gives = { λ _ client left. accounts.owned_part client left };
 
-    fn read<'a>(&self, client: u8, lines: TextLines<'a>) -> Result<(Client, TextLines<'a>), BadLine> {
+    fn read<'a>(
+        &self,
+        client: u8,
+        lines: TextLines<'a>,
+    ) -> Result<(Client, TextLines<'a>), BadLine> {
         let (line, left) = lines.due()?;
         let client = at_line(line.number(), owned_of(client, line.bytes()))?;
         Ok((client, left))

@@ -4,7 +4,7 @@ ghost use Rattle.game_text.specs.Headers as headers;
 ghost use Rattle.text_forms.specs.Steps as steps;
 
 use std::alloc::AllocError;
-use text_forms::{BadLine, TextLines, Reason, Words, at_line, read_row};
+use text_forms::{BadLine, Reason, TextLines, Words, at_line, read_row};
 
 /// The version of the first line's second word.
 fn version_of(word: &[u8]) -> Result<u8, Reason>

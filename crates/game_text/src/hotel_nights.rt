@@ -7,7 +7,7 @@ ghost use Rattle.game_text.specs.HotelNights as nights;
 use crate::numbers::bytes_of;
 use std::alloc::AllocError;
 use tac_base::limits::NIGHT_ROOMS;
-use text_forms::{BadLine, Column, TextLines, Reason, Words, at_line, print_row, read_row};
+use text_forms::{BadLine, Column, Reason, TextLines, Words, at_line, print_row, read_row};
 
 /// The rooms of each hotel night, by good 8..15, and whether quotes are live.
 #[derive(Drop)]
@@ -83,7 +83,10 @@ fn quotes_at(lines: TextLines<'_>) -> Result<(bool, TextLines<'_>), BadLine>
 
 /// Reads the hotel nights of a file of this version; version 1 has no lines for them.
 #[tactic(auto, unfolding(crate::specs::HotelNights::nights_in))]
-pub(crate) fn nights_in(version: u8, lines: TextLines<'_>) -> Result<(HotelNights, TextLines<'_>), BadLine>
+pub(crate) fn nights_in(
+    version: u8,
+    lines: TextLines<'_>,
+) -> Result<(HotelNights, TextLines<'_>), BadLine>
     ensures { result ≡ nights.nights_in version lines.entry }
 {
     if version != 2 {

@@ -10,7 +10,8 @@ use Rattle.line_protocol.specs.declared.asking.Request.{Request}
 use Rattle.line_protocol.specs.declared.asking.Request.TheVariants as requests
 use Rattle.line_protocol.specs.declared.asking.RequestFault.{RequestFault}
 use Rattle.line_protocol.specs.declared.asking.RequestFault.TheVariants as faults
-use Rattle.line_protocol.specs.Requests.{◌>>=◌, read_good, with_points}
+use Rattle.text_forms.specs.Steps.{◌>>=◌}
+use Rattle.line_protocol.specs.Requests.{read_good, with_points}
 
 -- the value that serde_json reads in a line; bytes that are not UTF-8 have none
 abbrev pub value_of : List ℕ → Option Data

@@ -20,7 +20,8 @@ use Rattle.line_protocol.specs.declared.asking.Request.{Request}
 use Rattle.line_protocol.specs.declared.asking.Request.TheVariants as requests
 use Rattle.line_protocol.specs.declared.asking.RequestFault.{RequestFault}
 use Rattle.line_protocol.specs.declared.asking.RequestFault.TheVariants as faults
-use Rattle.line_protocol.specs.Requests.{◌>>=◌, syntax, read_good, plain_of, about_of, with_points, bid_request, request_of_words, request_of}
+use Rattle.text_forms.specs.Steps.{◌>>=◌}
+use Rattle.line_protocol.specs.Requests.{syntax, read_good, plain_of, about_of, with_points, bid_request, request_of_words, request_of}
 use Rattle.line_protocol.specs.RequestForms.{Form, BidForm, WithdrawForm, OwnForm, QuoteForm, CashForm, QuitForm, IsForm, form_text, HasForm, answer_to, form_of, IsRequest, IsRequestText}
 use Rattle.line_protocol.proofs.JoinedWords.{lacks, words_before, has_words, same_or_not}
 

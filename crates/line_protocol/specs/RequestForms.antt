@@ -7,7 +7,8 @@ use Rattle.bid_strings.specs.Spelling.{spelling}
 use Rattle.line_protocol.specs.declared.asking.Request.{Request}
 use Rattle.line_protocol.specs.declared.asking.Request.TheVariants as requests
 use Rattle.line_protocol.specs.declared.asking.RequestFault.{RequestFault}
-use Rattle.line_protocol.specs.Requests.{◌>>=◌, read_good, with_points}
+use Rattle.text_forms.specs.Steps.{◌>>=◌}
+use Rattle.line_protocol.specs.Requests.{read_good, with_points}
 
 -- a line of a form, with its number and the bytes in place of points
 pub data Form : Type 0 where

@@ -5,6 +5,7 @@ use Rattle.std.specs.Str.{bytes_eq}
 use Rattle.tac_base.specs.declared.bids.Point.{Point}
 use Rattle.tac_base.specs.declared.bids.BidFault.{BidFault}
 use Rattle.tac_base.specs.Numerals.{numeral}
+use Rattle.text_forms.specs.Steps.{◌>>=◌}
 use Rattle.text_forms.specs.Words.{words_of}
 use Rattle.bid_strings.specs.BidForm.{points_of, judged}
 use Rattle.line_protocol.specs.declared.asking.Request.{Request}
@@ -15,11 +16,6 @@ use Rattle.line_protocol.specs.declared.asking.RequestFault.TheVariants as fault
 -- a line of no form
 abbrev pub syntax : RequestFault
 syntax = faults.Syntax
-
-infixl 10 ◌>>=◌
-abbrev pub ◌>>=◌ : {A B : Type 0} → Result A RequestFault → (A → Result B RequestFault) → Result B RequestFault
-(Ok x) >>= f = f x
-(Err fault) >>= f = Err fault
 
 -- the good of a numeral
 abbrev pub read_good : Option ℕ → Result ℕ RequestFault

@@ -4,10 +4,10 @@ ghost use Rattle.std.specs.List.{list_any};
 ghost use Rattle.log_audit.specs.Auditing.{IsEndFollowed};
 ghost use Rattle.log_reader.specs.SoundLog.{seatings, logged_seats, HasNoEntry, IsService, IsSoundHead};
 
-use crate::goods::{GOODS, good_of};
+use crate::goods::good_of;
 use line_protocol::{Cause, LogHead, Verdict};
 use log_reader::{Log, LogHistory};
-use tac_base::limits::{LINKS, TICKS};
+use tac_base::limits::{GOODS, LINKS, TICKS};
 use tac_base::{Agent, Entry};
 
 /// How many links were given the seat of an agent.

@@ -7,9 +7,10 @@ ghost use Rattle.log_audit.specs.Flaws.{IsEarned, IsDuePost, HasDuePost, HasPost
 ghost use Rattle.log_audit.specs.Replays.{AreNets};
 ghost use Rattle.log_audit.specs.Auditing.{AreNamed, IsLowest, IsLowestPlace, HasNamedEntry, nets_by};
 
-use crate::goods::{GOODS, good_of};
+use crate::goods::good_of;
 use crate::places::Places;
 use log_reader::{Log, LogHistory};
+use tac_base::limits::GOODS;
 use tac_base::{Caller, Entry, Good, Nets};
 use trade_ledger::{CashCall, CashEntry};
 

@@ -5,12 +5,12 @@ ghost use Rattle.log_reader.specs.SoundLog.{clock_calls_in, logged_history};
 ghost use Rattle.log_audit.specs.Flaws.{IsOnSchedule};
 ghost use Rattle.log_audit.specs.Auditing.{IsFollowed, IsLowestBelow, calls_for};
 
-use crate::goods::{GOODS, good_of, tick_after};
+use crate::goods::{good_of, tick_after};
 use clock_events::{schedule, schedule_law};
 use game_text::Game;
 use log_reader::{Log, LogHistory};
 use std::alloc::{AllocError, Global};
-use tac_base::limits::TICKS;
+use tac_base::limits::{GOODS, TICKS};
 use tac_base::{Call, Caller, Entry, Good, Memory, Tick, same_call};
 
 /// Adds a call, if it is one of the good. After an error it was not added.

@@ -10,7 +10,7 @@ ghost use Rattle.log_audit.specs.Flaws.{HasDueScore};
 ghost use Rattle.log_audit.specs.Auditing.{IsLowest};
 
 use bound_cert::check;
-use dual_bound::{is_enough, allocation_worth};
+use dual_bound::{allocation_worth, is_enough};
 use game_text::{Account, Game};
 use log_reader::{Log, ScoreLine};
 use score_sheet::{Accounts, short};

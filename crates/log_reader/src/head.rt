@@ -12,22 +12,23 @@ use line_protocol::{Cause, LogHead, Verdict};
 use log_text::{end_of, link_of, missed_of};
 use std::alloc::Global;
 use tac_base::Agent;
-use tac_base::limits::TEXT_BYTES;
+use tac_base::limits::{LOG_LINKS, TEXT_BYTES};
 use text_forms::BadLine;
-
-/// The most links that a log has, and the most missed ticks.
-const LINKS: u32 = 255;
 
 /// The links, in order of arrival.
 #[derive(Drop)]
 struct Links;
 
 impl Part for Links {
+    ghost use Rattle.tac_base.specs.declared.limits.TheConstants.{LOG_LINKS};
+    ghost use Rattle.log_text.specs.HeadForms as forms;
+    ghost use Rattle.log_text.specs.LogReading as reading;
+
     type Value = Verdict;
 
     ghost gives = { λ _ place left. reading.line_by (forms.read_link place) left };
 
-    ghost most = { λ _. 255 };
+    ghost most = { λ _. LOG_LINKS };
 
     fn read<'a>(
         &self,
@@ -95,7 +96,7 @@ fn missed_at(lines: LogLines<'_>) -> Result<(u8, LogLines<'_>), BadLine>
 fn served_in(alloc: Global, lines: LogLines<'_>) -> Result<(LogHead, LogLines<'_>), LogFault>
     ensures { IsLogReading (λ x. (head_of x.0, x.1)) result (or_log_fault (reading.served_in lines.entry)) }
 {
-    let (verdicts, left) = read_while(alloc, &Links, b"link", LINKS, lines)?;
+    let (verdicts, left) = read_while(alloc, &Links, b"link", LOG_LINKS, lines)?;
     let (ends, left) = read_while(alloc, &Ends, b"end", TEXT_BYTES, left)?;
     let (missed, left) = missed_at(left)?;
     Ok((

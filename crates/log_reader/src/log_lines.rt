@@ -8,7 +8,7 @@ ghost use Rattle.log_text.specs.LogReading as reading;
 ghost use Rattle.log_reader.specs.Numbers.{last_number, nothing_begins};
 
 use std::marker::Model;
-use text_forms::{BadLine, TextLines, NumberedLine, Reason, Words};
+use text_forms::{BadLine, NumberedLine, Reason, TextLines, Words};
 
 /// The lines that are left of a log's text, whose numbers are no greater than 67,108,865.
 #[derive(Debug, Drop)]

@@ -3,7 +3,7 @@ ghost use Rattle.std.specs.Prelude.{◌<◌};
 ghost use Rattle.relaxation.specs.declared.columns.TheConstants.{ROWS};
 
 use crate::charges::charges;
-use crate::columns::{ClientPackage, Column, Entering, GOODS, GoodRow, ROWS};
+use crate::columns::{ClientPackage, Column, Entering, GOOD_ROWS, GoodRow, ROWS};
 use crate::rounding::best_margin;
 use crate::tableau::{AMOUNT, Row, TOLERANCE, Tableau, WIDTH};
 use crate::worth_table::WorthTable;
@@ -121,12 +121,17 @@ impl Tableau {
 
     /// The ratio test of the dual simplex: the nonbasic column whose reduced cost comes to 0 first as the prices move, if one does before they
     /// have moved so far.
-    fn dual_entering(&self, worths: &WorthTable, direction: &Direction, most: f64) -> Option<Entering> {
+    fn dual_entering(
+        &self,
+        worths: &WorthTable,
+        direction: &Direction,
+        most: f64,
+    ) -> Option<Entering> {
         let (mut found, far) = entering_slack(&self.prices, direction, most);
         let charges = charges_after(direction, far);
         let mut least = far;
         for client in 0..8 {
-            let gained = self.prices[GOODS + client] - far * direction.row[GOODS + client];
+            let gained = self.prices[GOOD_ROWS + client] - far * direction.row[GOOD_ROWS + client];
             if best_margin(worths.row(client), &charges) > gained + TOLERANCE {
                 let (entering, far) = self.entering_share(worths, direction, client, least);
                 if far < least {
@@ -149,8 +154,8 @@ impl Tableau {
         requires { client < 8 }
     {
         let worths = worths.row(client);
-        let gained = self.prices[GOODS + client];
-        let taken = direction.row[GOODS + client];
+        let gained = self.prices[GOOD_ROWS + client];
+        let taken = direction.row[GOOD_ROWS + client];
         let mut first = 0;
         let mut reduced_cost = 0.0;
         let mut least = most;
@@ -189,7 +194,7 @@ fn charges_after(direction: &Direction, far: f64) -> [f64; 393] {
 fn entering_slack(prices: &Row, direction: &Direction, most: f64) -> (Option<Entering>, f64) {
     let mut found = None;
     let mut least = most;
-    for good in 0..GOODS {
+    for good in 0..GOOD_ROWS {
         let entry = direction.row[good];
         if entry > TOLERANCE && prices[good] < least * entry {
             least = prices[good] / entry;

@@ -24,7 +24,8 @@ use Rattle.bid_strings.specs.Spelling.{left_word, right_word, point_words, spell
 use Rattle.bid_strings.proofs.Laws.{points_lack, lawful_points}
 use Rattle.log_text.proofs.Cuts.{lacks_append}
 use Rattle.line_protocol.specs.declared.asking.RequestFault.{RequestFault}
-use Rattle.line_protocol.specs.Requests.{◌>>=◌, read_good, with_points, request_of_words, request_of}
+use Rattle.text_forms.specs.Steps.{◌>>=◌}
+use Rattle.line_protocol.specs.Requests.{read_good, with_points, request_of_words, request_of}
 use Rattle.draw_maker.specs.Scripts.{bid_line}
 use Rattle.draw_maker.specs.BidScripts.{is_tick, IsBidLine, IsBidScript}
 use Rattle.script_run.specs.declared.fault.ScriptReason.{ScriptReason}

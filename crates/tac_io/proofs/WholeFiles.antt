@@ -1,4 +1,4 @@
--- A told file, read piece by piece.
+-- A known file, read piece by piece.
 use Rattle.std.proofs.Common.{◌≡◌, ℕ, ◌+◌, List, ◌++◌, take, drop, ap, sym, ◌∙◌}
 use Rattle.std.proofs.Math.Seq.{take-add}
 use Rattle.std.specs.Prelude.{None, Some, IfSome, IsSome}
@@ -6,7 +6,7 @@ use Rattle.std.specs.declared.option.Option.{Option}
 use Rattle.tac_io.specs.Known.{then_known}
 use Rattle.tac_io.proofs.KnownPieces.{then_known-twice}
 
--- what is told of the file of that name is these bytes, and then what is left
+-- what is known of the file of that name is these bytes, and then what is left
 abbrev pub IsReading : Option (List ℕ → Option (List ℕ)) → List ℕ → List ℕ → Option (List ℕ) → Type 0
 IsReading content name done left = IfSome content (λ files. IsSome (files name) × (files name ≡ then_known done left))
 

@@ -1,17 +1,17 @@
--- What an object of the outside tells of its content. One that does not tell it has None here, before and after each call.
+-- What is known of the content of an object of the outside: None, before and after each call, if it does not show it.
 use Rattle.std.specs.Prelude.{◌≡◌, ℕ, ◌<◌, ◌≤◌, List, [], ◌++◌, length, take, IfSome, Result, MatchResult}
 use Rattle.std.specs.Option.{option_map}
 use Rattle.std.specs.declared.option.Option.{Option}
 
--- what is told, with more at its end
+-- what is known, with more at its end
 abbrev pub known_then : {A : Type 0} → Option (List A) → List A → Option (List A)
 known_then known more = option_map (λ xs. xs ++ more) known
 
--- what is told, with more at its front
+-- what is known, with more at its front
 abbrev pub then_known : {A : Type 0} → List A → Option (List A) → Option (List A)
 then_known more known = option_map (λ xs. more ++ xs) known
 
--- nothing is left, as far as it is told
+-- nothing is left, as far as it is known
 abbrev pub IsAtEnd : {A : Type 0} → Option (List A) → Type 0
 IsAtEnd known = IfSome known (λ xs. xs ≡ [])
 

@@ -33,7 +33,7 @@ link_reads s = s.reads
 abbrev pub link_writes : MemLink → Calls
 link_writes s = s.writes
 
--- what it tells
+-- what is known of it
 abbrev pub link_state : MemLink → LinkState
 link_state s = record {
   taken = Some (link_taken s);

@@ -10,7 +10,7 @@ use crate::Failed;
 /// Files that are selected by name and then read from their beginning.
 pub trait Files {
     /// The bytes of the file of each name, and the names that `select` was called with, where they
-    /// are told; whether a file is selected, and what is left to read of it, where it is told; and
+    /// are known; whether a file is selected, and what is left to read of it, where it is known; and
     /// the count of faults, which never falls and stays at its last value.
     ghost state: { Self → FilesState };
 

@@ -3,8 +3,8 @@
 //!
 //! Each object counts its faults, in a u64 that never falls and stays at its last value. A call
 //! fails only where that count rose or was at its last value, and a call that does not fail leaves
-//! it as it was. What an object holds, has left, took or sent is told by the forms in memory, and
-//! not by those of the operating system.
+//! it as it was. What an object holds, has left, took or sent is known of the forms in memory, and
+//! not of those of the operating system.
 #![tactic(auto)]
 
 mod buffer;
@@ -26,7 +26,10 @@ pub use line_got::LineGot;
 pub use lines::Lines;
 pub use link::Link;
 pub use links::Links;
-pub use memory::{MOST_TURNS, HeldLink, Hold, LinesSent, Look, LookingTicker, MemDue, MemFile, MemFiles, MemLapse, MemLink, MemLinks, MemSink, MemTicker, was_sent};
+pub use memory::{
+    HeldLink, Hold, LinesSent, Look, LookingTicker, MOST_TURNS, MemDue, MemFile, MemFiles,
+    MemLapse, MemLink, MemLinks, MemSink, MemTicker, was_sent,
+};
 pub use reading::{FileFault, read_file};
 pub use sink::Sink;
 pub use ticker::Ticker;

@@ -10,7 +10,7 @@ use crate::Failed;
 /// A connection to an agent, with a count of faults for its reads and one for its writes.
 pub trait Link {
     /// The bytes that were read from it, those that it still has to give and those that it was
-    /// sent, where they are told; and the counts of faults of reads and of writes, which never fall
+    /// sent, where they are known; and the counts of faults of reads and of writes, which never fall
     /// and stay at their last value.
     ghost state: { Self → LinkState };
 

@@ -12,7 +12,7 @@ pub trait Links {
     type Link: Link + Send + Drop;
 
     /// Whether it listens; the ports that `listen` was called with, and the links that it still has
-    /// to give, where they are told; and the count of faults, which never falls and stays at its
+    /// to give, where they are known; and the count of faults, which never falls and stays at its
     /// last value.
     ghost state: { Self → LinksState Self.Link };
 

@@ -8,7 +8,7 @@ use crate::Failed;
 
 /// What bytes are written to.
 pub trait Sink {
-    /// The bytes that it took, where they are told, and the count of faults, which never falls and
+    /// The bytes that it took, where they are known, and the count of faults, which never falls and
     /// stays at its last value.
     ghost state: { Self → SinkState };
 

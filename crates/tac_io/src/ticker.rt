@@ -26,7 +26,7 @@ pub trait Ticker {
     ghost lapse_tick: { Self.Lapse → ℕ };
 
     /// The pace, if one was set, and the ticks that were waited for, each with whether it lapsed,
-    /// where they are told; and the count of faults, which never falls and stays at its last value.
+    /// where they are known; and the count of faults, which never falls and stays at its last value.
     ghost state: { Self → TickerState };
 
     /// Sets the pace, in milliseconds from a tick to the next.

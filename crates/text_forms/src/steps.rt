@@ -14,7 +14,11 @@ pub trait Part {
     ghost gives: { Self → ℕ → Remaining → Result (Self.Value × Remaining) BadLine };
 
     /// Reads the part of this number, and gives the lines after it.
-    fn read<'a>(&self, number: u8, lines: TextLines<'a>) -> Result<(Self::Value, TextLines<'a>), BadLine>
+    fn read<'a>(
+        &self,
+        number: u8,
+        lines: TextLines<'a>,
+    ) -> Result<(Self::Value, TextLines<'a>), BadLine>
         ensures { result ≡ gives self.now number lines.entry };
 }
 

@@ -1,5 +1,5 @@
 use std::test::Fail;
-use text_forms::{BadLine, Column, Digits, TextLines, Reason, at_line, print_row, read_row};
+use text_forms::{BadLine, Column, Digits, Reason, TextLines, at_line, print_row, read_row};
 
 #[test]
 fn lines_are_given_with_their_numbers(rt: HostRuntime) -> Result<(), Fail> {

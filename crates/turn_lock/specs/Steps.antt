@@ -1,4 +1,4 @@
--- What each step on the table of a lock tells the seat that makes it.
+-- What the seat that makes a step on the table of a lock knows by it.
 use Rattle.std.specs.Prelude.{◌≡◌, ◌≢◌, ℕ, ◌+◌, ◌%◌, ◌≤◌, List, [], ◌∷◌, ◌++◌, length, Option, Some, None}
 use Rattle.atomic_table.specs.Table.{Me, Step}
 use Rattle.tac_base.specs.declared.calls.Board.{Board}

@@ -1,4 +1,4 @@
-//! The steps on the table of a lock, and what each tells the seat that makes it.
+//! The steps on the table of a lock, and what the seat that makes it knows by it.
 ghost use Rattle.turn_lock.specs.TurnRule.{spent};
 ghost use Rattle.turn_lock.specs.Steps.{drew, looked, PublishesBoard, peeked, with_pass, next_pass, with_returned};
 

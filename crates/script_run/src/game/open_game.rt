@@ -17,13 +17,10 @@ use auction_core::{Auction, Closed, Struck};
 use game_text::Game;
 use std::alloc::Global;
 use std::marker::Model;
-use tac_base::limits::TICKS;
+use tac_base::limits::{GOODS, TICKS};
 use tac_base::{Agent, Board, Call, Caller, Good, Memory, Reply, Tick};
 use trade_ledger::{CashBook, CashCall};
 use turn_lock::Kept;
-
-/// The goods of a game.
-const GOODS: u8 = 28;
 
 /// A game with its 28 auctions, its cash book, and how many ticks were made.
 #[derive(Drop)]

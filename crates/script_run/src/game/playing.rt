@@ -7,8 +7,8 @@ ghost use Rattle.script_run.specs.PlayedGames.{PlaysToEnd, WritesPlayed, first_t
 ghost use Rattle.script_run.specs.QuietRuns.{PlaysQuietly, IsQuietFault, quiet_of};
 
 use crate::fault::{QuietFault, ScriptFault, ScriptReason};
-use crate::game::run::GameRun;
 use crate::game::play_count::{PlayCount, counted};
+use crate::game::run::GameRun;
 use auction_core::Closed;
 use game_log::{LogHead, LogWriteFault, log_ranges, score_game, write_play_part, write_scores};
 use game_text::Game;

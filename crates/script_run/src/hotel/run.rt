@@ -11,8 +11,8 @@ ghost use Rattle.game_log.specs.LogText as log;
 ghost use Rattle.tac_base.specs.declared.limits.TheConstants.{AUCTION_ENTRIES};
 
 use crate::ScriptFault;
-use crate::hotel::lines::HotelLine;
 use crate::hotel::line_counts::LineCounts;
+use crate::hotel::lines::HotelLine;
 use crate::replies::reply_line;
 use auction_core::Auction;
 use game_log::trade_line;

@@ -8,13 +8,13 @@ use tac_base::Tick;
 
 /// What a ticker looks at.
 pub trait Look {
-    /// Looks, as long as it has to, whether a tick that is waited for is due. It is told the pace in
+    /// Looks, as long as it has to, whether a tick that is waited for is due. It is given the pace in
     /// milliseconds, if one was set.
     fn is_due(&mut self, pace: Option<u16>, tick: Tick) -> bool;
 }
 
-/// A ticker in memory. At each wait it looks, and lapses where the tick is not due. It tells its
-/// pace, and not the ticks that were waited for.
+/// A ticker in memory. At each wait it looks, and lapses where the tick is not due. Its pace is
+/// known, and not the ticks that were waited for.
 #[derive(Drop)]
 pub struct LookingTicker<L> {
     look: L,

@@ -5,6 +5,6 @@ use Rattle.score_sheet.proofs.gains.gain_of_game.Given as goal
 
 abbrev pub invariant-loop-auction : goal.invariant-loop-auction
 invariant-loop-auction l = record {
-  value : l.sum ≡ cash_gained (take l.auction-index l.auction-items) l.party;
+  value : l.sum ≡ cash_gained (take l.auction-index l.auctions) l.party;
   small : IsWithin (35182228824000 * l.auction-index) l.sum;
 }

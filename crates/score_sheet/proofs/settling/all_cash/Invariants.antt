@@ -8,6 +8,6 @@ use Rattle.score_sheet.proofs.settling.all_cash.Given as goal
 abbrev pub invariant-loop-number : goal.invariant-loop-number
 invariant-loop-number l = record {
   count : length l.cash ≡ 8;
-  filled : take l.number l.cash ≡ map (cash_gained l.closed.auctions) (take l.number agents);
+  filled : take l.number l.cash ≡ map (cash_gained l.auctions) (take l.number agents);
   range : All (IsWithin 1000000000000000) (take l.number l.cash);
 }
