@@ -8,22 +8,22 @@ use Rattle.std.proofs.lemmas.Grind.{flat_map-append}
 use Rattle.auction_rules.specs.History.{Entry}
 use Rattle.floor.specs.declared.desk.Desk.{Desk}
 use Rattle.floor.specs.Answers.{IsSameDesk}
-use Rattle.floor.specs.Desks.{desk_caller, entries_of, entries_at, cash_of, boards_at, seen_at}
+use Rattle.floor.specs.Desks.{desk_caller, desk_entries, entries_at, desk_cash, boards_at, seen_at}
 use Rattle.floor.specs.Keeping.{count_readings}
-use Rattle.agent_gate.specs.Turns.{Turn, Called, CallDenied, CashRead, CashDenied, Quoted, Refused, Skipped, Left, made_at, made_by, cash_by, cash_made, boards_shown, shown_by, is_reading, GoesOn, IsLawful}
-use Rattle.agent_gate.specs.Answering.{IsDue, IsMade}
+use Rattle.agent_gate.specs.Turns.{Turn, Called, CallDenied, CashRead, CashDenied, Quoted, Refused, Skipped, Left, made_at, entry_made, cash_by, cash_made, boards_shown, shown_by, is_reading, IsNotBehind, IsLawfulTurn}
+use Rattle.agent_gate.specs.Answering.{IsDueTurn, IsMade}
 use Rattle.agent_gate.specs.Sessions.{AreMadeBy}
 use Rattle.agent_gate.proofs.LawfulTurns.{goes_on_more, goes_on_with, readings_made}
 
 -- the desk has what the turns left besides what it had, and has seen as much as they were answered
 pub record HasMade (turns : List Turn) (before after : Desk) : Type 0 where
   pub entries : (good : ℕ) → good < 28 → entries_at after good ≡ made_at good turns
-  pub cash : cash_of after ≡ cash_made (desk_caller before) turns
+  pub cash : desk_cash after ≡ cash_made (desk_caller before) turns
   pub boards : (good : ℕ) → good < 28 → boards_at after good ≡ boards_at before good ++ boards_shown good turns
-  pub seen : (good : ℕ) → good < 28 → GoesOn good (seen_at after good) turns
+  pub seen : (good : ℕ) → good < 28 → IsNotBehind good (seen_at after good) turns
   pub same : IsSameDesk before after
 
-pub made_none : (d : Desk) → entries_of d ≡ replicate 28 [] → cash_of d ≡ [] → HasMade [] d d
+pub made_none : (d : Desk) → desk_entries d ≡ replicate 28 [] → desk_cash d ≡ [] → HasMade [] d d
 made_none d entries cash = record {
   entries = λ good lt. ap (λ rows. get_or rows good []) entries ∙ get_or-replicate {A = List (ℕ × Entry)} 28 good [] [] lt;
   cash = cash;
@@ -34,13 +34,13 @@ made_none d entries cash = record {
 
 module _ (turns : List Turn) (turn : Turn) where
   -- a turn that was due to the desk is lawful after those that the desk has
-  pub due_lawful : (before mid : Desk) → HasMade turns before mid → IsDue mid turn → IsLawful turns turn
+  pub due_lawful : (before mid : Desk) → HasMade turns before mid → IsDueTurn mid turn → IsLawfulTurn turns turn
   due_lawful before mid has due = by_turn turn due
     where
-      readings : count_readings (cash_of mid) ≡ count_by is_reading turns
+      readings : count_readings (desk_cash mid) ≡ count_by is_reading turns
       readings = ap count_readings has.cash ∙ readings_made (desk_caller before) turns
 
-      by_turn : (t : Turn) → IsDue mid t → IsLawful turns t
+      by_turn : (t : Turn) → IsDueTurn mid t → IsLawfulTurn turns t
       by_turn (Called request good position entry posted) d =
           let here = has.entries good d.1 in
           (d.0, d.1, subst (λ (l : List (ℕ × Entry)). length l < 1024) here d.2, goes_on_more good (seen_at mid good) position turns (has.seen good d.1) d.3)
@@ -54,7 +54,7 @@ module _ (turns : List Turn) (turn : Turn) where
 
   pub made_more : (before mid after : Desk) → HasMade turns before mid → IsMade turn mid after → IsSameDesk mid after → HasMade (turns ++ turn ∷ []) before after
   made_more before mid after has made same = record {
-    entries = λ good lt. made.entries good lt ∙ ap (λ l. l ++ made_at good (turn ∷ [])) (has.entries good lt) ∙ sym (filter_map-append (made_by good) turns (turn ∷ []));
+    entries = λ good lt. made.entries good lt ∙ ap (λ l. l ++ made_at good (turn ∷ [])) (has.entries good lt) ∙ sym (filter_map-append (entry_made good) turns (turn ∷ []));
     cash = made.cash ∙ ap (λ l. l ++ cash_by (desk_caller mid) turn) has.cash ∙ ap (λ a. cash_made (desk_caller before) turns ++ cash_by a turn) has.same.1
         ∙ ap (λ l. cash_made (desk_caller before) turns ++ l) (sym (append-nil (cash_by (desk_caller before) turn))) ∙ sym (flat_map-append (cash_by (desk_caller before)) turns (turn ∷ []));
     boards = λ good lt. made.boards good lt ∙ ap (λ l. l ++ boards_shown good (turn ∷ [])) (has.boards good lt) ∙ append_assoc (boards_at before good) (boards_shown good turns) (boards_shown good (turn ∷ []))
@@ -66,7 +66,7 @@ module _ (turns : List Turn) (turn : Turn) where
 -- so its entries and its boards are those of the turns
 pub all_made : (turns : List Turn) (before after : Desk) → HasMade turns before after → AreMadeBy turns before after
 all_made turns before after has = record {
-  entries = fill_by_all (λ good. made_at good turns) (entries_of after) 28 [] after.kept.goods has.entries;
+  entries = fill_by_all (λ good. made_at good turns) (desk_entries after) 28 [] after.kept.goods has.entries;
   cash = has.cash;
   boards = has.boards;
   same = has.same;

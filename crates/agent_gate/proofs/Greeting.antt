@@ -8,12 +8,12 @@ use Rattle.text_forms.specs.Lines.{text_of}
 use Rattle.tac_io.specs.Counts.{Rose}
 use Rattle.tac_io.specs.LinkCalls.{OnlySends, ReadsNothing}
 use Rattle.tac_io.specs.States.{LinkState}
-use Rattle.tac_io.specs.Told.{and_then_told, TakesSome}
-use Rattle.tac_io.proofs.Tellings.{and_then_told-twice, read_nothing_twice}
+use Rattle.tac_io.specs.Known.{known_then, TakesSome}
+use Rattle.tac_io.proofs.KnownPieces.{known_then-twice, read_nothing_twice}
 use Rattle.agent_gate.specs.Welcome.{MovesOn}
 
 -- what was sent of a part, after all that stands before it, was sent of the whole
-takes_within : (told₀ told₁ told₂ : Option (List ℕ)) (done part after whole : List ℕ) → told₁ ≡ and_then_told told₀ done → whole ≡ (done ++ part) ++ after → TakesSome told₁ told₂ part → TakesSome told₀ told₂ whole
+takes_within : (told₀ told₁ told₂ : Option (List ℕ)) (done part after whole : List ℕ) → told₁ ≡ known_then told₀ done → whole ≡ (done ++ part) ++ after → TakesSome told₁ told₂ part → TakesSome told₀ told₂ whole
 takes_within told₀ told₁ told₂ done part after whole before is some =
     let size : length whole ≡ length done + length part + length after = ap length is ∙ length-append (done ++ part) after ∙ ap (λ n. n + length after) (length-append done part) in
     let front : take (length done + some.count) whole ≡ done ++ take some.count part =
@@ -23,14 +23,14 @@ takes_within told₀ told₁ told₂ done part after whole before is some =
     record {
       count = length done + some.count;
       proper = omega (arith, some.proper, size);
-      taken = some.taken ∙ ap (λ t. and_then_told t (take some.count part)) before ∙ and_then_told-twice told₀ done (take some.count part) ∙ ap (and_then_told told₀) (sym front);
+      taken = some.taken ∙ ap (λ t. known_then t (take some.count part)) before ∙ known_then-twice told₀ done (take some.count part) ∙ ap (known_then told₀) (sym front);
     }
 
 module _ (first : List ℕ) (lines : List (List ℕ)) where
   -- a text has what was not sent yet of the first line and n more
   pub record IsGreeting (n : ℕ) (text : List ℕ) (link link' : LinkState) : Type 0 where
     pub done : List ℕ
-    pub told : link'.sent ≡ and_then_told link.sent done
+    pub known : link'.sent ≡ known_then link.sent done
     pub so_far : done ++ text ≡ (first ++ 10 ∷ []) ++ text_of (take n lines)
 
   one_more : (n : ℕ) → n < length lines → text_of (take (n + 1) lines) ≡ text_of (take n lines) ++ (get_or lines n [] ++ 10 ∷ [])
@@ -43,7 +43,7 @@ module _ (first : List ℕ) (lines : List (List ℕ)) where
       → text₃ ≡ text₂ ++ get_or lines n [] → text₄ ≡ text₃ ++ 10 ∷ [] → n < length lines → IsGreeting (n + 1) text₄ link link₂
   greeting_more n text text₂ text₃ text₄ link link' link₂ going moves line end lt = let row = get_or lines n [] in record {
     done = going.done ++ moves.first;
-    told = moves.told ∙ ap (λ t. and_then_told t moves.first) going.told ∙ and_then_told-twice link.sent going.done moves.first;
+    known = moves.known ∙ ap (λ t. known_then t moves.first) going.known ∙ known_then-twice link.sent going.done moves.first;
     so_far =
         ap (λ l. (going.done ++ moves.first) ++ l) (end ∙ ap (λ l. l ++ 10 ∷ []) line ∙ append_assoc text₂ row (10 ∷ []))
         ∙ sym (append_assoc (going.done ++ moves.first) text₂ (row ++ 10 ∷ []))
@@ -61,12 +61,12 @@ module _ (first : List ℕ) (lines : List (List ℕ)) where
       ∙ ap (λ l. l ++ text_of (drop n lines)) (sym going.so_far)
 
   greeting_cut_off : (n : ℕ) (text : List ℕ) (link link' link₂ : LinkState) → IsGreeting n text link link' → TakesSome link'.sent link₂.sent text → TakesSome link.sent link₂.sent (text_of (first ∷ lines))
-  greeting_cut_off n text link link' link₂ going some = takes_within link.sent link'.sent link₂.sent going.done text (text_of (drop n lines)) (text_of (first ∷ lines)) going.told (rest_of n text link link' going) some
+  greeting_cut_off n text link link' link₂ going some = takes_within link.sent link'.sent link₂.sent going.done text (text_of (drop n lines)) (text_of (first ∷ lines)) going.known (rest_of n text link link' going) some
 
-  greeting_whole : (n : ℕ) (text : List ℕ) (link link' link₂ : LinkState) → IsGreeting n text link link' → n ≡ length lines → link₂.sent ≡ and_then_told link'.sent text → link₂.sent ≡ and_then_told link.sent (text_of (first ∷ lines))
+  greeting_whole : (n : ℕ) (text : List ℕ) (link link' link₂ : LinkState) → IsGreeting n text link link' → n ≡ length lines → link₂.sent ≡ known_then link'.sent text → link₂.sent ≡ known_then link.sent (text_of (first ∷ lines))
   greeting_whole n text link link' link₂ going all is =
-      is ∙ ap (λ t. and_then_told t text) going.told ∙ and_then_told-twice link.sent going.done text
-      ∙ ap (and_then_told link.sent) (going.so_far ∙ ap (λ l. (first ++ 10 ∷ []) ++ text_of l) (ap (λ m. take m lines) all ∙ take-length lines))
+      is ∙ ap (λ t. known_then t text) going.known ∙ known_then-twice link.sent going.done text
+      ∙ ap (known_then link.sent) (going.so_far ∙ ap (λ l. (first ++ 10 ∷ []) ++ text_of l) (ap (λ m. take m lines) all ∙ take-length lines))
 
   -- an earlier piece was not sent whole
   pub greeting_stopped : (T : Type 0) {E : Type 0} (n : ℕ) (text : List ℕ) (link link' link₂ : LinkState) (e : E) → IsGreeting n text link link' → link'.writes ≡ link.writes → ReadsNothing link link'

@@ -11,7 +11,7 @@ use Rattle.tac_base.specs.declared.calls.Trade.{Trade}
 use Rattle.trade_ledger.specs.declared.cash_calls.CashEntry.{CashEntry}
 use Rattle.trade_ledger.specs.Posts.{post_for, is_post}
 use Rattle.floor.specs.Keeping.{count_readings}
-use Rattle.agent_gate.specs.Turns.{Turn, Called, CallDenied, CashRead, CashDenied, Quoted, Refused, Skipped, Left, cash_by, cash_made, is_reading, is_leaving, has_left, told_length, GoesOn, IsLawful, AreLawful}
+use Rattle.agent_gate.specs.Turns.{Turn, Called, CallDenied, CashRead, CashDenied, Quoted, Refused, Skipped, Left, cash_by, cash_made, is_reading, is_leaving, has_left, shown_length, IsNotBehind, IsLawfulTurn, AreLawful}
 
 module _ {A : Type 0} where
   -- the element at a place of a list with one more is one of the list at that place, or the last
@@ -32,14 +32,14 @@ module _ {A B C : Type 0} where
 pub none_lawful : AreLawful []
 none_lawful n turn at = absurd (cc)
 
-pub lawful_more : (turns : List Turn) (turn : Turn) → AreLawful turns → IsLawful turns turn → has_left turns ≡ false → AreLawful (turns ++ turn ∷ [])
+pub lawful_more : (turns : List Turn) (turn : Turn) → AreLawful turns → IsLawfulTurn turns turn → has_left turns ≡ false → AreLawful (turns ++ turn ∷ [])
 lawful_more turns turn all last here n t at = elim (slice_get_more turns turn t n at) [
   | inl past ↦
       let before : take n turns ≡ take n (turns ++ turn ∷ []) = sym (take-append-le n turns (turn ∷ []) (omega (arith, past.1))) in
-      subst (λ (l : List Turn). IsLawful l t × (has_left l ≡ false)) before (all n t past.0)
+      subst (λ (l : List Turn). IsLawfulTurn l t × (has_left l ≡ false)) before (all n t past.0)
   | inr new ↦
       let before : turns ≡ take n (turns ++ turn ∷ []) = sym (ap (λ (k : ℕ). take k (turns ++ turn ∷ [])) new.1 ∙ take-append_seam turns (turn ∷ [])) in
-      subst (λ (l : List Turn). IsLawful l t × (has_left l ≡ false)) before (subst (IsLawful turns) new.0 last, here)
+      subst (λ (l : List Turn). IsLawfulTurn l t × (has_left l ≡ false)) before (subst (IsLawfulTurn turns) new.0 last, here)
 ]
 
 pub has_left-more : (turns : List Turn) (turn : Turn) (left : Bool) → has_left turns ≡ false → is_leaving turn ≡ left → has_left (turns ++ turn ∷ []) ≡ left
@@ -50,14 +50,14 @@ has_left-more turns turn left here is =
     last true = refl
     last false = refl
 
-pub goes_on_more : (good count count' : ℕ) (turns : List Turn) → GoesOn good count turns → count ≤ count' → GoesOn good count' turns
+pub goes_on_more : (good count count' : ℕ) (turns : List Turn) → IsNotBehind good count turns → count ≤ count' → IsNotBehind good count' turns
 goes_on_more good count count' turns all le k d lt = let h = all k d lt in omega (arith, h)
 
 -- the turns whose answers show no more than a count
-pub goes_on_with : (good count : ℕ) (turns : List Turn) (turn : Turn) → GoesOn good count turns → told_length good turn ≤ count → GoesOn good count (turns ++ turn ∷ [])
-goes_on_with good count turns turn all last = All-append (λ t. told_length good t ≤ count) turns (turn ∷ []) all one
+pub goes_on_with : (good count : ℕ) (turns : List Turn) (turn : Turn) → IsNotBehind good count turns → shown_length good turn ≤ count → IsNotBehind good count (turns ++ turn ∷ [])
+goes_on_with good count turns turn all last = All-append (λ t. shown_length good t ≤ count) turns (turn ∷ []) all one
   where
-    one : All (λ t. told_length good t ≤ count) (turn ∷ [])
+    one : All (λ t. shown_length good t ≤ count) (turn ∷ [])
     one zero d lt = last
     one (suc k) d lt = absurd (omega arith)
 

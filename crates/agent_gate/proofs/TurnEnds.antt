@@ -5,7 +5,7 @@ use Rattle.tac_io.specs.HeldBytes.{Held}
 use Rattle.tac_io.specs.LineAnswers.{Answers, IsNext}
 use Rattle.tac_io.specs.LinkCalls.{ReadsNothing}
 use Rattle.tac_io.specs.States.{LinkState}
-use Rattle.tac_io.specs.Told.{and_then_told, before_told, IsAtEnd, TakesSome}
+use Rattle.tac_io.specs.Known.{known_then, then_known, IsAtEnd, TakesSome}
 use Rattle.tac_io.specs.declared.line_got.LineGot.{LineGot}
 use Rattle.tac_io.specs.declared.line_got.LineGot.TheVariants as gots
 use Rattle.line_protocol.specs.declared.asking.Request.{Request}
@@ -15,10 +15,10 @@ use Rattle.line_protocol.specs.declared.saying.Said.TheVariants.{Bye}
 use Rattle.line_protocol.specs.declared.admission.Cause.{Cause}
 use Rattle.line_protocol.specs.declared.admission.Cause.TheVariants as causes
 use Rattle.floor.specs.declared.desk.Desk.{Desk}
-use Rattle.agent_gate.specs.Turning.{cause_of, TakesNext, Says, IsTurned, HasTurn}
+use Rattle.agent_gate.specs.Turning.{cause_without_line, TakesNext, Says, IsTurned, HasTurn}
 
 -- the next of the lines' answers never says that the agent left, or that a write failed
-ends_alone : (got : LineGot) (cause : Cause) → cause_of got ≡ Some cause → (cause ≢ causes.Quit) × (cause ≢ causes.WriteFault)
+ends_alone : (got : LineGot) (cause : Cause) → cause_without_line got ≡ Some cause → (cause ≢ causes.Quit) × (cause ≢ causes.WriteFault)
 ends_alone gots.Line cause is = absurd (cc)
 ends_alone gots.TooLong cause is = absurd (cc)
 ends_alone gots.End cause is = (λ e. cc, λ e. cc)
@@ -26,7 +26,7 @@ ends_alone gots.Failed cause is = (λ e. cc, λ e. cc)
 ends_alone gots.Budget cause is = (λ e. cc, λ e. cc)
 
 module _ (T : Type 0) (may_answer : List ℕ → Result Request RequestFault → Type 0) (text : Said → List ℕ) (got : LineGot) (line : List ℕ) (before after : Desk) (link link' : LinkState) where
-  no_turn : (cause : Cause) → cause_of got ≡ Some cause → after ≡ before → link'.sent ≡ link.sent → IsTurned {T = T} may_answer text got line before after link link' (Err cause)
+  no_turn : (cause : Cause) → cause_without_line got ≡ Some cause → after ≡ before → link'.sent ≡ link.sent → IsTurned {T = T} may_answer text got line before after link link' (Err cause)
   no_turn causes.Quit is same quiet = absurd ((ends_alone got causes.Quit is).0 refl)
   no_turn causes.End is same quiet = (is, same, quiet)
   no_turn causes.ReadFault is same quiet = (is, same, quiet)
@@ -38,7 +38,7 @@ answers_on : (old new : Held) (link link' link₂ : LinkState) (count count' : �
     → Answers old new link link₂ count count' got
 answers_on old new link link' link₂ count count' got a taken left = record {
   more = a.more;
-  gave = (taken ∙ a.gave.0, a.gave.1 ∙ ap (before_told a.more) (sym left));
+  gave = (taken ∙ a.gave.0, a.gave.1 ∙ ap (then_known a.more) (sym left));
   counted = a.counted;
   next = subst (λ bytes. IsNext got (old.unread ++ a.more) new (IsAtEnd bytes) count') (sym left) a.next;
 }
@@ -66,6 +66,6 @@ module _ {T : Type 0} (may_answer : List ℕ → Result Request RequestFault →
     pub turn_cut_off : TakesSome link'.sent link₂.sent (text said ++ 10 ∷ []) → HasTurn {T = T} may_answer text old new₂ link link₂ count count₂ before after (Err causes.WriteFault)
     turn_cut_off some = turn_said (Err causes.WriteFault) (λ got says. (said, says, subst (λ s. TakesSome s link₂.sent (text said ++ 10 ∷ [])) quiet some))
 
-    pub turn_left : said ≡ Bye → link₂.sent ≡ and_then_told link'.sent (text said ++ 10 ∷ []) → HasTurn {T = T} may_answer text old new₂ link link₂ count count₂ before after (Err causes.Quit)
+    pub turn_left : said ≡ Bye → link₂.sent ≡ known_then link'.sent (text said ++ 10 ∷ []) → HasTurn {T = T} may_answer text old new₂ link link₂ count count₂ before after (Err causes.Quit)
     turn_left is whole = turn_said (Err causes.Quit)
-        (λ got says. (subst (Says may_answer got new.line before after) is says, whole ∙ ap (λ s. and_then_told s (text said ++ 10 ∷ [])) quiet ∙ ap (λ s. and_then_told link.sent (text s ++ 10 ∷ [])) is))
+        (λ got says. (subst (Says may_answer got new.line before after) is says, whole ∙ ap (λ s. known_then s (text said ++ 10 ∷ [])) quiet ∙ ap (λ s. known_then link.sent (text s ++ 10 ∷ [])) is))

@@ -9,11 +9,11 @@ use Rattle.tac_io.specs.HeldBytes.{Held}
 use Rattle.tac_io.specs.LineAnswers.{Answers}
 use Rattle.tac_io.specs.LinkCalls.{GaveBytes}
 use Rattle.tac_io.specs.States.{LinkState}
-use Rattle.tac_io.specs.Told.{and_then_told, IsAtEnd, TakesSome}
+use Rattle.tac_io.specs.Known.{known_then, IsAtEnd, TakesSome}
 use Rattle.tac_io.specs.declared.line_got.LineGot.{LineGot}
 use Rattle.tac_io.specs.declared.line_got.LineGot.TheVariants as gots
 use Rattle.tac_io.proofs.ByBytes.{in_turn}
-use Rattle.tac_io.proofs.Tellings.{and_then_told-twice, gave_twice}
+use Rattle.tac_io.proofs.KnownPieces.{known_then-twice, gave_twice}
 use Rattle.line_protocol.specs.declared.asking.Request.{Request}
 use Rattle.line_protocol.specs.declared.asking.RequestFault.{RequestFault}
 use Rattle.line_protocol.specs.declared.saying.Said.{Said}
@@ -29,7 +29,7 @@ use Rattle.agent_gate.specs.Turns.{Turn, Called, CallDenied, CashRead, CashDenie
 use Rattle.agent_gate.specs.Served.{reply_line, session_text, IsServed, EndsBy}
 use Rattle.agent_gate.specs.Sessions.{IsSession}
 use Rattle.agent_gate.specs.Welcome.{welcome_text}
-use Rattle.agent_gate.specs.Turning.{cause_of, Says, HasTurn, count_whole}
+use Rattle.agent_gate.specs.Turning.{cause_without_line, Says, HasTurn, count_whole}
 use Rattle.agent_gate.proofs.LawfulTurns.{lawful_more, has_left-more, none_lawful, zip_more}
 use Rattle.agent_gate.proofs.DeskTurns.{HasMade, due_lawful, made_more, all_made}
 
@@ -62,7 +62,7 @@ module _ (old new : Held) (link link' : LinkState) (count count' : ℕ) where
   item_first may_answer Overlong gots.Budget a le is = absurd is
 
   -- the link's bytes end without another line
-  pub end_comes : (got : LineGot) (a : Answers old new link link' count count' got) → count' ≤ 2 ^ 26 → cause_of got ≡ Some causes.End
+  pub end_comes : (got : LineGot) (a : Answers old new link link' count count' got) → count' ≤ 2 ^ 26 → cause_without_line got ≡ Some causes.End
       → (answers_left old a.more count ≡ (gots.End, []) ∷ []) × IsAtEnd link'.left
   end_comes gots.End a le is = (
     in_turn old new (leaving a.more) (leaving []) count count' gots.End
@@ -75,7 +75,7 @@ module _ (old new : Held) (link link' : LinkState) (count count' : ℕ) where
   end_comes gots.Budget a le is = absurd (cc)
 
   -- the bytes that came before a failed read end without another line
-  pub fault_comes : (got : LineGot) (a : Answers old new link link' count count' got) → count' ≤ 2 ^ 26 → cause_of got ≡ Some causes.ReadFault → answers_left old a.more count ≡ (gots.End, []) ∷ []
+  pub fault_comes : (got : LineGot) (a : Answers old new link link' count count' got) → count' ≤ 2 ^ 26 → cause_without_line got ≡ Some causes.ReadFault → answers_left old a.more count ≡ (gots.End, []) ∷ []
   fault_comes gots.Failed a le is =
       in_turn old new (leaving a.more) (leaving []) count count' gots.End
       (record { more = a.more; gave = (refl, ap (λ l. Some l) (sym (append-nil a.more))); counted = a.counted; next = (a.next.0, a.next.1, refl) }) le
@@ -85,7 +85,7 @@ module _ (old new : Held) (link link' : LinkState) (count count' : ℕ) where
   fault_comes gots.Budget a le is = absurd (cc)
 
   -- all bytes were taken that a link may give
-  pub budget_comes : (got : LineGot) (a : Answers old new link link' count count' got) → count' ≤ 2 ^ 26 → cause_of got ≡ Some causes.Budget → answers_left old a.more count ≡ (gots.Budget, []) ∷ []
+  pub budget_comes : (got : LineGot) (a : Answers old new link link' count count' got) → count' ≤ 2 ^ 26 → cause_without_line got ≡ Some causes.Budget → answers_left old a.more count ≡ (gots.Budget, []) ∷ []
   budget_comes gots.Budget a le is =
       in_turn old new (leaving a.more) (leaving []) count count' gots.Budget
       (record { more = a.more; gave = (refl, ap (λ l. Some l) (sym (append-nil a.more))); counted = a.counted; next = a.next }) le
@@ -143,7 +143,7 @@ module _ (may_answer : List ℕ → Result Request RequestFault → Type 0) (tex
     pub lawful : AreLawful turns
     pub here : has_left turns ≡ false
     pub made : HasMade turns before after
-    pub sent_is : link'.sent ≡ and_then_told link.sent (session_text text welcome turns)
+    pub sent_is : link'.sent ≡ known_then link.sent (session_text text welcome turns)
 
   -- the same with one more turn, of which nothing is said of what was sent or whether the agent left
   record IsTurnOn (now : Held) (count' : ℕ) (link' : LinkState) (after : Desk) (turns : List Turn) (turn : Turn) : Type 0 where
@@ -175,13 +175,13 @@ module _ (may_answer : List ℕ → Result Request RequestFault → Type 0) (tex
       made = made_more u.turns s.turn before after desk u.made s.made same;
     }
 
-    sent_on : (said : Said) (turn : Turn) → said_of turn ≡ said → link₂.sent ≡ and_then_told link'.sent (text said ++ 10 ∷ []) → link₂.sent ≡ and_then_told link.sent (session_text text welcome (u.turns ++ turn ∷ []))
+    sent_on : (said : Said) (turn : Turn) → said_of turn ≡ said → link₂.sent ≡ known_then link'.sent (text said ++ 10 ∷ []) → link₂.sent ≡ known_then link.sent (session_text text welcome (u.turns ++ turn ∷ []))
     sent_on said turn is whole =
         whole
-        ∙ ap (λ w. and_then_told w (text said ++ 10 ∷ [])) u.sent_is
-        ∙ ap (λ w. and_then_told (and_then_told link.sent (session_text text welcome u.turns)) (text w ++ 10 ∷ [])) (sym is)
-        ∙ and_then_told-twice link.sent (session_text text welcome u.turns) (reply_line text turn)
-        ∙ ap (and_then_told link.sent) (text_more text welcome u.turns turn)
+        ∙ ap (λ w. known_then w (text said ++ 10 ∷ [])) u.sent_is
+        ∙ ap (λ w. known_then (known_then link.sent (session_text text welcome u.turns)) (text w ++ 10 ∷ [])) (sym is)
+        ∙ known_then-twice link.sent (session_text text welcome u.turns) (reply_line text turn)
+        ∙ ap (known_then link.sent) (text_more text welcome u.turns turn)
 
     pub goes_on : {T : Type 0} (value : T) (t : HasTurn may_answer text now new link' link₂ count' count₂ after desk (Ok value)) → IsSameDesk after desk → IsUnderWay new count₂ link₂ desk (answered + 1)
     goes_on value t same = let s = t.turned.1 in let o = on t.got t.turned.0 t.answer t.within s same in record {
@@ -193,9 +193,9 @@ module _ (may_answer : List ℕ → Result Request RequestFault → Type 0) (tex
       items = o.items;
       many = omega (arith, length-append u.turns (s.turn ∷ []), u.many);
       lawful = o.lawful;
-      here = has_left-more u.turns s.turn false u.here (stays s.turn (λ is. t.turned.2 (sym s.told ∙ is)));
+      here = has_left-more u.turns s.turn false u.here (stays s.turn (λ is. t.turned.2 (sym s.said ∙ is)));
       made = o.made;
-      sent_is = sent_on t.turned.0 s.turn s.told t.turned.3;
+      sent_is = sent_on t.turned.0 s.turn s.said t.turned.3;
     }
 
     few_on : (turn : Turn) → answered < 65536 → length (u.turns ++ turn ∷ []) ≤ 65536
@@ -231,7 +231,7 @@ module _ (may_answer : List ℕ → Result Request RequestFault → Type 0) (tex
           end = end;
         }) (subst (HasMade u.turns before) (sym same) u.made)
 
-    still_whole : link₂.sent ≡ link'.sent → (link₂.sent ≡ and_then_told link.sent (session_text text welcome u.turns)) × (answered ≡ length u.turns)
+    still_whole : link₂.sent ≡ link'.sent → (link₂.sent ≡ known_then link.sent (session_text text welcome u.turns)) × (answered ≡ length u.turns)
     still_whole quiet = (quiet ∙ u.sent_is, sym u.many)
 
     few_turns : answered < 65536 → length u.turns < 65536
@@ -241,14 +241,14 @@ module _ (may_answer : List ℕ → Result Request RequestFault → Type 0) (tex
         → HasSession link₂ desk (count_whole answered cause) cause
     ends causes.Quit t same lt = let s = t.turned.0 in
         with_turn t.got Bye t.answer t.within s same lt (answered + 1) causes.Quit
-        (λ rest. (has_left-more u.turns s.turn true u.here (leaves s.turn s.told), (sent_on Bye s.turn s.told t.turned.1, omega (arith, length-append u.turns (s.turn ∷ []), u.many))))
+        (λ rest. (has_left-more u.turns s.turn true u.here (leaves s.turn s.said), (sent_on Bye s.turn s.said t.turned.1, omega (arith, length-append u.turns (s.turn ∷ []), u.many))))
     ends causes.End t same lt = let e = end_comes now new link' link₂ count' count₂ t.got t.answer t.within t.turned.0 in
         without_turn t.got t.answer t.turned.1 lt ((gots.End, []) ∷ []) e.0 causes.End (u.here, few_turns lt, refl, e.1, still_whole t.turned.2)
     ends causes.ReadFault t same lt =
         without_turn t.got t.answer t.turned.1 lt ((gots.End, []) ∷ []) (fault_comes now new link' link₂ count' count₂ t.got t.answer t.within t.turned.0) causes.ReadFault (u.here, few_turns lt, refl, still_whole t.turned.2)
     ends causes.WriteFault t same lt = let s = t.turned.1 in
         with_turn t.got t.turned.0 t.answer t.within s same lt answered causes.WriteFault
-        (λ rest. inr (u.turns, s.turn, refl, subst (λ (w : Option (List ℕ) × Said). TakesSome w.0 link₂.sent (text w.1 ++ 10 ∷ [])) (λ i. (u.sent_is i, sym s.told i)) t.turned.2, sym u.many))
+        (λ rest. inr (u.turns, s.turn, refl, subst (λ (w : Option (List ℕ) × Said). TakesSome w.0 link₂.sent (text w.1 ++ 10 ∷ [])) (λ i. (u.sent_is i, sym s.said i)) t.turned.2, sym u.many))
     ends causes.Budget t same lt =
         without_turn t.got t.answer t.turned.1 lt ((gots.Budget, []) ∷ []) (budget_comes now new link' link₂ count' count₂ t.got t.answer t.within t.turned.0) causes.Budget
         (u.here, inr (few_turns lt, refl), still_whole t.turned.2)
@@ -290,7 +290,7 @@ module _ (may_answer : List ℕ → Result Request RequestFault → Type 0) (tex
     desk = all_made [] before before made;
   }
 
-  pub under_way_at_first : (now : Held) (count' : ℕ) (link' : LinkState) → now ≡ old → count' ≡ count → GaveBytes [] link link' → HasMade [] before before → link'.sent ≡ and_then_told link.sent welcome
+  pub under_way_at_first : (now : Held) (count' : ℕ) (link' : LinkState) → now ≡ old → count' ≡ count → GaveBytes [] link link' → HasMade [] before before → link'.sent ≡ known_then link.sent welcome
       → IsUnderWay now count' link' before 0
   under_way_at_first now count' link' e₁ e₂ gave made whole = record {
     more = [];
@@ -303,7 +303,7 @@ module _ (may_answer : List ℕ → Result Request RequestFault → Type 0) (tex
     lawful = none_lawful;
     here = refl;
     made = made;
-    sent_is = whole ∙ ap (and_then_told link.sent) (sym (append-nil welcome));
+    sent_is = whole ∙ ap (known_then link.sent) (sym (append-nil welcome));
   }
 
   -- the same session, if its values are known by other names

@@ -9,10 +9,10 @@ use Rattle.floor.specs.declared.outcomes.Outcome.{Outcome}
 use Rattle.floor.specs.declared.outcomes.Outcome.TheVariants as outcomes
 use Rattle.floor.specs.declared.outcomes.CashOutcome.{CashOutcome}
 use Rattle.floor.specs.declared.outcomes.CashOutcome.TheVariants as cash_outcomes
-use Rattle.floor.specs.Desks.{desk_caller, entries_at, cash_of, boards_at, seen_at}
+use Rattle.floor.specs.Desks.{desk_caller, entries_at, desk_cash, boards_at, seen_at}
 use Rattle.floor.specs.Keeping.{count_readings}
 use Rattle.agent_gate.specs.Items.{Item}
-use Rattle.agent_gate.specs.Turns.{Turn, Called, CallDenied, CashRead, CashDenied, Quoted, Refused, Skipped, Left, call_of, item_of, said_of, made_at, cash_by, boards_shown, told_length}
+use Rattle.agent_gate.specs.Turns.{Turn, Called, CallDenied, CashRead, CashDenied, Quoted, Refused, Skipped, Left, asked_call, item_of, said_of, made_at, cash_by, boards_shown, shown_length}
 
 -- the statement about a call at a good
 abbrev pub said_of_outcome : Outcome → Said
@@ -25,29 +25,29 @@ said_of_reading (cash_outcomes.At position dollars) = said.Cash position dollars
 said_of_reading cash_outcomes.Spent = said.Spent
 
 -- what a turn may be, by what the desk did and saw before it
-abbrev pub IsDue : Desk → Turn → Type 0
-IsDue before (Called request good position entry posted) =
-    (call_of request ≡ Some (good, entry.call)) × (good < 28) × (length (entries_at before good) < AGENT_CALLS) × (seen_at before good ≤ position)
-IsDue before (CallDenied request good) =
-    ((call : Call) × (call_of request ≡ Some (good, call))) × (good < 28) × (length (entries_at before good) ≡ AGENT_CALLS)
-IsDue before (CashRead position dollars) = count_readings (cash_of before) < CASH_READINGS
-IsDue before CashDenied = count_readings (cash_of before) ≡ CASH_READINGS
-IsDue before (Quoted good board) = (good < 28) × (seen_at before good ≤ board.count)
-IsDue before (Refused fault) = ⊤
-IsDue before Skipped = ⊤
-IsDue before Left = ⊤
+abbrev pub IsDueTurn : Desk → Turn → Type 0
+IsDueTurn before (Called request good position entry posted) =
+    (asked_call request ≡ Some (good, entry.call)) × (good < 28) × (length (entries_at before good) < AGENT_CALLS) × (seen_at before good ≤ position)
+IsDueTurn before (CallDenied request good) =
+    ((call : Call) × (asked_call request ≡ Some (good, call))) × (good < 28) × (length (entries_at before good) ≡ AGENT_CALLS)
+IsDueTurn before (CashRead position dollars) = count_readings (desk_cash before) < CASH_READINGS
+IsDueTurn before CashDenied = count_readings (desk_cash before) ≡ CASH_READINGS
+IsDueTurn before (Quoted good board) = (good < 28) × (seen_at before good ≤ board.count)
+IsDueTurn before (Refused fault) = ⊤
+IsDueTurn before Skipped = ⊤
+IsDueTurn before Left = ⊤
 
 -- a turn was due, and the desk has what the turn left besides what it had, and nothing else
 pub record IsMade (turn : Turn) (before after : Desk) : Type 0 where
-  pub due : IsDue before turn
+  pub due : IsDueTurn before turn
   pub entries : (good : ℕ) → good < 28 → entries_at after good ≡ entries_at before good ++ made_at good (turn ∷ [])
-  pub cash : cash_of after ≡ cash_of before ++ cash_by (desk_caller before) turn
+  pub cash : desk_cash after ≡ desk_cash before ++ cash_by (desk_caller before) turn
   pub boards : (good : ℕ) → good < 28 → boards_at after good ≡ boards_at before good ++ boards_shown good (turn ∷ [])
-  pub seen : (good : ℕ) → good < 28 → (seen_at before good ≤ seen_at after good) × (told_length good turn ≤ seen_at after good)
+  pub seen : (good : ℕ) → good < 28 → (seen_at before good ≤ seen_at after good) × (shown_length good turn ≤ seen_at after good)
 
 -- the item was answered so, and the desk made the turn
 pub record TakesTurn (Asked : Item → Type 0) (before after : Desk) (said : Said) : Type 0 where
   pub turn : Turn
   pub asked : Asked (item_of turn)
-  pub told : said_of turn ≡ said
+  pub said : said_of turn ≡ said
   pub made : IsMade turn before after

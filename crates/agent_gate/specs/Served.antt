@@ -4,7 +4,7 @@ use Rattle.std.specs.List.{flat_map}
 use Rattle.tac_base.specs.declared.limits.TheConstants.{SESSION_LINES}
 use Rattle.tac_io.specs.Counts.{Rose}
 use Rattle.tac_io.specs.States.{LinkState}
-use Rattle.tac_io.specs.Told.{and_then_told, IsAtEnd, TakesSome}
+use Rattle.tac_io.specs.Known.{known_then, IsAtEnd, TakesSome}
 use Rattle.tac_io.specs.declared.line_got.LineGot.{LineGot}
 use Rattle.tac_io.specs.declared.line_got.LineGot.TheVariants as gots
 use Rattle.line_protocol.specs.declared.asking.Request.{Request}
@@ -25,14 +25,14 @@ session_text text welcome turns = welcome ++ flat_map (reply_line text) turns
 
 -- the session's text was sent whole, and each turn's line is counted
 abbrev pub IsWhole : (Said → List ℕ) → List ℕ → List Turn → LinkState → LinkState → ℕ → Type 0
-IsWhole text welcome turns before after lines = (after.sent ≡ and_then_told before.sent (session_text text welcome turns)) × (lines ≡ length turns)
+IsWhole text welcome turns before after lines = (after.sent ≡ known_then before.sent (session_text text welcome turns)) × (lines ≡ length turns)
 
 -- A write failed: in the welcome, so nothing was asked; or in the line of the last turn.
 abbrev pub IsCutOff : (Said → List ℕ) → List ℕ → List Turn → LinkState → LinkState → ℕ → Type 0
 IsCutOff text welcome turns before after lines =
     ((turns ≡ []) × TakesSome before.sent after.sent welcome × (lines ≡ 0))
     ⊎ ((answered : List Turn) × (last : Turn) × (turns ≡ answered ++ last ∷ [])
-    × TakesSome (and_then_told before.sent (session_text text welcome answered)) after.sent (reply_line text last) × (lines ≡ length answered))
+    × TakesSome (known_then before.sent (session_text text welcome answered)) after.sent (reply_line text last) × (lines ≡ length answered))
 
 -- The causes of a session's end. `rest` is the next answer that the link's bytes give after the lines of the turns.
 abbrev pub EndsBy : Cause → (Said → List ℕ) → List ℕ → List Turn → List (LineGot × List ℕ) → LinkState → LinkState → ℕ → Type 0

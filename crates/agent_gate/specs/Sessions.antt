@@ -11,7 +11,7 @@ use Rattle.line_protocol.specs.declared.asking.RequestFault.{RequestFault}
 use Rattle.line_protocol.specs.declared.saying.Said.{Said}
 use Rattle.line_protocol.specs.declared.admission.Cause.{Cause}
 use Rattle.floor.specs.declared.desk.Desk.{Desk}
-use Rattle.floor.specs.Desks.{desk_caller, entries_of, cash_of, boards_at}
+use Rattle.floor.specs.Desks.{desk_caller, desk_entries, desk_cash, boards_at}
 use Rattle.floor.specs.Answers.{IsSameDesk}
 use Rattle.agent_gate.specs.Turns.{Turn, made_at, cash_made, boards_shown}
 use Rattle.agent_gate.specs.Welcome.{welcome_text}
@@ -19,8 +19,8 @@ use Rattle.agent_gate.specs.Served.{IsServed}
 
 -- the desk's entries are those of the turns, and its boards are the ones that it had and those of the turns
 pub record AreMadeBy (turns : List Turn) (before after : Desk) : Type 0 where
-  pub entries : entries_of after ≡ map (λ good. made_at good turns) all_goods
-  pub cash : cash_of after ≡ cash_made (desk_caller before) turns
+  pub entries : desk_entries after ≡ map (λ good. made_at good turns) all_goods
+  pub cash : desk_cash after ≡ cash_made (desk_caller before) turns
   pub boards : (good : ℕ) → good < 28 → boards_at after good ≡ boards_at before good ++ boards_shown good turns
   pub same : IsSameDesk before after
 

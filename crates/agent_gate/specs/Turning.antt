@@ -4,7 +4,7 @@ use Rattle.tac_base.specs.declared.limits.TheConstants.{LINK_BYTES}
 use Rattle.tac_io.specs.HeldBytes.{Held}
 use Rattle.tac_io.specs.LineAnswers.{Answers}
 use Rattle.tac_io.specs.States.{LinkState}
-use Rattle.tac_io.specs.Told.{and_then_told, TakesSome}
+use Rattle.tac_io.specs.Known.{known_then, TakesSome}
 use Rattle.tac_io.specs.declared.line_got.LineGot.{LineGot}
 use Rattle.tac_io.specs.declared.line_got.LineGot.TheVariants as gots
 use Rattle.line_protocol.specs.declared.asking.Request.{Request}
@@ -19,48 +19,48 @@ use Rattle.agent_gate.specs.Answering.{TakesTurn}
 use Rattle.agent_gate.specs.Served.{HasSessionCause}
 
 -- why a session ends if no line comes
-abbrev pub cause_of : LineGot → Option Cause
-cause_of gots.Line = None
-cause_of gots.TooLong = None
-cause_of gots.End = Some causes.End
-cause_of gots.Failed = Some causes.ReadFault
-cause_of gots.Budget = Some causes.Budget
+abbrev pub cause_without_line : LineGot → Option Cause
+cause_without_line gots.Line = None
+cause_without_line gots.TooLong = None
+cause_without_line gots.End = Some causes.End
+cause_without_line gots.Failed = Some causes.ReadFault
+cause_without_line gots.Budget = Some causes.Budget
 
 -- the line that was read was answered so
 abbrev pub Says : (List ℕ → Result Request RequestFault → Type 0) → LineGot → List ℕ → Desk → Desk → Said → Type 0
 Says may_answer got line before after said = TakesTurn (IsItem may_answer (got, line)) before after said
 
 -- a line was read and answered so, or no line came
-abbrev pub IsAsked : (List ℕ → Result Request RequestFault → Type 0) → LineGot → List ℕ → Desk → Desk → Result Said Cause → Type 0
-IsAsked may_answer got line before after (Ok said) = Says may_answer got line before after said
-IsAsked may_answer got line before after (Err cause) = (cause_of got ≡ Some cause) × (after ≡ before)
+abbrev pub IsNextAnswered : (List ℕ → Result Request RequestFault → Type 0) → LineGot → List ℕ → Desk → Desk → Result Said Cause → Type 0
+IsNextAnswered may_answer got line before after (Ok said) = Says may_answer got line before after said
+IsNextAnswered may_answer got line before after (Err cause) = (cause_without_line got ≡ Some cause) × (after ≡ before)
 
 -- The next answer was taken from those of the link's lines, and a line was answered.
-pub record TakesNext (may_answer : List ℕ → Result Request RequestFault → Type 0) (old new : Held)
+pub record TakesNext (may_answer : List ℕ → Result Request RequestFault → Type 0) (held held' : Held)
     (link link' : LinkState) (count count' : ℕ) (before after : Desk) (result : Result Said Cause) : Type 0 where
   pub got : LineGot
-  pub answer : Answers old new link link' count count' got
+  pub answer : Answers held held' link link' count count' got
   pub within : count' ≤ LINK_BYTES
-  pub asked : IsAsked may_answer got new.line before after result
+  pub asked : IsNextAnswered may_answer got held'.line before after result
 
 -- The result of a turn: its reply was sent whole, and it was `bye` if the agent left; or it was not sent whole; or no line came.
 abbrev pub IsTurned : {T : Type 0} → (List ℕ → Result Request RequestFault → Type 0) → (Said → List ℕ) → LineGot → List ℕ → Desk → Desk
     → LinkState → LinkState → Result T Cause → Type 0
 IsTurned may_answer text got line before after link link' (Ok _) =
-    (said : Said) × Says may_answer got line before after said × (said ≢ Bye) × (link'.sent ≡ and_then_told link.sent (text said ++ 10 ∷ []))
+    (said : Said) × Says may_answer got line before after said × (said ≢ Bye) × (link'.sent ≡ known_then link.sent (text said ++ 10 ∷ []))
 IsTurned may_answer text got line before after link link' (Err causes.Quit) =
-    Says may_answer got line before after Bye × (link'.sent ≡ and_then_told link.sent (text Bye ++ 10 ∷ []))
+    Says may_answer got line before after Bye × (link'.sent ≡ known_then link.sent (text Bye ++ 10 ∷ []))
 IsTurned may_answer text got line before after link link' (Err causes.WriteFault) =
     (said : Said) × Says may_answer got line before after said × TakesSome link.sent link'.sent (text said ++ 10 ∷ [])
-IsTurned may_answer text got line before after link link' (Err cause) = (cause_of got ≡ Some cause) × (after ≡ before) × (link'.sent ≡ link.sent)
+IsTurned may_answer text got line before after link link' (Err cause) = (cause_without_line got ≡ Some cause) × (after ≡ before) × (link'.sent ≡ link.sent)
 
 -- A turn was taken, from the next answer of the link's lines to the sending of the reply.
-pub record HasTurn {T : Type 0} (may_answer : List ℕ → Result Request RequestFault → Type 0) (text : Said → List ℕ) (old new : Held)
+pub record HasTurn {T : Type 0} (may_answer : List ℕ → Result Request RequestFault → Type 0) (text : Said → List ℕ) (held held' : Held)
     (link link' : LinkState) (count count' : ℕ) (before after : Desk) (result : Result T Cause) : Type 0 where
   pub got : LineGot
-  pub answer : Answers old new link link' count count' got
+  pub answer : Answers held held' link link' count count' got
   pub within : count' ≤ LINK_BYTES
-  pub turned : IsTurned may_answer text got new.line before after link link' result
+  pub turned : IsTurned may_answer text got held'.line before after link link' result
 
 -- a turn changes a count of faults only if it ends the session for that fault
 abbrev pub HasTurnCause : {T : Type 0} → LinkState → LinkState → Result T Cause → Type 0

@@ -55,24 +55,24 @@ abbrev pub said_of : Turn → Said
 said_of turn = (asked_and_said turn).1
 
 -- the good and the call of a request, if it makes one
-abbrev pub call_of : Request → Option (ℕ × Call)
-call_of (requests.Bid good points) = Some (good, calls.Bid points)
-call_of (requests.Withdraw good) = Some (good, calls.Withdraw)
-call_of (requests.Own good) = Some (good, calls.Own)
-call_of (requests.Quote good) = None
-call_of requests.Cash = None
-call_of requests.Quit = None
+abbrev pub asked_call : Request → Option (ℕ × Call)
+asked_call (requests.Bid good points) = Some (good, calls.Bid points)
+asked_call (requests.Withdraw good) = Some (good, calls.Withdraw)
+asked_call (requests.Own good) = Some (good, calls.Own)
+asked_call (requests.Quote good) = None
+asked_call requests.Cash = None
+asked_call requests.Quit = None
 
 -- ---- what turns leave
 
 -- the entry of a turn at a good, if it made one
-abbrev pub made_by : ℕ → Turn → Option (ℕ × Entry)
-made_by good (Called request g position entry posted) = if g == good then Some (position, entry) else None
-made_by good turn = None
+abbrev pub entry_made : ℕ → Turn → Option (ℕ × Entry)
+entry_made good (Called request g position entry posted) = if g == good then Some (position, entry) else None
+entry_made good turn = None
 
 -- the entries at a good, in order, each with its position
 abbrev pub made_at : ℕ → List Turn → List (ℕ × Entry)
-made_at good turns = filter_map (made_by good) turns
+made_at good turns = filter_map (entry_made good) turns
 
 -- an agent's reading
 abbrev pub reading : ℕ → ℤ → CashEntry
@@ -111,26 +111,26 @@ has_left turns = list_any is_leaving turns
 -- ---- the rule of turns
 
 -- how long a good's history is at least, by what a turn was answered
-abbrev pub told_length : ℕ → Turn → ℕ
-told_length good (Called request g position entry posted) = if g == good then position + 1 else 0
-told_length good (Quoted g board) = if g == good then board.count else 0
-told_length good turn = 0
+abbrev pub shown_length : ℕ → Turn → ℕ
+shown_length good (Called request g position entry posted) = if g == good then position + 1 else 0
+shown_length good (Quoted g board) = if g == good then board.count else 0
+shown_length good turn = 0
 
 -- this length of a good's history is not below anything that was answered of it
-abbrev pub GoesOn : ℕ → ℕ → List Turn → Type 0
-GoesOn good count past = All (λ turn. told_length good turn ≤ count) past
+abbrev pub IsNotBehind : ℕ → ℕ → List Turn → Type 0
+IsNotBehind good count past = All (λ turn. shown_length good turn ≤ count) past
 
 -- What a turn may be after those before it. The calls of an agent at each good and its readings are limited; a position or a count is not
 -- below any that was answered before.
-abbrev pub IsLawful : List Turn → Turn → Type 0
-IsLawful past (Called request good position entry posted) =
-    (call_of request ≡ Some (good, entry.call)) × (good < 28) × (length (made_at good past) < AGENT_CALLS) × GoesOn good position past
-IsLawful past (CallDenied request good) = ((call : Call) × (call_of request ≡ Some (good, call))) × (good < 28) × (length (made_at good past) ≡ AGENT_CALLS)
-IsLawful past (CashRead position dollars) = count_by is_reading past < CASH_READINGS
-IsLawful past CashDenied = count_by is_reading past ≡ CASH_READINGS
-IsLawful past (Quoted good board) = (good < 28) × GoesOn good board.count past
-IsLawful past turn = ⊤
+abbrev pub IsLawfulTurn : List Turn → Turn → Type 0
+IsLawfulTurn past (Called request good position entry posted) =
+    (asked_call request ≡ Some (good, entry.call)) × (good < 28) × (length (made_at good past) < AGENT_CALLS) × IsNotBehind good position past
+IsLawfulTurn past (CallDenied request good) = ((call : Call) × (asked_call request ≡ Some (good, call))) × (good < 28) × (length (made_at good past) ≡ AGENT_CALLS)
+IsLawfulTurn past (CashRead position dollars) = count_by is_reading past < CASH_READINGS
+IsLawfulTurn past CashDenied = count_by is_reading past ≡ CASH_READINGS
+IsLawfulTurn past (Quoted good board) = (good < 28) × IsNotBehind good board.count past
+IsLawfulTurn past turn = ⊤
 
 -- each turn is allowed after those before it, and after the agent left there is none
 abbrev pub AreLawful : List Turn → Type 0
-AreLawful turns = (n : ℕ) (turn : Turn) → slice_get turns n ≡ Some turn → IsLawful (take n turns) turn × (has_left (take n turns) ≡ false)
+AreLawful turns = (n : ℕ) (turn : Turn) → slice_get turns n ≡ Some turn → IsLawfulTurn (take n turns) turn × (has_left (take n turns) ≡ false)

@@ -2,7 +2,7 @@
 use Rattle.std.specs.Prelude.{◌≡◌, ℕ, ◌++◌, List, ◌∷◌, codes, decimal}
 use Rattle.text_forms.specs.Lines.{text_of}
 use Rattle.tac_io.specs.States.{LinkState}
-use Rattle.tac_io.specs.Told.{and_then_told}
+use Rattle.tac_io.specs.Known.{known_then}
 use Rattle.game_text.specs.Games.{GameFile}
 use Rattle.game_text.specs.OneAgent.{lines_of_agent}
 
@@ -17,4 +17,4 @@ welcome_text game agent = text_of (welcome_lines game agent)
 pub record MovesOn (before after : LinkState) (text text' : List ℕ) : Type 0 where
   pub first : List ℕ
   pub whole : text ≡ first ++ text'
-  pub told : after.sent ≡ and_then_told before.sent first
+  pub known : after.sent ≡ known_then before.sent first

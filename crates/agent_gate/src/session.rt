@@ -1,6 +1,6 @@
 // The session of a seated link.
 ghost use Rattle.std.specs.Prelude.{◌≡◌, ◌<◌, [], true, replicate};
-ghost use Rattle.floor.specs.Desks.{desk_ids, desk_caller, entries_of, cash_of};
+ghost use Rattle.floor.specs.Desks.{desk_ids, desk_caller, desk_entries, desk_cash};
 ghost use Rattle.floor.specs.Floors.{floor_ids};
 ghost use Rattle.tac_io.specs.LineAnswers.{goes_on};
 ghost use Rattle.tac_io.specs.Lines.{count_of, held_of, last_of, link_of};
@@ -53,7 +53,7 @@ pub fn run_session<R: Wait + Clock, L: Link, D: Dialect>(
 ) -> SessionEnd<L>
     requires own { desk_ids desk ≡ floor_ids floor.now }
     requires agent { desk_caller desk < 8 }
-    requires no_calls { (entries_of desk ≡ replicate 28 []) × (cash_of desk ≡ []) }
+    requires no_calls { (desk_entries desk ≡ replicate 28 []) × (desk_cash desk ≡ []) }
     requires goes_on { goes_on (last_of lines) ≡ true }
     ensures session { IsSession (D.may_answer dialect.now) (D.text dialect.now) game.now (held_of lines) (count_of lines)
         (L.state (link_of lines)) (L.state result.link) desk result.desk result.lines result.cause }

@@ -3,7 +3,7 @@ ghost use Rattle.std.specs.Prelude.{◌≤◌, OnOk, OnErr, length};
 ghost use Rattle.tac_io.specs.Counts.{HasCause};
 ghost use Rattle.tac_io.specs.Lines.{KeepsPlace, link_of};
 ghost use Rattle.tac_io.specs.LinkCalls.{OnlySends, ReadsNothing};
-ghost use Rattle.tac_io.specs.Told.{TakesSome};
+ghost use Rattle.tac_io.specs.Known.{TakesSome};
 ghost use Rattle.agent_gate.specs.Welcome.{MovesOn, welcome_text};
 
 use game_text::{Game, print_agent_line};
@@ -14,7 +14,7 @@ use tac_io::{Failed, Lines, Link};
 const MOST_BEFORE_A_LINE: usize = 383;
 
 /// Sends the text if one more line may not fit.
-fn make_room<L: Link>(text: &mut Text, lines: &mut Lines<L>) -> Result<(), Failed>
+fn send_if_full<L: Link>(text: &mut Text, lines: &mut Lines<L>) -> Result<(), Failed>
     ensures moved { OnOk result (MovesOn (L.state (link_of lines.old)) (L.state (link_of lines.new)) text.old text.new) }
     ensures room { OnOk result (length text.new ≤ MOST_BEFORE_A_LINE) }
     ensures failed { OnErr result (TakesSome (L.state (link_of lines.old)).sent (L.state (link_of lines.new)).sent text.old) }
@@ -44,7 +44,7 @@ pub(crate) fn welcome<L: Link>(
     print_numeral(u64::from(agent.get()), &mut text);
     text.push(b'\n');
     for n in 0..9 {
-        make_room(&mut text, lines)?;
+        send_if_full(&mut text, lines)?;
         print_agent_line(game, agent, n, &mut text);
         text.push(b'\n');
     }

@@ -5,7 +5,7 @@ use Rattle.std.proofs.lemmas.Bool.{and_parts, and_from}
 use Rattle.game_text.specs.Accounts.{AccountFile}
 use Rattle.packages.specs.Bounds.{Narrowing, leaf_bound}
 use Rattle.packages.specs.Features.{narrowed, values_of}
-use Rattle.bound_cert.specs.Trees.{Tree, leaf, split, Trees, no_trees, more, count_of}
+use Rattle.bound_cert.specs.Trees.{Tree, leaf, split, Trees, no_trees, more, tree_count}
 use Rattle.bound_cert.specs.Certificate.{holds, all_hold, is_within}
 
 within_more : (bound : Option ℤ) (a b : ℕ) → is_within bound a ≡ true → a ≤ b → is_within bound b ≡ true
@@ -16,8 +16,8 @@ mutual
   pub holds_more : (account : AccountFile) (a b : ℕ) (left : Narrowing) (t : Tree) → holds account a left t ≡ true → a ≤ b → holds account b left t ≡ true
   holds_more account a b left (leaf prices) h le = within_more (leaf_bound account left prices) a b h le
   holds_more account a b left (split client feature trees) h le =
-      let parts = and_parts (eqb (count_of trees) (values_of feature)) (all_hold account a left client feature 0 trees) h in
-      and_from (eqb (count_of trees) (values_of feature)) (all_hold account b left client feature 0 trees) parts.0 (all_hold_more account a b left client feature 0 trees parts.1 le)
+      let parts = and_parts (eqb (tree_count trees) (values_of feature)) (all_hold account a left client feature 0 trees) h in
+      and_from (eqb (tree_count trees) (values_of feature)) (all_hold account b left client feature 0 trees) parts.0 (all_hold_more account a b left client feature 0 trees parts.1 le)
 
   pub all_hold_more : (account : AccountFile) (a b : ℕ) (left : Narrowing) (client feature value : ℕ) (ts : Trees) → all_hold account a left client feature value ts ≡ true → a ≤ b → all_hold account b left client feature value ts ≡ true
   all_hold_more account a b left client feature value no_trees h le = refl

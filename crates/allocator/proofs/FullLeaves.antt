@@ -22,7 +22,7 @@ use Rattle.allocator.specs.Scarcity.{scarcity_price}
 use Rattle.dual_bound.proofs.Greatest.{greatest_at_most, parts_of}
 use Rattle.dual_bound.specs.Choices.{fits, has_fixed, chosen}
 use Rattle.relaxation.specs.Splits.{IsFull}
-use Rattle.allocator.specs.Searching.{AreLeft, IsOut}
+use Rattle.allocator.specs.Searching.{ArePackagesLeft, IsOut}
 
 -- packages with the same features are the same
 same_trip : (hotel arrive depart : ℕ) (nights : List ℕ) (hotel' arrive' depart' : ℕ) (nights' : List ℕ)
@@ -111,7 +111,7 @@ abbrev pub IsScarcity : AccountFile → List Package → List ℕ → Type 0
 IsScarcity account ps prices = (good : ℕ) → good < 28 → get_or prices good 0 ≡ scarcity_price (stock_of account.holdings) ps good
 
 -- where every feature is fixed, the scarcity prices of the packages left bound them by a claim that is no less than their worth, or that does not matter since they use too much
-pub full_leaf : (account : AccountFile) (is_account : IsAccount account) (left : Narrowing) (prices : List ℕ) (ps : List Package) (claim : ℕ) → length ps ≡ 8 → AreLeft left ps → AreFixed left → IsScarcity account ps prices → total_of account.clients ps ≤ 14000
+pub full_leaf : (account : AccountFile) (is_account : IsAccount account) (left : Narrowing) (prices : List ℕ) (ps : List Package) (claim : ℕ) → length ps ≡ 8 → ArePackagesLeft left ps → AreFixed left → IsScarcity account ps prices → total_of account.clients ps ≤ 14000
     → (total_of account.clients ps ≤ claim) ⊎ ((good : ℕ) × (good < 28) × (stock_of account.holdings good < used_by ps good))
     → is_within (leaf_bound account left prices) claim ≡ true
 full_leaf account is_account left prices ps claim eight are_left fixed scarce small settled =

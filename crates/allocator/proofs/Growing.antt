@@ -5,12 +5,12 @@ use Rattle.std.proofs.lemmas.Bool.Decides.{nat_tests}
 use Rattle.std.proofs.lemmas.List.Sums.{list_all-from_AllPass}
 use Rattle.std.specs.List.{list_all}
 use Rattle.packages.specs.Prices.{ArePrices}
-use Rattle.bound_cert.proofs.Views.{tree_of-Split, count_of-forest_of}
+use Rattle.bound_cert.proofs.Views.{tree_of-Split, tree_count-forest_of}
 use Rattle.game_text.specs.Accounts.{AccountFile}
 use Rattle.packages.specs.Bounds.{Narrowing}
 use Rattle.packages.specs.Features.{narrowed, values_of}
 use Rattle.bound_cert.specs.declared.trees.CertNode.{CertNode, Split}
-use Rattle.bound_cert.specs.Trees.{leaf, count_of, are_prices, is_tree, are_trees}
+use Rattle.bound_cert.specs.Trees.{leaf, tree_count, are_prices, is_tree, are_trees}
 use Rattle.bound_cert.specs.Views.{tree_of, forest_of}
 use Rattle.bound_cert.specs.Certificate.{holds, all_hold}
 
@@ -51,13 +51,13 @@ leaf_fits depth node prices view fits = rw view fits
 pub holds-split : (account : AccountFile) (claim : ℕ) (left : Narrowing) (client feature : ℕ) (children : Vec CertNode Global) → length children.items ≡ values_of feature → all_hold account claim left client feature 0 (forest_of children.items) ≡ true
     → holds account claim left (tree_of (Split client feature children)) ≡ true
 holds-split account claim left client feature children count hold =
-    let counted : eqb (count_of (forest_of children.items)) (values_of feature) ≡ true = eq-eqb _ _ (count_of-forest_of children.items ∙ count) in
-    rw (tree_of-Split client feature children) (and_from (eqb (count_of (forest_of children.items)) (values_of feature)) (all_hold account claim left client feature 0 (forest_of children.items)) counted hold)
+    let counted : eqb (tree_count (forest_of children.items)) (values_of feature) ≡ true = eq-eqb _ _ (tree_count-forest_of children.items ∙ count) in
+    rw (tree_of-Split client feature children) (and_from (eqb (tree_count (forest_of children.items)) (values_of feature)) (all_hold account claim left client feature 0 (forest_of children.items)) counted hold)
 
 pub is_tree-split : (level client feature : ℕ) (children : Vec CertNode Global) → level < 32 → client < 8 → feature < 4 → length children.items ≡ values_of feature → are_trees (31 - level) (forest_of children.items) ≡ true
     → is_tree (32 - level) (tree_of (Split client feature children)) ≡ true
 is_tree-split level client feature children deep client_in feature_in count fit =
-    let counted : eqb (count_of (forest_of children.items)) (values_of feature) ≡ true = eq-eqb _ _ (count_of-forest_of children.items ∙ count) in
+    let counted : eqb (tree_count (forest_of children.items)) (values_of feature) ≡ true = eq-eqb _ _ (tree_count-forest_of children.items ∙ count) in
     let deeper : 32 - level ≡ suc (31 - level) = omega arith in
     let client_fits : ltb client 8 ≡ true = grind (arith, nat_tests) in
     let feature_fits : ltb feature 4 ≡ true = grind (arith, nat_tests) in

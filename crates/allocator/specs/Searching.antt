@@ -18,6 +18,6 @@ abbrev pub IsOut : Narrowing → ℕ → Type 0
 IsOut left client = (n : ℕ) (p : Package) → slice_get packages n ≡ Some p → left client p ≡ false
 
 -- packages that are left to the eight clients
-pub record AreLeft (left : Narrowing) (allocation : List Package) : Type 0 where
+pub record ArePackagesLeft (left : Narrowing) (allocation : List Package) : Type 0 where
   pub lawful : (k : ℕ) → is_package (slice_index_or allocation k kinds.None) ≡ true
   pub kept : (k : ℕ) → k < 8 → left k (slice_index_or allocation k kinds.None) ≡ true

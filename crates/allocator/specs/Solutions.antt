@@ -5,7 +5,7 @@ use Rattle.packages.specs.declared.travel_packages.Package.{Package}
 use Rattle.packages.specs.BestTotal.{IsBest, IsFeasible, total_of}
 use Rattle.bound_cert.specs.Certificate.{holds, all_left}
 use Rattle.bound_cert.specs.Trees.{Tree, IsCertificate}
-use Rattle.allocator.specs.SolvedTexts.{spelling}
+use Rattle.allocator.specs.SolvedTexts.{solved_text}
 
 -- a feasible allocation that is worth the total, than which none is worth more, and a certificate that holds for the total
 pub record IsSolution (account : AccountFile) (total : ℕ) (allocation : List Package) (tree : Tree) : Type 0 where
@@ -17,4 +17,4 @@ pub record IsSolution (account : AccountFile) (total : ℕ) (allocation : List P
 
 -- the text of some solution
 abbrev pub IsSolvedText : AccountFile → List ℕ → Type 0
-IsSolvedText account text = (total : ℕ) × (allocation : List Package) × (tree : Tree) × IsSolution account total allocation tree × (text ≡ spelling total allocation tree)
+IsSolvedText account text = (total : ℕ) × (allocation : List Package) × (tree : Tree) × IsSolution account total allocation tree × (text ≡ solved_text total allocation tree)

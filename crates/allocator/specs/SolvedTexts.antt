@@ -30,5 +30,5 @@ solved_lines total allocation tree =
     ++ codes "end" ∷ []))
 
 -- the one text
-abbrev pub spelling : ℕ → List Package → Tree → List ℕ
-spelling total allocation tree = text_of (solved_lines total allocation tree)
+abbrev pub solved_text : ℕ → List Package → Tree → List ℕ
+solved_text total allocation tree = text_of (solved_lines total allocation tree)

@@ -3,7 +3,7 @@ ghost use Rattle.std.specs.Prelude.{◌≡◌, ℕ, ◌<◌, true, length, IfSom
 ghost use Rattle.std.specs.List.{All};
 ghost use Rattle.packages.specs.Packages.{IsPackage};
 ghost use Rattle.dual_bound.specs.Choices.{chosen};
-ghost use Rattle.allocator.specs.Searching.{IsOut, AreLeft};
+ghost use Rattle.allocator.specs.Searching.{IsOut, ArePackagesLeft};
 
 use crate::scarcity::scarcity_prices;
 use dual_bound::Choice;
@@ -32,7 +32,7 @@ fn first_left(choice: &Choice, client: usize) -> Option<Package>
 pub(crate) fn first_choice(choice: &Choice) -> Option<[Package; 8]>
     ensures eight { IfSome result (λ allocation. length allocation ≡ 8) }
     ensures lawful { IfSome result (All IsPackage) }
-    ensures left { IfSome result (AreLeft (chosen choice.now)) }
+    ensures left { IfSome result (ArePackagesLeft (chosen choice.now)) }
     ensures out { IfNone result ((client : ℕ) × (client < 8) × IsOut (chosen choice.now) client) }
 {
     let mut allocation = [Package::None; 8];

@@ -91,7 +91,7 @@ fn print_counted(alloc: Global, cert: &Cert, out: &mut Vec<u8>) -> Result<(), Me
 /// Appends the text of a best allocation: the total, a line for each client's package, and the certificate after the number
 /// of its lines. That these make the text, and in this form, is our own. After `Memory` the text may end within it.
 pub fn append_solved(alloc: Global, solved: &Solved, out: &mut Vec<u8>) -> Result<(), Memory>
-    ensures { OnOk result (out.new.items ≡ out.old.items ++ texts.spelling solved.now.total solved.now.allocation (tree_of solved.now.cert.root)) }
+    ensures { OnOk result (out.new.items ≡ out.old.items ++ texts.solved_text solved.now.total solved.now.allocation (tree_of solved.now.cert.root)) }
 {
     print_total(solved.total, out)?;
     print_parts(&ClientPackages, &solved.allocation, out)?;
@@ -102,7 +102,7 @@ pub fn append_solved(alloc: Global, solved: &Solved, out: &mut Vec<u8>) -> Resul
 
 /// The text of a best allocation by itself. `Memory` leaves no text.
 pub fn print_solved(alloc: Global, solved: &Solved) -> Result<Vec<u8>, Memory>
-    ensures { IfOk result (λ text. text.items ≡ texts.spelling solved.now.total solved.now.allocation (tree_of solved.now.cert.root)) }
+    ensures { IfOk result (λ text. text.items ≡ texts.solved_text solved.now.total solved.now.allocation (tree_of solved.now.cert.root)) }
 {
     let mut out = Vec::new(alloc);
     append_solved(alloc, solved, &mut out)?;

@@ -20,7 +20,7 @@ use crate::candidates::{better_choice, first_choice};
 use crate::scarcity::scarcity_prices;
 use crate::symmetry::{Hint, copied_prices, copied_split, hint_of_part, like_split};
 use bound_cert::CertNode;
-use dual_bound::{Choice, Quote, is_enough, worth};
+use dual_bound::{Choice, Quote, allocation_worth, is_enough};
 use game_text::Account;
 use packages::{Package, Prices, value_count};
 use relaxation::{Relaxation, Split, SplitRule};
@@ -115,7 +115,7 @@ fn offer(account: &Account, chosen: &[Package; 8], best: &mut Found)
     ensures settled { (total_of account.now.clients chosen.now ≤ best.new.total) ⊎ ((good : ℕ) × (good < 28) × (stock_of account.now.holdings good < used_by chosen.now good)) }
     ensures few { total_of account.now.clients chosen.now ≤ BEST_TOTAL }
 {
-    let total = worth(account, chosen);
+    let total = allocation_worth(account, chosen);
     if total > best.total && is_enough(account, chosen) {
         best.allocation = *chosen;
         best.total = total;

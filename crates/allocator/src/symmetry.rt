@@ -5,7 +5,7 @@ ghost use Rattle.relaxation.specs.Splits.{fixed_at};
 use bound_cert::CertNode;
 use dual_bound::Choice;
 use packages::Prices;
-use relaxation::{Split, Worths};
+use relaxation::{Split, WorthTable};
 
 /// What may help to search a part. A certificate that comes of it is tested like any other, so that a wrong hint costs time alone.
 #[derive(Clone, Copy)]
@@ -17,7 +17,7 @@ pub(crate) enum Hint<'a> {
         before: &'a [CertNode],
         split: Split,
         value: u8,
-        worths: &'a Worths,
+        worths: &'a WorthTable,
     },
     /// This is the certificate of a part that is the same but for two clients, which are exchanged.
     Like {
@@ -28,7 +28,7 @@ pub(crate) enum Hint<'a> {
 }
 
 /// Whether each package is worth the same to two clients, 0..7.
-fn are_alike(worths: &Worths, one: u8, other: u8) -> bool
+fn are_alike(worths: &WorthTable, one: u8, other: u8) -> bool
     requires one { one < 8 }
     requires other { other < 8 }
 {
@@ -42,7 +42,7 @@ fn are_alike(worths: &Worths, one: u8, other: u8) -> bool
 }
 
 /// Whether a client is like the one that was split by before, 0..7.
-fn is_like(worths: &Worths, client: u8, split: Split) -> bool
+fn is_like(worths: &WorthTable, client: u8, split: Split) -> bool
     requires { client < 8 }
 {
     client != split.client && split.client < 8 && are_alike(worths, client, split.client)
@@ -135,7 +135,7 @@ pub(crate) fn hint_of_part<'a>(
     split: Split,
     value: u8,
     before: &'a [CertNode],
-    worths: &'a Worths,
+    worths: &'a WorthTable,
 ) -> Hint<'a> {
     match like_part(hint, split, value) {
         Some(part) => part,

@@ -31,7 +31,7 @@ use Rattle.auction_core.specs.Stored.{entry_with, stored, entry_behind}
 use Rattle.auction_core.specs.Struck.{struck_of}
 use Rattle.auction_core.proofs.Answering.{held_is}
 use Rattle.game_text.specs.Accounts.{IsHolding}
-use Rattle.auction_core.specs.KeptAuctions.{IsKept, IsSound}
+use Rattle.auction_core.specs.KeptAuctions.{IsAuctionKept, IsAuctionSound}
 use Rattle.auction_core.proofs.Counting.{by, length-part, called_snoc, capped_snoc, few_entries, room_for}
 use Rattle.auction_core.proofs.Holding.{net_units-append, net_units_within}
 use Rattle.auction_core.proofs.Chains.{stored_more, stores_more}
@@ -61,11 +61,11 @@ held_next setup past e =
 -- ---- room
 
 -- no more units are traded than the entries allow
-pub few_traded : (setup : Setup) (book : Book) (held : List ℤ) (history : List Entry) → IsKept setup book held history → traded (all_trades (reverse history)) ≤ 132224
+pub few_traded : (setup : Setup) (book : Book) (held : List ℤ) (history : List Entry) → IsAuctionKept setup book held history → traded (all_trades (reverse history)) ≤ 132224
 few_traded setup book held history keeps = let few = keeps.few in omega (arith, few, few_entries history keeps.legal.called keeps.legal.capped)
 
 -- the holdings of the agents stay in their range
-pub in_range : (setup : Setup) (book : Book) (held : List ℤ) (history : List Entry) (party : ℕ) → IsKept setup book held history → IsHolding (holding setup (reverse history) party)
+pub in_range : (setup : Setup) (book : Book) (held : List ℤ) (history : List Entry) (party : ℕ) → IsAuctionKept setup book held history → IsHolding (holding setup (reverse history) party)
 in_range setup book held history party keeps =
     sum (endowment setup party) (net_units (all_trades (reverse history)) party) (at_first (party == 8))
     (net_units_within (all_trades (reverse history)) party 132224 (few_traded setup book held history keeps))
@@ -89,10 +89,10 @@ past_bids good [] h = tt
 past_bids good (e ∷ history) h = subst AreBids (sym (reverse-append (e ∷ []) history)) (all-append (λ x. IsLoggableCall x.call) (reverse history) (e ∷ []) (past_bids good history h.1) (h.0.call, tt))
 
 -- one entry more
-pub kept_more : (setup : Setup) (book book' : Book) (held : List ℤ) (history : List Entry) (e : Entry) (call : Call) → IsKept setup book held history → e.caller ≤ clock →
+pub kept_more : (setup : Setup) (book book' : Book) (held : List ℤ) (history : List Entry) (e : Entry) (call : Call) → IsAuctionKept setup book held history → e.caller ≤ clock →
     entries_of history e.caller < cap e.caller → e ≡ entry_of setup (reverse history) e.caller e.call → Stands book' setup (e ∷ reverse history) →
     Spends (units_left book + 16) (units_left book') e.trades → length e.trades ≤ 128 → All IsShort e.trades → IsLoggableCall e.call → HasSmallNumbers e.reply →
-    IsKept setup book' (held_after held e.trades) (history ++ e ∷ [])
+    IsAuctionKept setup book' (held_after held e.trades) (history ++ e ∷ [])
 kept_more setup book book' held history e call keeps is room rule stands spends few short called numbers =
     let past : reverse (history ++ e ∷ []) ≡ e ∷ reverse history = reverse-append history (e ∷ []) in
     record {
@@ -118,7 +118,7 @@ kept_more setup book book' held history e call keeps is room rule stands spends 
           });
     }
 
-pub few_stored : (setup : Setup) (book : Book) (held : List ℤ) (entries : List StoredEntry) (trades : List Trade) → IsKept setup book held (stored entries trades) → length entries ≤ 8256
+pub few_stored : (setup : Setup) (book : Book) (held : List ℤ) (entries : List StoredEntry) (trades : List Trade) → IsAuctionKept setup book held (stored entries trades) → length entries ≤ 8256
 few_stored setup book held entries trades keeps =
     omega (arith, few_entries (stored entries trades) keeps.legal.called keeps.legal.capped, length-map entries (entry_with trades))
 
@@ -139,7 +139,7 @@ module _ (setup : Setup) (book book' : Book) (held : List ℤ) (entries : List S
   pub new_is : Follows setup past caller call reply more (Stands book' setup) → new ≡ entry_of setup past caller call
   new_is follows = (λ i. record { caller = caller; call = call; reply = follows.replied i; trades = follows.traded i }) ∙ sym (entry_is setup past caller call)
 
-  module _ (sound : IsSound setup book held entries trades entry_room trade_room) (is : caller ≤ clock) (room : length (part by (stored entries trades) caller) < cap caller) where
+  module _ (sound : IsAuctionSound setup book held entries trades entry_room trade_room) (is : caller ≤ clock) (room : length (part by (stored entries trades) caller) < cap caller) where
     mine : entries_of (stored entries trades) caller < cap caller
     mine = omega (arith, room, length-part (stored entries trades) caller)
 
@@ -154,11 +154,11 @@ module _ (setup : Setup) (book book' : Book) (held : List ℤ) (entries : List S
         omega (arith, few, some, spent, length_le more spends.some, entries_fit, length-map entries (entry_with trades))
 
     pub sound_more : Follows setup past caller call reply more (Stands book' setup) → Spends (units_left book + 16) (units_left book') more → length more ≤ 128 → All IsShort more →
-        IsLoggableCall call → HasSmallNumbers reply → IsSound setup book' (held_after held more) (entries ++ entry_behind trades caller call reply more ∷ []) (trades ++ more) entry_room trade_room
+        IsLoggableCall call → HasSmallNumbers reply → IsAuctionSound setup book' (held_after held more) (entries ++ entry_behind trades caller call reply more ∷ []) (trades ++ more) entry_room trade_room
     sound_more follows spends few short called numbers =
         let is_new = new_is follows in
         record {
-          kept = subst (IsKept setup book' (held_after held more)) (sym (stored_more entries trades more caller call reply sound.stored))
+          kept = subst (IsAuctionKept setup book' (held_after held more)) (sym (stored_more entries trades more caller call reply sound.stored))
               (kept_more setup book book' held (stored entries trades) new call sound.kept is mine is_new (subst (λ (e : Entry). Stands book' setup (e ∷ past)) (sym is_new) follows.stands) spends few short called numbers);
           stored = stores_more entries trades more caller call reply sound.stored spends.some;
           entry_room = sound.entry_room;
@@ -170,12 +170,12 @@ module _ (setup : Setup) (book book' : Book) (held : List ℤ) (entries : List S
     history_more follows = stored_more entries trades more caller call reply sound.stored ∙ ap (λ (e : Entry). stored entries trades ++ e ∷ []) (new_is follows)
 
 -- few units are traded by one call
-pub few_by_call : (setup : Setup) (book book' : Book) (held : List ℤ) (history : List Entry) (more : List Trade) → IsKept setup book held history → Spends (units_left book + 16) (units_left book') more → traded more ≤ 400000
+pub few_by_call : (setup : Setup) (book book' : Book) (held : List ℤ) (history : List Entry) (more : List Trade) → IsAuctionKept setup book held history → Spends (units_left book + 16) (units_left book') more → traded more ≤ 400000
 few_by_call setup book book' held history more keeps spends =
     let few = keeps.few in let spent = spends.few in omega (arith, few, spent, few_entries history keeps.legal.called keeps.legal.capped)
 
 -- no holding is large
-pub small_holdings : (setup : Setup) (book : Book) (held : List ℤ) (history : List Entry) → IsKept setup book held history → (party : ℕ) → party ≤ 8 → IsWithin 400000 (get_or held party (pos 0))
+pub small_holdings : (setup : Setup) (book : Book) (held : List ℤ) (history : List Entry) → IsAuctionKept setup book held history → (party : ℕ) → party ≤ 8 → IsWithin 400000 (get_or held party (pos 0))
 small_holdings setup book held history keeps party le =
     let range = in_range setup book held history party keeps in
     let is = held_is setup (reverse history) held party le keeps.held in

@@ -35,7 +35,7 @@ use Rattle.trade_ledger.proofs.Trading.{moved_is, sum_held-moved}
 use Rattle.auction_core.specs.Books.{held_by}
 use Rattle.auction_core.specs.Setups.{AreInRange}
 use Rattle.auction_core.specs.Auctions.{AuctionHistory}
-use Rattle.auction_core.specs.Laws.{past_of, NoLower, SellsAll, IsPriced, bought_at, bid_at, ArePaid, IsApart, KeepsQuote, TradesWhileOpen, SellsRooms, KeepsSum, HasNoSelfTrade, KeepsPrice, NobodyOverpays, IsUncrossed}
+use Rattle.auction_core.specs.Laws.{auction_past, NoLower, SellsAll, IsPriced, bought_at, bid_at, ArePaid, IsApart, KeepsQuote, TradesWhileOpen, SellsRooms, KeepsSum, HasNoSelfTrade, KeepsPrice, NobodyOverpays, IsUncrossed}
 use Rattle.auction_core.proofs.Holding.{held_start, held_more}
 use Rattle.auction_core.proofs.Keeping.{held_next}
 use Rattle.auction_core.proofs.Paying.{nobody_pays_more}
@@ -138,9 +138,9 @@ laws_of setup history next caller call range lawful le is =
       uncrossed = subst (IsApart setup.rules) (sym is) (is_apart setup past caller call setup.rules refl (lawful_more setup past caller call lawful));
     }
 
-pub laws_hold : (before after : AuctionHistory) (caller : ℕ) (call : Call) → AreInRange before.setup.rules → IsLawful before.setup (past_of before) → caller ≤ clock → after.setup ≡ before.setup →
-    after.history ≡ before.history ++ entry_of before.setup (past_of before) caller call ∷ [] → Laws before after
+pub laws_hold : (before after : AuctionHistory) (caller : ℕ) (call : Call) → AreInRange before.setup.rules → IsLawful before.setup (auction_past before) → caller ≤ clock → after.setup ≡ before.setup →
+    after.history ≡ before.history ++ entry_of before.setup (auction_past before) caller call ∷ [] → Laws before after
 laws_hold before after caller call range lawful le same appended =
     subst (λ (setup : Setup). Laws before (record { setup = setup; history = after.history })) (sym same)
     (laws_of before.setup before.history after.history caller call range lawful le
-    (ap (λ (h : List Entry). reverse h) appended ∙ reverse-append before.history (entry_of before.setup (past_of before) caller call ∷ [])))
+    (ap (λ (h : List Entry). reverse h) appended ∙ reverse-append before.history (entry_of before.setup (auction_past before) caller call ∷ [])))

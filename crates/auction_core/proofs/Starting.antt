@@ -19,7 +19,7 @@ use Rattle.auction_core.specs.declared.book.Book.{Book}
 use Rattle.auction_core.specs.declared.book.Book.TheVariants.{Flight, Hotel, Tickets}
 use Rattle.auction_core.specs.Books.{Stands, units_left, held_by}
 use Rattle.auction_core.specs.Setups.{AreInRange, AreEndowed}
-use Rattle.auction_core.specs.KeptAuctions.{IsSound}
+use Rattle.auction_core.specs.KeptAuctions.{IsAuctionSound}
 
 same : (z : ℤ) → z ≡ z +ℤ pos 0
 same z = omega (arith, ints)
@@ -68,15 +68,15 @@ tickets_endowed endow place h = each endow (recursion_from_All IsEndowment endow
 -- ---- an auction before any call
 
 first_units : (book : Book) (setup : Setup) → Stands book setup [] → units_left book ≤ 128
-first_units (Flight book) setup stands = let none : flights.units_left book ≡ 0 = ap flights.units_left stands.kept in omega (arith, none)
-first_units (Hotel book) setup stands = let all : hotels.units_left book ≡ 128 = ap hotels.units_left stands.kept in omega (arith, all)
+first_units (Flight book) setup stands = let none : flights.flight_units_left book ≡ 0 = ap flights.flight_units_left stands.kept in omega (arith, none)
+first_units (Hotel book) setup stands = let all : hotels.hotel_units_left book ≡ 128 = ap hotels.hotel_units_left stands.kept in omega (arith, all)
 first_units (Tickets book) setup stands = omega arith
 
 pub sound_at_first : (setup : Setup) (book : Book) (held : List ℤ) (entries : List StoredEntry) (trades : List Trade) (entry_room trade_room : ℕ) → AreInRange setup.rules → AreEndowed setup.endow → Stands book setup [] →
-    held ≡ held_by setup [] → entries ≡ [] → trades ≡ [] → 8256 ≤ entry_room → 132224 ≤ trade_room → IsSound setup book held entries trades entry_room trade_room
+    held ≡ held_by setup [] → entries ≡ [] → trades ≡ [] → 8256 ≤ entry_room → 132224 ≤ trade_room → IsAuctionSound setup book held entries trades entry_room trade_room
 sound_at_first setup book held entries trades entry_room trade_room ranged endowed stands holds no_entries no_trades enough plenty =
-    subst (λ (es : List StoredEntry). IsSound setup book held es trades entry_room trade_room) (sym no_entries)
-    (subst (λ (ts : List Trade). IsSound setup book held [] ts entry_room trade_room) (sym no_trades)
+    subst (λ (es : List StoredEntry). IsAuctionSound setup book held es trades entry_room trade_room) (sym no_entries)
+    (subst (λ (ts : List Trade). IsAuctionSound setup book held [] ts entry_room trade_room) (sym no_trades)
     (record {
       kept = record {
         ranged = ranged;

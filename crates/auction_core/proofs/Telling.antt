@@ -26,7 +26,7 @@ use Rattle.auction_rules.proofs.Lists.{all-flat_map, all-map, all_alike}
 use Rattle.auction_rules.proofs.Quotes.{fold_keeps, max_keeps, prices_of}
 use Rattle.auction_rules.proofs.Standing.{Each, each-append, each-block, each-filter, each-weaker}
 use Rattle.game_text.specs.Accounts.{IsHolding}
-use Rattle.auction_core.specs.Loggable.{IsLoggableCall, IsToldInRange}
+use Rattle.auction_core.specs.Loggable.{IsLoggableCall, HasShownNumbers}
 
 -- ---- no unit of a bid costs more than 10000 dollars
 
@@ -110,7 +110,7 @@ published_within rooms live (e ∷ past) h =
 -- ---- refusals
 
 abbrev IsRefusedInRange : Option Reply → Type 0
-IsRefusedInRange refused = IfSome refused IsToldInRange
+IsRefusedInRange refused = IfSome refused HasShownNumbers
 
 if_told : (b : Bool) (r s : Option Reply) → IsRefusedInRange r → IsRefusedInRange s → IsRefusedInRange (cond b r s)
 if_told true r s h k = h
@@ -135,12 +135,12 @@ module _ (past : List Entry) (bids : AreBids past) (caller : ℕ) where
 
   -- ---- admitted replies
 
-  closed_told : (rules : Rules) → IsToldInRange (close_reply rules past)
+  closed_told : (rules : Rules) → HasShownNumbers (close_reply rules past)
   closed_told (FlightRules first bound) = tt
   closed_told (HotelRules rooms live) = ask_within rooms (stand (HotelRules rooms live) past) (cheap_stand (HotelRules rooms live) past bids)
   closed_told TicketRules = tt
 
-  admitted_told : (setup : Setup) (call : Call) → IsHolding (holding setup past caller) → IsToldInRange (admitted_reply setup past caller call)
+  admitted_told : (setup : Setup) (call : Call) → IsHolding (holding setup past caller) → HasShownNumbers (admitted_reply setup past caller call)
   admitted_told setup OwnCall held = held
   admitted_told setup (Bid points) held = tt
   admitted_told setup Withdraw held = tt
@@ -148,9 +148,9 @@ module _ (past : List Entry) (bids : AreBids past) (caller : ℕ) where
   admitted_told setup Publish held = tt
   admitted_told setup Close held = closed_told setup.rules
 
-  pub told_in_range : (setup : Setup) (call : Call) → IsHolding (holding setup past caller) → IsToldInRange (reply_of setup past caller call)
+  pub told_in_range : (setup : Setup) (call : Call) → IsHolding (holding setup past caller) → HasShownNumbers (reply_of setup past caller call)
   told_in_range setup call held = by_refusal (refusal setup.rules past caller call) (refusal_told setup.rules call)
     where
-      by_refusal : (r : Option Reply) → IsRefusedInRange r → IsToldInRange (entry_by setup past caller call r).reply
+      by_refusal : (r : Option Reply) → IsRefusedInRange r → HasShownNumbers (entry_by setup past caller call r).reply
       by_refusal None h = admitted_told setup call held
       by_refusal (Some reply) h = h

@@ -18,8 +18,8 @@ Stands (Tickets book) setup past = tickets.StandsFor book setup past
 
 -- how many units the calls of the clock alone may still trade
 abbrev pub units_left : Book → ℕ
-units_left (Flight book) = flights.units_left book
-units_left (Hotel book) = hotels.units_left book
+units_left (Flight book) = flights.flight_units_left book
+units_left (Hotel book) = hotels.hotel_units_left book
 units_left (Tickets book) = 0
 
 -- the holdings of all parties after a past

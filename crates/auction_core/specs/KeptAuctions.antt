@@ -17,7 +17,7 @@ use Rattle.auction_core.specs.Loggable.{IsLoggable}
 
 -- The rules are those that a game may have, and each agent has 0..16 units at first. The history is legal, and book and holdings stand for
 -- it. Each entry brings at most 16 units to trade, besides 128 that a hotel may sell at its closing. A log can show each entry.
-pub record IsKept (setup : Setup) (book : Book) (holdings : List ℤ) (history : List Entry) : Type 0 where
+pub record IsAuctionKept (setup : Setup) (book : Book) (holdings : List ℤ) (history : List Entry) : Type 0 where
   pub ranged : AreInRange setup.rules
   pub endowed : AreEndowed setup.endow
   pub legal : Legal setup history
@@ -26,9 +26,9 @@ pub record IsKept (setup : Setup) (book : Book) (holdings : List ℤ) (history :
   pub few : traded (all_trades (reverse history)) + units_left book ≤ BID_UNITS * length history + ENTRY_TRADES
   pub loggable : AllByRecursion (IsLoggable setup.good) history
 
--- the same of a stored history, with room for all entries that the caps allow, and for all their trades
-pub record IsSound (setup : Setup) (book : Book) (holdings : List ℤ) (entries : List StoredEntry) (trades : List Trade) (entry_capacity trade_capacity : ℕ) : Type 0 where
-  pub kept : IsKept setup book holdings (stored entries trades)
+-- a stored history is kept so, with room for all entries that the caps allow, and for all their trades
+pub record IsAuctionSound (setup : Setup) (book : Book) (holdings : List ℤ) (entries : List StoredEntry) (trades : List Trade) (entry_capacity trade_capacity : ℕ) : Type 0 where
+  pub kept : IsAuctionKept setup book holdings (stored entries trades)
   pub stored : IsStored entries trades
   pub entry_room : AUCTION_ENTRIES ≤ entry_capacity
   pub trade_room : BID_UNITS * AUCTION_ENTRIES + ENTRY_TRADES ≤ trade_capacity

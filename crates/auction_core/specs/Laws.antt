@@ -16,8 +16,8 @@ use Rattle.auction_core.specs.Books.{held_by}
 use Rattle.auction_core.specs.Auctions.{AuctionHistory}
 
 -- what happened, the newest entry first
-abbrev pub past_of : AuctionHistory → List Entry
-past_of auction = reverse auction.history
+abbrev pub auction_past : AuctionHistory → List Entry
+auction_past auction = reverse auction.history
 
 -- the trades of the newest entry
 abbrev pub newest_trades : List Entry → List Trade
@@ -30,11 +30,11 @@ NoLower (HotelRules rooms live) past next = published rooms live past ≤ publis
 NoLower rules past next = ⊤
 
 abbrev pub KeepsQuote : AuctionHistory → AuctionHistory → Type 0
-KeepsQuote before after = NoLower before.setup.rules (past_of before) (past_of after)
+KeepsQuote before after = NoLower before.setup.rules (auction_past before) (auction_past after)
 
 -- once an auction is closed nothing is traded
 abbrev pub TradesWhileOpen : AuctionHistory → AuctionHistory → Type 0
-TradesWhileOpen before after = is_closed (past_of before) ≡ true → newest_trades (past_of after) ≡ []
+TradesWhileOpen before after = is_closed (auction_past before) ≡ true → newest_trades (auction_past after) ≡ []
 
 -- a hotel that closes sells as many units as stand, up to its rooms
 abbrev pub SellsAll : Rules → List Entry → List Entry → Type 0
@@ -43,15 +43,15 @@ SellsAll (HotelRules rooms live) past next =
 SellsAll rules past next = ⊤
 
 abbrev pub SellsRooms : AuctionHistory → AuctionHistory → Type 0
-SellsRooms before after = SellsAll before.setup.rules (past_of before) (past_of after)
+SellsRooms before after = SellsAll before.setup.rules (auction_past before) (auction_past after)
 
 -- the holdings of the nine parties keep their sum
 abbrev pub KeepsSum : AuctionHistory → AuctionHistory → Type 0
-KeepsSum before after = sum_held (held_by after.setup (past_of after)) ≡ sum_held (held_by before.setup (past_of before))
+KeepsSum before after = sum_held (held_by after.setup (auction_past after)) ≡ sum_held (held_by before.setup (auction_past before))
 
 -- nobody trades with itself
 abbrev pub HasNoSelfTrade : AuctionHistory → Type 0
-HasNoSelfTrade after = All HasTwoParties (newest_trades (past_of after))
+HasNoSelfTrade after = All HasTwoParties (newest_trades (auction_past after))
 
 -- a flight's price lies in 150..800
 abbrev pub IsPriced : Rules → List Entry → Type 0
@@ -59,7 +59,7 @@ IsPriced (FlightRules first bound) past = IsFlightPrice (price first bound past)
 IsPriced rules past = ⊤
 
 abbrev pub KeepsPrice : AuctionHistory → Type 0
-KeepsPrice after = IsPriced after.setup.rules (past_of after)
+KeepsPrice after = IsPriced after.setup.rules (auction_past after)
 
 -- the units that a party buys in trades at a price or more
 abbrev pub bought_at : List Trade → ℕ → ℕ → ℕ
@@ -77,7 +77,7 @@ ArePaid rules (e ∷ past) =
     (agent price : ℕ) → agent ≤ 7 → bought_at e.trades agent price ≤ bid_at (looked_at (stand rules past) (length past) e.caller e.call) agent price
 
 abbrev pub NobodyOverpays : AuctionHistory → Type 0
-NobodyOverpays after = ArePaid after.setup.rules (past_of after)
+NobodyOverpays after = ArePaid after.setup.rules (auction_past after)
 
 -- if tickets show a bid and an ask, the bid is below the ask
 abbrev pub IsApart : Rules → List Entry → Type 0
@@ -85,4 +85,4 @@ IsApart TicketRules past = 0 < (board TicketRules past).bid → 0 < (board Ticke
 IsApart rules past = ⊤
 
 abbrev pub IsUncrossed : AuctionHistory → Type 0
-IsUncrossed after = IsApart after.setup.rules (past_of after)
+IsUncrossed after = IsApart after.setup.rules (auction_past after)

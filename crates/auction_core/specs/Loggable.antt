@@ -27,11 +27,11 @@ HasSmallNumbers (BelowQuote need at offered) = (need ≤ 255) × (offered ≤ 25
 HasSmallNumbers reply = ⊤
 
 -- a holding lies in -200000..200000, rooms are sold at 0..10000 dollars, and the price that a bid has to offer is at most 10001
-abbrev pub IsToldInRange : Reply → Type 0
-IsToldInRange (Own holding left) = IsHolding holding
-IsToldInRange (Sold units price) = price ≤ BID_PRICE
-IsToldInRange (BelowQuote need at offered) = at ≤ SHOWN_PRICE
-IsToldInRange reply = ⊤
+abbrev pub HasShownNumbers : Reply → Type 0
+HasShownNumbers (Own holding left) = IsHolding holding
+HasShownNumbers (Sold units price) = price ≤ BID_PRICE
+HasShownNumbers (BelowQuote need at offered) = at ≤ SHOWN_PRICE
+HasShownNumbers reply = ⊤
 
 -- a trade of the good, between two of the nine parties
 pub record IsDealt (good : ℕ) (t : Trade) : Type 0 where
@@ -44,7 +44,7 @@ pub record IsLoggable (good : ℕ) (e : Entry) : Type 0 where
   pub caller : e.caller ≤ clock
   pub call : IsLoggableCall e.call
   pub numbers : HasSmallNumbers e.reply
-  pub told : IsToldInRange e.reply
+  pub told : HasShownNumbers e.reply
   pub few : length e.trades ≤ ENTRY_TRADES
   pub short : All IsShort e.trades
   pub dealt : All (IsDealt good) e.trades

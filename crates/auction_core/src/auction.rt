@@ -8,13 +8,13 @@ ghost use Rattle.auction_core.specs.Loggable.{IsLoggable};
 ghost use Rattle.auction_core.specs.Stored.{IsShown};
 ghost use Rattle.auction_core.specs.Struck.{struck_of};
 
+use crate::auction_setup::AuctionSetup;
 use crate::book::Book;
 use crate::copies::{same_call, same_reply};
 use crate::effects::{apply_all, nets};
-use crate::entries::{Happened, Struck};
+use crate::entries::{AuctionEntry, Struck};
 use crate::order_book::OrderBook;
 use crate::storing::{entry_at, part_of, store};
-use crate::terms::Terms;
 use game_text::Game;
 use std::alloc::Global;
 use std::marker::Model;
@@ -30,7 +30,7 @@ const TRADES: usize = 132_224;
 /// the oldest entry first. All its memory is taken when it is made.
 #[derive(Debug, Drop)]
 pub struct Auction {
-    terms: Terms,
+    terms: AuctionSetup,
     book: Book,
     held: GoodBook,
     entries: Vec<Entry>,
@@ -40,14 +40,14 @@ pub struct Auction {
 impl Model for Auction {
     ghost use Rattle.std.specs.Prelude.{All, vec_capacity};
     ghost use Rattle.auction_core.specs.Auctions.{AuctionHistory};
-    ghost use Rattle.auction_core.specs.KeptAuctions.{IsSound};
+    ghost use Rattle.auction_core.specs.KeptAuctions.{IsAuctionSound};
     ghost use Rattle.auction_core.specs.Stored.{stored};
 
     ghost Value = { AuctionHistory };
 
     ghost view = { λ a. record { setup = a.terms; history = stored a.entries.items a.trades.items } };
 
-    ghost invariant = { λ a. IsSound a.terms a.book a.held a.entries.items a.trades.items (vec_capacity a.entries) (vec_capacity a.trades) };
+    ghost invariant = { λ a. IsAuctionSound a.terms a.book a.held a.entries.items a.trades.items (vec_capacity a.entries) (vec_capacity a.trades) };
 }
 
 impl Auction {
@@ -58,7 +58,7 @@ impl Auction {
     {
         let entries = Vec::with_capacity(alloc, AUCTION_ENTRIES as usize)?;
         let trades = Vec::with_capacity(alloc, TRADES)?;
-        let terms = Terms::new(good, game);
+        let terms = AuctionSetup::new(good, game);
         let book = Book::new(good, terms.rules);
         let held = GoodBook::new(terms.holdings());
         Ok(Auction {
@@ -127,9 +127,9 @@ impl Kept for Auction {
 
     type Reply = Struck;
 
-    type Setup = Terms;
+    type Setup = AuctionSetup;
 
-    type Entry = Happened;
+    type Entry = AuctionEntry;
 
     ghost setup = { λ a. a.setup };
 
@@ -155,7 +155,7 @@ impl Kept for Auction {
         requires room { length (part (λ e. e.caller) self.old.history caller) < rules.cap caller }
         ensures setup { self.new.setup ≡ self.old.setup }
         ensures legal { Legal self.new.setup self.new.history }
-        ensures entry { (e : Happened) × (self.new.history ≡ self.old.history ++ e ∷ []) × (e.caller ≡ caller) × (e.call ≡ call.now) × (struck_of e ≡ result) }
+        ensures entry { (e : AuctionEntry) × (self.new.history ≡ self.old.history ++ e ∷ []) × (e.caller ≡ caller) × (e.call ≡ call.now) × (struck_of e ≡ result) }
         ensures appended { self.new.history ≡ self.old.history ++ entry_of self.old.setup (reverse self.old.history) caller call.now ∷ [] }
         ensures struck { result ≡ struck_of (entry_of self.old.setup (reverse self.old.history) caller call.now) }
         // The laws of the auctions.

@@ -14,14 +14,14 @@ pub struct Struck {
 
 /// An entry of a history with its trades, as contracts see it.
 #[derive(Debug, Drop)]
-pub struct Happened {
+pub struct AuctionEntry {
     caller: Caller,
     call: Call,
     reply: Reply,
     trades: Fills,
 }
 
-impl Model for Happened {
+impl Model for AuctionEntry {
     ghost use Rattle.auction_rules.specs.History.{Entry};
 
     ghost Value = { Entry };

@@ -8,7 +8,7 @@ impl OrderBook for Flight {
 
     ghost stands = { flights.StandsFor };
 
-    ghost units_left = { flights.units_left };
+    ghost units_left = { flights.flight_units_left };
 
     fn act(
         &mut self,

@@ -8,7 +8,7 @@ impl OrderBook for Hotel {
 
     ghost stands = { hotels.StandsFor };
 
-    ghost units_left = { hotels.units_left };
+    ghost units_left = { hotels.hotel_units_left };
 
     fn act(
         &mut self,

@@ -1,7 +1,9 @@
-//! One auction: the book of its good, and the history of its calls. An auction is a state that a turn lock keeps.
+//! One auction: the book of its good, and the history of its calls. An auction is a state that a turn lock keeps (`Kept`, given
+//! again from `turn_lock`).
 #![tactic(auto)]
 
 mod auction;
+mod auction_setup;
 mod book;
 mod closed;
 mod copies;
@@ -11,10 +13,10 @@ mod flight_calls;
 mod hotel_calls;
 mod order_book;
 mod storing;
-mod terms;
 mod ticket_calls;
 
 pub use auction::Auction;
+pub use auction_setup::AuctionSetup;
 pub use closed::Closed;
-pub use entries::{Happened, Struck};
-pub use terms::Terms;
+pub use entries::{AuctionEntry, Struck};
+pub use turn_lock::Kept;

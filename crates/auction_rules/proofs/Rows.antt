@@ -20,7 +20,7 @@ use Rattle.auction_rules.specs.Ask.{ask}
 use Rattle.auction_rules.specs.WinningNumber.{winning_number}
 use Rattle.auction_rules.specs.Legal.{past_of}
 use Rattle.auction_rules.specs.Board.{board}
-use Rattle.auction_rules.specs.Part.{part}
+use Rattle.auction_rules.specs.Part.{callers_part}
 
 abbrev point : ℤ → ℕ → Point
 point units price = record { units = units; price = price }
@@ -228,5 +228,5 @@ nets_add_up_to_0 : nets (one_ticket 0 1 60 ∷ one_ticket 2 1 60 ∷ [])
     ≡ neg_ℤ (pos 60) ∷ pos 120 ∷ neg_ℤ (pos 60) ∷ pos 0 ∷ pos 0 ∷ pos 0 ∷ pos 0 ∷ pos 0 ∷ pos 0 ∷ []
 nets_add_up_to_0 = refl
 
-part_has_its_positions : map (λ p. p.0) (part (reverse (played tickets short_sale)) 1) ≡ 0 ∷ 3 ∷ []
+part_has_its_positions : map (λ p. p.0) (callers_part (reverse (played tickets short_sale)) 1) ≡ 0 ∷ 3 ∷ []
 part_has_its_positions = refl

@@ -1,6 +1,6 @@
 ghost use Rattle.std.specs.Prelude.{◌≡◌, ℕ, ◌+◌, ◌<◌, ◌≤◌, [], length, All, IfOk, slice_index};
 ghost use Rattle.std.specs.Thread.{IsSync};
-ghost use Rattle.turn_lock.specs.Passes.{lock_of, lock_id, caller_of, left_of, passes_of, returned_to};
+ghost use Rattle.turn_lock.specs.Passes.{lock_of, lock_id, caller_of, turns_left, passes_of, returned_to};
 ghost use Rattle.trade_ledger.specs.CashHistory.{cash_cap};
 
 use std::alloc::{AllocError, Global};
@@ -19,8 +19,8 @@ fn begin_two(
     second: u32,
 ) -> Result<(TurnLock<CashBook>, Pass<CashBook>, Pass<CashBook>), Memory>
     requires { (first ≤ 29696) × (second ≤ 29696) }
-    ensures first { IfOk result (λ r. (lock_of r.1 ≡ lock_id r.0) × (caller_of r.1 ≡ 0) × (left_of r.1 ≡ first)) }
-    ensures second { IfOk result (λ r. (lock_of r.2 ≡ lock_id r.0) × (caller_of r.2 ≡ 1) × (left_of r.2 ≡ second)) }
+    ensures first { IfOk result (λ r. (lock_of r.1 ≡ lock_id r.0) × (caller_of r.1 ≡ 0) × (turns_left r.1 ≡ first)) }
+    ensures second { IfOk result (λ r. (lock_of r.2 ≡ lock_id r.0) × (caller_of r.2 ≡ 1) × (turns_left r.2 ≡ second)) }
     ensures lock { IfOk result (λ r. (passes_of r.0 ≡ 2) × (returned_to r.0 ≡ [])) }
 {
     let book = CashBook::begin(alloc)?;

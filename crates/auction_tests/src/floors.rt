@@ -1,6 +1,6 @@
 ghost use Rattle.std.specs.Prelude.{◌≡◌, ◌<◌, ◌≤◌, ◌++◌, ◌∷◌, [], ℕ, length, IfOk, OnOk};
 ghost use Rattle.tac_base.specs.declared.limits.TheConstants.{CLOCK_CALLS, CLOCK_CASH_ENTRIES};
-ghost use Rattle.floor.specs.Desks.{desk_ids, desk_caller, entries_of, entries_at};
+ghost use Rattle.floor.specs.Desks.{desk_ids, desk_caller, desk_entries, entries_at};
 ghost use Rattle.floor.specs.Keeping.{count_entries};
 ghost use Rattle.floor.specs.Floors.{floor_ids};
 
@@ -20,7 +20,7 @@ fn begin_four(alloc: Global, game: &Game) -> Result<(Floor, Desk, Desk, Desk, De
     ensures second { IfOk result (λ r. (desk_ids r.2 ≡ floor_ids r.0) × (desk_caller r.2 ≡ 1)) }
     ensures third { IfOk result (λ r. (desk_ids r.3 ≡ floor_ids r.0) × (desk_caller r.3 ≡ 2)) }
     ensures clock { IfOk result (λ r. (desk_ids r.4 ≡ floor_ids r.0) × (desk_caller r.4 ≡ 8)) }
-    ensures idle { IfOk result (λ r. ((good : ℕ) → length (entries_at r.4 good) < CLOCK_CALLS) × (count_entries (entries_of r.4) < CLOCK_CASH_ENTRIES)) }
+    ensures idle { IfOk result (λ r. ((good : ℕ) → length (entries_at r.4 good) < CLOCK_CALLS) × (count_entries (desk_entries r.4) < CLOCK_CASH_ENTRIES)) }
 {
     let (floor, mut desks) = Floor::begin(alloc, game)?;
     let clock = desks.pop().unwrap();

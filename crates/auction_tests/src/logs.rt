@@ -1,7 +1,7 @@
 ghost use Rattle.std.specs.Prelude.{◌≡◌, IfOk, OnOk, map};
 ghost use Rattle.auction_core.specs.Calls.{IsFit};
 ghost use Rattle.auction_core.specs.ClosedGame.{all_goods};
-ghost use Rattle.trade_ledger.specs.CashHistory.{IsFit as cash_fit};
+ghost use Rattle.trade_ledger.specs.CashHistory.{IsFitCash as cash_fit};
 
 use auction_core::{Auction, Closed};
 use draw_maker::make_game;

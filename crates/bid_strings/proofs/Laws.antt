@@ -20,7 +20,7 @@ use Rattle.text_forms.specs.Words.{words_of}
 use Rattle.tac_base.proofs.NumeralLaws.{both_true, numeral_is, numeral_again, numeral_limit}
 use Rattle.tac_base.proofs.Signed.{Lacks, signed_is, signed_again, signed_limit, decimal_lacks, signed_lacks}
 use Rattle.text_forms.proofs.Joins.{joined_parts}
-use Rattle.bid_strings.specs.BidForm.{front, last, paired, point_of, followed_by, points_from, points_of, verdict, judged}
+use Rattle.bid_strings.specs.BidForm.{front, last, paired, point_of, point_then, points_from, points_of, verdict, judged}
 use Rattle.bid_strings.specs.Spelling.{left_word, right_word, point_words, spelling, HasFiveDigits, IsBidString}
 
 -- a list by its last item
@@ -100,7 +100,7 @@ point_again point digits =
 
 -- ---- all points
 
-followed_is : (point : Option Point) (others : Option (List Point)) (points : List Point) → followed_by point others ≡ Some points → (p : Point) × (ps : List Point) × (point ≡ Some p) × (others ≡ Some ps) × (points ≡ p ∷ ps)
+followed_is : (point : Option Point) (others : Option (List Point)) (points : List Point) → point_then point others ≡ Some points → (p : Point) × (ps : List Point) × (point ≡ Some p) × (others ≡ Some ps) × (points ≡ p ∷ ps)
 followed_is None others points h = absurd cc
 followed_is (Some p) None points h = absurd cc
 followed_is (Some p) (Some ps) points h = (p, ps, refl, refl, sym (same_Some (p ∷ ps) points h))

@@ -26,15 +26,15 @@ unfoldable pub point_of : List ℕ → List ℕ → Option Point
 point_of left right = if slice_index left 0 == 40 && last right == 41 then paired (signed_numeral 5 (drop 1 left)) (numeral 5 (front right)) else None
 
 -- a point before others
-abbrev pub followed_by : Option Point → Option (List Point) → Option (List Point)
-followed_by None others = None
-followed_by (Some point) others = option_map (λ points. point ∷ points) others
+abbrev pub point_then : Option Point → Option (List Point) → Option (List Point)
+point_then None others = None
+point_then (Some point) others = option_map (λ points. point ∷ points) others
 
 -- the points of this many words
 abbrev pub points_from : List (List ℕ) → Option (List Point)
 points_from [] = Some []
 points_from (left ∷ []) = None
-points_from (left ∷ right ∷ words) = followed_by (point_of left right) (points_from words)
+points_from (left ∷ right ∷ words) = point_then (point_of left right) (points_from words)
 
 -- the points of a text: `(`, the points separated by single spaces, `)`
 unfoldable pub points_of : List ℕ → Option (List Point)
@@ -51,6 +51,6 @@ judged None = Err Syntax
 judged (Some points) = verdict points (fault_of points)
 
 -- what is wrong if a point has this fault: the form of the points after it comes first
-abbrev pub refusal : BidFault → Option (List Point) → BidFault
-refusal fault None = Syntax
-refusal fault (Some points) = fault
+abbrev pub form_fault : BidFault → Option (List Point) → BidFault
+form_fault fault None = Syntax
+form_fault fault (Some points) = fault

@@ -114,7 +114,7 @@ fn point_of(left: &[u8], right: &[u8]) -> Option<WrittenPoint>
 
 /// What is wrong with the text if a point has a fault and these words follow: the form is tested first.
 fn refusal(fault: BidFault, words: Words<'_>) -> BidFault
-    ensures { result ≡ bid_form.refusal fault (bid_form.points_from words.entry) }
+    ensures { result ≡ bid_form.form_fault fault (bid_form.points_from words.entry) }
 {
     if are_points(words) {
         fault

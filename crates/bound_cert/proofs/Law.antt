@@ -11,7 +11,7 @@ use Rattle.packages.specs.Packages.{is_package}
 use Rattle.packages.specs.Bounds.{Narrowing}
 use Rattle.packages.specs.Features.{feature_of, rank_of, values_of, narrowed}
 use Rattle.packages.specs.BestTotal.{IsFeasible, total_of}
-use Rattle.bound_cert.specs.Trees.{Tree, leaf, split, Trees, no_trees, more, count_of}
+use Rattle.bound_cert.specs.Trees.{Tree, leaf, split, Trees, no_trees, more, tree_count}
 use Rattle.bound_cert.specs.Certificate.{holds, all_hold, all_left, IsLeft, BoundsAll}
 use Rattle.bound_cert.proofs.Duality.{leaf_law}
 
@@ -53,14 +53,14 @@ mutual
   bounded : (account : AccountFile) (is_account : IsAccount account) (claim : ℕ) (left : Narrowing) (t : Tree) (ps : List Package) → holds account claim left t ≡ true → IsFeasible account ps → IsLeft left ps → total_of account.clients ps ≤ claim
   bounded account is_account claim left (leaf prices) ps h feasible is_left = leaf_law account is_account claim left prices ps h feasible is_left
   bounded account is_account claim left (split client feature trees) ps h feasible is_left =
-      let parts = and_parts (eqb (count_of trees) (values_of feature)) (all_hold account claim left client feature 0 trees) h in
+      let parts = and_parts (eqb (tree_count trees) (values_of feature)) (all_hold account claim left client feature 0 trees) h in
       let value = feature_of feature (get_or ps client kinds.None) in
-      let below : value < count_of trees = child_below (count_of trees) (values_of feature) value parts.0 (feature_below feature (get_or ps client kinds.None) (lawful_at account ps client feasible)) in
+      let below : value < tree_count trees = child_below (tree_count trees) (values_of feature) value parts.0 (feature_below feature (get_or ps client kinds.None) (lawful_at account ps client feasible)) in
       one_bounded account is_account claim left client feature 0 value value trees ps parts.1 (omega arith) below feasible (keeps_own left client feature ps is_left)
 
   -- the child of the packages' own value is among the children
   one_bounded : (account : AccountFile) (is_account : IsAccount account) (claim : ℕ) (left : Narrowing) (client feature first k value : ℕ) (trees : Trees) (ps : List Package) → all_hold account claim left client feature first trees ≡ true
-      → first + k ≡ value → k < count_of trees → IsFeasible account ps → IsLeft (narrowed left client feature value) ps → total_of account.clients ps ≤ claim
+      → first + k ≡ value → k < tree_count trees → IsFeasible account ps → IsLeft (narrowed left client feature value) ps → total_of account.clients ps ≤ claim
   one_bounded account is_account claim left client feature first k value no_trees ps h is lt feasible is_left = absurd (omega arith)
   one_bounded account is_account claim left client feature first zero value (more t ts) ps h is lt feasible is_left =
       let parts = and_parts (holds account claim (narrowed left client feature first) t) (all_hold account claim left client feature (first + 1) ts) h in

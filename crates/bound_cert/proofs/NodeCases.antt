@@ -9,7 +9,7 @@ use Rattle.bound_cert.specs.declared.faults.CertFault.TheVariants as faults
 use Rattle.bound_cert.specs.declared.node_lines.NodeLine.{NodeLine}
 use Rattle.bound_cert.specs.declared.node_lines.NodeLine.TheVariants.{Leaf, Split}
 use Rattle.bound_cert.specs.declared.trees.CertNode.{CertNode}
-use Rattle.bound_cert.specs.Faults.{IsRefusal, IsReading}
+use Rattle.bound_cert.specs.Faults.{IsCertRefusal, IsCertReading}
 use Rattle.bound_cert.specs.Trees.{Tree, leaf, split, Trees, no_trees, more}
 use Rattle.bound_cert.specs.Views.{tree_of, forest_of}
 use Rattle.bound_cert.specs.Reading.{Step, forest_by, node_line_in, tree_in}
@@ -47,18 +47,18 @@ split_node (suc level) number client feature left after read some h each =
     rw (h, each')
 
 -- a refusal remains one if memory may be refused too
-pub refusal_is : {A : Type 0} (fault : CertFault) (read : Result A CertFault) → read ≡ Err fault → IsRefusal fault read
+pub refusal_is : {A : Type 0} (fault : CertFault) (read : Result A CertFault) → read ≡ Err fault → IsCertRefusal fault read
 refusal_is (faults.Line line reason) read h = h
 refusal_is faults.TooLong read h = h
 refusal_is faults.Memory read h = tt
 
 -- a refusal that is passed on
-pub handed_on : {A B : Type 0} (view : A → B) (given : Result A CertFault) (fault : CertFault) (read : Result B CertFault) → IsErrAnd given (λ f. f ≡ fault) → IsRefusal fault read → IsReading view given read
+pub handed_on : {A B : Type 0} (view : A → B) (given : Result A CertFault) (fault : CertFault) (read : Result B CertFault) → IsErrAnd given (λ f. f ≡ fault) → IsCertRefusal fault read → IsCertReading view given read
 handed_on view (Ok x) fault read h refusal = absurd h
-handed_on view (Err f) fault read h refusal = subst (λ (e : CertFault). IsRefusal e read) (sym h) refusal
+handed_on view (Err f) fault read h refusal = subst (λ (e : CertFault). IsCertRefusal e read) (sym h) refusal
 
 -- if one reading is refused, so is the other
-pub refused_through : {X Y : Type 0} (fault : CertFault) (a : Result X CertFault) (b : Result Y CertFault) → ((e : CertFault) → a ≡ Err e → b ≡ Err e) → IsRefusal fault a → IsRefusal fault b
+pub refused_through : {X Y : Type 0} (fault : CertFault) (a : Result X CertFault) (b : Result Y CertFault) → ((e : CertFault) → a ≡ Err e → b ≡ Err e) → IsCertRefusal fault a → IsCertRefusal fault b
 refused_through (faults.Line line reason) a b h f = h (faults.Line line reason) f
 refused_through faults.TooLong a b h f = h faults.TooLong f
 refused_through faults.Memory a b h f = tt

@@ -10,7 +10,7 @@ use Rattle.bound_cert.specs.declared.faults.CertFault.{CertFault}
 use Rattle.bound_cert.specs.declared.faults.CertFault.TheVariants as faults
 use Rattle.bound_cert.specs.declared.node_lines.NodeLine.{NodeLine}
 use Rattle.bound_cert.specs.declared.node_lines.NodeLine.TheVariants.{Leaf, Split}
-use Rattle.bound_cert.specs.Faults.{fault_of, refused, IsReading}
+use Rattle.bound_cert.specs.Faults.{cert_fault, or_cert_fault, IsCertReading}
 use Rattle.bound_cert.specs.NodeLines.{node_line_of}
 use Rattle.bound_cert.specs.Trees.{Tree, split, more}
 use Rattle.bound_cert.specs.Reading.{Step, forest_by, node_by, last_node, node_line_in, tree_in, root_in, cert_of}
@@ -19,7 +19,7 @@ pub no_root : (left : Remaining) (fault : CertFault) → tree_in 32 left ≡ Err
 unfolding root_in
 no_root left fault h = rw h
 
-pub more_lines : (left after : Remaining) (tree : Tree) (bad : BadLine) → tree_in 32 left ≡ Ok (tree, after) → nothing_left after ≡ Err bad → root_in left ≡ Err (fault_of bad)
+pub more_lines : (left after : Remaining) (tree : Tree) (bad : BadLine) → tree_in 32 left ≡ Ok (tree, after) → nothing_left after ≡ Err bad → root_in left ≡ Err (cert_fault bad)
 unfolding root_in
 more_lines left after tree bad h e = rw (h, e)
 
@@ -44,7 +44,7 @@ then_short : {A B : Type 0} (read : Result A CertFault) (f : A → Result B Cert
 then_short (Ok x) f first others h = others x h
 then_short (Err fault) f first others h = first cc
 
-line_short : {A : Type 0} (read : Result A BadLine) → IsLong (refused read) → ⊥
+line_short : {A : Type 0} (read : Result A BadLine) → IsLong (or_cert_fault read) → ⊥
 line_short (Ok x) h = cc
 line_short (Err bad) h = cc
 
@@ -56,8 +56,8 @@ ok_short x h = cc
 
 node_short : (left : Remaining) → IsLong (node_line_in left) → ⊥
 node_short left h =
-    then_short (refused (due_of left)) (λ line. refused (at_line line.0.number (node_line_of line.0.bytes)) >>= λ node. Ok (line.0.number, node, line.1)) (line_short (due_of left))
-    (λ line. then_short (refused (at_line line.0.number (node_line_of line.0.bytes))) (λ node. Ok (line.0.number, node, line.1)) (line_short (at_line line.0.number (node_line_of line.0.bytes))) (λ node. ok_short (line.0.number, node, line.1))) h
+    then_short (or_cert_fault (due_of left)) (λ line. or_cert_fault (at_line line.0.number (node_line_of line.0.bytes)) >>= λ node. Ok (line.0.number, node, line.1)) (line_short (due_of left))
+    (λ line. then_short (or_cert_fault (at_line line.0.number (node_line_of line.0.bytes))) (λ node. Ok (line.0.number, node, line.1)) (line_short (at_line line.0.number (node_line_of line.0.bytes))) (λ node. ok_short (line.0.number, node, line.1))) h
 
 forest_short : (tree_at : Step Tree) → ((left : Remaining) → IsLong (tree_at left) → ⊥) → (count : ℕ) (left : Remaining) → IsLong (forest_by tree_at count left) → ⊥
 forest_short tree_at each zero left h = cc
@@ -82,11 +82,11 @@ tree_short (suc level) left h = then_short (node_line_in left) (λ node. node_by
 pub root_short : (left : Remaining) → root_in left ≡ Err faults.TooLong → ⊥
 unfolding root_in
 root_short left h =
-    then_short (tree_in 32 left) (λ tree. refused (nothing_left tree.1) >>= λ done. Ok tree.0) (tree_short 32 left)
-    (λ tree. then_short (refused (nothing_left tree.1)) (λ done. Ok tree.0) (line_short (nothing_left tree.1)) (λ done. ok_short tree.0)) h
+    then_short (tree_in 32 left) (λ tree. or_cert_fault (nothing_left tree.1) >>= λ done. Ok tree.0) (tree_short 32 left)
+    (λ tree. then_short (or_cert_fault (nothing_left tree.1)) (λ done. Ok tree.0) (line_short (nothing_left tree.1)) (λ done. ok_short tree.0)) h
 
 -- so what was read of it is not refused either
-pub reading_short : {A B : Type 0} (view : A → B) (result : Result A CertFault) (read : Result B CertFault) → (read ≡ Err faults.TooLong → ⊥) → IsReading view result read → result ≡ Err faults.TooLong → ⊥
+pub reading_short : {A B : Type 0} (view : A → B) (result : Result A CertFault) (read : Result B CertFault) → (read ≡ Err faults.TooLong → ⊥) → IsCertReading view result read → result ≡ Err faults.TooLong → ⊥
 reading_short view (Ok x) read short is h = cc
 reading_short view (Err (faults.Line line reason)) read short is h = cc
 reading_short view (Err faults.TooLong) read short is h = short is

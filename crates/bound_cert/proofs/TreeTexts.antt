@@ -9,7 +9,7 @@ use Rattle.std.proofs.lemmas.List.Elements.{All-head, All-tail}
 use Rattle.std.proofs.lemmas.List.Splits.{join_with_byte-slice_split, length-slice_split}
 use Rattle.tac_base.proofs.NumeralLaws.{both_true}
 use Rattle.text_forms.specs.declared.lines.BadLine.{BadLine}
-use Rattle.text_forms.specs.Lines.{NumberedLine, Remaining, AreLeft, lines_from, due_of, at_line, nothing_left, text_of}
+use Rattle.text_forms.specs.Lines.{NumberedLine, Remaining, AreLinesLeft, lines_from, due_of, at_line, nothing_left, text_of}
 use Rattle.text_forms.specs.Rows.{within, is_in, all_in, row, row_text, AllBetween, IsBetween}
 use Rattle.text_forms.specs.Steps.{◌>>=◌, read_by}
 use Rattle.text_forms.specs.Words.{words_of, parts_of}
@@ -21,11 +21,11 @@ use Rattle.bound_cert.specs.declared.faults.CertFault.{CertFault}
 use Rattle.bound_cert.specs.declared.faults.CertFault.TheVariants.{TooLong}
 use Rattle.bound_cert.specs.declared.node_lines.NodeLine.{NodeLine}
 use Rattle.bound_cert.specs.declared.node_lines.NodeLine.TheVariants.{Leaf, Split}
-use Rattle.bound_cert.specs.Faults.{refused}
+use Rattle.bound_cert.specs.Faults.{or_cert_fault}
 use Rattle.bound_cert.specs.NodeLines.{leaf_columns, split_columns, is_leaf, leaf_of, split_of, node_line_of, leaf_text, split_text}
 use Rattle.bound_cert.specs.Reading.{Step, forest_by, node_by, last_node, node_line_in, tree_in, root_in, cert_of}
-use Rattle.bound_cert.specs.Texts.{tree_lines, forest_lines, spelling}
-use Rattle.bound_cert.specs.Trees.{Tree, leaf, split, Trees, no_trees, more, count_of, are_prices, is_tree, are_trees, IsCertificate}
+use Rattle.bound_cert.specs.Texts.{tree_lines, forest_lines, cert_text}
+use Rattle.bound_cert.specs.Trees.{Tree, leaf, split, Trees, no_trees, more, tree_count, are_prices, is_tree, are_trees, IsCertificate}
 
 -- ---- one line
 
@@ -79,7 +79,7 @@ node_kept line node e = node_by_test (is_leaf (words_of line)) line node e
 
 -- ---- a line of a text
 
-refused_ok : {A : Type 0} (r : Result A BadLine) (x : A) → refused r ≡ Ok x → r ≡ Ok x
+refused_ok : {A : Type 0} (r : Result A BadLine) (x : A) → or_cert_fault r ≡ Ok x → r ≡ Ok x
 refused_ok (Ok y) x e = cc
 refused_ok (Err bad) x e = absurd cc
 
@@ -94,8 +94,8 @@ record TookNode (left : Remaining) (node : NodeLine) (after : Remaining) : Type 
 
 node_took : (left : Remaining) (x : ℕ × NodeLine × Remaining) → node_line_in left ≡ Ok x → TookNode left x.1 x.2
 node_took left x e =
-    let a = bind_ok (refused (due_of left)) (λ line. refused (at_line line.0.number (node_line_of line.0.bytes)) >>= λ node. Ok (line.0.number, node, line.1)) x e in
-    let b = bind_ok (refused (at_line a.0.0.number (node_line_of a.0.0.bytes))) (λ node. Ok (a.0.0.number, node, a.0.1)) x a.2 in
+    let a = bind_ok (or_cert_fault (due_of left)) (λ line. or_cert_fault (at_line line.0.number (node_line_of line.0.bytes)) >>= λ node. Ok (line.0.number, node, line.1)) x e in
+    let b = bind_ok (or_cert_fault (at_line a.0.0.number (node_line_of a.0.0.bytes))) (λ node. Ok (a.0.0.number, node, a.0.1)) x a.2 in
     let due = refused_ok (due_of left) a.0 a.1 in
     let said = refused_ok (at_line a.0.0.number (node_line_of a.0.0.bytes)) b.0 b.1 in
     let read : read_by node_line_of left ≡ Ok (b.0, a.0.1) = read_ok left a.0 b.0 due said in
@@ -113,7 +113,7 @@ record TookTree (depth : ℕ) (left : Remaining) (x : Tree × Remaining) : Type 
 record TookTrees (depth count : ℕ) (left : Remaining) (x : Trees × Remaining) : Type 0 where
   took : Took left (forest_lines x.0) x.1
   fit : are_trees depth x.0 ≡ true
-  count_is : count_of x.0 ≡ count
+  count_is : tree_count x.0 ≡ count
 
 forest_took : (tree_at : Step Tree) (depth : ℕ) → ((left : Remaining) (x : Tree × Remaining) → tree_at left ≡ Ok x → TookTree depth left x)
     → (count : ℕ) (left : Remaining) (x : Trees × Remaining) → forest_by tree_at count left ≡ Ok x → TookTrees depth count left x
@@ -144,7 +144,7 @@ node_by_took depth each left (Split client feature) after x line e =
     let first = took_line left after line.line (split_text client feature) line.is.0 line.took in
     subst (TookTree (suc depth) left) (ok_is {E = CertFault} (split client feature a.0.0, a.0.1) x a.2) (record {
       took = took_then left (split_text client feature ∷ []) after (forest_lines a.0.0) a.0.1 first below.took;
-      fits = split_fits client feature (count_of a.0.0) (values_of feature) (are_trees depth a.0.0) line.is.1 line.is.2 below.count_is below.fit;
+      fits = split_fits client feature (tree_count a.0.0) (values_of feature) (are_trees depth a.0.0) line.is.1 line.is.2 below.count_is below.fit;
     })
 
 last_took : (number : ℕ) (left : Remaining) (node : NodeLine) (after : Remaining) (x : Tree × Remaining) → TookNode left node after → last_node number node after ≡ Ok x → TookTree 0 left x
@@ -165,14 +165,14 @@ tree_took (suc depth) left x e =
 
 -- the lines of a tree are all lines
 record IsWhole (left : Remaining) (tree : Tree) : Type 0 where
-  lines : AreLeft (tree_lines tree) left
+  lines : AreLinesLeft (tree_lines tree) left
   fits : is_tree 32 tree ≡ true
 
 root_took : (left : Remaining) (tree : Tree) → root_in left ≡ Ok tree → IsWhole left tree
 unfolding root_in
 root_took left tree e =
-    let a = bind_ok (tree_in 32 left) (λ t. refused (nothing_left t.1) >>= λ done. Ok t.0) tree e in
-    let b = bind_ok (refused (nothing_left a.0.1)) (λ done. Ok a.0.0) tree a.2 in
+    let a = bind_ok (tree_in 32 left) (λ t. or_cert_fault (nothing_left t.1) >>= λ done. Ok t.0) tree e in
+    let b = bind_ok (or_cert_fault (nothing_left a.0.1)) (λ done. Ok a.0.0) tree a.2 in
     let t = tree_took 32 left a.0 a.1 in
     subst (IsWhole left) (ok_is {E = CertFault} a.0.0 tree b.2) (record { lines = took_all left a.0.1 (tree_lines a.0.0) b.0 t.took (refused_ok (nothing_left a.0.1) b.0 b.1); fits = t.fits })
 
@@ -187,14 +187,14 @@ joined number (line ∷ next ∷ parts) some ended =
     ap (λ (t : List ℕ). line ++ 10 ∷ t) more ∙ sym (append_assoc line (10 ∷ []) (text_of (map (λ l. l.bytes) rest.lines)))
     ∙ sym (flat_map-cons (λ l. l ++ 10 ∷ []) line (map (λ l. l.bytes) rest.lines))
 
-text_is : (lines : List (List ℕ)) (text : List ℕ) → AreLeft lines (lines_from false 1 (parts_of 10 text)) → text ≡ text_of lines
+text_is : (lines : List (List ℕ)) (text : List ℕ) → AreLinesLeft lines (lines_from false 1 (parts_of 10 text)) → text ≡ text_of lines
 text_is lines text are =
     let some : 0 < length (parts_of 10 text) = omega (arith, length-slice_split (λ b. eqb b 10) text) in
     sym (join_with_byte-slice_split 10 text) ∙ joined 1 (parts_of 10 text) some are.ended ∙ ap text_of are.same
 
 -- what was read is printed as it was, and is a certificate
 pub record IsPrinted (text : List ℕ) (tree : Tree) : Type 0 where
-  pub same : text ≡ spelling tree
+  pub same : text ≡ cert_text tree
   pub fits : IsCertificate tree
 
 by_length : (b : Bool) (left : Remaining) (tree : Tree) → cond b (Err TooLong) (root_in left) ≡ Ok tree → root_in left ≡ Ok tree

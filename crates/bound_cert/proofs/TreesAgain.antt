@@ -22,8 +22,8 @@ use Rattle.packages.specs.Features.{values_of}
 use Rattle.bound_cert.specs.declared.node_lines.NodeLine.TheVariants.{Leaf, Split}
 use Rattle.bound_cert.specs.NodeLines.{leaf_columns, split_columns, node_line_of, leaf_text, split_text}
 use Rattle.bound_cert.specs.Reading.{forest_by, tree_in, root_in, cert_of}
-use Rattle.bound_cert.specs.Texts.{tree_lines, forest_lines, spelling}
-use Rattle.bound_cert.specs.Trees.{Tree, leaf, split, Trees, no_trees, more, count_of, are_prices, is_tree, are_trees, IsCertificate}
+use Rattle.bound_cert.specs.Texts.{tree_lines, forest_lines, cert_text}
+use Rattle.bound_cert.specs.Trees.{Tree, leaf, split, Trees, no_trees, more, tree_count, are_prices, is_tree, are_trees, IsCertificate}
 use Rattle.bound_cert.proofs.RootCases.{short_text}
 
 -- ---- one line
@@ -76,13 +76,13 @@ split_again client feature in_client in_feature = split_read (pos client ∷ pos
 record IsSplit (depth client feature : ℕ) (trees : Trees) : Type 0 where
   in_client : client < 8
   in_feature : feature < 4
-  count : count_of trees ≡ values_of feature
+  count : tree_count trees ≡ values_of feature
   fit : are_trees depth trees ≡ true
 
 split_parts : (depth client feature : ℕ) (trees : Trees) → is_tree (suc depth) (split client feature trees) ≡ true → IsSplit depth client feature trees
 split_parts depth client feature trees h =
-    let last = both_true (ltb client 8 && ltb feature 4 && eqb (count_of trees) (values_of feature)) (are_trees depth trees) h in
-    let middle = both_true (ltb client 8 && ltb feature 4) (eqb (count_of trees) (values_of feature)) last.0 in
+    let last = both_true (ltb client 8 && ltb feature 4 && eqb (tree_count trees) (values_of feature)) (are_trees depth trees) h in
+    let middle = both_true (ltb client 8 && ltb feature 4) (eqb (tree_count trees) (values_of feature)) last.0 in
     let first = both_true (ltb client 8) (ltb feature 4) middle.0 in
     record { in_client = grind (arith, nat_tests, first.0); in_feature = grind (arith, nat_tests, first.1); count = eqb-true _ _ middle.1; fit = last.1 }
 
@@ -99,14 +99,14 @@ mutual
       let counted = rw is.count at below.1 in
       (below.0, rw (split_again client feature is.in_client is.in_feature, counted) refl)
 
-  forest_again : (depth : ℕ) (trees : Trees) → are_trees depth trees ≡ true → (numbers : List ℕ) (others : List (List ℕ)) (after : Remaining) → (m : List ℕ) × (forest_by (tree_in depth) (count_of trees) (ahead numbers (forest_lines trees ++ others) after) ≡ Ok (trees, ahead m others after))
+  forest_again : (depth : ℕ) (trees : Trees) → are_trees depth trees ≡ true → (numbers : List ℕ) (others : List (List ℕ)) (after : Remaining) → (m : List ℕ) × (forest_by (tree_in depth) (tree_count trees) (ahead numbers (forest_lines trees ++ others) after) ≡ Ok (trees, ahead m others after))
   forest_again depth no_trees h numbers others after = (numbers, refl)
   forest_again depth (more tree trees) h numbers others after =
       let both = both_true (is_tree depth tree) (are_trees depth trees) h in
       let first = tree_again depth tree both.0 numbers (forest_lines trees ++ others) after in
       let rest = forest_again depth trees both.1 first.0 others after in
       let regrouped : (tree_lines tree ++ forest_lines trees) ++ others ≡ tree_lines tree ++ (forest_lines trees ++ others) = append_assoc (tree_lines tree) (forest_lines trees) others in
-      let count : count_of trees + 1 ≡ suc (count_of trees) = omega arith in
+      let count : tree_count trees + 1 ≡ suc (tree_count trees) = omega arith in
       (rest.0, rw (regrouped, count, first.1, rest.1) refl)
 
 -- ---- a whole text
@@ -137,7 +137,7 @@ parts_again (line ∷ lines) h =
     ap (parts_of 10) made ∙ parts_more 10 line (text_of lines) h.0 ∙ ap (λ (ls : List (List ℕ)). line ∷ ls) (parts_again lines h.1)
 
 -- the text of a certificate has as many line ends as lines
-pub spelling_parts : (tree : Tree) → IsCertificate tree → length (parts_of 10 (spelling tree)) ≡ length (tree_lines tree) + 1
+pub spelling_parts : (tree : Tree) → IsCertificate tree → length (parts_of 10 (cert_text tree)) ≡ length (tree_lines tree) + 1
 spelling_parts tree is = ap length (parts_again (tree_lines tree) (tree_lines_lack 32 tree is)) ∙ length-append (tree_lines tree) ([] ∷ [])
 
 lines_ahead : (lines : List (List ℕ)) (number : ℕ) → (m : ℕ) × (numbers : List ℕ) × (lines_from false number (lines ++ [] ∷ []) ≡ ahead numbers lines (at_end m))
@@ -156,13 +156,13 @@ root_again tree numbers m h =
     ap (λ (lines : List (List ℕ)). root_in (ahead numbers lines (at_end m))) whole ∙ rw read.1 refl
 
 -- however long its text is
-pub spelling_again : (tree : Tree) → IsCertificate tree → root_in (lines_from false 1 (parts_of 10 (spelling tree))) ≡ Ok tree
+pub spelling_again : (tree : Tree) → IsCertificate tree → root_in (lines_from false 1 (parts_of 10 (cert_text tree))) ≡ Ok tree
 spelling_again tree is =
     let cut = lines_ahead (tree_lines tree) 1 in
     ap (λ (parts : List (List ℕ)). root_in (lines_from false 1 parts)) (parts_again (tree_lines tree) (tree_lines_lack 32 tree is)) ∙ ap root_in cut.2 ∙ root_again tree cut.1 cut.0 is
 
-pub cert_again : (tree : Tree) → IsCertificate tree → length (spelling tree) ≤ 67108864 → cert_of (spelling tree) ≡ Ok tree
-cert_again tree is short = short_text (spelling tree) short ∙ spelling_again tree is
+pub cert_again : (tree : Tree) → IsCertificate tree → length (cert_text tree) ≤ 67108864 → cert_of (cert_text tree) ≡ Ok tree
+cert_again tree is short = short_text (cert_text tree) short ∙ spelling_again tree is
 
-pub text_again : (text : List ℕ) (tree : Tree) → IsCertificate tree → length text ≤ 67108864 → text ≡ spelling tree → cert_of text ≡ Ok tree
+pub text_again : (text : List ℕ) (tree : Tree) → IsCertificate tree → length text ≤ 67108864 → text ≡ cert_text tree → cert_of text ≡ Ok tree
 text_again text tree is short same = ap cert_of same ∙ cert_again tree is (subst (λ (t : List ℕ). length t ≤ 67108864) same short)

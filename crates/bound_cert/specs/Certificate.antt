@@ -6,7 +6,7 @@ use Rattle.packages.specs.declared.travel_packages.Package.TheVariants as kinds
 use Rattle.packages.specs.Bounds.{Narrowing, leaf_bound}
 use Rattle.packages.specs.Features.{values_of, narrowed}
 use Rattle.packages.specs.BestTotal.{IsFeasible, total_of}
-use Rattle.bound_cert.specs.Trees.{Tree, leaf, split, Trees, no_trees, more, count_of}
+use Rattle.bound_cert.specs.Trees.{Tree, leaf, split, Trees, no_trees, more, tree_count}
 
 -- a leaf bound is at most the claim, or some client has no package left
 abbrev pub is_within : Option ℤ → ℕ → Bool
@@ -17,7 +17,7 @@ abbrev mutual
   -- the part of a certificate holds, if these packages are left
   pub holds : AccountFile → ℕ → Narrowing → Tree → Bool
   holds account claim left (leaf prices) = is_within (leaf_bound account left prices) claim
-  holds account claim left (split client feature children) = count_of children == values_of feature && all_hold account claim left client feature 0 children
+  holds account claim left (split client feature children) = tree_count children == values_of feature && all_hold account claim left client feature 0 children
 
   -- the children of a split hold, the first being for this value
   pub all_hold : AccountFile → ℕ → Narrowing → ℕ → ℕ → ℕ → Trees → Bool

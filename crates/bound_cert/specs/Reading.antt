@@ -9,7 +9,7 @@ use Rattle.bound_cert.specs.declared.faults.CertFault.{CertFault}
 use Rattle.bound_cert.specs.declared.faults.CertFault.TheVariants.{Line, TooLong}
 use Rattle.bound_cert.specs.declared.node_lines.NodeLine.{NodeLine}
 use Rattle.bound_cert.specs.declared.node_lines.NodeLine.TheVariants.{Leaf, Split}
-use Rattle.bound_cert.specs.Faults.{refused}
+use Rattle.bound_cert.specs.Faults.{or_cert_fault}
 use Rattle.bound_cert.specs.NodeLines.{node_line_of}
 use Rattle.bound_cert.specs.Trees.{Tree, leaf, split, Trees, no_trees, more}
 
@@ -40,8 +40,8 @@ last_node number (Split client feature) left = Err (Line number 8)
 -- the number of the next line, what the line says, and the lines after it
 abbrev pub node_line_in : Remaining → Result (ℕ × NodeLine × Remaining) CertFault
 node_line_in left = do
-  line ← refused (due_of left)
-  node ← refused (at_line line.0.number (node_line_of line.0.bytes))
+  line ← or_cert_fault (due_of left)
+  node ← or_cert_fault (at_line line.0.number (node_line_of line.0.bytes))
   Ok (line.0.number, node, line.1)
 
 -- a tree of at most this many levels of splits
@@ -53,7 +53,7 @@ tree_in (suc level) left = node_line_in left >>= λ node. node_by (tree_in level
 unfoldable pub root_in : Remaining → Result Tree CertFault
 root_in left = do
   tree ← tree_in CERTIFICATE_DEPTH left
-  done ← refused (nothing_left tree.1)
+  done ← or_cert_fault (nothing_left tree.1)
   Ok tree.0
 
 -- the certificate of a text, or why it is refused

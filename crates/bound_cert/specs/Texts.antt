@@ -15,5 +15,5 @@ abbrev mutual
   forest_lines (more tree trees) = tree_lines tree ++ forest_lines trees
 
 -- the one text
-abbrev pub spelling : Tree → List ℕ
-spelling tree = text_of (tree_lines tree)
+abbrev pub cert_text : Tree → List ℕ
+cert_text tree = text_of (tree_lines tree)

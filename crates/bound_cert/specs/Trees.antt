@@ -15,9 +15,9 @@ mutual
     no_trees : Trees
     more : Tree → Trees → Trees
 
-abbrev pub count_of : Trees → ℕ
-count_of no_trees = 0
-count_of (more tree trees) = count_of trees + 1
+abbrev pub tree_count : Trees → ℕ
+tree_count no_trees = 0
+tree_count (more tree trees) = tree_count trees + 1
 
 -- a price for each good, none above the highest
 abbrev pub are_prices : List ℕ → Bool
@@ -28,7 +28,7 @@ abbrev mutual
   pub is_tree : ℕ → Tree → Bool
   is_tree depth (leaf prices) = are_prices prices
   is_tree zero (split client feature children) = false
-  is_tree (suc depth) (split client feature children) = nat_lt client 8 && nat_lt feature 4 && count_of children == values_of feature && are_trees depth children
+  is_tree (suc depth) (split client feature children) = nat_lt client 8 && nat_lt feature 4 && tree_count children == values_of feature && are_trees depth children
 
   pub are_trees : ℕ → Trees → Bool
   are_trees depth no_trees = true

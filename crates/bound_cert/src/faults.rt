@@ -1,5 +1,5 @@
 ghost use Rattle.std.specs.Prelude.{◌≡◌};
-ghost use Rattle.bound_cert.specs.Faults.{fault_of};
+ghost use Rattle.bound_cert.specs.Faults.{cert_fault};
 
 use text_forms::BadLine;
 use thiserror::Error;
@@ -19,7 +19,7 @@ pub enum CertFault {
 }
 
 impl From<BadLine> for CertFault {
-    ghost from_gives = { λ bad fault. fault ≡ fault_of bad };
+    ghost from_gives = { λ bad fault. fault ≡ cert_fault bad };
 
     fn from(bad: BadLine) -> Self {
         CertFault::Line {

@@ -4,7 +4,7 @@ ghost use Rattle.text_forms.specs.Lines.{text_of};
 ghost use Rattle.text_forms.specs.Words.{parts_of};
 ghost use Rattle.bound_cert.specs.NodeLines.{leaf_text, split_text};
 ghost use Rattle.bound_cert.specs.Reading.{cert_of};
-ghost use Rattle.bound_cert.specs.Texts.{tree_lines, forest_lines, spelling};
+ghost use Rattle.bound_cert.specs.Texts.{tree_lines, forest_lines, cert_text};
 ghost use Rattle.bound_cert.specs.Views.{tree_of, forest_of};
 
 use crate::trees::{Cert, CertNode};
@@ -71,7 +71,7 @@ fn print_children(children: &Vec<CertNode>, out: &mut Vec<u8>) -> Result<(), All
 
 /// The text of a certificate. `Memory` leaves no text.
 pub fn print_cert(alloc: Global, cert: &Cert) -> Result<Vec<u8>, Memory>
-    ensures text { IfOk result (λ text. text.items ≡ spelling (tree_of cert.now.root)) }
+    ensures text { IfOk result (λ text. text.items ≡ cert_text (tree_of cert.now.root)) }
     // There is a line for each leaf and each split, and each line has its line end.
     ensures lines { IfOk result (λ text. length (parts_of 10 text.items) ≡ length (tree_lines (tree_of cert.now.root)) + 1) }
     // What is printed is read as the certificate again, if it is short enough to be read.

@@ -1,7 +1,7 @@
 ghost use Rattle.std.specs.Prelude.{◌≡◌, ◌≤◌, ◌<◌, ◌↔◌, length, IfOk, Ok, Err};
-ghost use Rattle.bound_cert.specs.Faults.{IsReading};
+ghost use Rattle.bound_cert.specs.Faults.{IsCertReading};
 ghost use Rattle.bound_cert.specs.Reading as reading;
-ghost use Rattle.bound_cert.specs.Texts.{spelling};
+ghost use Rattle.bound_cert.specs.Texts.{cert_text};
 ghost use Rattle.bound_cert.specs.Trees.{Tree, IsCertificate};
 ghost use Rattle.bound_cert.specs.Views.{tree_of, forest_of};
 
@@ -11,10 +11,10 @@ use crate::trees::{Cert, CertNode};
 use packages::value_count;
 use std::alloc::Global;
 use tac_base::limits::{CERTIFICATE_DEPTH, TEXT_BYTES};
-use text_forms::{Lines, at_line};
+use text_forms::{TextLines, at_line};
 
 /// The number of the next line, what the line says, and the lines after it.
-fn node_line_in<'a>(lines: Lines<'a>) -> Result<(u32, NodeLine, Lines<'a>), CertFault>
+fn node_line_in<'a>(lines: TextLines<'a>) -> Result<(u32, NodeLine, TextLines<'a>), CertFault>
     ensures { result ≡ reading.node_line_in lines.entry }
 {
     let (line, left) = lines.due()?;
@@ -27,9 +27,9 @@ fn node_line_in<'a>(lines: Lines<'a>) -> Result<(u32, NodeLine, Lines<'a>), Cert
 fn read_node<'a>(
     alloc: Global,
     level: u8,
-    lines: Lines<'a>,
-) -> Result<(CertNode, Lines<'a>), CertFault>
-    ensures { IsReading (λ x. (tree_of x.0, x.1)) result (reading.tree_in level lines.entry) }
+    lines: TextLines<'a>,
+) -> Result<(CertNode, TextLines<'a>), CertFault>
+    ensures { IsCertReading (λ x. (tree_of x.0, x.1)) result (reading.tree_in level lines.entry) }
 {
     let (number, node, left) = node_line_in(lines)?;
     match node {
@@ -60,9 +60,9 @@ fn read_children<'a>(
     alloc: Global,
     level: u8,
     count: u8,
-    lines: Lines<'a>,
-) -> Result<(Vec<CertNode>, Lines<'a>), CertFault>
-    ensures { IsReading (λ x. (forest_of x.0.items, x.1)) result (reading.forest_by (reading.tree_in level) count lines.entry) }
+    lines: TextLines<'a>,
+) -> Result<(Vec<CertNode>, TextLines<'a>), CertFault>
+    ensures { IsCertReading (λ x. (forest_of x.0.items, x.1)) result (reading.forest_by (reading.tree_in level) count lines.entry) }
 {
     let mut children = Vec::new(alloc);
     let mut left = lines;
@@ -77,8 +77,8 @@ fn read_children<'a>(
 }
 
 /// Reads a node and all below it, after which no line may be left.
-fn root_in(alloc: Global, lines: Lines<'_>) -> Result<CertNode, CertFault>
-    ensures { IsReading tree_of result (reading.root_in lines.entry) }
+fn root_in(alloc: Global, lines: TextLines<'_>) -> Result<CertNode, CertFault>
+    ensures { IsCertReading tree_of result (reading.root_in lines.entry) }
 {
     let (root, left) = read_node(alloc, CERTIFICATE_DEPTH, lines)?;
     left.finish()?;
@@ -87,24 +87,24 @@ fn root_in(alloc: Global, lines: Lines<'_>) -> Result<CertNode, CertFault>
 
 /// The root of the certificate of a text.
 fn root_of(alloc: Global, text: &[u8]) -> Result<CertNode, CertFault>
-    ensures exact { IsReading tree_of result (reading.cert_of text.now) }
+    ensures exact { IsCertReading tree_of result (reading.cert_of text.now) }
     ensures too_long { (result ≡ Err CertFault.TooLong) ↔ (TEXT_BYTES < length text.now) }
 {
     if text.len() > TEXT_BYTES as usize {
         return Err(CertFault::TooLong);
     }
-    root_in(alloc, Lines::new(text))
+    root_in(alloc, TextLines::new(text))
 }
 
 /// Reads the text of a certificate. Its depth is at most 32 splits, whatever the text is.
 pub fn read_cert(alloc: Global, text: &[u8]) -> Result<Cert, CertFault>
     // Which certificate it is, or the first bad line with its first reason, unless memory was refused.
-    ensures exact { IsReading (λ cert. tree_of cert.root) result (reading.cert_of text.now) }
+    ensures exact { IsCertReading (λ cert. tree_of cert.root) result (reading.cert_of text.now) }
     ensures too_long { (result ≡ Err CertFault.TooLong) ↔ (TEXT_BYTES < length text.now) }
     // The text is the one of the certificate.
-    ensures same { IfOk result (λ cert. text.now ≡ spelling (tree_of cert.root)) }
+    ensures same { IfOk result (λ cert. text.now ≡ cert_text (tree_of cert.root)) }
     // The text of each certificate is read as that certificate.
-    ensures only { (tree : Tree) → IsCertificate tree → length text.now ≤ TEXT_BYTES → text.now ≡ spelling tree → reading.cert_of text.now ≡ Ok tree }
+    ensures only { (tree : Tree) → IsCertificate tree → length text.now ≤ TEXT_BYTES → text.now ≡ cert_text tree → reading.cert_of text.now ≡ Ok tree }
 {
     let root = root_of(alloc, text)?;
     Ok(Cert { root })

@@ -8,7 +8,7 @@ use Rattle.std.proofs.lemmas.Bool.Decides.{nat_tests}
 use Rattle.tac_base.specs.declared.calls.Call.{Call}
 use Rattle.auction_rules.specs.History.{Entry}
 use Rattle.floor.specs.declared.desk.Desk.{Desk}
-use Rattle.floor.specs.Desks.{calls_of, entries_of}
+use Rattle.floor.specs.Desks.{desk_calls, desk_entries}
 pub use Rattle.floor.specs.Keeping.{calls_of_good}
 use Rattle.floor.proofs.CallLists.{calls_of_good-append}
 use Rattle.clock_events.proofs.GoodCounts.{count-cons}
@@ -21,9 +21,9 @@ abbrev pub AreMade : List (ℕ × Call) → List (List (ℕ × Entry)) → Type 
 AreMade calls entries = (good : ℕ) → good < 28 → map (λ p. p.1.call) (slice_index_or entries good []) ≡ calls_of_good calls good
 
 -- a desk that had made some calls, and then these in order
-pub made_after : (before calls : List (ℕ × Call)) (d d' : Desk) → AreMade before (entries_of d) → calls_of d' ≡ calls_of d ++ calls → AreMade (before ++ calls) (entries_of d')
+pub made_after : (before calls : List (ℕ × Call)) (d d' : Desk) → AreMade before (desk_entries d) → desk_calls d' ≡ desk_calls d ++ calls → AreMade (before ++ calls) (desk_entries d')
 made_after before calls d d' made grew good low =
-    d'.listed.each good low ∙ ap (λ all. calls_of_good all good) grew ∙ calls_of_good-append (calls_of d) calls good
+    d'.listed.each good low ∙ ap (λ all. calls_of_good all good) grew ∙ calls_of_good-append (desk_calls d) calls good
     ∙ ap (λ l. l ++ calls_of_good calls good) (sym (d.listed.each good low) ∙ made good low) ∙ sym (calls_of_good-append before calls good)
 
 -- ---- how many entries there are

@@ -16,7 +16,7 @@ use Rattle.game_text.specs.Flights.{FlightTerms}
 use Rattle.game_text.specs.ClosingOrders.{IsOrder}
 use Rattle.game_text.specs.Games.{GameFile, IsGame}
 use Rattle.game_text.specs.Schedule.{update_of, publication_of, closing_of, closed_last, hotel_nights, is_among, open_after, hotel_calls, hotel_calls_at, calls_at, ticks, schedule, clock_calls}
-use Rattle.clock_events.specs.Laws.{calls_of, IsDue}
+use Rattle.clock_events.specs.Laws.{tick_calls_of, IsDueCall}
 use Rattle.clock_events.proofs.GoodCounts.{count-cons, count-filter, count_left_out, count_among, among_first, distinct_once, none_below, all_between}
 
 abbrev of : ℕ → ℕ × Call → Bool
@@ -53,10 +53,10 @@ updates_before tick good from (flight ∷ flights) past =
     count-cons (of good) (update_of tick (from, flight)) (map (update_of tick) (enumerate_from (from + 1) flights))
     ∙ rw (e, updates_before tick good (from + 1) flights (omega (arith, past))) refl
 
-updates_due : (tick from : ℕ) (flights : List FlightTerms) → tick ≤ 53 → from + length flights ≤ 8 → All (IsDue tick) (map (update_of tick) (enumerate_from from flights))
-updates_due tick from [] soon within = All-nil (IsDue tick)
+updates_due : (tick from : ℕ) (flights : List FlightTerms) → tick ≤ 53 → from + length flights ≤ 8 → All (IsDueCall tick) (map (update_of tick) (enumerate_from from flights))
+updates_due tick from [] soon within = All-nil (IsDueCall tick)
 updates_due tick from (flight ∷ flights) soon within =
-    All-cons (IsDue tick) (update_of tick (from, flight)) _ (refl, soon, omega (arith, within)) (updates_due tick (from + 1) flights soon (omega (arith, within)))
+    All-cons (IsDueCall tick) (update_of tick (from, flight)) _ (refl, soon, omega (arith, within)) (updates_due tick (from + 1) flights soon (omega (arith, within)))
 
 -- ---- the calls of the hotels
 
@@ -68,8 +68,8 @@ of_goods call good (m ∷ goods) =
     ∙ ap (λ k. cond (m == good) 1 0 + k) (of_goods call good goods)
     ∙ sym (count-cons (λ k. k == good) m goods)
 
-publications_due : (tick : ℕ) (goods : List ℕ) → AllBetween 8 15 goods → All (IsDue tick) (map publication_of goods)
-publications_due tick goods range = All-map (IsDue tick) publication_of goods range
+publications_due : (tick : ℕ) (goods : List ℕ) → AllBetween 8 15 goods → All (IsDueCall tick) (map publication_of goods)
+publications_due tick goods range = All-map (IsDueCall tick) publication_of goods range
 
 nights_between : AllBetween 8 15 hotel_nights
 nights_between = all_between 8 15 hotel_nights refl
@@ -139,9 +139,9 @@ module _ (order : List ℕ) (turn : ℕ) (is : IsOrder order) (first : 1 ≤ tur
   pub hotels_count : length (hotel_calls order turn) ≡ 9 - turn
   hotels_count = let open_now = open_count order turn is last in let one = length-map (open_after order turn) publication_of in omega (arith, open_now, one, last)
 
-  pub hotels_due : (tick : ℕ) → All (IsDue tick) (hotel_calls order turn)
+  pub hotels_due : (tick : ℕ) → All (IsDueCall tick) (hotel_calls order turn)
   hotels_due tick = let between = closing_between in
-      All-cons (IsDue tick) (closing_of closing) _ (omega (arith, between)) (publications_due tick (open_after order turn) (open_between order turn))
+      All-cons (IsDueCall tick) (closing_of closing) _ (omega (arith, between)) (publications_due tick (open_after order turn) (open_between order turn))
 
 -- ---- the calls of a tick
 
@@ -156,8 +156,8 @@ calls_count tick = cond (tick == 54) 20 (8 + cond (tick % 6 == 0) (9 - tick / 6)
 last_once : (good : ℕ) → count_by (of good) (map closing_of closed_last) ≤ 1
 last_once good = let one = distinct_once closed_last refl good in let goods = of_goods Close good closed_last in omega (arith, one, goods)
 
-last_due : All (IsDue 54) (map closing_of closed_last)
-last_due = All-map (IsDue 54) closing_of closed_last (All-weaker (IsBetween 0 27) (λ good. good ≤ 27) (λ good between. between.1) closed_last (all_between 0 27 closed_last refl))
+last_due : All (IsDueCall 54) (map closing_of closed_last)
+last_due = All-map (IsDueCall 54) closing_of closed_last (All-weaker (IsBetween 0 27) (λ good. good ≤ 27) (λ good between. between.1) closed_last (all_between 0 27 closed_last refl))
 
 module _ (game : GameFile) (is : IsGame game) (tick : ℕ) (first : 1 ≤ tick) (last : tick ≤ 54) where
   order_is : IsOrder game.order
@@ -197,7 +197,7 @@ module _ (game : GameFile) (is : IsGame game) (tick : ℕ) (first : 1 ≤ tick) 
       (λ sixth. hotels_low game.order (tick / 6) order_is (turn_low sixth) (turn_high early) good under) in
       one_side (count_by (of good) updates) (count_by (of good) (hotel_calls_at game.order tick)) (count_by (of good) (updates ++ hotel_calls_at game.order tick)) good parts one hotels other low
 
-  pub once : (good : ℕ) → calls_of game tick good ≤ 1
+  pub once : (good : ℕ) → tick_calls_of game tick good ≤ 1
   unfolding calls_at
   once good = by_test (tick == 54) refl
     where
@@ -205,17 +205,17 @@ module _ (game : GameFile) (is : IsGame game) (tick : ℕ) (first : 1 ≤ tick) 
       by_test true e = last_once good
       by_test false e = early_once (λ same. let clash : (tick == 54) ≡ true = grind (arith, nat_tests, same) in let off : true ≡ false = sym clash ∙ e in cc) good
 
-  early_due : tick ≢ 54 → All (IsDue tick) (updates ++ hotel_calls_at game.order tick)
-  early_due early = All-append (IsDue tick) updates (hotel_calls_at game.order tick)
+  early_due : tick ≢ 54 → All (IsDueCall tick) (updates ++ hotel_calls_at game.order tick)
+  early_due early = All-append (IsDueCall tick) updates (hotel_calls_at game.order tick)
       (updates_due tick 0 game.flights (omega (arith, early, last)) (let count = flights_count in omega (arith, count)))
-      (at_hotels (All (IsDue tick)) early (λ e. All-nil (IsDue tick)) (λ sixth. hotels_due game.order (tick / 6) order_is (turn_low sixth) (turn_high early) tick))
+      (at_hotels (All (IsDueCall tick)) early (λ e. All-nil (IsDueCall tick)) (λ sixth. hotels_due game.order (tick / 6) order_is (turn_low sixth) (turn_high early) tick))
 
-  pub fit : All (IsDue tick) (calls_at game tick)
+  pub fit : All (IsDueCall tick) (calls_at game tick)
   unfolding calls_at
   fit = by_test (tick == 54) refl
     where
-      by_test : (b : Bool) → (tick == 54) ≡ b → All (IsDue tick) (cond b (map closing_of closed_last) (updates ++ hotel_calls_at game.order tick))
-      by_test true e = let same : 54 ≡ tick = grind (arith, nat_tests, e) in subst (λ k. All (IsDue k) (map closing_of closed_last)) same last_due
+      by_test : (b : Bool) → (tick == 54) ≡ b → All (IsDueCall tick) (cond b (map closing_of closed_last) (updates ++ hotel_calls_at game.order tick))
+      by_test true e = let same : 54 ≡ tick = grind (arith, nat_tests, e) in subst (λ k. All (IsDueCall k) (map closing_of closed_last)) same last_due
       by_test false e = early_due (λ same. let clash : (tick == 54) ≡ true = grind (arith, nat_tests, same) in let off : true ≡ false = sym clash ∙ e in cc)
 
   early_count : tick ≢ 54 → length (updates ++ hotel_calls_at game.order tick) ≡ 8 + cond (tick % 6 == 0) (9 - tick / 6) 0

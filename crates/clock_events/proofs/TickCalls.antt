@@ -13,7 +13,7 @@ use Rattle.tac_base.specs.declared.calls.Call.TheVariants.{Bid, Withdraw, Own, U
 use Rattle.game_text.specs.Games.{GameFile}
 use Rattle.floor.specs.Answers.{IsClockCall}
 use Rattle.game_text.specs.Schedule.{calls_at, clock_calls, schedule, ticks}
-use Rattle.clock_events.specs.Laws.{IsDue, IsFor}
+use Rattle.clock_events.specs.Laws.{IsDueCall, IsFor}
 
 -- this many numbers, from the first on
 count_up : ℕ → ℕ → List ℕ
@@ -104,6 +104,6 @@ is_clock_call tick good (Bid points) for = absurd for
 is_clock_call tick good Withdraw for = absurd for
 is_clock_call tick good Own for = absurd for
 
-pub call_is_due : (calls : List (ℕ × Call)) (tick n good : ℕ) (call : Call) → All (IsDue tick) calls → slice_get calls n ≡ Some (good, call) → (good < 28) × IsClockCall call
+pub call_is_due : (calls : List (ℕ × Call)) (tick n good : ℕ) (call : Call) → All (IsDueCall tick) calls → slice_get calls n ≡ Some (good, call) → (good < 28) × IsClockCall call
 call_is_due calls tick n good call due at =
-    is_clock_call tick good call (subst (IsDue tick) (get_or_from_slice_get calls n (good, call) (good, call) at) (All-get_or (IsDue tick) calls n (good, call) (slice_get_within calls n (good, call) at) due))
+    is_clock_call tick good call (subst (IsDueCall tick) (get_or_from_slice_get calls n (good, call) (good, call) at) (All-get_or (IsDueCall tick) calls n (good, call) (slice_get_within calls n (good, call) at) due))

@@ -6,8 +6,8 @@ use Rattle.std.proofs.lemmas.List.{map-append}
 use Rattle.std.proofs.lemmas.List.Sums.{sum_by-append}
 use Rattle.tac_io.specs.Counts.{Rose}
 use Rattle.tac_io.specs.States.{TickerState}
-use Rattle.tac_io.specs.Told.{and_then_told}
-use Rattle.tac_io.proofs.Tellings.{and_then_told-nothing, and_then_told-twice}
+use Rattle.tac_io.specs.Known.{known_then}
+use Rattle.tac_io.proofs.KnownPieces.{known_then-nothing, known_then-twice}
 use Rattle.game_text.specs.Schedule.{ticks}
 use Rattle.clock_events.specs.Clocking.{HasMissedCause, WaitsForAll}
 use Rattle.clock_events.proofs.TickCalls.{next_tick}
@@ -36,7 +36,7 @@ missed_more first before now missed false cause stays = record {
 -- the first `many` ticks were waited for, in order and at the pace that was set, and this many of them lapsed
 pub record WaitsFor (before after : TickerState) (many missed : ℕ) : Type 0 where
   pub waits : List (ℕ × Bool)
-  pub told : after.waited ≡ and_then_told before.waited waits
+  pub known : after.waited ≡ known_then before.waited waits
   pub in_order : map (λ wait. wait.0) waits ≡ take many ticks
   pub lapses : count_by (λ wait. wait.1) waits ≡ missed
   pub cause : HasMissedCause before.faults after.faults missed
@@ -45,7 +45,7 @@ pub record WaitsFor (before after : TickerState) (many missed : ℕ) : Type 0 wh
 pub waits_for_none : (ticker : TickerState) → WaitsFor ticker ticker 0 0
 waits_for_none ticker = record {
   waits = [];
-  told = sym (and_then_told-nothing ticker.waited);
+  known = sym (known_then-nothing ticker.waited);
   in_order = refl;
   lapses = refl;
   cause = record { rose = λ some. absurd (omega (arith, some)); same = λ none. refl };
@@ -53,11 +53,11 @@ waits_for_none ticker = record {
 }
 
 pub waits_for_more : (before now after : TickerState) (tick missed : ℕ) (lapsed : Bool) → 1 ≤ tick → tick ≤ 54 → WaitsFor before now (tick - 1) missed
-    → after.waited ≡ and_then_told now.waited ((tick, lapsed) ∷ []) → after.paced ≡ now.paced → MatchBool lapsed (Rose now.faults after.faults) (after.faults ≡ now.faults)
+    → after.waited ≡ known_then now.waited ((tick, lapsed) ∷ []) → after.paced ≡ now.paced → MatchBool lapsed (Rose now.faults after.faults) (after.faults ≡ now.faults)
     → WaitsFor before after tick (missed + from_bool lapsed)
 waits_for_more before now after tick missed lapsed first last so_far e paced rose = record {
   waits = so_far.waits ++ (tick, lapsed) ∷ [];
-  told = e ∙ ap (λ t. and_then_told t ((tick, lapsed) ∷ [])) so_far.told ∙ and_then_told-twice before.waited so_far.waits ((tick, lapsed) ∷ []);
+  known = e ∙ ap (λ t. known_then t ((tick, lapsed) ∷ [])) so_far.known ∙ known_then-twice before.waited so_far.waits ((tick, lapsed) ∷ []);
   in_order = map-append (λ wait. wait.0) so_far.waits ((tick, lapsed) ∷ []) ∙ ap (λ ts. ts ++ tick ∷ []) so_far.in_order ∙ sym (next_tick tick first last);
   lapses = sum_by-append (λ (wait : ℕ × Bool). cond wait.1 1 0) so_far.waits ((tick, lapsed) ∷ []) ∙ ap (λ k. k + count_by (λ (wait : ℕ × Bool). wait.1) ((tick, lapsed) ∷ [])) so_far.lapses ∙ ap (λ k. missed + k) (one lapsed);
   cause = missed_more before.faults now.faults after.faults missed lapsed so_far.cause rose;
@@ -72,7 +72,7 @@ waits_for_more before now after tick missed lapsed first last so_far e paced ros
 pub waits_for_all : (before after : TickerState) (many missed : ℕ) → WaitsFor before after many missed → many ≡ 54 → WaitsForAll before after missed
 waits_for_all before after many missed so_far all = record {
   waits = so_far.waits;
-  told = so_far.told;
+  known = so_far.known;
   all_ticks = so_far.in_order ∙ ap (λ k. take k ticks) all;
   lapses = so_far.lapses;
   cause = so_far.cause;

@@ -7,8 +7,8 @@ use Rattle.game_text.specs.Games.{GameFile}
 use Rattle.game_text.specs.Schedule.{calls_at}
 
 -- how many calls of a tick are of a good
-abbrev pub calls_of : GameFile → ℕ → ℕ → ℕ
-calls_of game tick good = count_by (λ call. call.0 == good) (calls_at game tick)
+abbrev pub tick_calls_of : GameFile → ℕ → ℕ → ℕ
+tick_calls_of game tick good = count_by (λ call. call.0 == good) (calls_at game tick)
 
 -- a call that the clock makes of a good at a tick: an update of a flight at its tick, a publication of a hotel, or a closing
 abbrev pub IsFor : ℕ → ℕ → Call → Type 0
@@ -19,5 +19,5 @@ IsFor tick good (Bid points) = ⊥
 IsFor tick good Withdraw = ⊥
 IsFor tick good Own = ⊥
 
-abbrev pub IsDue : ℕ → ℕ × Call → Type 0
-IsDue tick (good, call) = IsFor tick good call
+abbrev pub IsDueCall : ℕ → ℕ × Call → Type 0
+IsDueCall tick (good, call) = IsFor tick good call

@@ -1,10 +1,10 @@
 // The clock of a game, over a ticker.
 ghost use Rattle.std.specs.Prelude.{◌≡◌, ◌<◌, [], ◌∷◌, ◌++◌, ◌-◌, ℕ, length, map, replicate, IfSome, MatchBool};
 ghost use Rattle.floor.specs.Answers.{IsSameDesk};
-ghost use Rattle.floor.specs.Desks.{boards_of, calls_of, cash_of, desk_caller, desk_ids, entries_at, entries_of};
+ghost use Rattle.floor.specs.Desks.{boards_of, desk_calls, desk_cash, desk_caller, desk_ids, entries_at, desk_entries};
 ghost use Rattle.floor.specs.Floors.{floor_ids};
 ghost use Rattle.tac_io.specs.Counts.{Rose};
-ghost use Rattle.tac_io.specs.Told.{and_then_told};
+ghost use Rattle.tac_io.specs.Known.{known_then};
 ghost use Rattle.clock_events.specs.Clocking.{WaitsForAll};
 ghost use Rattle.clock_events.specs.MadeCalls.{HasMade};
 ghost use Rattle.game_text.specs.Schedule as spec;
@@ -41,7 +41,7 @@ pub fn clock_tick<R: Wait + Clock, T: Ticker>(
     requires own { desk_ids desk.old ≡ floor_ids floor.now }
     requires clock { desk_caller desk.old ≡ 8 }
     requires before { HasMade game.now (tick - 1) desk.old }
-    ensures calls { calls_of desk.new ≡ calls_of desk.old ++ spec.calls_at game.now tick }
+    ensures calls { desk_calls desk.new ≡ desk_calls desk.old ++ spec.calls_at game.now tick }
     ensures made { HasMade game.now tick desk.new }
     ensures boards { boards_of desk.new ≡ boards_of desk.old }
     ensures same { IsSameDesk desk.old desk.new }
@@ -61,7 +61,7 @@ pub fn clock_tick<R: Wait + Clock, T: Ticker>(
 fn wait_for<R: Wait + Clock, T: Ticker>(rt: &R, ticker: &mut T, tick: Tick) -> (T::Due, bool)
     requires { IfSome (T.state ticker.old).waited (λ ticks. length ticks < TICKS) }
     ensures due { T.due_tick result.0 ≡ tick }
-    ensures waited { (T.state ticker.new).waited ≡ and_then_told (T.state ticker.old).waited ((tick, result.1) ∷ []) }
+    ensures waited { (T.state ticker.new).waited ≡ known_then (T.state ticker.old).waited ((tick, result.1) ∷ []) }
     ensures paced { (T.state ticker.new).paced ≡ (T.state ticker.old).paced }
     ensures cause { MatchBool result.1 (Rose (T.state ticker.old).faults (T.state ticker.new).faults) ((T.state ticker.new).faults ≡ (T.state ticker.old).faults) }
 {
@@ -83,9 +83,9 @@ pub fn run_clock<R: Wait + Clock, T: Ticker>(
 ) -> ClockEnd
     requires own { desk_ids desk ≡ floor_ids floor.now }
     requires clock { desk_caller desk ≡ 8 }
-    requires no_calls { (entries_of desk ≡ replicate 28 []) × (cash_of desk ≡ []) }
+    requires no_calls { (desk_entries desk ≡ replicate 28 []) × (desk_cash desk ≡ []) }
     requires ticks { IfSome (T.state ticker.old).waited (λ ticks. ticks ≡ []) }
-    ensures calls { calls_of result.desk ≡ spec.schedule game.now }
+    ensures calls { desk_calls result.desk ≡ spec.schedule game.now }
     ensures made { HasMade game.now TICKS result.desk }
     ensures whole { (good : ℕ) → good < 28 → map (λ p. p.1.call) (entries_at result.desk good) ≡ clock_calls game.now good }
     ensures boards { boards_of result.desk ≡ boards_of desk }

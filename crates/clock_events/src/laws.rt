@@ -10,8 +10,8 @@ use game_text::Game;
 /// most one of them of each good, and each is one that the good's kind of auction has. A whole game has 480 of them, of
 /// which at most 54 are of one good.
 pub fn schedule_law(game: &Game)
-    ensures once { (tick good : ℕ) → 1 ≤ tick → tick ≤ TICKS → laws.calls_of game.now tick good ≤ 1 }
-    ensures fit { (tick : ℕ) → 1 ≤ tick → tick ≤ TICKS → All (laws.IsDue tick) (spec.calls_at game.now tick) }
+    ensures once { (tick good : ℕ) → 1 ≤ tick → tick ≤ TICKS → laws.tick_calls_of game.now tick good ≤ 1 }
+    ensures fit { (tick : ℕ) → 1 ≤ tick → tick ≤ TICKS → All (laws.IsDueCall tick) (spec.calls_at game.now tick) }
     ensures few { (tick : ℕ) → 1 ≤ tick → tick ≤ TICKS → length (spec.calls_at game.now tick) ≤ 20 }
     ensures whole { length (spec.schedule game.now) ≡ CLOCK_CASH_ENTRIES }
     ensures most { (good : ℕ) → length (spec.clock_calls game.now good) ≤ TICKS }

@@ -6,7 +6,7 @@ use Rattle.std.proofs.Math.Nat.{mod-lt}
 use Rattle.std.proofs.lemmas.List.{length-map, length-drop}
 use Rattle.std.proofs.lemmas.List.Elements.{All-from_recursion, All-get_or, All-map}
 use Rattle.tac_base.specs.Clients.{IsClient}
-use Rattle.draw_maker.specs.Clients.{trips, trip_of, made_client}
+use Rattle.draw_maker.specs.Clients.{drawn_trips, drawn_trip, made_client}
 
 -- a day of arrival, and a later day of departure
 record IsTrip (trip : ℕ × ℕ) : Type 0 where
@@ -18,9 +18,9 @@ record IsTrip (trip : ℕ × ℕ) : Type 0 where
 trip : (arrive depart : ℕ) → 1 ≤ arrive → arrive ≤ 4 → arrive < depart → depart ≤ 5 → IsTrip (arrive, depart)
 trip arrive depart first last later departs = record { first = first; last = last; later = later; departs = departs }
 
-trips_range : All IsTrip trips
+trips_range : All IsTrip drawn_trips
 trips_range =
-    All-from_recursion IsTrip trips (
+    All-from_recursion IsTrip drawn_trips (
       trip 1 2 (lit≤ tt) (lit≤ tt) (lit< tt) (lit≤ tt),
       (
         trip 1 3 (lit≤ tt) (lit≤ tt) (lit< tt) (lit≤ tt),
@@ -52,9 +52,9 @@ trips_range =
       ),
     )
 
-trip_range : (rank : ℕ) → rank < 10 → IsTrip (trip_of rank)
-unfolding trip_of
-trip_range rank below = All-get_or IsTrip trips rank (0, 0) below trips_range
+trip_range : (rank : ℕ) → rank < 10 → IsTrip (drawn_trip rank)
+unfolding drawn_trip
+trip_range rank below = All-get_or IsTrip drawn_trips rank (0, 0) below trips_range
 
 pub client_range : (words : List ℕ) → length words ≡ 5 → IsClient (made_client words)
 client_range words count =

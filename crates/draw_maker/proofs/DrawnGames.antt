@@ -11,7 +11,7 @@ use Rattle.draw_maker.specs.Words.{generator, next_words, after, parts}
 use Rattle.draw_maker.specs.Flights.{made_flight}
 use Rattle.draw_maker.specs.ClosingOrders.{made_order}
 use Rattle.draw_maker.specs.Endowments.{made_endowment}
-use Rattle.draw_maker.specs.Clients.{trip_of, made_client, made_clients}
+use Rattle.draw_maker.specs.Clients.{drawn_trip, made_client, made_clients}
 use Rattle.game_text.specs.SeatWords.{numbered_seats}
 use Rattle.draw_maker.specs.Games.{game_of_words, made_game}
 use Rattle.draw_maker.proofs.DrawnWords.{after-add, take-words, drop-words, length-words, two_before, parts_within}
@@ -31,7 +31,7 @@ flight_drawn words later two draws two-is later-is draws-is =
     let bound = kept_bound (slice_index two 1 % 41) (mod-lt (slice_index two 1) (lit< tt)) in
     rw (bound, draws-is, later-is, two-is) (sym (ap made_flight (two_before 53 words)))
 
-pub client_drawn : (words later : Lcg) (two : List ℕ) (trip : ℕ × ℕ) (values : List ℕ) → two ≡ next_words 2 words → later ≡ after 2 words → trip ≡ trip_of (slice_index two 0 % 10)
+pub client_drawn : (words later : Lcg) (two : List ℕ) (trip : ℕ × ℕ) (values : List ℕ) → two ≡ next_words 2 words → later ≡ after 2 words → trip ≡ drawn_trip (slice_index two 0 % 10)
     → values ≡ map (λ word. word % 201) (next_words 3 later)
     → record { arrive = trip.0; depart = trip.1; premium = 50 + slice_index two 1 % 101; values = values } ≡ made_client (next_words 5 words)
 client_drawn words later two trip values two-is later-is trip-is values-is = rw (values-is, trip-is, later-is, two-is) (sym (ap made_client (two_before 3 words)))

@@ -4,18 +4,18 @@ use Rattle.tac_base.specs.Clients.{Preferences}
 use Rattle.draw_maker.specs.Words.{parts}
 
 -- the days of arrival and departure, by rank
-abbrev pub trips : List (ℕ × ℕ)
-trips = (1, 2) ∷ (1, 3) ∷ (1, 4) ∷ (1, 5) ∷ (2, 3) ∷ (2, 4) ∷ (2, 5) ∷ (3, 4) ∷ (3, 5) ∷ (4, 5) ∷ []
+abbrev pub drawn_trips : List (ℕ × ℕ)
+drawn_trips = (1, 2) ∷ (1, 3) ∷ (1, 4) ∷ (1, 5) ∷ (2, 3) ∷ (2, 4) ∷ (2, 5) ∷ (3, 4) ∷ (3, 5) ∷ (4, 5) ∷ []
 
 -- the trip of a rank below 10
-unfoldable pub trip_of : ℕ → ℕ × ℕ
-trip_of rank = slice_index_or trips rank (0, 0)
+unfoldable pub drawn_trip : ℕ → ℕ × ℕ
+drawn_trip rank = slice_index_or drawn_trips rank (0, 0)
 
 -- 5 words: the trip, the premium and the three values
 abbrev pub made_client : List ℕ → Preferences
 made_client words = record {
-  arrive = (trip_of (slice_index words 0 % 10)).0;
-  depart = (trip_of (slice_index words 0 % 10)).1;
+  arrive = (drawn_trip (slice_index words 0 % 10)).0;
+  depart = (drawn_trip (slice_index words 0 % 10)).1;
   premium = 50 + slice_index words 1 % 101;
   values = map (λ word. word % 201) (drop 2 words);
 }

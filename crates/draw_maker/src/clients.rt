@@ -1,5 +1,5 @@
 ghost use Rattle.std.specs.Prelude.{◌≡◌, ◌<◌};
-ghost use Rattle.draw_maker.specs.Clients.{trip_of, made_client, made_clients};
+ghost use Rattle.draw_maker.specs.Clients.{drawn_trip, made_client, made_clients};
 
 use crate::drawing::{Drawn, draw_below, draw_each, draw_words};
 use rand_pcg::Lcg64Xsh32;
@@ -20,10 +20,10 @@ static TRIPS: [(u8, u8); 10] = [
 ];
 
 /// The days of arrival and departure of a trip.
-#[tactic(auto, unfolding(crate::specs::Clients::trip_of))]
+#[tactic(auto, unfolding(crate::specs::Clients::drawn_trip))]
 fn trip_of(rank: u32) -> (u8, u8)
     requires { rank < 10 }
-    ensures { result ≡ trip_of rank }
+    ensures { result ≡ drawn_trip rank }
 {
     TRIPS[rank as usize]
 }

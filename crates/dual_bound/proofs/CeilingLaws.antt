@@ -18,7 +18,7 @@ use Rattle.packages.proofs.Decoded.{length-packages, package_is}
 use Rattle.packages.proofs.Margins.{drop_at}
 use Rattle.bound_cert.specs.Certificate.{all_left}
 use Rattle.packages.specs.declared.travel_packages.Package.TheVariants as kinds
-use Rattle.relaxation.specs.Tables.{AreWorths, KeepsOthers, dollars_at}
+use Rattle.relaxation.specs.Tables.{HasWorths, KeepsOthers, dollars_at}
 use Rattle.dual_bound.specs.Ceilings.{margins_at, IsCeiling, AreCosts, HasMore}
 use Rattle.dual_bound.specs.Restrictions.{KeepsLeft}
 use Rattle.dual_bound.proofs.Greatest.{greatest_at_most, parts_of}
@@ -126,10 +126,10 @@ int_refl : (a : ℤ) (b : ℤ) → b ≡ a → a ≤ℤ b
 int_refl a b h = omega (arith, ints, h)
 
 -- the table of all packages is a ceiling
-pub ceiling_of_worths : (account : AccountFile) (table : List ℤ) → AreWorths account.clients table → IsCeiling account all_left table
+pub ceiling_of_worths : (account : AccountFile) (table : List ℤ) → HasWorths account.clients table → IsCeiling account all_left table
 ceiling_of_worths account table worths = λ k n wants p client_at at left. int_refl (pos (utility_of wants p)) (dollars_at table k n) (worths k n wants p client_at at)
 
 -- a table that keeps what is left of all is a ceiling of it
-pub ceiling_left : (account : AccountFile) (is_account : IsAccount account) (left : Narrowing) (old new : List ℤ) → AreWorths account.clients old → KeepsLeft left old new → IsCeiling account left new
+pub ceiling_left : (account : AccountFile) (is_account : IsAccount account) (left : Narrowing) (old new : List ℤ) → HasWorths account.clients old → KeepsLeft left old new → IsCeiling account left new
 ceiling_left account is_account left old new worths keeps = λ k n wants p at found is_left.
     int_refl (pos (utility_of wants p)) (dollars_at new k n) (keeps k n p (omega (arith, slice_get_within account.clients k wants at, is_account.clients.count)) found is_left ∙ worths k n wants p at found)

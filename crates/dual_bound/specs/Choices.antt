@@ -26,8 +26,8 @@ abbrev pub fixed_count : List (List (Option ℕ)) → ℕ
 fixed_count choice = sum_by (count_by is_some) choice
 
 -- nothing is fixed
-abbrev pub nothing : List (List (Option ℕ))
-nothing = replicate 8 (replicate 4 None)
+abbrev pub nothing_fixed : List (List (Option ℕ))
+nothing_fixed = replicate 8 (replicate 4 None)
 
 -- a client's feature is fixed besides
 abbrev pub with_fixed : List (List (Option ℕ)) → ℕ → ℕ → ℕ → List (List (Option ℕ))

@@ -56,7 +56,7 @@ pub fn is_enough(account: &Account, allocation: &[Package; 8]) -> bool
 }
 
 /// What the packages, each one of the 393, are worth to the clients together, in dollars.
-pub fn worth(account: &Account, allocation: &[Package; 8]) -> u32
+pub fn allocation_worth(account: &Account, allocation: &[Package; 8]) -> u32
     requires lawful { All IsPackage allocation.now }
     requires eight { length allocation.now ≡ 8 }
     ensures value { result ≡ total_of account.now.clients allocation.now }

@@ -56,7 +56,7 @@ impl Narrowing for Choice {
 impl Choice {
     /// Nothing is fixed.
     pub fn none() -> Choice
-        ensures { result ≡ choices.nothing }
+        ensures { result ≡ choices.nothing_fixed }
     {
         Choice {
             fixed: [[None; 4]; 8],

@@ -6,7 +6,7 @@ mod choices;
 mod quotes;
 mod settling;
 
-pub use allocations::{is_enough, is_used_up, worth};
+pub use allocations::{allocation_worth, is_enough, is_used_up};
 pub use choices::Choice;
 pub use quotes::Quote;
 pub use settling::{dual_prices, settled_quote};

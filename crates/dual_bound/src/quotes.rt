@@ -8,7 +8,7 @@ ghost use Rattle.dual_bound.specs.Ceilings.{AreCosts, HasMore, IsCeiling};
 
 use game_text::Account;
 use packages::{Prices, cost, package, stock_value};
-use relaxation::Worths;
+use relaxation::WorthTable;
 
 /// Prices, what each package costs at them, and what all goods cost that there are.
 #[derive(Clone, Copy)]
@@ -35,7 +35,7 @@ impl Quote {
     }
 
     /// Whether the prices bound by a claim in dollars what is left of an account's packages, by a table of upper bounds of their worths.
-    pub fn holds(&self, left: &Worths, claim: u32) -> bool
+    pub fn holds(&self, left: &WorthTable, claim: u32) -> bool
         ensures bounds { (account : AccountFile) (narrowing : bounds.Narrowing) → IsAccount account
             → self.now.stock_value ≡ bounds.stock_value account.holdings self.now.prices
             → IsCeiling account narrowing left.now.dollars
@@ -78,7 +78,7 @@ fn costs(prices: &Prices) -> [u32; 393]
 }
 
 /// The most that any package is worth to a client, 0..7, beyond its cost, as the table has it.
-fn most(left: &Worths, client: usize, costs: &[u32; 393]) -> i64
+fn most(left: &WorthTable, client: usize, costs: &[u32; 393]) -> i64
     requires { client < 8 }
     ensures bound { (n : ℕ) → n < 393 → (dollars_at left.now.dollars client n -ℤ pos (slice_index costs.now n)) ≤ℤ result }
     ensures reached { (n : ℕ) × (n < 393) × (result ≡ dollars_at left.now.dollars client n -ℤ pos (slice_index costs.now n)) }

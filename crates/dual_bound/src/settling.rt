@@ -11,12 +11,12 @@ ghost use Rattle.dual_bound.specs.Settled as settled;
 ghost use Rattle.dual_bound.specs.Ceilings.{IsCeiling};
 ghost use Rattle.dual_bound.specs.Restrictions.{IsNarrowedBy, IsRestricted};
 
-use crate::allocations::{is_enough, worth};
+use crate::allocations::{allocation_worth, is_enough};
 use crate::choices::Choice;
 use crate::quotes::Quote;
 use game_text::Account;
 use packages::{Narrowing, Package, Prices, leaf_bound};
-use relaxation::{Relaxation, Worths};
+use relaxation::{Relaxation, WorthTable};
 use tac_base::limits::DUAL_PRICE;
 
 /// Whether a bound is lower than another, where both are there.
@@ -140,7 +140,7 @@ fn are_left(choice: &Choice, allocation: &[Package; 8]) -> bool
 fn is_reached(
     account: &Account,
     choice: &Choice,
-    left: &Worths,
+    left: &WorthTable,
     quote: &Quote,
     allocation: &[Package; 8],
 ) -> bool
@@ -154,7 +154,7 @@ fn is_reached(
     let _holdings = &account.holdings;
     are_left(choice, allocation)
         && is_enough(account, allocation)
-        && quote.holds(left, worth(account, allocation))
+        && quote.holds(left, allocation_worth(account, allocation))
 }
 
 /// The clients keep what a choice leaves; it is not solved yet.

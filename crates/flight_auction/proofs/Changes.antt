@@ -21,7 +21,7 @@ use Rattle.auction_rules.specs.Standing.{gone, stand, left_points}
 use Rattle.auction_rules.proofs.Idle.{IsIdle, idle_stand, idle_last}
 use Rattle.auction_rules.proofs.Standing.{last_units, Each, each-weaker, each-both, IsPlaced, each-placed, last_is, all_among_right, all_among_self, among-append, among-filter, not_among, new_not_gone, stands_unless_gone, left_whole, left_none}
 use Rattle.flight_auction.specs.declared.sales.StandingPoint.{StandingPoint}
-use Rattle.flight_auction.specs.Book.{owned_by, is_of, others_than, sales, unsold, by_position, placed_bids, standing_of, standing_points}
+use Rattle.flight_auction.specs.Book.{owned_by, is_points_agent, others_than, sales, unsold, by_position, placed_bids, standing_of, standing_points}
 use Rattle.auction_rules.proofs.Lists.{filter-flat_map, flat_map-filter, flat_map_same, flat_map_alike, all-weaker, all_passing}
 use Rattle.flight_auction.proofs.Sold.{standing_cut, standing_same, unsold_all, trades_are}
 use Rattle.auction_rules.proofs.Agents.{number_same, numbers_differ, another}
@@ -105,7 +105,7 @@ others_flat : (units : List BidUnit) (agent : ℕ) (bids : List Placed) → flat
 others_flat units agent bids =
     flat_map-filter (standing_of units) (of_others agent) bids
     ∙ flat_map_alike _ (λ (bid : Placed). others_than agent (standing_of units bid)) bids (λ bid. one (bid.agent == agent) bid.agent refl (left_points units bid.agent bid.position 0 bid.points))
-    ∙ sym (filter-flat_map (λ (s : StandingPoint). not (is_of agent s)) (standing_of units) bids)
+    ∙ sym (filter-flat_map (λ (s : StandingPoint). not (is_points_agent agent s)) (standing_of units) bids)
   where
     one : (b : Bool) (owner : ℕ) → (owner == agent) ≡ b → (points : List Point) → cond (not b) (owned_by owner points) [] ≡ others_than agent (owned_by owner points)
     one b owner h [] = either_same (not b) []

@@ -25,7 +25,7 @@ use Rattle.auction_rules.proofs.Idle.{IsIdle, idle_refused, idle_price, idle_clo
 use Rattle.auction_rules.proofs.Agents.{not_clock}
 use Rattle.auction_rules.proofs.Steps.{refused_entry, entry_refused, entry_admitted, refusal_refuses, follows}
 use Rattle.flight_auction.specs.declared.sales.StandingPoint.{StandingPoint}
-use Rattle.flight_auction.specs.Book.{owned_by, is_of, points_of, others_than, reaches, sale, sales, unsold, FlightBook, standing_points, StandsFor}
+use Rattle.flight_auction.specs.Book.{owned_by, is_points_agent, agents_points, others_than, reaches, sale, sales, unsold, FlightBook, standing_points, StandsFor}
 use Rattle.flight_auction.proofs.Changes.{update_entry, update_left, update_trades, bid_entry, bid_left, bid_trades, withdraw_entry, withdraw_left, closed_left, idle_left}
 use Rattle.flight_auction.proofs.Owning.{own_points, has_standing_is}
 
@@ -136,22 +136,22 @@ module _ (setup : Setup) (past : List Entry) (book : FlightBook) (stood : Stands
 
   -- ---- a withdrawal
 
-  refusal_of_withdrawal : (agent : ℕ) → agent ≤ 7 → book.closed ≡ false → refusal setup.rules past agent Withdraw ≡ (if list_any (is_of agent) book.standing then None else Some NoBid)
+  refusal_of_withdrawal : (agent : ℕ) → agent ≤ 7 → book.closed ≡ false → refusal setup.rules past agent Withdraw ≡ (if list_any (is_points_agent agent) book.standing then None else Some NoBid)
   refusal_of_withdrawal agent le open_now =
       ap (λ (rules : Rules). refusal rules past agent Withdraw) stood.rules
       ∙ by_tests (is_closed past) (agent == clock) (has_standing (FlightRules stood.first book.bound) past agent) (still_open open_now) (not_clock agent le)
       ∙ ap (λ (b : Bool). if b then None else Some NoBid)
-      (has_standing_is (FlightRules stood.first book.bound) past agent le (still_open open_now) ∙ ap (list_any (is_of agent)) (sym standing_is))
+      (has_standing_is (FlightRules stood.first book.bound) past agent le (still_open open_now) ∙ ap (list_any (is_points_agent agent)) (sym standing_is))
     where
       by_tests : (closed clocks stands : Bool) → closed ≡ false → clocks ≡ false →
           (if closed then Some Closed else if clocks || false then Some WrongCall else if stands then None else Some NoBid) ≡ (if stands then None else Some NoBid)
       by_tests closed clocks stands h k = rw (h, k) refl
 
-  pub follows_without_bid : (agent : ℕ) → agent ≤ 7 → book.closed ≡ false → list_any (is_of agent) book.standing ≡ false → Follows setup past agent Withdraw NoBid [] (StandsFor book setup)
+  pub follows_without_bid : (agent : ℕ) → agent ≤ 7 → book.closed ≡ false → list_any (is_points_agent agent) book.standing ≡ false → Follows setup past agent Withdraw NoBid [] (StandsFor book setup)
   follows_without_bid agent le open_now nothing =
       follows_refused agent Withdraw NoBid [] (refusal_of_withdrawal agent le open_now ∙ ap (λ (b : Bool). if b then None else Some NoBid) nothing) refl
 
-  pub follows_withdrawn : (agent : ℕ) (standing : List StandingPoint) → agent ≤ 7 → book.closed ≡ false → list_any (is_of agent) book.standing ≡ true → standing ≡ others_than agent book.standing →
+  pub follows_withdrawn : (agent : ℕ) (standing : List StandingPoint) → agent ≤ 7 → book.closed ≡ false → list_any (is_points_agent agent) book.standing ≡ true → standing ≡ others_than agent book.standing →
       Follows setup past agent Withdraw Done [] (StandsFor (record book { standing = standing }) setup)
   follows_withdrawn agent standing le open_now something left_is =
       follows setup past agent Withdraw (withdraw_entry agent) Done [] (StandsFor (record book { standing = standing }) setup)
@@ -220,5 +220,5 @@ module _ (setup : Setup) (past : List Entry) (book : FlightBook) (stood : Stands
 
   -- ---- what an agent has
 
-  pub owns : (agent : ℕ) → agent ≤ 7 → points_of agent book.standing ≡ left setup.rules past agent
+  pub owns : (agent : ℕ) → agent ≤ 7 → agents_points agent book.standing ≡ left setup.rules past agent
   owns agent le = rw (standing_is, stood.rules) (own_points (FlightRules stood.first book.bound) past agent le)

@@ -16,27 +16,27 @@ use Rattle.auction_rules.specs.Standing.{gone, stand, signed_as, left_points, le
 use Rattle.auction_rules.specs.Refusals.{has_standing}
 use Rattle.auction_rules.proofs.Standing.{Each, each-front, each-back, stands_unless_gone}
 use Rattle.flight_auction.specs.declared.sales.StandingPoint.{StandingPoint}
-use Rattle.flight_auction.specs.Book.{owned_by, is_of, points_of, by_position, placed_bids, standing_of, standing_points}
+use Rattle.flight_auction.specs.Book.{owned_by, is_points_agent, agents_points, by_position, placed_bids, standing_of, standing_points}
 use Rattle.auction_rules.proofs.LeftPoints.{suc_not_zero}
 use Rattle.auction_rules.proofs.Lists.{filter_same, filter-flat_map, map-flat_map, flat_map-filter, flat_map_alike, some_of, some-append, any_is_some}
 use Rattle.auction_rules.proofs.AgentUnits.{own_units}
 use Rattle.flight_auction.proofs.Order.{made_by, own_bid}
 
 -- the points of one bid are all its agent's
-pub owned_points : (agent owner : ℕ) (points : List Point) → points_of agent (owned_by owner points) ≡ (if owner == agent then points else [])
+pub owned_points : (agent owner : ℕ) (points : List Point) → agents_points agent (owned_by owner points) ≡ (if owner == agent then points else [])
 owned_points agent owner points = by_test (owner == agent) refl points
   where
-    by_test : (b : Bool) → (owner == agent) ≡ b → (ps : List Point) → points_of agent (owned_by owner ps) ≡ cond b ps []
+    by_test : (b : Bool) → (owner == agent) ≡ b → (ps : List Point) → agents_points agent (owned_by owner ps) ≡ cond b ps []
     by_test true h [] = refl
     by_test true h (p ∷ ps) = rw (h, by_test true h ps) refl
     by_test false h [] = refl
     by_test false h (p ∷ ps) = rw (h, by_test false h ps) refl
 
 -- the agent's points are what is left of its last bid
-pub own_points : (rules : Rules) (past : List Entry) (agent : ℕ) → agent ≤ 7 → points_of agent (standing_points rules past) ≡ left rules past agent
+pub own_points : (rules : Rules) (past : List Entry) (agent : ℕ) → agent ≤ 7 → agents_points agent (standing_points rules past) ≡ left rules past agent
 own_points rules past agent le =
-    ap (map (λ (s : StandingPoint). s.point)) (filter-flat_map (is_of agent) (standing_of units) order)
-    ∙ map-flat_map (λ (s : StandingPoint). s.point) (λ (bid : Placed). filter (is_of agent) (standing_of units bid)) order
+    ap (map (λ (s : StandingPoint). s.point)) (filter-flat_map (is_points_agent agent) (standing_of units) order)
+    ∙ map-flat_map (λ (s : StandingPoint). s.point) (λ (bid : Placed). filter (is_points_agent agent) (standing_of units bid)) order
     ∙ flat_map_alike _ (λ (bid : Placed). if made_by agent bid then left_of units (Some bid) else []) order (λ bid. owned_points agent bid.agent (left_points units bid.agent bid.position 0 bid.points))
     ∙ sym (flat_map-filter (λ (bid : Placed). left_of units (Some bid)) (made_by agent) order)
     ∙ ap (flat_map (λ (bid : Placed). left_of units (Some bid))) (own_bid agent past le)
@@ -84,14 +84,14 @@ some_left standing gone agent position from (point ∷ points) h =
     by_list [] count is = rw is refl
     by_list (u ∷ kept) count is = rw (is, suc_not_zero (length kept)) refl
 
-pub has_standing_is : (rules : Rules) (past : List Entry) (agent : ℕ) → agent ≤ 7 → is_closed past ≡ false → has_standing rules past agent ≡ list_any (is_of agent) (standing_points rules past)
+pub has_standing_is : (rules : Rules) (past : List Entry) (agent : ℕ) → agent ≤ 7 → is_closed past ≡ false → has_standing rules past agent ≡ list_any (is_points_agent agent) (standing_points rules past)
 has_standing_is rules past agent le still_open =
     any_is_some (λ u. u.agent == agent) (stand rules past)
     ∙ ap some_of (own_units rules past agent le still_open)
     ∙ of_option (last_bid agent past) (stands_unless_gone rules past agent le still_open)
     ∙ ap some_of (sym (own_points rules past agent le))
-    ∙ some-map (λ (s : StandingPoint). s.point) (filter (is_of agent) (standing_points rules past))
-    ∙ sym (any_is_some (is_of agent) (standing_points rules past))
+    ∙ some-map (λ (s : StandingPoint). s.point) (filter (is_points_agent agent) (standing_points rules past))
+    ∙ sym (any_is_some (is_points_agent agent) (standing_points rules past))
   where
     of_option : (bid : Option Placed) → Each (λ u. among u (stand rules past) ≡ not (among u (gone rules past))) (units_of_last bid) →
         some_of (without (units_of_last bid) (gone rules past)) ≡ some_of (left_of (stand rules past) bid)

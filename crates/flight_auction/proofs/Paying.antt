@@ -7,7 +7,7 @@ use Rattle.std.proofs.lemmas.List.Elements.{All-from_recursion, All-weaker}
 use Rattle.tac_base.specs.declared.calls.Trade.{Trade}
 use Rattle.tac_base.specs.Bids.{size_of}
 use Rattle.flight_auction.specs.declared.sales.StandingPoint.{StandingPoint}
-use Rattle.flight_auction.specs.Book.{is_of, reaches, sale, sales, others_than, IsPaid}
+use Rattle.flight_auction.specs.Book.{is_points_agent, reaches, sale, sales, others_than, IsPaid}
 use Rattle.auction_rules.proofs.Lists.{all-weaker}
 
 any_here : (P : StandingPoint → Type 0) (s : StandingPoint) (standing : List StandingPoint) → P s → Any P (s ∷ standing)
@@ -54,5 +54,5 @@ pub bid_paid : (good price agent : ℕ) (standing added : List StandingPoint) (t
     All (IsPaid (standing ++ added)) trades
 bid_paid good price agent standing added trades is =
     All-weaker (IsPaid (others_than agent standing ++ added)) (IsPaid (standing ++ added))
-    (λ trade found. any_of_all (λ x. (x.agent ≡ trade.buyer) × (size_of x.point ≡ trade.units) × (trade.price ≤ x.point.price)) (λ s. not (is_of agent s)) standing added found)
+    (λ trade found. any_of_all (λ x. (x.agent ≡ trade.buyer) × (size_of x.point ≡ trade.units) × (trade.price ≤ x.point.price)) (λ s. not (is_points_agent agent s)) standing added found)
     trades (sales_paid good price (others_than agent standing ++ added) trades is)

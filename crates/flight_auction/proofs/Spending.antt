@@ -14,7 +14,7 @@ use Rattle.auction_rules.proofs.Agents.{number_same}
 use Rattle.auction_rules.proofs.Trading.{sum_by-filter-le}
 use Rattle.auction_rules.proofs.Lists.{all-filter}
 use Rattle.flight_auction.specs.declared.sales.StandingPoint.{StandingPoint}
-use Rattle.flight_auction.specs.Book.{is_of, points_of, others_than, owned_by, reaches, sale, sales, unsold, units_standing, IsSound}
+use Rattle.flight_auction.specs.Book.{is_points_agent, agents_points, others_than, owned_by, reaches, sale, sales, unsold, units_standing, IsFlightSound}
 
 HasUnits : StandingPoint → Type 0
 HasUnits s = 1 ≤ size_of s.point
@@ -27,26 +27,26 @@ no_empty count used (point ∷ points) h =
     let parts = both_none (point_fault count used point) (first_fault (count + 1) (used + size_of point) points) h in
     ((good_point count used point parts.0).some, no_empty (count + 1) (used + size_of point) points parts.1)
 
-each_some : (standing : List StandingPoint) → ((agent : ℕ) → AllByRecursion (λ (p : Point). size_of p ≢ 0) (points_of agent standing)) → AllByRecursion HasUnits standing
+each_some : (standing : List StandingPoint) → ((agent : ℕ) → AllByRecursion (λ (p : Point). size_of p ≢ 0) (agents_points agent standing)) → AllByRecursion HasUnits standing
 unfolding HasUnits
 each_some [] h = tt
 each_some (s ∷ standing) h = (first, each_some standing later)
   where
     Own : Bool → ℕ → Type 0
-    Own b agent = AllByRecursion (λ (p : Point). size_of p ≢ 0) (map (λ (x : StandingPoint). x.point) (cond b (s ∷ filter (is_of agent) standing) (filter (is_of agent) standing)))
+    Own b agent = AllByRecursion (λ (p : Point). size_of p ≢ 0) (map (λ (x : StandingPoint). x.point) (cond b (s ∷ filter (is_points_agent agent) standing) (filter (is_points_agent agent) standing)))
 
     first : 1 ≤ size_of s.point
     first = let own : Own true s.agent = subst (λ (b : Bool). Own b s.agent) (number_same s.agent) (h s.agent) in let some = own.0 in omega (arith, some)
 
-    rest : (b : Bool) (agent : ℕ) → Own b agent → AllByRecursion (λ (p : Point). size_of p ≢ 0) (points_of agent standing)
+    rest : (b : Bool) (agent : ℕ) → Own b agent → AllByRecursion (λ (p : Point). size_of p ≢ 0) (agents_points agent standing)
     rest true agent own = own.1
     rest false agent own = own
 
-    later : (agent : ℕ) → AllByRecursion (λ (p : Point). size_of p ≢ 0) (points_of agent standing)
-    later agent = rest (is_of agent s) agent (h agent)
+    later : (agent : ℕ) → AllByRecursion (λ (p : Point). size_of p ≢ 0) (agents_points agent standing)
+    later agent = rest (is_points_agent agent s) agent (h agent)
 
-sound_some : (bound : ℤ) (price : ℕ) (standing : List StandingPoint) → IsSound bound price standing → AllByRecursion HasUnits standing
-sound_some bound price standing sound = each_some standing (λ agent. no_empty 0 0 (points_of agent standing) (sound.limited agent))
+sound_some : (bound : ℤ) (price : ℕ) (standing : List StandingPoint) → IsFlightSound bound price standing → AllByRecursion HasUnits standing
+sound_some bound price standing sound = each_some standing (λ agent. no_empty 0 0 (agents_points agent standing) (sound.limited agent))
 
 -- ---- what sales leave
 
@@ -61,7 +61,7 @@ each_sale good price [] h = tt
 each_sale good price (s ∷ kept) h = (h.0, each_sale good price kept h.1)
 
 -- what is sold and what is left are all that stood
-pub sales_spend : (good bound_price current before : ℕ) (bound : ℤ) (standing left : List StandingPoint) (trades : List Trade) → IsSound bound bound_price standing → units_standing standing ≤ before →
+pub sales_spend : (good bound_price current before : ℕ) (bound : ℤ) (standing left : List StandingPoint) (trades : List Trade) → IsFlightSound bound bound_price standing → units_standing standing ≤ before →
     trades ≡ sales good current standing → left ≡ unsold current standing → Spends before (units_standing left) trades
 sales_spend good bound_price current before bound standing left trades sound le sold kept =
     let both = sum_by-filter_both (reaches current) (λ s. not (reaches current s)) (λ s. refl) (λ (x : StandingPoint). size_of x.point) standing in
@@ -86,43 +86,43 @@ placed_units agent standing points small =
     omega (
       arith,
       sum_by-append (λ (x : StandingPoint). size_of x.point) (others_than agent standing) (owned_by agent points),
-      sum_by-filter-le (λ (x : StandingPoint). size_of x.point) (λ s. not (is_of agent s)) standing,
+      sum_by-filter-le (λ (x : StandingPoint). size_of x.point) (λ s. not (is_points_agent agent s)) standing,
       owned_units agent points,
       small,
     )
 
 pub forgotten_units : (agent : ℕ) (standing : List StandingPoint) → units_standing (others_than agent standing) ≤ units_standing standing
-forgotten_units agent standing = sum_by-filter-le (λ (x : StandingPoint). size_of x.point) (λ s. not (is_of agent s)) standing
+forgotten_units agent standing = sum_by-filter-le (λ (x : StandingPoint). size_of x.point) (λ s. not (is_points_agent agent s)) standing
 
 -- ---- each sale is short
 
-few_each : (standing : List StandingPoint) → ((agent : ℕ) → total_size (points_of agent standing) ≤ 16) → AllByRecursion (λ s. size_of s.point ≤ 16) standing
+few_each : (standing : List StandingPoint) → ((agent : ℕ) → total_size (agents_points agent standing) ≤ 16) → AllByRecursion (λ s. size_of s.point ≤ 16) standing
 few_each [] few = tt
 few_each (s ∷ standing) few = (first, few_each standing later)
   where
     Total : Bool → ℕ → ℕ
-    Total b agent = total_size (map (λ (x : StandingPoint). x.point) (cond b (s ∷ filter (is_of agent) standing) (filter (is_of agent) standing)))
+    Total b agent = total_size (map (λ (x : StandingPoint). x.point) (cond b (s ∷ filter (is_points_agent agent) standing) (filter (is_points_agent agent) standing)))
 
-    with_own : (agent : ℕ) → Total true agent ≡ size_of s.point + total_size (points_of agent standing)
-    with_own agent = sum_by-cons size_of s.point (points_of agent standing)
+    with_own : (agent : ℕ) → Total true agent ≡ size_of s.point + total_size (agents_points agent standing)
+    with_own agent = sum_by-cons size_of s.point (agents_points agent standing)
 
     first : size_of s.point ≤ 16
     first = let own : Total true s.agent ≤ 16 = subst (λ (b : Bool). Total b s.agent ≤ 16) (number_same s.agent) (few s.agent) in omega (arith, own, with_own s.agent)
 
-    rest : (b : Bool) (agent : ℕ) → Total b agent ≤ 16 → total_size (points_of agent standing) ≤ 16
+    rest : (b : Bool) (agent : ℕ) → Total b agent ≤ 16 → total_size (agents_points agent standing) ≤ 16
     rest true agent le = omega (arith, le, with_own agent)
     rest false agent le = le
 
-    later : (agent : ℕ) → total_size (points_of agent standing) ≤ 16
-    later agent = rest (is_of agent s) agent (few agent)
+    later : (agent : ℕ) → total_size (agents_points agent standing) ≤ 16
+    later agent = rest (is_points_agent agent s) agent (few agent)
 
-pub sales_short : (good bound_price current : ℕ) (bound : ℤ) (standing : List StandingPoint) (trades : List Trade) → IsSound bound bound_price standing → current ≤ 800 → trades ≡ sales good current standing → All IsShort trades
+pub sales_short : (good bound_price current : ℕ) (bound : ℤ) (standing : List StandingPoint) (trades : List Trade) → IsFlightSound bound bound_price standing → current ≤ 800 → trades ≡ sales good current standing → All IsShort trades
 unfolding HasUnits
 sales_short good bound_price current bound standing trades sound priced is =
     subst (λ (ts : List Trade). All IsShort ts) (sym is)
     (All-from_recursion IsShort (sales good current standing) (each (filter (reaches current) standing)
     (all-filter HasUnits (reaches current) standing (sound_some bound bound_price standing sound))
-    (all-filter (λ s. size_of s.point ≤ 16) (reaches current) standing (few_each standing (λ agent. omega (arith, few_units 0 0 (points_of agent standing) (sound.limited agent) (omega arith)))))))
+    (all-filter (λ s. size_of s.point ≤ 16) (reaches current) standing (few_each standing (λ agent. omega (arith, few_units 0 0 (agents_points agent standing) (sound.limited agent) (omega arith)))))))
   where
     each : (kept : List StandingPoint) → AllByRecursion HasUnits kept → AllByRecursion (λ s. size_of s.point ≤ 16) kept → AllByRecursion IsShort (map (sale good current) kept)
     each [] some few = tt

@@ -21,15 +21,15 @@ use Rattle.flight_auction.specs.declared.sales.StandingPoint.{StandingPoint}
 abbrev pub owned_by : ℕ → List Point → List StandingPoint
 owned_by agent points = map (λ point. record { agent = agent; point = point }) points
 
-abbrev pub is_of : ℕ → StandingPoint → Bool
-is_of agent standing = standing.agent == agent
+abbrev pub is_points_agent : ℕ → StandingPoint → Bool
+is_points_agent agent standing = standing.agent == agent
 
 -- the agent's points among all, and those of the others
-abbrev pub points_of : ℕ → List StandingPoint → List Point
-points_of agent standing = map (λ s. s.point) (filter (is_of agent) standing)
+abbrev pub agents_points : ℕ → List StandingPoint → List Point
+agents_points agent standing = map (λ s. s.point) (filter (is_points_agent agent) standing)
 
 abbrev pub others_than : ℕ → List StandingPoint → List StandingPoint
-others_than agent standing = filter (λ s. not (is_of agent s)) standing
+others_than agent standing = filter (λ s. not (is_points_agent agent s)) standing
 
 -- whether the house sells a point at a price
 abbrev pub reaches : ℕ → StandingPoint → Bool
@@ -62,21 +62,21 @@ pub record FlightBook : Type 0 where
 
 -- the invariant of every flight: its price and its bound are in range, and what each agent has standing is within
 -- the limits of a bid
-pub record IsSound (bound : ℤ) (price : ℕ) (standing : List StandingPoint) : Type 0 where
+pub record IsFlightSound (bound : ℤ) (price : ℕ) (standing : List StandingPoint) : Type 0 where
   pub bound_from : negsuc 9 ≤ℤ bound
   pub bound_to : bound ≤ℤ pos 30
   pub price_from : 150 ≤ price
   pub price_to : price ≤ 800
   pub owned : All (λ s. s.agent ≤ 7) standing
-  pub limited : (agent : ℕ) → left_fault (points_of agent standing) ≡ None
+  pub limited : (agent : ℕ) → left_fault (agents_points agent standing) ≡ None
 
 -- the units of standing points
 abbrev pub units_standing : List StandingPoint → ℕ
 units_standing standing = sum_by (λ s. size_of s.point) standing
 
 -- how many units the house may still sell if nobody makes a new bid
-abbrev pub units_left : FlightBook → ℕ
-units_left book = units_standing book.standing
+abbrev pub flight_units_left : FlightBook → ℕ
+flight_units_left book = units_standing book.standing
 
 -- the bids made below a position, by their position
 abbrev pub by_position : List Placed → ℕ → List Placed

@@ -8,7 +8,7 @@ ghost use Rattle.auction_rules.specs.Refusals.{is_wrong_caller, is_wrong_place};
 ghost use Rattle.auction_rules.specs.Legal.{entry_of};
 ghost use Rattle.auction_rules.specs.Follows.{Follows};
 ghost use Rattle.auction_rules.specs.Traded.{Spends, IsShort};
-ghost use Rattle.flight_auction.specs.Book.{StandsFor, IsPaid, owned_by, units_left};
+ghost use Rattle.flight_auction.specs.Book.{StandsFor, IsPaid, owned_by, flight_units_left};
 
 use crate::prices::next_price;
 use crate::sales::{StandingPoint, forget, has_points, place, points_of, sell};
@@ -33,13 +33,13 @@ pub struct Flight {
 }
 
 impl Model for Flight {
-    ghost use Rattle.flight_auction.specs.Book.{FlightBook, IsSound};
+    ghost use Rattle.flight_auction.specs.Book.{FlightBook, IsFlightSound};
 
     ghost Value = { FlightBook };
 
     ghost view = { λ f. record { good = f.good; bound = f.bound; price = f.price; standing = f.standing.items; closed = f.closed } };
 
-    ghost invariant = { λ f. IsSound f.bound f.price f.standing.items };
+    ghost invariant = { λ f. IsFlightSound f.bound f.price f.standing.items };
 }
 
 impl Flight {
@@ -68,7 +68,7 @@ impl Flight {
         ensures follows { (setup : Setup) (past : List Entry) → StandsFor self.old setup past → at ≡ length past →
             Follows setup past agent (Call.Bid points.now) result fills.new (StandsFor self.new setup) }
         ensures paid { All (IsPaid (self.old.standing ++ owned_by agent points.now)) fills.new }
-        ensures units { Spends (units_left self.old + BID_UNITS) (units_left self.new) fills.new }
+        ensures units { Spends (flight_units_left self.old + BID_UNITS) (flight_units_left self.new) fills.new }
         ensures short { All IsShort fills.new }
     {
         let number = agent.get();
@@ -94,7 +94,7 @@ impl Flight {
     pub fn withdraw(&mut self, at: u32, agent: Agent) -> Reply
         ensures follows { (setup : Setup) (past : List Entry) → StandsFor self.old setup past → at ≡ length past →
             Follows setup past agent Call.Withdraw result [] (StandsFor self.new setup) }
-        ensures units { units_left self.new ≤ units_left self.old }
+        ensures units { flight_units_left self.new ≤ flight_units_left self.old }
     {
         let number = agent.get();
         if self.closed {
@@ -137,7 +137,7 @@ impl Flight {
         ensures follows { (setup : Setup) (past : List Entry) → StandsFor self.old setup past → at ≡ length past →
             Follows setup past 8 (Call.Update tick draw) result fills.new (StandsFor self.new setup) }
         ensures paid { All (IsPaid self.old.standing) fills.new }
-        ensures units { Spends (units_left self.old) (units_left self.new) fills.new }
+        ensures units { Spends (flight_units_left self.old) (flight_units_left self.new) fills.new }
         ensures short { All IsShort fills.new }
     {
         if self.closed {
@@ -155,7 +155,7 @@ impl Flight {
         ensures follows { (setup : Setup) (past : List Entry) → StandsFor self.old setup past → at ≡ length past →
             Follows setup past 8 Call.Close result fills.new (StandsFor self.new setup) }
         ensures none { fills.new ≡ [] }
-        ensures units { Spends (units_left self.old) (units_left self.new) fills.new }
+        ensures units { Spends (flight_units_left self.old) (flight_units_left self.new) fills.new }
     {
         fills.clear();
         if self.closed {

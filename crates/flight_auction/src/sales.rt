@@ -15,7 +15,7 @@ pub struct StandingPoint {
 
 /// Whether the point belongs to the agent with this number.
 fn is_of(standing: &StandingPoint, number: u8) -> bool
-    ensures { result ≡ spec.is_of number standing.now }
+    ensures { result ≡ spec.is_points_agent number standing.now }
 {
     standing.agent.get() == number
 }
@@ -42,7 +42,7 @@ fn sale(good: Good, price: u16, standing: &StandingPoint) -> Trade
 
 /// Whether some of the points belongs to the agent with this number.
 pub(crate) fn has_points(standing: &[StandingPoint], number: u8) -> bool
-    ensures { result ≡ list_any (spec.is_of number) standing.now }
+    ensures { result ≡ list_any (spec.is_points_agent number) standing.now }
 {
     standing.iter().any(|one| is_of(one, number))
 }
@@ -73,8 +73,8 @@ pub(crate) fn place(
 
 /// The points of the agent with this number, at most 16.
 pub(crate) fn points_of(standing: &[StandingPoint], number: u8) -> ArrayVec<Point, 16>
-    requires { length (spec.points_of number standing.now) ≤ 16 }
-    ensures { result.items ≡ spec.points_of number standing.now }
+    requires { length (spec.agents_points number standing.now) ≤ 16 }
+    ensures { result.items ≡ spec.agents_points number standing.now }
 {
     let mut points = ArrayVec::new();
     for one in standing {

@@ -11,7 +11,7 @@ use Rattle.trade_ledger.specs.declared.cash_calls.CashReply.TheVariants.{Done}
 use Rattle.trade_ledger.specs.declared.cash_calls.CashEntry.{CashEntry}
 use Rattle.trade_ledger.specs.CashHistory.{cash_cap}
 use Rattle.trade_ledger.specs.Posts.{posts_of, due_post}
-use Rattle.floor.specs.Keeping.{IsKept, count_entries}
+use Rattle.floor.specs.Keeping.{IsDeskKept, count_entries}
 use Rattle.floor.proofs.Posts.{bare, due_posts-more, few_due, with_posts, posts_and_readings}
 
 -- ---- caps
@@ -42,25 +42,25 @@ fewer most (row ∷ rows) (suc good) all inside less =
 
 module _ {caller : ℕ} {callers lefts : List ℕ} {entries : List (List (ℕ × Entry))} {cash_left : ℕ} {cash : List (ℕ × CashEntry)} {count : ℕ} where
   -- the entries of the cash history are at most as many as those of all goods, and the readings
-  cash_few : IsKept caller callers lefts entries cash_left cash count → length cash ≤ count_entries entries + count
+  cash_few : IsDeskKept caller callers lefts entries cash_left cash count → length cash ≤ count_entries entries + count
   cash_few kept = omega (arith, posts_and_readings cash, kept.posted (λ (x : CashEntry). 1), few_due entries, kept.counted)
 
-  at_most_cap : IsKept caller callers lefts entries cash_left cash count → (k : ℕ) → k < length entries → length (get_or entries k []) ≤ cap caller
+  at_most_cap : IsDeskKept caller callers lefts entries cash_left cash count → (k : ℕ) → k < length entries → length (get_or entries k []) ≤ cap caller
   at_most_cap kept k inside = omega (arith, kept.capped k (omega (arith, kept.goods)))
 
   -- an agent that may call may post
-  pub agent_room : IsKept caller callers lefts entries cash_left cash count → caller < 8 → (good : ℕ) → good < 28 → length (get_or entries good []) < cap caller → 1 ≤ cash_left
+  pub agent_room : IsDeskKept caller callers lefts entries cash_left cash count → caller < 8 → (good : ℕ) → good < 28 → length (get_or entries good []) < cap caller → 1 ≤ cash_left
   agent_room kept agent good inside less =
       let few = fewer (cap caller) entries good (at_most_cap kept) (omega (arith, kept.goods)) less in
       let few' : count_entries entries < 28 * 1024 = subst (λ (k : ℕ). count_entries entries < k * 1024) kept.goods (subst (λ (k : ℕ). count_entries entries < length entries * k) (cap_agent caller agent) few) in
       omega (arith, cash_few kept, cash_cap_agent caller agent, kept.cash_capped, kept.few)
 
   -- the clock may post after each of its calls
-  pub clock_room : IsKept caller callers lefts entries cash_left cash count → caller ≡ 8 → count_entries entries < 480 → 1 ≤ cash_left
+  pub clock_room : IsDeskKept caller callers lefts entries cash_left cash count → caller ≡ 8 → count_entries entries < 480 → 1 ≤ cash_left
   clock_room kept clock few = omega (arith, cash_few kept, cash_cap_clock caller clock, kept.cash_capped, kept.clock_reads_nothing clock)
 
   -- an agent may read
-  pub reading_room : IsKept caller callers lefts entries cash_left cash count → caller < 8 → count < 1024 → 1 ≤ cash_left
+  pub reading_room : IsDeskKept caller callers lefts entries cash_left cash count → caller < 8 → count < 1024 → 1 ≤ cash_left
   reading_room kept agent few =
       let below : (k : ℕ) → k < length entries → length (get_or entries k []) ≤ 1024 = λ k inside. omega (arith, at_most_cap kept k inside, cap_agent caller agent) in
       omega (arith, all_few entries below, kept.goods, cash_few kept, cash_cap_agent caller agent, kept.cash_capped)
@@ -71,9 +71,9 @@ module _ {caller : ℕ} {callers lefts : List ℕ} {entries : List (List (ℕ ×
 
   -- ---- one entry more
 
-  pub kept_more : IsKept caller callers lefts entries cash_left cash count → (good left p q cash_left' : ℕ) (e : Entry) → good < 28 → length lefts ≡ 28 → left + 1 ≡ get_or lefts good 0
+  pub kept_more : IsDeskKept caller callers lefts entries cash_left cash count → (good left p q cash_left' : ℕ) (e : Entry) → good < 28 → length lefts ≡ 28 → left + 1 ≡ get_or lefts good 0
       → cash_left' + length (due_post good p e) ≡ cash_left
-      → IsKept caller callers (set lefts good left) (set entries good (get_or entries good [] ++ (p, e) ∷ [])) cash_left' (cash ++ map (λ x. (q, x)) (due_post good p e)) count
+      → IsDeskKept caller callers (set lefts good left) (set entries good (get_or entries good [] ++ (p, e) ∷ [])) cash_left' (cash ++ map (λ x. (q, x)) (due_post good p e)) count
   kept_more kept good left p q cash_left' e inside long one posts =
       let after = cash ++ map (λ (x : CashEntry). (q, x)) (due_post good p e) in
       let more = with_posts cash q e.trades e.caller good p (record { dollars = nets e.trades }) Done in record {
@@ -98,13 +98,13 @@ module _ {caller : ℕ} {callers lefts : List ℕ} {entries : List (List (ℕ ×
       }
 
   -- the same if the code names the parts otherwise
-  pub kept_as : {caller' : ℕ} {callers' lefts' : List ℕ} {entries' : List (List (ℕ × Entry))} {cash_left' : ℕ} {cash' : List (ℕ × CashEntry)} {count' : ℕ} → IsKept caller callers lefts entries cash_left cash count
-      → caller' ≡ caller → callers' ≡ callers → lefts' ≡ lefts → entries' ≡ entries → cash_left' ≡ cash_left → cash' ≡ cash → count' ≡ count → IsKept caller' callers' lefts' entries' cash_left' cash' count'
-  kept_as kept a b c d e f g = subst (λ (t : ℕ × List ℕ × List ℕ × List (List (ℕ × Entry)) × ℕ × List (ℕ × CashEntry) × ℕ). IsKept t.0 t.1 t.2 t.3 t.4 t.5 t.6)
+  pub kept_as : {caller' : ℕ} {callers' lefts' : List ℕ} {entries' : List (List (ℕ × Entry))} {cash_left' : ℕ} {cash' : List (ℕ × CashEntry)} {count' : ℕ} → IsDeskKept caller callers lefts entries cash_left cash count
+      → caller' ≡ caller → callers' ≡ callers → lefts' ≡ lefts → entries' ≡ entries → cash_left' ≡ cash_left → cash' ≡ cash → count' ≡ count → IsDeskKept caller' callers' lefts' entries' cash_left' cash' count'
+  kept_as kept a b c d e f g = subst (λ (t : ℕ × List ℕ × List ℕ × List (List (ℕ × Entry)) × ℕ × List (ℕ × CashEntry) × ℕ). IsDeskKept t.0 t.1 t.2 t.3 t.4 t.5 t.6)
       (λ k. (sym a k, sym b k, sym c k, sym d k, sym e k, sym f k, sym g k)) kept
 
 -- a desk that made no call
-pub kept_first : (caller : ℕ) → IsKept caller (replicate 28 caller) (replicate 28 (cap caller)) (replicate 28 []) (cash_cap caller) [] 0
+pub kept_first : (caller : ℕ) → IsDeskKept caller (replicate 28 caller) (replicate 28 (cap caller)) (replicate 28 []) (cash_cap caller) [] 0
 kept_first caller = record {
   goods = refl;
   own = refl;

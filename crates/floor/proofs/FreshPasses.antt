@@ -10,7 +10,7 @@ use Rattle.trade_ledger.specs.declared.cash_calls.CashEntry.{CashEntry}
 use Rattle.trade_ledger.specs.CashHistory.{cash_cap}
 use Rattle.turn_lock.specs.declared.kept.Kept.{Ghosts}
 use Rattle.turn_lock.specs.declared.pass.Pass.{Pass}
-use Rattle.turn_lock.specs.Passes.{LockId, lock_of, caller_of, left_of, made_by, noted_by, seen_by}
+use Rattle.turn_lock.specs.Passes.{LockId, lock_of, caller_of, turns_left, made_by, noted_by, seen_by}
 use Rattle.floor.specs.Rows.{with_each}
 use Rattle.floor.specs.Dealing.{IsFresh, AreFresh, MakeDesk}
 use Rattle.floor.specs.declared.desk.Desk.{Desk}
@@ -60,7 +60,7 @@ module _ {S C R G E : Type 0} {K : Ghosts S C R G E} where
   pub record IsFreshPass (id : LockId S) (caller left : ℕ) (p : Pass S C R G E K) : Type 0 where
     pub lock : lock_of p ≡ id
     pub caller_is : caller_of p ≡ caller
-    pub left_is : left_of p ≡ left
+    pub left_is : turns_left p ≡ left
     pub made : made_by p ≡ []
     pub noted : noted_by p ≡ []
     pub seen : seen_by p ≡ 0
@@ -70,7 +70,7 @@ module _ {S C R G E : Type 0} {K : Ghosts S C R G E} where
   fresh_more {ids = ids} {id = id} {caller = caller} {left = left} {hand = hand} {p = p} fresh one = record {
     locks = map_push (λ q. lock_of q) hand p ∙ (λ k. fresh.locks k ++ one.lock k ∷ []);
     callers = longer (λ q. caller_of q) ids id hand p caller fresh.callers one.caller_is;
-    lefts = longer (λ q. left_of q) ids id hand p left fresh.lefts one.left_is;
+    lefts = longer (λ q. turns_left q) ids id hand p left fresh.lefts one.left_is;
     made = longer (λ q. made_by q) ids id hand p [] fresh.made one.made;
     noted = longer (λ q. noted_by q) ids id hand p [] fresh.noted one.noted;
     seen = longer (λ q. seen_by q) ids id hand p 0 fresh.seen one.seen;

@@ -7,5 +7,5 @@ pub mod Orders
 pub mod CallLists
 pub mod FreshPasses
 pub mod BornOut
-pub mod Told
+pub mod ReturnedRows
 pub mod FirstDesks

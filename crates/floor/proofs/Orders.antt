@@ -7,7 +7,7 @@ use mathlib.Core.Logic.{dite}
 use native.Mathlib.Decide.{ℕ_discrete}
 use Rattle.tac_base.specs.declared.calls.Board.{Board}
 use Rattle.auction_rules.specs.History.{Entry}
-use Rattle.floor.specs.Keeping.{IsInOrder, AreInOrder}
+use Rattle.floor.specs.Keeping.{IsInOrder, AreGoodsInOrder}
 
 -- rising numbers, and one more that is above them
 rising_more : (xs : List ℕ) (y : ℕ) → IsStrictlyIncreasing xs → ((k : ℕ) → k < length xs → get_or xs k 0 < y) → IsStrictlyIncreasing (xs ++ y ∷ [])
@@ -41,8 +41,8 @@ board_more entries boards seen count b past order = record {
 }
 
 module _ (entries : List (List (ℕ × Entry))) (boards : List (List (ℕ × Board))) (seen : List ℕ) (long : length seen ≡ 28) (good : ℕ) (inside : good < 28) where
-  pub orders_entry : AreInOrder entries boards seen → (position : ℕ) (e : Entry) → get_or seen good 0 ≤ position
-      → AreInOrder (set entries good (get_or entries good [] ++ (position, e) ∷ [])) boards (set seen good (position + 1))
+  pub orders_entry : AreGoodsInOrder entries boards seen → (position : ℕ) (e : Entry) → get_or seen good 0 ≤ position
+      → AreGoodsInOrder (set entries good (get_or entries good [] ++ (position, e) ∷ [])) boards (set seen good (position + 1))
   orders_entry order position e past =
       let row = get_or entries good [] ++ (position, e) ∷ [] in record {
         goods = length-set entries good row ∙ order.goods;
@@ -55,8 +55,8 @@ module _ (entries : List (List (ℕ × Entry))) (boards : List (List (ℕ × Boa
             (λ i. (sym (get_or-set_other entries good k row [] ne) i, sym (get_or-set_other seen good k (position + 1) 0 ne) i)) (order.each k lt));
       }
 
-  pub orders_board : AreInOrder entries boards seen → length boards ≡ 28 → (count : ℕ) (b : Board) → get_or seen good 0 ≤ count
-      → AreInOrder entries (set boards good (get_or boards good [] ++ (count, b) ∷ [])) (set seen good count)
+  pub orders_board : AreGoodsInOrder entries boards seen → length boards ≡ 28 → (count : ℕ) (b : Board) → get_or seen good 0 ≤ count
+      → AreGoodsInOrder entries (set boards good (get_or boards good [] ++ (count, b) ∷ [])) (set seen good count)
   orders_board order wide count b past =
       let row = get_or boards good [] ++ (count, b) ∷ [] in record {
         goods = order.goods;
@@ -70,14 +70,14 @@ module _ (entries : List (List (ℕ × Entry))) (boards : List (List (ℕ × Boa
       }
 
 -- the same if the code names the parts otherwise
-pub order_as : {entries entries' : List (List (ℕ × Entry))} {boards boards' : List (List (ℕ × Board))} {seen seen' : List ℕ} → AreInOrder entries boards seen → entries' ≡ entries → boards' ≡ boards → seen' ≡ seen → AreInOrder entries' boards' seen'
-order_as order a b c = subst (λ (t : List (List (ℕ × Entry)) × List (List (ℕ × Board)) × List ℕ). AreInOrder t.0 t.1 t.2) (λ k. (sym a k, sym b k, sym c k)) order
+pub order_as : {entries entries' : List (List (ℕ × Entry))} {boards boards' : List (List (ℕ × Board))} {seen seen' : List ℕ} → AreGoodsInOrder entries boards seen → entries' ≡ entries → boards' ≡ boards → seen' ≡ seen → AreGoodsInOrder entries' boards' seen'
+order_as order a b c = subst (λ (t : List (List (ℕ × Entry)) × List (List (ℕ × Board)) × List ℕ). AreGoodsInOrder t.0 t.1 t.2) (λ k. (sym a k, sym b k, sym c k)) order
 
 -- before any call
 nothing_in_order : (seen : ℕ) → IsInOrder [] [] seen
 nothing_in_order seen = record { rising = λ k inside. absurd (omega arith); past = λ k d inside. absurd (omega arith); counts = λ k d inside. absurd (omega arith) }
 
-pub order_first : AreInOrder (replicate 28 []) (replicate 28 []) (replicate 28 0)
+pub order_first : AreGoodsInOrder (replicate 28 []) (replicate 28 []) (replicate 28 0)
 order_first = record {
   goods = refl;
   each = λ k lt. subst (λ (t : List (ℕ × Entry) × List (ℕ × Board)). IsInOrder t.0 t.1 (get_or (replicate 28 0) k 0))

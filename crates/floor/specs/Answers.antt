@@ -21,8 +21,8 @@ use Rattle.floor.specs.declared.outcomes.Outcome.{Outcome}
 use Rattle.floor.specs.declared.outcomes.Outcome.TheVariants.{At, Spent}
 use Rattle.floor.specs.declared.outcomes.CashOutcome.{CashOutcome}
 use Rattle.floor.specs.declared.outcomes.CashOutcome.TheVariants as cash_outcomes
-use Rattle.floor.specs.Keeping.{Adds, count_readings}
-use Rattle.floor.specs.Desks.{desk_ids, desk_caller, setup_at, entries_of, entries_at, calls_of, cash_of, boards_of, boards_at, seen_of, seen_at}
+use Rattle.floor.specs.Keeping.{AddsCash, count_readings}
+use Rattle.floor.specs.Desks.{desk_ids, desk_caller, setup_at, desk_entries, entries_at, desk_calls, desk_cash, boards_of, boards_at, seen_of, seen_at}
 
 -- the desk is of the same locks, and of the same caller
 abbrev pub IsSameDesk : Desk → Desk → Type 0
@@ -31,14 +31,14 @@ IsSameDesk before after = (desk_ids after ≡ desk_ids before) × (desk_caller a
 -- a call at a good was answered at a position: the desk has one entry more there, and at the other goods as before; this call is appended
 -- to its list of calls; the post that is due to that entry was made; and the position is not below what the desk had seen there. The
 -- entry is the one that the rules give after the entries before it, among which the desk's own are those that it had made
-pub record IsAnswered (before after : Desk) (good : ℕ) (asked : Call) (position : ℕ) (answered : Reply) : Type 0 where
+pub record IsCallAnswered (before after : Desk) (good : ℕ) (asked : Call) (position : ℕ) (answered : Reply) : Type 0 where
   pub entry : Entry
   pub caller : entry.caller ≡ desk_caller before
   pub call : entry.call ≡ asked
   pub reply : entry.reply ≡ answered
-  pub entries : entries_of after ≡ slice_set (entries_of before) good (entries_at before good ++ (position, entry) ∷ [])
-  pub calls : calls_of after ≡ calls_of before ++ (good, asked) ∷ []
-  pub posts : Adds (cash_of before) (cash_of after) (due_post good position entry)
+  pub entries : desk_entries after ≡ slice_set (desk_entries before) good (entries_at before good ++ (position, entry) ∷ [])
+  pub calls : desk_calls after ≡ desk_calls before ++ (good, asked) ∷ []
+  pub posts : AddsCash (desk_cash before) (desk_cash after) (due_post good position entry)
   pub seen_before : seen_at before good ≤ position
   pub seen : seen_of after ≡ slice_set (seen_of before) good (position + 1)
   pub boards : boards_of after ≡ boards_of before
@@ -55,37 +55,37 @@ pub record IsAnswered (before after : Desk) (good : ℕ) (asked : Call) (positio
 -- an agent's call at a good is spent, and changes nothing, exactly if the desk made all its calls there before
 abbrev pub IsOutcome : Desk → Desk → ℕ → Call → Outcome → Type 0
 IsOutcome before after good asked Spent = (length (entries_at before good) ≡ AGENT_CALLS) × (after ≡ before)
-IsOutcome before after good asked (At position reply) = (length (entries_at before good) < AGENT_CALLS) × IsAnswered before after good asked position reply
+IsOutcome before after good asked (At position reply) = (length (entries_at before good) < AGENT_CALLS) × IsCallAnswered before after good asked position reply
 
 -- a bid that is not spent is taken, if no refusal of the rules applies to it after the entries before it
 abbrev pub TakesLawfulBid : Desk → Desk → ℕ → Points → Outcome → Type 0
 TakesLawfulBid before after good points Spent = ⊤
-TakesLawfulBid before after good points (At position reply) = (told : IsAnswered before after good (Bid points) position reply)
+TakesLawfulBid before after good points (At position reply) = (told : IsCallAnswered before after good (Bid points) position reply)
     × (refusal told.setup.rules (reverse told.earlier) (desk_caller before) (Bid points) ≡ None → (bought : ℕ) × (sold : ℕ) × (reply ≡ Taken bought sold))
 
 -- an agent's cash was read: the desk has that entry more in the cash history, and nothing else is changed
-pub record IsRead (before after : Desk) (position : ℕ) (entry : CashEntry) : Type 0 where
-  pub cash : cash_of after ≡ cash_of before ++ (position, entry) ∷ []
-  pub entries : entries_of after ≡ entries_of before
-  pub calls : calls_of after ≡ calls_of before
+pub record IsCashRead (before after : Desk) (position : ℕ) (entry : CashEntry) : Type 0 where
+  pub cash : desk_cash after ≡ desk_cash before ++ (position, entry) ∷ []
+  pub entries : desk_entries after ≡ desk_entries before
+  pub calls : desk_calls after ≡ desk_calls before
   pub seen : seen_of after ≡ seen_of before
   pub boards : boards_of after ≡ boards_of before
   pub same : IsSameDesk before after
 
 -- a reading is spent, and changes nothing, exactly if the desk made all its readings before
 abbrev pub IsCashOutcome : Desk → Desk → CashOutcome → Type 0
-IsCashOutcome before after cash_outcomes.Spent = (count_readings (cash_of before) ≡ CASH_READINGS) × (after ≡ before)
-IsCashOutcome before after (cash_outcomes.At position dollars) = (count_readings (cash_of before) < CASH_READINGS)
-    × IsRead before after position (record { caller = desk_caller before; call = Read (desk_caller before); reply = Cash dollars })
+IsCashOutcome before after cash_outcomes.Spent = (count_readings (desk_cash before) ≡ CASH_READINGS) × (after ≡ before)
+IsCashOutcome before after (cash_outcomes.At position dollars) = (count_readings (desk_cash before) < CASH_READINGS)
+    × IsCashRead before after position (record { caller = desk_caller before; call = Read (desk_caller before); reply = Cash dollars })
 
 -- a board of a good was seen, which is not shorter than what the desk had seen there, and nothing else is changed
 pub record IsSeen (before after : Desk) (good : ℕ) (board : Board) : Type 0 where
   pub boards : boards_of after ≡ slice_set (boards_of before) good (boards_at before good ++ (board.count, board) ∷ [])
   pub seen_before : seen_at before good ≤ board.count
   pub seen : seen_of after ≡ slice_set (seen_of before) good board.count
-  pub entries : entries_of after ≡ entries_of before
-  pub calls : calls_of after ≡ calls_of before
-  pub cash : cash_of after ≡ cash_of before
+  pub entries : desk_entries after ≡ desk_entries before
+  pub calls : desk_calls after ≡ desk_calls before
+  pub cash : desk_cash after ≡ desk_cash before
   pub same : IsSameDesk before after
 
 -- the calls of the clock: an update of one of the ticks 1..53, a publication and a closing

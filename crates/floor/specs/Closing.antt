@@ -15,7 +15,7 @@ use Rattle.turn_lock.specs.Part.{part}
 use Rattle.turn_lock.specs.Notes.{AreNotes}
 use Rattle.turn_lock.specs.TurnRule.{AreKnown}
 use Rattle.floor.specs.declared.desk.Desk.{Desk}
-use Rattle.floor.specs.Desks.{desk_caller, entries_of, cash_of, boards_of}
+use Rattle.floor.specs.Desks.{desk_caller, desk_entries, desk_cash, boards_of}
 use Rattle.floor.specs.ClosedBoards.{board_of}
 
 -- an auction that a lock gave back: its setup is that of its start, its history is legal, what the returned passes knew holds of the
@@ -32,8 +32,8 @@ AreBoards auctions boards = AllZip (λ auction seen. AreNotes (board_of auction)
 
 -- what a desk knew holds of the closed game: its own entries are its caller's part of each history, and its boards are of prefixes
 pub record IsBorneOut (closed : ClosedGame) (d : Desk) : Type 0 where
-  pub entries : entries_of d ≡ map (λ auction. part (λ e. e.caller) auction.history (desk_caller d)) closed.auctions
-  pub cash : cash_of d ≡ part (λ e. e.caller) closed.cash (desk_caller d)
+  pub entries : desk_entries d ≡ map (λ auction. part (λ e. e.caller) auction.history (desk_caller d)) closed.auctions
+  pub cash : desk_cash d ≡ part (λ e. e.caller) closed.cash (desk_caller d)
   pub boards : AreBoards closed.auctions (boards_of d)
 
 -- each bid to which no refusal applied after the entries before it is taken

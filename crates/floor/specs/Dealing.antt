@@ -6,26 +6,26 @@ use Rattle.turn_lock.specs.declared.kept.Kept.{Ghosts}
 use Rattle.turn_lock.specs.declared.pass.Pass.{Pass}
 use Rattle.auction_rules.specs.History.{Entry}
 use Rattle.trade_ledger.specs.declared.cash_calls.CashEntry.{CashEntry}
-use Rattle.floor.specs.Keeping.{IsKept, AreInOrder, AreListed}
-use Rattle.turn_lock.specs.Passes.{LockId, lock_of, caller_of, left_of, made_by, noted_by, seen_by}
+use Rattle.floor.specs.Keeping.{IsDeskKept, AreGoodsInOrder, AreListed}
+use Rattle.turn_lock.specs.Passes.{LockId, lock_of, caller_of, turns_left, made_by, noted_by, seen_by}
 
 module _ {S C R G E : Type 0} {K : Ghosts S C R G E} where
   -- one pass of the caller for each of these locks, with no call made and no board seen
   pub record IsFresh (ids : List (LockId S)) (caller left : ℕ) (passes : List (Pass S C R G E K)) : Type 0 where
     pub locks : map (λ p. lock_of p) passes ≡ ids
     pub callers : map (λ p. caller_of p) passes ≡ replicate (length ids) caller
-    pub lefts : map (λ p. left_of p) passes ≡ replicate (length ids) left
+    pub lefts : map (λ p. turns_left p) passes ≡ replicate (length ids) left
     pub made : map (λ p. made_by p) passes ≡ replicate (length ids) []
     pub noted : map (λ p. noted_by p) passes ≡ replicate (length ids) []
     pub seen : map (λ p. seen_by p) passes ≡ replicate (length ids) 0
 
-  -- the same of each caller's passes
+  -- each caller's passes are fresh
   abbrev pub AreFresh : List (LockId S) → (ℕ → ℕ) → List (List (Pass S C R G E K)) → Type 0
   AreFresh ids left hands = (caller : ℕ) (passes : List (Pass S C R G E K)) → get_elem? hands caller ≡ some passes → IsFresh ids caller (left caller) passes
 
 module _ {S C R G T D Q H : Type 0} {K : Ghosts S C R G Entry} {L : Ghosts T D Q H CashEntry} where
   -- the passes of auctions and the pass of the cash book are those of one desk that made no call and no reading
   abbrev pub MakeDesk : List (Pass S C R G Entry K) → Pass T D Q H CashEntry L → Type 0
-  MakeDesk passes cash = IsKept (caller_of cash) (map (λ p. caller_of p) passes) (map (λ p. left_of p) passes) (map (λ p. made_by p) passes) (left_of cash) (made_by cash) 0
-      × AreInOrder (map (λ p. made_by p) passes) (map (λ p. noted_by p) passes) (map (λ p. seen_by p) passes)
+  MakeDesk passes cash = IsDeskKept (caller_of cash) (map (λ p. caller_of p) passes) (map (λ p. turns_left p) passes) (map (λ p. made_by p) passes) (turns_left cash) (made_by cash) 0
+      × AreGoodsInOrder (map (λ p. made_by p) passes) (map (λ p. noted_by p) passes) (map (λ p. seen_by p) passes)
       × AreListed (map (λ p. made_by p) passes) []

@@ -23,19 +23,19 @@ abbrev pub desk_caller : Desk → ℕ
 desk_caller d = caller_of d.cash
 
 -- the desk's own entries so far, by good, each with its position
-abbrev pub entries_of : Desk → List (List (ℕ × Entry))
-entries_of d = map (λ p. made_by p) d.passes.items
+abbrev pub desk_entries : Desk → List (List (ℕ × Entry))
+desk_entries d = map (λ p. made_by p) d.passes.items
 
 abbrev pub entries_at : Desk → ℕ → List (ℕ × Entry)
-entries_at d good = slice_index_or (entries_of d) good []
+entries_at d good = slice_index_or (desk_entries d) good []
 
 -- its calls of auctions so far with their goods, in the order in which it made them
-abbrev pub calls_of : Desk → List (ℕ × Call)
-calls_of d = d.calls.items
+abbrev pub desk_calls : Desk → List (ℕ × Call)
+desk_calls d = d.calls.items
 
 -- its own entries of the cash history so far, each with its position
-abbrev pub cash_of : Desk → List (ℕ × CashEntry)
-cash_of d = made_by d.cash
+abbrev pub desk_cash : Desk → List (ℕ × CashEntry)
+desk_cash d = made_by d.cash
 
 -- the boards that it saw so far, by good, each with its count
 abbrev pub boards_of : Desk → List (List (ℕ × Board))
@@ -55,8 +55,8 @@ seen_at d good = slice_index_or (seen_of d) good 0
 pub record IsNewDesk (floor : List (LockId AuctionHistory) × LockId (List CashEntry)) (number : ℕ) (d : Desk) : Type 0 where
   pub ids : desk_ids d ≡ floor
   pub caller : desk_caller d ≡ number
-  pub entries : entries_of d ≡ replicate 28 []
-  pub calls : calls_of d ≡ []
-  pub cash : cash_of d ≡ []
+  pub entries : desk_entries d ≡ replicate 28 []
+  pub calls : desk_calls d ≡ []
+  pub cash : desk_cash d ≡ []
   pub boards : boards_of d ≡ replicate 28 []
   pub seen : seen_of d ≡ replicate 28 0

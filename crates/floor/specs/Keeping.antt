@@ -13,8 +13,8 @@ use Rattle.trade_ledger.specs.CashHistory.{cash_cap}
 use Rattle.trade_ledger.specs.Posts.{HoldSame, is_post, posts_of, due_posts}
 
 -- entries were added to the cash history, all at one position: one entry, or none
-abbrev pub Adds : List (ℕ × CashEntry) → List (ℕ × CashEntry) → List CashEntry → Type 0
-Adds before after entries = (position : ℕ) × (after ≡ before ++ map (λ e. (position, e)) entries)
+abbrev pub AddsCash : List (ℕ × CashEntry) → List (ℕ × CashEntry) → List CashEntry → Type 0
+AddsCash before after entries = (position : ℕ) × (after ≡ before ++ map (λ e. (position, e)) entries)
 
 -- a desk's posts are those that are due to its own entries so far, each once
 abbrev pub IsPosted : List (List (ℕ × Entry)) → List (ℕ × CashEntry) → Type 0
@@ -30,7 +30,7 @@ count_entries entries = sum_by (λ row. length row) entries
 
 -- The desk of a caller has a pass of the caller at each of 28 auctions. Calls made plus turns left are the cap. It counts its
 -- readings, a limited number, of which the clock makes none; and each post that is due is made.
-pub record IsKept (caller : ℕ) (callers lefts : List ℕ) (entries : List (List (ℕ × Entry))) (cash_left : ℕ) (cash : List (ℕ × CashEntry)) (count : ℕ) : Type 0 where
+pub record IsDeskKept (caller : ℕ) (callers lefts : List ℕ) (entries : List (List (ℕ × Entry))) (cash_left : ℕ) (cash : List (ℕ × CashEntry)) (count : ℕ) : Type 0 where
   pub goods : length entries ≡ 28
   pub own : callers ≡ replicate 28 caller
   pub capped : (good : ℕ) → good < 28 → slice_index_or lefts good 0 + length (slice_index_or entries good []) ≡ cap caller
@@ -47,7 +47,7 @@ pub record IsInOrder (entries : List (ℕ × Entry)) (boards : List (ℕ × Boar
   pub counts : All (λ b. b.0 ≤ seen) boards
 
 -- the same holds for each of the 28 goods
-pub record AreInOrder (entries : List (List (ℕ × Entry))) (boards : List (List (ℕ × Board))) (seen : List ℕ) : Type 0 where
+pub record AreGoodsInOrder (entries : List (List (ℕ × Entry))) (boards : List (List (ℕ × Board))) (seen : List ℕ) : Type 0 where
   pub goods : length entries ≡ 28
   pub each : (good : ℕ) → good < 28 → IsInOrder (slice_index_or entries good []) (slice_index_or boards good []) (slice_index_or seen good 0)
 

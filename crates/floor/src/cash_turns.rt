@@ -4,8 +4,8 @@ ghost use Rattle.trade_ledger.specs.declared.cash_calls.CashReply.TheVariants as
 ghost use Rattle.auction_rules.specs.History.{Entry};
 ghost use Rattle.auction_core.specs.Struck.{struck_of};
 ghost use Rattle.trade_ledger.specs.Posts.{due_post};
-ghost use Rattle.turn_lock.specs.Passes.{lock_of, lock_id, caller_of, left_of, made_by};
-ghost use Rattle.floor.specs.Keeping.{Adds};
+ghost use Rattle.turn_lock.specs.Passes.{lock_of, lock_id, caller_of, turns_left, made_by};
+ghost use Rattle.floor.specs.Keeping.{AddsCash};
 
 use auction_core::Struck;
 use std::sync::Wait;
@@ -24,10 +24,10 @@ pub(crate) fn post<R: Wait + Clock>(
     struck: &Struck,
 )
     requires own { lock_of pass.old ≡ lock_id lock.now }
-    requires left { 1 ≤ left_of pass.old }
+    requires left { 1 ≤ turns_left pass.old }
     ensures own { (lock_of pass.new ≡ lock_of pass.old) × (caller_of pass.new ≡ caller_of pass.old) }
     ensures posted { (e : Entry) → struck_of e ≡ struck.now → e.caller ≡ caller_of pass.old →
-        Adds (made_by pass.old) (made_by pass.new) (due_post good position e) × (left_of pass.new + length (due_post good position e) ≡ left_of pass.old) }
+        AddsCash (made_by pass.old) (made_by pass.new) (due_post good position e) × (turns_left pass.new + length (due_post good position e) ≡ turns_left pass.old) }
 {
     if struck.trades == 0 {
         return;
@@ -48,9 +48,9 @@ pub(crate) fn read<R: Wait + Clock>(
     agent: Agent,
 ) -> (u32, i64)
     requires own { lock_of pass.old ≡ lock_id lock.now }
-    requires left { 1 ≤ left_of pass.old }
+    requires left { 1 ≤ turns_left pass.old }
     requires agent { caller_of pass.old ≡ agent }
-    ensures own { (lock_of pass.new ≡ lock_of pass.old) × (caller_of pass.new ≡ caller_of pass.old) × (left_of pass.new + 1 ≡ left_of pass.old) }
+    ensures own { (lock_of pass.new ≡ lock_of pass.old) × (caller_of pass.new ≡ caller_of pass.old) × (turns_left pass.new + 1 ≡ turns_left pass.old) }
     ensures reading { made_by pass.new ≡ made_by pass.old
         ++ (result.0, record { caller = agent; call = calls.Read agent; reply = replies.Cash result.1 }) ∷ [] }
 {

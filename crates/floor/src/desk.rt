@@ -1,6 +1,6 @@
 ghost use Rattle.std.specs.Prelude.{◌≡◌, ◌≤◌, map};
-ghost use Rattle.turn_lock.specs.Passes.{caller_of, left_of, made_by, noted_by, seen_by};
-ghost use Rattle.floor.specs.Keeping.{IsKept, AreInOrder, AreListed};
+ghost use Rattle.turn_lock.specs.Passes.{caller_of, turns_left, made_by, noted_by, seen_by};
+ghost use Rattle.floor.specs.Keeping.{IsDeskKept, AreGoodsInOrder, AreListed};
 
 use crate::call_list::CallList;
 use crate::cash_turns::{post, read};
@@ -23,10 +23,10 @@ pub struct Desk {
     /// How many times it has read its cash.
     pub(crate) readings: u32,
     pub(crate) calls: CallList,
-    ghost kept: { IsKept (caller_of cash) (map (λ p. caller_of p) passes.items) (map (λ p. left_of p) passes.items)
-        (map (λ p. made_by p) passes.items) (left_of cash) (made_by cash) readings },
+    ghost kept: { IsDeskKept (caller_of cash) (map (λ p. caller_of p) passes.items) (map (λ p. turns_left p) passes.items)
+        (map (λ p. made_by p) passes.items) (turns_left cash) (made_by cash) readings },
     /// What it was answered of each good is in order.
-    pub ghost in_order: { AreInOrder (map (λ p. made_by p) passes.items) (map (λ p. noted_by p) passes.items) (map (λ p. seen_by p) passes.items) },
+    pub ghost in_order: { AreGoodsInOrder (map (λ p. made_by p) passes.items) (map (λ p. noted_by p) passes.items) (map (λ p. seen_by p) passes.items) },
     /// The list of its calls is that of its entries.
     pub ghost listed: { AreListed (map (λ p. made_by p) passes.items) calls.items },
 }
@@ -44,11 +44,11 @@ impl Desk {
     ghost use Rattle.auction_core.specs.Calls.{IsFit};
     ghost use Rattle.tac_base.specs.declared.calls.Call.{Call};
     ghost use Rattle.auction_rules.specs.Legal.{cap};
-    ghost use Rattle.turn_lock.specs.Passes.{left_of};
+    ghost use Rattle.turn_lock.specs.Passes.{turns_left};
     ghost use Rattle.floor.specs.Keeping.{IsPosted, count_entries};
-    ghost use Rattle.floor.specs.Desks.{desk_ids, desk_caller, entries_of, entries_at, cash_of};
+    ghost use Rattle.floor.specs.Desks.{desk_ids, desk_caller, desk_entries, entries_at, desk_cash};
     ghost use Rattle.floor.specs.Floors.{floor_ids};
-    ghost use Rattle.floor.specs.Answers.{IsSameDesk, IsAnswered, IsOutcome, TakesLawfulBid, IsCashOutcome, IsSeen, IsClockCall};
+    ghost use Rattle.floor.specs.Answers.{IsSameDesk, IsCallAnswered, IsOutcome, TakesLawfulBid, IsCashOutcome, IsSeen, IsClockCall};
 
     /// The desk's caller.
     pub fn caller(&self) -> Caller
@@ -68,8 +68,8 @@ impl Desk {
         requires own { desk_ids self.old ≡ floor_ids floor.now }
         requires fit { IsFit call.now }
         requires left { length (entries_at self.old good) < cap (desk_caller self.old) }
-        requires cash_left { 1 ≤ left_of self.old.cash }
-        ensures answered { IsAnswered self.old self.new good call.now result.0 result.1 }
+        requires cash_left { 1 ≤ turns_left self.old.cash }
+        ensures answered { IsCallAnswered self.old self.new good call.now result.0 result.1 }
     {
         let place = place(good);
         let lock = &floor.auctions[place];
@@ -87,7 +87,7 @@ impl Desk {
         requires fit { IsFit call.now }
         ensures outcome { IsOutcome self.old self.new good call.now result }
         ensures same { IsSameDesk self.old self.new }
-        ensures posted { IsPosted (entries_of self.new) (cash_of self.new) }
+        ensures posted { IsPosted (desk_entries self.new) (desk_cash self.new) }
     {
         if self.passes[place(good)].left() == 0 {
             return Outcome::Spent;
@@ -110,7 +110,7 @@ impl Desk {
         ensures outcome { IsOutcome self.old self.new good (Call.Bid points.now) result }
         ensures taken { TakesLawfulBid self.old self.new good points.now result }
         ensures same { IsSameDesk self.old self.new }
-        ensures posted { IsPosted (entries_of self.new) (cash_of self.new) }
+        ensures posted { IsPosted (desk_entries self.new) (desk_cash self.new) }
     {
         let call = Call::Bid(points.copy());
         self.ask(rt, floor, good, &call)
@@ -122,7 +122,7 @@ impl Desk {
         requires agent { desk_caller self.old < 8 }
         ensures outcome { IsOutcome self.old self.new good Call.Withdraw result }
         ensures same { IsSameDesk self.old self.new }
-        ensures posted { IsPosted (entries_of self.new) (cash_of self.new) }
+        ensures posted { IsPosted (desk_entries self.new) (desk_cash self.new) }
     {
         self.ask(rt, floor, good, &Call::Withdraw)
     }
@@ -133,7 +133,7 @@ impl Desk {
         requires agent { desk_caller self.old < 8 }
         ensures outcome { IsOutcome self.old self.new good Call.Own result }
         ensures same { IsSameDesk self.old self.new }
-        ensures posted { IsPosted (entries_of self.new) (cash_of self.new) }
+        ensures posted { IsPosted (desk_entries self.new) (desk_cash self.new) }
     {
         self.ask(rt, floor, good, &Call::Own)
     }
@@ -145,7 +145,7 @@ impl Desk {
         requires agent { desk_caller self.old < 8 }
         ensures outcome { IsCashOutcome self.old self.new result }
         ensures same { IsSameDesk self.old self.new }
-        ensures posted { IsPosted (entries_of self.new) (cash_of self.new) }
+        ensures posted { IsPosted (desk_entries self.new) (desk_cash self.new) }
     {
         if self.readings == CASH_READINGS {
             return CashOutcome::Spent;
@@ -160,7 +160,7 @@ impl Desk {
     pub fn quote(&mut self, floor: &Floor, good: Good) -> Board
         requires own { desk_ids self.old ≡ floor_ids floor.now }
         ensures seen { IsSeen self.old self.new good result }
-        ensures posted { IsPosted (entries_of self.new) (cash_of self.new) }
+        ensures posted { IsPosted (desk_entries self.new) (desk_cash self.new) }
     {
         let place = place(good);
         floor.auctions[place].peek(&mut self.passes[place])
@@ -179,9 +179,9 @@ impl Desk {
         requires clock { desk_caller self.old ≡ 8 }
         requires call { IsClockCall call.now }
         requires left { length (entries_at self.old good) < CLOCK_CALLS }
-        requires all_left { count_entries (entries_of self.old) < CLOCK_CASH_ENTRIES }
-        ensures answered { IsAnswered self.old self.new good call.now result.0 result.1 }
-        ensures posted { IsPosted (entries_of self.new) (cash_of self.new) }
+        requires all_left { count_entries (desk_entries self.old) < CLOCK_CASH_ENTRIES }
+        ensures answered { IsCallAnswered self.old self.new good call.now result.0 result.1 }
+        ensures posted { IsPosted (desk_entries self.new) (desk_cash self.new) }
     {
         self.call(rt, floor, good, call)
     }

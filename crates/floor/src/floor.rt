@@ -10,12 +10,10 @@ use crate::opening::{empty_hands, open, open_cash, seat};
 use auction_core::{Auction, Closed};
 use game_text::Game;
 use std::alloc::Global;
+use tac_base::limits::GOODS;
 use tac_base::{Good, Memory};
 use trade_ledger::CashBook;
 use turn_lock::TurnLock;
-
-/// How many goods there are.
-const GOODS: u8 = 28;
 
 /// The 28 auctions of a game, in the order of goods, and its cash book, each under a lock of its own.
 #[derive(Drop)]
@@ -38,7 +36,7 @@ impl Floor {
     ghost use Rattle.auction_rules.specs.Legal.{Legal};
     ghost use Rattle.auction_core.specs.ClosedGame.{all_goods};
     ghost use Rattle.auction_core.specs.Setups.{setup_of};
-    ghost use Rattle.trade_ledger.specs.CashHistory.{IsLegalCash, total_of};
+    ghost use Rattle.trade_ledger.specs.CashHistory.{IsLegalCash, cash_total};
     ghost use Rattle.trade_ledger.specs.Posts.{Matched, trades_of_all};
     ghost use Rattle.floor.specs.Desks.{IsNewDesk, setup_at};
     ghost use Rattle.floor.specs.Floors.{floor_ids, starts_of, AreDesksOf, AreAllDesksOf};
@@ -79,7 +77,7 @@ impl Floor {
         ensures callers { All (λ e. e.caller ≤ 8) result.cash }
         ensures borne_out { All (λ d. IsBorneOut result d) desks.items }
         ensures matched { Matched (map (λ auction. auction.history) result.auctions) result.cash }
-        ensures totals { (party : ℕ) → party ≤ 8 → total_of result.cash party ≡ dollars (trades_of_all (map (λ auction. auction.history) result.auctions)) party }
+        ensures totals { (party : ℕ) → party ≤ 8 → cash_total result.cash party ≡ dollars (trades_of_all (map (λ auction. auction.history) result.auctions)) party }
         ensures taken { All TakesLawfulBids result.auctions }
     {
         let Floor {

@@ -6,7 +6,7 @@ ghost use Rattle.auction_core.specs.Setups.{setup_of};
 ghost use Rattle.auction_rules.specs.Legal.{cap};
 ghost use Rattle.trade_ledger.specs.CashHistory.{cash_cap};
 ghost use Rattle.auction_core.specs.Auctions.{AuctionHistory};
-ghost use Rattle.turn_lock.specs.Passes.{LockId, lock_of, lock_id, caller_of, left_of, made_by, noted_by, seen_by, start_of, passes_of, returned_to};
+ghost use Rattle.turn_lock.specs.Passes.{LockId, lock_of, lock_id, caller_of, turns_left, made_by, noted_by, seen_by, start_of, passes_of, returned_to};
 ghost use Rattle.floor.specs.Rows.{with_each};
 ghost use Rattle.floor.specs.Dealing.{AreFresh, MakeDesk};
 
@@ -102,7 +102,7 @@ pub(crate) fn open(
 pub(crate) fn open_cash(alloc: Global) -> Result<(TurnLock<CashBook>, Vec<Pass<CashBook>>), Memory>
     ensures lock { IfOk result (λ r. (passes_of r.0 ≡ 9) × (returned_to r.0 ≡ [])) }
     ensures passes { IfOk result (λ r. (length r.1.items ≡ 9) × ((i : ℕ) (p : _) → get_elem? r.1.items i ≡ some p →
-        (lock_of p ≡ lock_id r.0) × (caller_of p ≡ i) × (left_of p ≡ cash_cap i) × (made_by p ≡ []) × (noted_by p ≡ []) × (seen_by p ≡ 0))) }
+        (lock_of p ≡ lock_id r.0) × (caller_of p ≡ i) × (turns_left p ≡ cash_cap i) × (made_by p ≡ []) × (noted_by p ≡ []) × (seen_by p ≡ 0))) }
 {
     let book = CashBook::begin(alloc)?;
     let (lock, passes) = TurnLock::begin(alloc, book, &CASH_CALLS)?;

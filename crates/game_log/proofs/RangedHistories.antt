@@ -11,7 +11,7 @@ use Rattle.tac_base.specs.declared.calls.Trade.{Trade}
 use Rattle.game_text.specs.Accounts.{IsHolding}
 use Rattle.auction_rules.specs.History.{Entry}
 use Rattle.auction_rules.specs.Traded.{IsShort}
-use Rattle.auction_core.specs.Loggable.{IsLoggableCall, HasSmallNumbers, IsToldInRange, IsDealt, IsLoggable}
+use Rattle.auction_core.specs.Loggable.{IsLoggableCall, HasSmallNumbers, HasShownNumbers, IsDealt, IsLoggable}
 use Rattle.line_protocol.specs.Ranges.{IsReply}
 use Rattle.log_text.specs.LoggedGames.{IsLoggedCall, IsLoggedTrade, IsLoggedEntry, IsLoggedHistory}
 
@@ -26,7 +26,7 @@ call_ranged calls.Close is = tt
 holding_shown : (holding : ℤ) → IsHolding holding → unsigned_abs holding ≤ 1000000
 holding_shown holding is = omega (arith, ints, is.0, is.1)
 
-reply_ranged : (reply : Reply) → HasSmallNumbers reply → IsToldInRange reply → IsReply reply
+reply_ranged : (reply : Reply) → HasSmallNumbers reply → HasShownNumbers reply → IsReply reply
 reply_ranged (replies.Taken bought sold) small told = small
 reply_ranged (replies.Own holding left) small told = (holding_shown holding told, small)
 reply_ranged (replies.Sold units price) small told = (small, omega (arith, told))

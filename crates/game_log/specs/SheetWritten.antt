@@ -6,7 +6,7 @@ use Rattle.auction_core.specs.ClosedGame.{ClosedGame}
 use Rattle.score_sheet.specs.Sheets.{Scored}
 use Rattle.log_text.specs.SheetText.{sheet_part}
 use Rattle.game_log.specs.ScoredGames.{IsSheetOf}
-use Rattle.game_log.specs.Taken.{TookWhole, TookPart}
+use Rattle.tac_io.specs.Taken.{TookWhole, TookPart}
 use Rattle.game_log.specs.declared.fault.LogWriteFault.{LogWriteFault}
 use Rattle.game_log.specs.declared.fault.LogWriteFault.TheVariants.{Failed, Memory}
 

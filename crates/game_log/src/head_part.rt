@@ -3,31 +3,30 @@ ghost use Rattle.std.specs.Prelude.{◌++◌};
 ghost use Rattle.std.specs.List.{flat_map, enumerate_from};
 ghost use Rattle.line_protocol.specs.Heads.{Serve, head_of};
 ghost use Rattle.log_text.specs.LogText as log;
-ghost use Rattle.game_log.specs.Written.{Writes};
+ghost use Rattle.tac_io.specs.Written.{WritesPiece};
 
 use crate::LogHead;
-use crate::piece::write_piece;
 use line_protocol::{Cause, Verdict};
 use log_text::{end_line, link_line, missed_line};
 use tac_base::Agent;
-use tac_io::{Failed, Sink};
+use tac_io::{Failed, Sink, write_all};
 
 /// Writes the line of each link, in order of arrival.
 fn write_links<K: Sink>(sink: &mut K, verdicts: &[Verdict]) -> Result<(), Failed>
-    ensures { Writes (flat_map log.link_line (enumerate_from 0 verdicts.now)) (K.state sink.old) (K.state sink.new) result }
+    ensures { WritesPiece (flat_map log.link_line (enumerate_from 0 verdicts.now)) (K.state sink.old) (K.state sink.new) result }
 {
     for (place, verdict) in verdicts.iter().enumerate() {
-        write_piece(sink, link_line(place as u64, *verdict).as_slice())?;
+        write_all(sink, link_line(place as u64, *verdict).as_slice())?;
     }
     Ok(())
 }
 
 /// Writes the line of each session's end.
 fn write_ends<K: Sink>(sink: &mut K, ends: &[(Agent, Cause)]) -> Result<(), Failed>
-    ensures { Writes (flat_map log.end_line ends.now) (K.state sink.old) (K.state sink.new) result }
+    ensures { WritesPiece (flat_map log.end_line ends.now) (K.state sink.old) (K.state sink.new) result }
 {
     for end in ends {
-        write_piece(sink, end_line(end).as_slice())?;
+        write_all(sink, end_line(end).as_slice())?;
     }
     Ok(())
 }
@@ -39,20 +38,20 @@ fn write_served<K: Sink>(
     ends: &[(Agent, Cause)],
     missed: u8,
 ) -> Result<(), Failed>
-    ensures { Writes (log.head_text (Serve verdicts.now ends.now missed)) (K.state sink.old) (K.state sink.new) result }
+    ensures { WritesPiece (log.head_text (Serve verdicts.now ends.now missed)) (K.state sink.old) (K.state sink.new) result }
 {
-    write_piece(sink, b"serve\n")?;
+    write_all(sink, b"serve\n")?;
     write_links(sink, verdicts)?;
     write_ends(sink, ends)?;
-    write_piece(sink, missed_line(missed).as_slice())
+    write_all(sink, missed_line(missed).as_slice())
 }
 
 /// Writes how a game was played.
 fn write_kind<K: Sink>(sink: &mut K, head: &LogHead) -> Result<(), Failed>
-    ensures { Writes (log.head_text (head_of head.now)) (K.state sink.old) (K.state sink.new) result }
+    ensures { WritesPiece (log.head_text (head_of head.now)) (K.state sink.old) (K.state sink.new) result }
 {
     match head {
-        LogHead::Play => write_piece(sink, b"play\n"),
+        LogHead::Play => write_all(sink, b"play\n"),
         LogHead::Serve {
             verdicts,
             ends,
@@ -63,9 +62,9 @@ fn write_kind<K: Sink>(sink: &mut K, head: &LogHead) -> Result<(), Failed>
 
 /// Writes the head of a log.
 pub(crate) fn write_head<K: Sink>(sink: &mut K, head: &LogHead) -> Result<(), Failed>
-    ensures { Writes (log.first_lines (head_of head.now)) (K.state sink.old) (K.state sink.new) result }
+    ensures { WritesPiece (log.first_lines (head_of head.now)) (K.state sink.old) (K.state sink.new) result }
 {
-    match write_piece(sink, b"taclog 1\n") {
+    match write_all(sink, b"taclog 1\n") {
         Ok(()) => write_kind(sink, head),
         Err(failed) => Err(failed),
     }

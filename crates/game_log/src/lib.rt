@@ -1,10 +1,10 @@
-//! The log of a game: its histories, and then the sheet with its scores, are written.
+//! The log of a game: its histories, and then the sheet with its scores, are written. How a log is read, and when it is sound,
+//! is given again from `log_reader`.
 #![tactic(auto)]
 
 mod fault;
 mod head_part;
 mod known;
-mod piece;
 mod play_part;
 mod ranges;
 mod scores_part;
@@ -13,6 +13,7 @@ mod sheet_part;
 
 pub use fault::LogWriteFault;
 pub use line_protocol::LogHead;
+pub use log_reader::{Log, LogFault, LogHistory, ScoreLine, read_log};
 pub use log_text::{one_game, one_log, one_sheet, print_score, trade_line};
 pub use play_part::write_play_part;
 pub use ranges::log_ranges;

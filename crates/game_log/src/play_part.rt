@@ -6,27 +6,26 @@ ghost use Rattle.trade_ledger.specs.declared.cash_calls.CashEntry.{CashEntry};
 ghost use Rattle.line_protocol.specs.Heads.{head_of};
 ghost use Rattle.log_text.specs.LogText as log;
 ghost use Rattle.log_text.specs.Logged.{AreTradeNumbers, AreNumbers, IsEntry, IsAuction, AreEntryNumbers, IsCash, IsPlayed, IsHead};
-ghost use Rattle.game_log.specs.Written.{Writes};
+ghost use Rattle.tac_io.specs.Written.{WritesPiece};
 
 use crate::LogHead;
 use crate::head_part::write_head;
 use crate::known::{cash_entry_known, entry_known, head_known, trades_known};
-use crate::piece::write_piece;
 use auction_core::{Auction, Closed};
 use log_text::{auction_line, cash_entry_line, cash_line, entry_line, trade_line};
 use tac_base::Trade;
-use tac_io::{Failed, Sink};
+use tac_io::{Failed, Sink, write_all};
 use trade_ledger::CashBook;
 use turn_lock::Kept;
 
 /// Writes the lines of trades.
 fn write_trades<K: Sink>(sink: &mut K, trades: &[Trade]) -> Result<(), Failed>
-    ensures text { Writes (flat_map log.trade_line trades.now) (K.state sink.old) (K.state sink.new) result }
+    ensures text { WritesPiece (flat_map log.trade_line trades.now) (K.state sink.old) (K.state sink.new) result }
     ensures known { OnOk result (AllByRecursion AreTradeNumbers trades.now) }
 {
     trades_known(trades);
     for trade in trades {
-        write_piece(sink, trade_line(trade).as_slice())?;
+        write_all(sink, trade_line(trade).as_slice())?;
     }
     Ok(())
 }
@@ -35,7 +34,7 @@ fn write_trades<K: Sink>(sink: &mut K, trades: &[Trade]) -> Result<(), Failed>
 fn write_entry<K: Sink>(sink: &mut K, auction: &Auction, position: u32) -> Result<(), Failed>
     requires { position < length auction.now.history }
     ensures text { (e : Entry) → slice_get auction.now.history position ≡ Some e →
-        Writes (log.entry_text e) (K.state sink.old) (K.state sink.new) result }
+        WritesPiece (log.entry_text e) (K.state sink.old) (K.state sink.new) result }
     ensures known { (e : Entry) → slice_get auction.now.history position ≡ Some e → OnOk result (AreNumbers e) }
 {
     let Some(entry) = auction.entry(position) else {
@@ -43,7 +42,7 @@ fn write_entry<K: Sink>(sink: &mut K, auction: &Auction, position: u32) -> Resul
     };
     entry_known(entry);
     let line = entry_line(entry.caller, &entry.call, &entry.reply);
-    match write_piece(sink, line.as_slice()) {
+    match write_all(sink, line.as_slice()) {
         Ok(()) => write_trades(sink, auction.trades_of(position)),
         Err(failed) => Err(failed),
     }
@@ -51,7 +50,7 @@ fn write_entry<K: Sink>(sink: &mut K, auction: &Auction, position: u32) -> Resul
 
 /// Writes the entries of an auction.
 fn write_entries<K: Sink>(sink: &mut K, auction: &Auction) -> Result<(), Failed>
-    ensures text { Writes (flat_map log.entry_text auction.now.history) (K.state sink.old) (K.state sink.new) result }
+    ensures text { WritesPiece (flat_map log.entry_text auction.now.history) (K.state sink.old) (K.state sink.new) result }
     ensures known { OnOk result (AllByRecursion (IsEntry auction.now.setup.good) auction.now.history) }
 {
     for position in 0..auction.len() {
@@ -62,11 +61,11 @@ fn write_entries<K: Sink>(sink: &mut K, auction: &Auction) -> Result<(), Failed>
 
 /// Writes an auction.
 fn write_auction<K: Sink>(sink: &mut K, auction: &Auction) -> Result<(), Failed>
-    ensures text { Writes (log.auction_text auction.now.setup.good auction.now.history) (K.state sink.old) (K.state sink.new) result }
+    ensures text { WritesPiece (log.auction_text auction.now.setup.good auction.now.history) (K.state sink.old) (K.state sink.new) result }
     ensures known { OnOk result (IsAuction auction.now) }
 {
     let line = auction_line(auction.good(), auction.len());
-    match write_piece(sink, line.as_slice()) {
+    match write_all(sink, line.as_slice()) {
         Ok(()) => write_entries(sink, auction),
         Err(failed) => Err(failed),
     }
@@ -74,7 +73,7 @@ fn write_auction<K: Sink>(sink: &mut K, auction: &Auction) -> Result<(), Failed>
 
 /// Writes auctions in order.
 fn write_auctions<K: Sink>(sink: &mut K, auctions: &[Auction]) -> Result<(), Failed>
-    ensures text { Writes (flat_map (λ a. log.auction_text a.setup.good a.history) auctions.now) (K.state sink.old) (K.state sink.new) result }
+    ensures text { WritesPiece (flat_map (λ a. log.auction_text a.setup.good a.history) auctions.now) (K.state sink.old) (K.state sink.new) result }
     ensures known { OnOk result (AllByRecursion IsAuction auctions.now) }
 {
     for auction in auctions {
@@ -87,20 +86,20 @@ fn write_auctions<K: Sink>(sink: &mut K, auctions: &[Auction]) -> Result<(), Fai
 fn write_cash_entry<K: Sink>(sink: &mut K, cash: &CashBook, position: u32) -> Result<(), Failed>
     requires { position < length cash.now }
     ensures text { (e : CashEntry) → slice_get cash.now position ≡ Some e →
-        Writes (log.cash_entry_line e) (K.state sink.old) (K.state sink.new) result }
+        WritesPiece (log.cash_entry_line e) (K.state sink.old) (K.state sink.new) result }
     ensures known { (e : CashEntry) → slice_get cash.now position ≡ Some e → OnOk result (AreEntryNumbers e) }
 {
     let Some(entry) = cash.entry(position) else {
         unreachable!()
     };
     cash_entry_known(entry);
-    write_piece(sink, cash_entry_line(entry).as_slice())
+    write_all(sink, cash_entry_line(entry).as_slice())
 }
 
 /// Writes the entries of the cash history.
 fn write_cash_entries<K: Sink>(sink: &mut K, cash: &CashBook, count: u32) -> Result<(), Failed>
     requires { count ≡ length cash.now }
-    ensures text { Writes (flat_map log.cash_entry_line cash.now) (K.state sink.old) (K.state sink.new) result }
+    ensures text { WritesPiece (flat_map log.cash_entry_line cash.now) (K.state sink.old) (K.state sink.new) result }
     ensures known { OnOk result (AllByRecursion AreEntryNumbers cash.now) }
 {
     for position in 0..count {
@@ -111,11 +110,11 @@ fn write_cash_entries<K: Sink>(sink: &mut K, cash: &CashBook, count: u32) -> Res
 
 /// Writes the cash history.
 fn write_cash<K: Sink>(sink: &mut K, cash: &CashBook) -> Result<(), Failed>
-    ensures text { Writes (log.cash_text cash.now) (K.state sink.old) (K.state sink.new) result }
+    ensures text { WritesPiece (log.cash_text cash.now) (K.state sink.old) (K.state sink.new) result }
     ensures known { OnOk result (IsCash cash.now) }
 {
     let count = cash.board().count;
-    match write_piece(sink, cash_line(count).as_slice()) {
+    match write_all(sink, cash_line(count).as_slice()) {
         Ok(()) => write_cash_entries(sink, cash, count),
         Err(failed) => Err(failed),
     }
@@ -123,7 +122,7 @@ fn write_cash<K: Sink>(sink: &mut K, cash: &CashBook) -> Result<(), Failed>
 
 /// Writes all histories.
 fn write_histories<K: Sink>(sink: &mut K, closed: &Closed) -> Result<(), Failed>
-    ensures text { Writes (log.histories_text (log.histories_of closed.now) closed.now.cash) (K.state sink.old) (K.state sink.new) result }
+    ensures text { WritesPiece (log.histories_text (log.histories_of closed.now) closed.now.cash) (K.state sink.old) (K.state sink.new) result }
     ensures known { OnOk result (IsPlayed closed.now) }
 {
     match write_auctions(sink, closed.auctions.as_slice()) {
@@ -136,7 +135,7 @@ fn write_histories<K: Sink>(sink: &mut K, closed: &Closed) -> Result<(), Failed>
 /// memory. `Failed` comes exactly where the sink counted a fault in this call. Then some of the first bytes of the part were written, or
 /// none, but not all. The form of the log is our own.
 pub fn write_play_part<K: Sink>(sink: &mut K, head: &LogHead, closed: &Closed) -> Result<(), Failed>
-    ensures text { Writes (log.play_part (head_of head.now) closed.now) (K.state sink.old) (K.state sink.new) result }
+    ensures text { WritesPiece (log.play_part (head_of head.now) closed.now) (K.state sink.old) (K.state sink.new) result }
     // A head and a game are written as the law of logs requires.
     ensures known_head { IsHead (head_of head.now) }
     ensures known { OnOk result (IsPlayed closed.now) }

@@ -4,7 +4,7 @@ ghost use Rattle.std.specs.List.{AllByRecursion};
 ghost use Rattle.bound_cert.specs.Trees.{IsCertificate};
 ghost use Rattle.bound_cert.specs.Views.{tree_of};
 ghost use Rattle.log_text.specs.Logged.{IsNumber, IsSigned};
-ghost use Rattle.log_text.specs.LoggedSheet.{AreNights, IsShownPackage, IsKnownScore};
+ghost use Rattle.log_text.specs.LoggedSheet.{AreTicketNights, IsShownPackage, IsKnownScore};
 
 use bound_cert::Cert;
 use packages::Package;
@@ -12,7 +12,7 @@ use score_sheet::{AgentScore, Sheet};
 
 /// Nights are three numbers.
 fn nights_known(nights: &[u8; 3])
-    ensures { AreNights nights.now }
+    ensures { AreTicketNights nights.now }
 {
     let _numbers = (nights[0], nights[1], nights[2]);
 }

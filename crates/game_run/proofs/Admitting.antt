@@ -28,7 +28,7 @@ module _ {A B : Type 0} where
   follows Holds Then Kept keeps gives seats (a ∷ xs) (w ∷ vs) (b ∷ ys) kept all =
       (gives seats w a b kept all.0, follows Holds Then Kept keeps gives (seats_after seats w) xs vs ys (keeps seats w a b kept all.0) all.1)
 
-  -- there is a spot for each verdict
+  -- there is a holder for each verdict
   pub as_many : (Holds : Seats → Verdict → A → B → Type 0) (seats : Seats) (xs : List A) (vs : List Verdict) (ys : List B) → AreAdmitted Holds seats xs vs ys → length ys ≡ length vs
   as_many Holds seats [] [] [] all = refl
   as_many Holds seats [] [] (b ∷ ys) all = absurd all

@@ -1,4 +1,4 @@
--- What became of each agent, by its place.
+-- What became of each agent, by its seat.
 use Rattle.std.proofs.Common.{zero, suc, ◌≡◌, ℕ, ◌<◌, ◌+◌, ◌-◌, ◌^◌, List, [], ◌∷◌, ◌++◌, map, length, refl, ap, sym, ◌∙◌, subst, true, Bool, Some, None, arith, add-zero, filter}
 use Rattle.std.specs.Prelude.{cond, Contains, Result, is_some, slice_get, IfSome}
 use Rattle.std.specs.declared.option.Option.{Option}
@@ -22,12 +22,12 @@ use Rattle.floor.specs.Closing.{IsBorneOut}
 use Rattle.floor.specs.Desks.{desk_ids, desk_caller, IsNewDesk}
 use Rattle.agent_gate.specs.Served.{IsServed}
 use Rattle.agent_gate.specs.Welcome.{welcome_text}
-use Rattle.game_run.specs.declared.crew.Place.{Place}
-use Rattle.game_run.specs.declared.crew.Played.{Played}
-use Rattle.game_run.specs.declared.crew.Two.{Two}
+use Rattle.game_run.specs.declared.sessions.AgentSeat.{AgentSeat}
+use Rattle.game_run.specs.declared.sessions.PlayedSeat.{PlayedSeat}
+use Rattle.game_run.specs.declared.sessions.Two.{Two}
 use Rattle.tac_io.specs.States.{LinkState}
-use Rattle.game_run.specs.Seatings.{FloorIds, eight_of, played_end, IsReady, IsReadyClock, AreEightReady, IsPlayedOut, IsServedBy}
-use Rattle.game_run.specs.Staging.{IsAgentsPart, IsServedAs}
+use Rattle.game_run.specs.Seatings.{FloorIds, eight_of, played_end, IsReadySeat, IsReadyClock, AreEightReady, IsPlayedOut, IsServedBy}
+use Rattle.game_run.specs.GameSessions.{IsAgentsPart, IsServedAs}
 use Rattle.game_run.proofs.Transcripts.{transcript_of, absent_of}
 
 -- what holds of each number below eight
@@ -48,22 +48,22 @@ if_readable : {L : Type 0} (o : Option (Lines L)) → ((ls : Lines L) → o ≡ 
 if_readable None each = tt
 if_readable (Some ls) each = each ls refl
 
-module _ {L : Type 0} (ids : FloorIds) (e : Two (Two (Two (Place L)))) (clock : Desk) (desks : List Desk) (lines : List (Option (Lines L)))
+module _ {L : Type 0} (ids : FloorIds) (e : Two (Two (Two (AgentSeat L)))) (clock : Desk) (desks : List Desk) (lines : List (Option (Lines L)))
     (desks_are : desks ≡ map (λ p. p.desk) (eight_of e) ++ clock ∷ []) (lines_are : lines ≡ map (λ p. p.lines) (eight_of e))
     (fresh : (i : ℕ) (d : Desk) → get_elem? desks i ≡ some d → IsNewDesk ids i d)
     (readable : (agent : ℕ) (ls : Lines L) → slice_get lines agent ≡ Some (Some ls) → goes_on (last_of ls) ≡ true) where
   pub new_desk : (i : ℕ) (d : Desk) → get_elem? (map (λ p. p.desk) (eight_of e) ++ clock ∷ []) i ≡ some d → IsNewDesk ids i d
   new_desk i d at = fresh i d (ap (λ l. get_elem? l i) desks_are ∙ at)
 
-  ready_at : (number : ℕ) (place : Place L) → number < 8 → get_elem? (map (λ p. p.desk) (eight_of e) ++ clock ∷ []) number ≡ some place.desk
-      → slice_get (map (λ p. p.lines) (eight_of e)) number ≡ Some place.lines → IsReady ids place
-  ready_at number place lt at_desk at_lines =
-      let new = new_desk number place.desk at_desk in
+  ready_at : (number : ℕ) (agent_seat : AgentSeat L) → number < 8 → get_elem? (map (λ p. p.desk) (eight_of e) ++ clock ∷ []) number ≡ some agent_seat.desk
+      → slice_get (map (λ p. p.lines) (eight_of e)) number ≡ Some agent_seat.lines → IsReadySeat ids agent_seat
+  ready_at number agent_seat lt at_desk at_lines =
+      let new = new_desk number agent_seat.desk at_desk in
       record {
         own = new.ids;
         agent = omega (arith, new.caller, lt);
         no_calls = (new.entries, new.cash);
-        more = if_readable place.lines (λ ls is. readable number ls (ap (λ l. slice_get l number) lines_are ∙ (at_lines ∙ ap (λ o. Some o) is)));
+        more = if_readable agent_seat.lines (λ ls is. readable number ls (ap (λ l. slice_get l number) lines_are ∙ (at_lines ∙ ap (λ o. Some o) is)));
       }
 
   pub eight_ready : AreEightReady ids e
@@ -137,13 +137,13 @@ contains_mapped {X} {Y} f (a ∷ xs) (suc k) x y at gives = beside (f a) (contai
     beside None c = c
     beside (Some z) c = contains_next z y (filter_map f xs) c
 
-pub end_of_agent : {L : Type 0} (played : List (Played L)) (agent : ℕ) (p : Played L) (link : L) (cause : Cause) → slice_get played agent ≡ Some p → desk_caller p.desk ≡ agent → p.end ≡ Some (link, cause)
+pub end_of_agent : {L : Type 0} (played : List (PlayedSeat L)) (agent : ℕ) (p : PlayedSeat L) (link : L) (cause : Cause) → slice_get played agent ≡ Some p → desk_caller p.desk ≡ agent → p.end ≡ Some (link, cause)
     → Contains (filter_map played_end played) (agent, cause)
 end_of_agent played agent p link cause at caller end =
     contains_mapped played_end played agent p (agent, cause) at (ap (λ o. option_map (λ e. (desk_caller p.desk, e.1)) o) end ∙ ap (λ n. Some (n, cause)) caller)
 
 -- the ends are those of the agents that have one, in order
-pub ends_in_order : {L : Type 0} (has : ℕ → Bool) (from : ℕ) (played : List (Played L)) → ((k : ℕ) (p : Played L) → slice_get played k ≡ Some p → (desk_caller p.desk ≡ from + k) × (has (from + k) ≡ is_some p.end))
+pub ends_in_order : {L : Type 0} (has : ℕ → Bool) (from : ℕ) (played : List (PlayedSeat L)) → ((k : ℕ) (p : PlayedSeat L) → slice_get played k ≡ Some p → (desk_caller p.desk ≡ from + k) × (has (from + k) ≡ is_some p.end))
     → map (λ end. end.0) (filter_map played_end played) ≡ filter has (range_with_len from (length played))
 ends_in_order has from [] each = refl
 ends_in_order {L} has from (p ∷ played) each =
@@ -156,7 +156,7 @@ ends_in_order {L} has from (p ∷ played) each =
     shift : (k : ℕ) → from + suc k ≡ (from + 1) + k
     shift k = omega arith
 
-    shifted : (k : ℕ) (q : Played L) → (desk_caller q.desk ≡ from + suc k) × (has (from + suc k) ≡ is_some q.end) → (desk_caller q.desk ≡ (from + 1) + k) × (has ((from + 1) + k) ≡ is_some q.end)
+    shifted : (k : ℕ) (q : PlayedSeat L) → (desk_caller q.desk ≡ from + suc k) × (has (from + suc k) ≡ is_some q.end) → (desk_caller q.desk ≡ (from + 1) + k) × (has ((from + 1) + k) ≡ is_some q.end)
     shifted k q h = (h.0 ∙ shift k, ap has (sym (shift k)) ∙ h.1)
 
     step : (end : Option (L × Cause)) → desk_caller p.desk ≡ from → has from ≡ is_some end → map (λ end. end.0) (filter_map played_end played) ≡ filter has (range_with_len (from + 1) (length played))

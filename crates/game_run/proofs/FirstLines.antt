@@ -7,22 +7,22 @@ use Rattle.tac_io.specs.AllAnswers.{all_answers, ended_line}
 use Rattle.tac_io.specs.Counts.{Rose}
 use Rattle.tac_io.specs.HeldBytes.{Held}
 use Rattle.tac_io.specs.LineAnswers.{Answers, HasLineCause, goes_on}
-use Rattle.tac_io.specs.LineText.{has_end, Begins}
+use Rattle.tac_io.specs.LineText.{has_end, BeginsWithLine}
 use Rattle.tac_io.specs.Lines.{count_of, held_of, last_of, link_of}
 use Rattle.tac_io.specs.LinkCalls.{GaveBytes, ReadsNothing, SendsNothing}
 use Rattle.std.specs.Prelude.{◌⊎◌}
-use Rattle.tac_io.specs.Told.{and_then_told, before_told, IsAtEnd, TakesSome}
+use Rattle.tac_io.specs.Known.{known_then, then_known, IsAtEnd, TakesSome}
 use Rattle.tac_io.specs.declared.line_got.LineGot.{LineGot}
 use Rattle.tac_io.specs.declared.line_got.LineGot.TheVariants as gots
 use Rattle.tac_io.specs.declared.lines.Lines.{Lines}
 use Rattle.tac_io.proofs.ByBytes.{all_answers-line, all_answers-end, all_answers-budget}
-use Rattle.tac_io.proofs.Tellings.{and_then_told-nothing}
+use Rattle.tac_io.proofs.KnownPieces.{known_then-nothing}
 use Rattle.std.proofs.lemmas.Bool.Decides.{nat_tests}
 use Rattle.line_protocol.specs.declared.admission.Verdict.{Verdict}
 use Rattle.line_protocol.specs.declared.admission.Verdict.TheVariants.{Seated, Syntax, WrongWord, Taken, Lost}
 use Rattle.agent_gate.specs.Gates.{Seats, verdict_of, word_verdict, seat_verdict, greeting_of, seats_after}
 use Rattle.game_run.specs.Admission.{BeginsWith, refusal_line, IsSentOrCut, IsRefused, IsLost}
-use Rattle.game_run.specs.Arriving.{seat_of, IsUnseated, IsAnswered, IsTurnedAway, IsFirstRead}
+use Rattle.game_run.specs.Arriving.{seat_of, IsUnseated, IsOnlySent, IsTurnedAway, IsFirstRead}
 use Rattle.tac_io.specs.States.{LinkState}
 
 -- ---- the first answer by the bytes
@@ -34,22 +34,22 @@ long_line : (line : List ℕ) → 512 < length line → ended_line line ≡ (got
 long_line line lt = grind (arith, nat_tests)
 
 -- after the first line come the answers of what follows it
-pub after_line : (bytes line rest more : List ℕ) → Begins bytes line rest → length bytes ≤ 2 ^ 26
+pub after_line : (bytes line rest more : List ℕ) → BeginsWithLine bytes line rest → length bytes ≤ 2 ^ 26
     → all_answers [] (2 ^ 26) (bytes ++ more) ≡ ended_line line ∷ all_answers [] (2 ^ 26 - length bytes + length rest) (rest ++ more)
 after_line bytes line rest more b le =
     let size : length bytes ≡ length line + suc (length rest) = ap length b.whole ∙ length-append line (10 ∷ rest) in
     let whole : bytes ++ more ≡ line ++ 10 ∷ (rest ++ more) = ap (λ l. l ++ more) b.whole ∙ append_assoc line (10 ∷ rest) more in
     ap (all_answers [] (2 ^ 26)) whole ∙ all_answers-line [] line (rest ++ more) (2 ^ 26) (2 ^ 26 - length bytes + length rest) b.first (omega (arith, size, le))
 
-pub first_line : (bytes line rest more : List ℕ) → Begins bytes line rest → length bytes ≤ 2 ^ 26 → length line ≤ 512
+pub first_line : (bytes line rest more : List ℕ) → BeginsWithLine bytes line rest → length bytes ≤ 2 ^ 26 → length line ≤ 512
     → all_answers [] (2 ^ 26) (bytes ++ more) ≡ (gots.Line, line) ∷ all_answers [] (2 ^ 26 - length bytes + length rest) (rest ++ more)
 first_line bytes line rest more b le short =
     after_line bytes line rest more b le ∙ ap (λ l. l ∷ all_answers [] (2 ^ 26 - length bytes + length rest) (rest ++ more)) (short_line line short)
 
-pub begins_with : (bytes line rest : List ℕ) → Begins bytes line rest → length bytes ≤ 2 ^ 26 → length line ≤ 512 → BeginsWith bytes gots.Line line
+pub begins_with : (bytes line rest : List ℕ) → BeginsWithLine bytes line rest → length bytes ≤ 2 ^ 26 → length line ≤ 512 → BeginsWith bytes gots.Line line
 begins_with bytes line rest b le short = (_, ap (all_answers [] (2 ^ 26)) (sym (append-nil bytes)) ∙ first_line bytes line rest [] b le short)
 
-begins_long : (bytes line rest : List ℕ) → Begins bytes line rest → length bytes ≤ 2 ^ 26 → 512 < length line → BeginsWith bytes gots.TooLong []
+begins_long : (bytes line rest : List ℕ) → BeginsWithLine bytes line rest → length bytes ≤ 2 ^ 26 → 512 < length line → BeginsWith bytes gots.TooLong []
 begins_long bytes line rest b le long = (
   _,
   ap (all_answers [] (2 ^ 26)) (sym (append-nil bytes)) ∙ after_line bytes line rest [] b le
@@ -85,8 +85,8 @@ module _ {L : Type 0} (state : L → LinkState) (seats : Seats) (before : LinkSt
       → (state (link_of lines)).reads ≡ before.reads → goes_on (last_of lines) ≡ true → verdict ≡ verdict_of seats (held_of lines).line → IsFirstRead state seats verdict before lines
   line_read verdict a reads more due = by verdict due
     where
-      whole : Begins a.more (held_of lines).line (held_of lines).unread
-      whole = subst (λ bytes. Begins bytes (held_of lines).line (held_of lines).unread) (bytes_are gots.Line a) a.next.0
+      whole : BeginsWithLine a.more (held_of lines).line (held_of lines).unread
+      whole = subst (λ bytes. BeginsWithLine bytes (held_of lines).line (held_of lines).unread) (bytes_are gots.Line a) a.next.0
 
       within : length a.more ≤ 2 ^ 26
       within = omega (arith, counted gots.Line a, few)
@@ -127,7 +127,7 @@ module _ {L : Type 0} (state : L → LinkState) (seats : Seats) (before : LinkSt
   pub long_read : Answers old (held_of lines) before (state (link_of lines)) count (count_of lines) gots.TooLong
       → (state (link_of lines)).reads ≡ before.reads → IsUnseated seats Syntax before (state (link_of lines))
   long_read a reads =
-      let whole : Begins a.more a.next.0 (held_of lines).unread = subst (λ bytes. Begins bytes a.next.0 (held_of lines).unread) (bytes_are gots.TooLong a) a.next.1 in (
+      let whole : BeginsWithLine a.more a.next.0 (held_of lines).unread = subst (λ bytes. BeginsWithLine bytes a.next.0 (held_of lines).unread) (bytes_are gots.TooLong a) a.next.1 in (
         record {
           bytes = a.more;
           gave = a.gave;
@@ -170,14 +170,14 @@ module _ {L : Type 0} (state : L → LinkState) (seats : Seats) (before : LinkSt
 -- ---- what was sent to a link without a seat
 
 sent_nothing : (before after : LinkState) → IsSentOrCut [] before after → SendsNothing before after
-sent_nothing before after (inl h) = (h.0 ∙ and_then_told-nothing before.sent, h.1)
+sent_nothing before after (inl h) = (h.0 ∙ known_then-nothing before.sent, h.1)
 sent_nothing before after (inr h) = absurd (omega (arith, h.0.proper))
 
 -- what a link gave is the same while nothing is read of it
 gave_still : (bytes : List ℕ) (before between after : LinkState) → GaveBytes bytes before between → ReadsNothing between after → GaveBytes bytes before after
-gave_still bytes before between after gave read = (read.0 ∙ gave.0, gave.1 ∙ ap (before_told bytes) (sym read.1))
+gave_still bytes before between after gave read = (read.0 ∙ gave.0, gave.1 ∙ ap (then_known bytes) (sym read.1))
 
-refused : (seats : Seats) (verdict : Verdict) (before between after : LinkState) → IsUnseated seats verdict before between → IsAnswered (refusal_line verdict) between after → IsRefused seats verdict before after
+refused : (seats : Seats) (verdict : Verdict) (before between after : LinkState) → IsUnseated seats verdict before between → IsOnlySent (refusal_line verdict) between after → IsRefused seats verdict before after
 refused seats verdict before between after u a = (
   record {
     bytes = u.0.bytes;
@@ -188,12 +188,12 @@ refused seats verdict before between after u a = (
     due = u.0.due;
     reads = a.read.2 ∙ u.0.reads;
   },
-  subst (λ (w : Option (List ℕ) × ℕ). ((after.sent ≡ and_then_told w.0 (refusal_line verdict)) × (after.writes ≡ w.1)) ⊎ (TakesSome w.0 after.sent (refusal_line verdict) × Rose w.1 after.writes))
+  subst (λ (w : Option (List ℕ) × ℕ). ((after.sent ≡ known_then w.0 (refusal_line verdict)) × (after.writes ≡ w.1)) ⊎ (TakesSome w.0 after.sent (refusal_line verdict) × Rose w.1 after.writes))
       (λ i. (u.1.0 i, u.1.1 i)) a.sent,
 )
 
 -- what holds of a link still holds after nothing was sent to it
-lost : (before between after : LinkState) → IsLost before between → IsAnswered [] between after → IsLost before after
+lost : (before between after : LinkState) → IsLost before between → IsOnlySent [] between after → IsLost before after
 lost before between after l a =
     let none = sent_nothing between after a.sent in
     record {
@@ -206,7 +206,7 @@ lost before between after l a =
     }
 
 pub turned_away : {L : Type 0} (state : L → LinkState) (seats : Seats) (verdict : Verdict) (before : LinkState) (lines : Lines L) (after : LinkState) → seat_of verdict ≡ None
-    → IsFirstRead state seats verdict before lines → IsAnswered (refusal_line verdict) (state (link_of lines)) after → IsTurnedAway seats verdict before after
+    → IsFirstRead state seats verdict before lines → IsOnlySent (refusal_line verdict) (state (link_of lines)) after → IsTurnedAway seats verdict before after
 turned_away state seats (Seated agent) before lines after none read answered = absurd (cc)
 turned_away state seats Syntax before lines after none read answered = refused seats Syntax before (state (link_of lines)) after read answered
 turned_away state seats WrongWord before lines after none read answered = refused seats WrongWord before (state (link_of lines)) after read answered

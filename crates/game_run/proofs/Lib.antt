@@ -1,10 +1,10 @@
 pub mod FirstLines
 pub mod Admitting
-pub mod SeatPlaces
+pub mod KeptSeats
 pub mod TakenLinks
 pub mod Transcripts
 pub mod AgentParts
 pub mod LinksBack
-pub mod PlayedPlaces
+pub mod PlayedSeats
 pub mod SameStart
 pub mod WholeGames

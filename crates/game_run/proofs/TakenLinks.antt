@@ -10,22 +10,22 @@ use mathlib.Core.Logic.{dite}
 use Rattle.game_text.specs.Games.{GameFile}
 use Rattle.tac_io.specs.LineAnswers.{goes_on}
 use Rattle.tac_io.specs.Lines.{last_of}
-use Rattle.tac_io.specs.Told.{before_told}
+use Rattle.tac_io.specs.Known.{then_known}
 use Rattle.tac_io.specs.declared.lines.Lines.{Lines}
-use Rattle.tac_io.proofs.Tellings.{before_told-nothing, before_told-twice}
+use Rattle.tac_io.proofs.KnownPieces.{then_known-nothing, then_known-twice}
 use Rattle.line_protocol.specs.declared.admission.Verdict.{Verdict}
 use Rattle.line_protocol.specs.declared.admission.Verdict.TheVariants.{Seated, Syntax, WrongWord, Taken, Lost}
 use Rattle.agent_gate.specs.Gates.{Seats, seats_after}
 use Rattle.game_run.specs.declared.arrivals.Arrivals.{Arrivals}
 use Rattle.game_run.specs.declared.arrivals.Greeting.{Greeting}
 use Rattle.game_run.specs.declared.arrivals.Greeting.TheVariants as greetings
-use Rattle.game_run.specs.declared.arrivals.Spot.{Spot}
-use Rattle.game_run.specs.declared.arrivals.Spot.TheVariants.{Seat, Apart}
+use Rattle.game_run.specs.declared.arrivals.Holder.{Holder}
+use Rattle.game_run.specs.declared.arrivals.Holder.TheVariants.{Seat, Unseated}
 use Rattle.game_run.specs.Admission.{free_seats, seats_given, is_seated, AreAdmitted, MayGoOn}
-use Rattle.game_run.specs.Arriving.{IsTurnedAway, IsGreeted, IsGreeting, Adds, IsTakenIn, Keeps, AreKept, AreTaken}
+use Rattle.game_run.specs.Arriving.{IsTurnedAway, IsGreeted, IsGreeting, AddsArrival, IsTakenIn, Keeps, AreKept, AreTaken}
 use Rattle.tac_io.specs.States.{LinkState}
 use Rattle.game_run.proofs.Admitting.{one_more, follows}
-use Rattle.game_run.proofs.SeatPlaces.{get_set_same, map_set, seat_was_free, keeps_beside}
+use Rattle.game_run.proofs.KeptSeats.{get_set_same, map_set, seat_was_free, keeps_beside}
 
 count_more : {X : Type 0} (p : X → Bool) (xs : List X) (x : X) (b : Bool) → p x ≡ b → count_by p (xs ++ x ∷ []) ≡ count_by p xs + (if b then 1 else 0)
 count_more p xs x b is = fold_push (λ a y. a + (if p y then 1 else 0)) 0 xs x ∙ ap (λ c. count_by p xs + (if c then 1 else 0)) is
@@ -77,14 +77,14 @@ each_place P (w ∷ xs) (suc a) y new old zero x at = old zero x at
 each_place P (w ∷ xs) (suc a) y new old (suc i) x at = each_place P xs a y new (λ j z e. old (suc j) z e) i x at
 
 module _ {L : Type 0} (state : L → LinkState) (game : GameFile) where
-  pub none_taken : (pending : Option (List L)) (arrivals : Arrivals L) → arrivals.verdicts.items ≡ [] → arrivals.spots.items ≡ [] → arrivals.lines.items ≡ replicate 8 None
+  pub none_taken : (pending : Option (List L)) (arrivals : Arrivals L) → arrivals.verdicts.items ≡ [] → arrivals.holders.items ≡ [] → arrivals.lines.items ≡ replicate 8 None
       → AreTaken state game pending pending arrivals
-  none_taken pending arrivals verdicts spots lines = record {
+  none_taken pending arrivals verdicts holders lines = record {
     given = [];
-    from = sym (before_told-nothing pending);
+    from = sym (then_known-nothing pending);
     kept = record {
-      links = subst (λ vs. AreAdmitted (Keeps state (IsGreeted state) arrivals.lines.items) (free_seats game) [] vs arrivals.spots.items) (sym verdicts)
-          (subst (λ ss. AreAdmitted (Keeps state (IsGreeted state) arrivals.lines.items) (free_seats game) [] [] ss) (sym spots) tt);
+      links = subst (λ vs. AreAdmitted (Keeps state (IsGreeted state) arrivals.lines.items) (free_seats game) [] vs arrivals.holders.items) (sym verdicts)
+          (subst (λ ss. AreAdmitted (Keeps state (IsGreeted state) arrivals.lines.items) (free_seats game) [] [] ss) (sym holders) tt);
       seats = ap (map (λ l. is_some l)) lines ∙ ap (λ vs. (seats_given game vs).taken) (sym verdicts);
       readable = λ agent ls at. absurd (none_of 8 agent ls (sym (ap (λ l. slice_get l agent) lines) ∙ at));
       wide = ap length lines;
@@ -93,14 +93,14 @@ module _ {L : Type 0} (state : L → LinkState) (game : GameFile) where
   }
 
   -- what holds of the arrivals, by their lists
-  kept_by_lists : (given : List LinkState) (arrivals : Arrivals L) (vs : List Verdict) (spots : List (Spot L)) (lines : List (Option (Lines L))) → arrivals.verdicts.items ≡ vs → arrivals.spots.items ≡ spots
-      → arrivals.lines.items ≡ lines → AreAdmitted (Keeps state (IsGreeted state) lines) (free_seats game) given vs spots → map (λ l. is_some l) lines ≡ (seats_given game vs).taken
+  kept_by_lists : (given : List LinkState) (arrivals : Arrivals L) (vs : List Verdict) (holders : List (Holder L)) (lines : List (Option (Lines L))) → arrivals.verdicts.items ≡ vs → arrivals.holders.items ≡ holders
+      → arrivals.lines.items ≡ lines → AreAdmitted (Keeps state (IsGreeted state) lines) (free_seats game) given vs holders → map (λ l. is_some l) lines ≡ (seats_given game vs).taken
       → ((agent : ℕ) (ls : Lines L) → slice_get lines agent ≡ Some (Some ls) → goes_on (last_of ls) ≡ true) → length lines ≡ 8
       → ((n : ℕ) → n < length vs → MayGoOn (take n vs)) → AreKept state game given arrivals
-  kept_by_lists given arrivals vs spots lines e f h links seats readable wide no_more = record {
-    links = subst (λ ls. AreAdmitted (Keeps state (IsGreeted state) ls) (free_seats game) given arrivals.verdicts.items arrivals.spots.items) (sym h)
+  kept_by_lists given arrivals vs holders lines e f h links seats readable wide no_more = record {
+    links = subst (λ ls. AreAdmitted (Keeps state (IsGreeted state) ls) (free_seats game) given arrivals.verdicts.items arrivals.holders.items) (sym h)
         (subst (λ ss. AreAdmitted (Keeps state (IsGreeted state) lines) (free_seats game) given arrivals.verdicts.items ss) (sym f)
-        (subst (λ ws. AreAdmitted (Keeps state (IsGreeted state) lines) (free_seats game) given ws spots) (sym e) links));
+        (subst (λ ws. AreAdmitted (Keeps state (IsGreeted state) lines) (free_seats game) given ws holders) (sym e) links));
     seats = ap (map (λ l. is_some l)) h ∙ (seats ∙ ap (λ ws. (seats_given game ws).taken) (sym e));
     readable = λ agent ls at. readable agent ls (ap (λ l. slice_get l agent) (sym h) ∙ at);
     wide = ap length h ∙ wide;
@@ -108,46 +108,46 @@ module _ {L : Type 0} (state : L → LinkState) (game : GameFile) where
   }
 
   kept_more : (given : List LinkState) (before : LinkState) (old new : Arrivals L) (seats' : Seats) (seated : Bool) (greeting : Greeting L) → AreKept state game given old
-      → MayGoOn old.verdicts.items → IsGreeting state (seats_given game old.verdicts.items) seats' before greeting → Adds greeting old new seated → AreKept state game (given ++ before ∷ []) new
+      → MayGoOn old.verdicts.items → IsGreeting state (seats_given game old.verdicts.items) seats' before greeting → AddsArrival greeting old new seated → AreKept state game (given ++ before ∷ []) new
   kept_more given before old new seats' seated (greetings.Seated agent lines) kept may greets adds =
       let seats = seats_given game old.verdicts.items in
       let free = seat_was_free seats greets.1.line agent greets.1.seat in
       let none = none_at old.lines.items agent (omega (arith, kept.wide, adds.3)) (ap (λ ts. slice_index_or ts agent false) kept.seats ∙ free) in
-      let places = slice_set old.lines.items agent (Some lines) in
-      let same = follows (Keeps state (IsGreeted state) old.lines.items) (Keeps state (IsGreeted state) places) (λ s. Unit {0}) (λ s v x y u h. tt)
-      (λ s v x spot u h. keeps_beside state (IsGreeted state) old.lines.items agent (Some lines) none s v x spot h) (free_seats game) given old.verdicts.items old.spots.items tt kept.links in
-      kept_by_lists (given ++ before ∷ []) new (old.verdicts.items ++ Seated agent ∷ []) (old.spots.items ++ Seat agent ∷ []) places adds.0 adds.1 adds.2
-      (one_more (Keeps state (IsGreeted state) places) (free_seats game) given old.verdicts.items old.spots.items before (Seated agent) (Seat agent) same
+      let agent_seats = slice_set old.lines.items agent (Some lines) in
+      let same = follows (Keeps state (IsGreeted state) old.lines.items) (Keeps state (IsGreeted state) agent_seats) (λ s. Unit {0}) (λ s v x y u h. tt)
+      (λ s v x holder u h. keeps_beside state (IsGreeted state) old.lines.items agent (Some lines) none s v x holder h) (free_seats game) given old.verdicts.items old.holders.items tt kept.links in
+      kept_by_lists (given ++ before ∷ []) new (old.verdicts.items ++ Seated agent ∷ []) (old.holders.items ++ Seat agent ∷ []) agent_seats adds.0 adds.1 adds.2
+      (one_more (Keeps state (IsGreeted state) agent_seats) (free_seats game) given old.verdicts.items old.holders.items before (Seated agent) (Seat agent) same
       (lines, refl, get_set_same old.lines.items agent (Some lines) (omega (arith, kept.wide, adds.3)), greets.1))
       (map_set (λ l. is_some l) old.lines.items agent (Some lines) ∙ (ap (λ ts. slice_set ts agent true) kept.seats ∙ ap (λ s. s.taken) (sym (fold_push seats_after (free_seats game) old.verdicts.items (Seated agent)))))
       (each_place (λ ls. goes_on (last_of ls) ≡ true) old.lines.items agent lines greets.1.more kept.readable) (length-set old.lines.items agent (Some lines) ∙ kept.wide)
       (more_may old.verdicts.items (Seated agent) may kept.no_more)
-  kept_more given before old new seats' seated (greetings.Apart verdict link) kept may greets adds =
+  kept_more given before old new seats' seated (greetings.Unseated verdict link) kept may greets adds =
       let seats = seats_given game old.verdicts.items in
-      kept_by_lists (given ++ before ∷ []) new (old.verdicts.items ++ verdict ∷ []) (old.spots.items ++ Apart link ∷ []) old.lines.items adds.0 adds.1 adds.2
-      (one_more (Keeps state (IsGreeted state) old.lines.items) (free_seats game) given old.verdicts.items old.spots.items before verdict (Apart link) kept.links greets.1)
+      kept_by_lists (given ++ before ∷ []) new (old.verdicts.items ++ verdict ∷ []) (old.holders.items ++ Unseated link ∷ []) old.lines.items adds.0 adds.1 adds.2
+      (one_more (Keeps state (IsGreeted state) old.lines.items) (free_seats game) given old.verdicts.items old.holders.items before verdict (Unseated link) kept.links greets.1)
       (kept.seats ∙ ap (λ s. s.taken) (sym (fold_push seats_after (free_seats game) old.verdicts.items verdict ∙ changes_nothing seats verdict before (state link) greets.1)))
       kept.readable kept.wide (more_may old.verdicts.items verdict may kept.no_more)
 
   gate_of : (before : LinkState) (old new : Arrivals L) (seats' : Seats) (seated : Bool) (greeting : Greeting L)
-      → IsGreeting state (seats_given game old.verdicts.items) seats' before greeting → Adds greeting old new seated → seats' ≡ seats_given game new.verdicts.items
+      → IsGreeting state (seats_given game old.verdicts.items) seats' before greeting → AddsArrival greeting old new seated → seats' ≡ seats_given game new.verdicts.items
   gate_of before old new seats' seated (greetings.Seated agent lines) greets adds =
       greets.0 ∙ (sym (fold_push seats_after (free_seats game) old.verdicts.items (Seated agent)) ∙ ap (seats_given game) (sym adds.0))
-  gate_of before old new seats' seated (greetings.Apart verdict link) greets adds =
+  gate_of before old new seats' seated (greetings.Unseated verdict link) greets adds =
       greets.0 ∙ (sym (fold_push seats_after (free_seats game) old.verdicts.items verdict ∙ changes_nothing (seats_given game old.verdicts.items) verdict before (state link) greets.1) ∙ ap (seats_given game) (sym adds.0))
 
   count_of_seats : (before : LinkState) (old new : Arrivals L) (seats seats' : Seats) (seated : Bool) (greeting : Greeting L)
-      → IsGreeting state seats seats' before greeting → Adds greeting old new seated → count_by is_seated new.verdicts.items ≡ count_by is_seated old.verdicts.items + (if seated then 1 else 0)
+      → IsGreeting state seats seats' before greeting → AddsArrival greeting old new seated → count_by is_seated new.verdicts.items ≡ count_by is_seated old.verdicts.items + (if seated then 1 else 0)
   count_of_seats before old new seats seats' seated (greetings.Seated agent lines) greets adds =
       ap (count_by is_seated) adds.0 ∙ count_more is_seated old.verdicts.items (Seated agent) seated (sym adds.4)
-  count_of_seats before old new seats seats' seated (greetings.Apart verdict link) greets adds =
+  count_of_seats before old new seats seats' seated (greetings.Unseated verdict link) greets adds =
       ap (count_by is_seated) adds.0 ∙ count_more is_seated old.verdicts.items verdict seated (unseated seats verdict before (state link) greets.1 ∙ sym adds.3)
 
   pub one_taken : (pending pending' pending'' : Option (List L)) (link : L) (old new : Arrivals L) (seats seats' : Seats) (seated : Bool) → AreTaken state game pending pending' old
-      → seats ≡ seats_given game old.verdicts.items → MayGoOn old.verdicts.items → pending' ≡ before_told (link ∷ []) pending'' → IsTakenIn state seats seats' (state link) old new seated → AreTaken state game pending pending'' new
+      → seats ≡ seats_given game old.verdicts.items → MayGoOn old.verdicts.items → pending' ≡ then_known (link ∷ []) pending'' → IsTakenIn state seats seats' (state link) old new seated → AreTaken state game pending pending'' new
   one_taken pending pending' pending'' link old new seats seats' seated taken gate may given w = record {
     given = taken.given ++ link ∷ [];
-    from = taken.from ∙ (ap (before_told taken.given) given ∙ before_told-twice pending'' taken.given (link ∷ []));
+    from = taken.from ∙ (ap (then_known taken.given) given ∙ then_known-twice pending'' taken.given (link ∷ []));
     kept = subst (λ ls. AreKept state game ls new) (sym (map_push state taken.given link))
         (kept_more (map state taken.given) (state link) old new seats' seated w.greeting taken.kept may (subst (λ s. IsGreeting state s seats' (state link) w.greeting) gate w.greets) w.adds);
   }

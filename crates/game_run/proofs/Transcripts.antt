@@ -10,14 +10,14 @@ use Rattle.turn_lock.specs.Part.{part}
 use Rattle.turn_lock.specs.Notes.{AreNotes}
 use Rattle.auction_core.specs.ClosedGame.{ClosedGame, all_goods}
 use Rattle.floor.specs.declared.desk.Desk.{Desk}
-use Rattle.floor.specs.Desks.{desk_caller, entries_of, cash_of, boards_of, IsNewDesk}
+use Rattle.floor.specs.Desks.{desk_caller, desk_entries, desk_cash, boards_of, IsNewDesk}
 use Rattle.floor.specs.Closing.{IsBorneOut}
 use Rattle.floor.specs.ClosedBoards.{board_of}
 use Rattle.game_text.specs.Schedule.{clock_calls}
 use Rattle.agent_gate.specs.Sessions.{AreMadeBy}
 use Rattle.agent_gate.specs.Transcript.{IsTranscript}
 use Rattle.agent_gate.specs.Turns.{Turn, cash_made, boards_shown, AreLawful}
-use Rattle.game_run.specs.PlayedGame.{parts_of, IsAbsent}
+use Rattle.game_run.specs.PlayedGame.{caller_parts, IsAbsent}
 use Rattle.game_run.specs.Seatings.{FloorIds, HasMadeAll}
 
 -- ---- lists by place
@@ -52,8 +52,8 @@ each_mapped R f (x ∷ xs) (y ∷ ys) all = (all.0, each_mapped R f xs ys all.1)
 -- ---- the transcript of an agent
 
 module _ (closed : ClosedGame) (long : length closed.auctions ≡ 28) (ids : FloorIds) (number : ℕ) (before after : Desk) (new : IsNewDesk ids number before) (borne : IsBorneOut closed after) where
-  of_caller : desk_caller after ≡ number → entries_of after ≡ parts_of closed number
-  of_caller is = borne.entries ∙ ap (parts_of closed) is
+  of_caller : desk_caller after ≡ number → desk_entries after ≡ caller_parts closed number
+  of_caller is = borne.entries ∙ ap (caller_parts closed) is
 
   boards_are : (turns : List Turn) → AreMadeBy turns before after → boards_of after ≡ map (λ good. boards_shown good turns) all_goods
   boards_are turns made =
@@ -75,15 +75,15 @@ module _ (closed : ClosedGame) (long : length closed.auctions ≡ 28) (ids : Flo
   absent_of same =
       let is : desk_caller after ≡ number = ap desk_caller same ∙ new.caller in
       record {
-        calls = sym (of_caller is) ∙ (ap entries_of same ∙ new.entries);
-        cash = ap (λ n. part (λ e. e.caller) closed.cash n) (sym is) ∙ (sym borne.cash ∙ (ap cash_of same ∙ new.cash));
+        calls = sym (of_caller is) ∙ (ap desk_entries same ∙ new.entries);
+        cash = ap (λ n. part (λ e. e.caller) closed.cash n) (sym is) ∙ (sym borne.cash ∙ (ap desk_cash same ∙ new.cash));
       }
 
 -- the calls of the clock are those of the schedule
 pub scheduled_of : (game : GameFile) (closed : ClosedGame) → length closed.auctions ≡ 28 → (desk : Desk) → IsBorneOut closed desk → desk_caller desk ≡ 8 → HasMadeAll game desk
-    → map (λ calls. map (λ p. p.1.call) calls) (parts_of closed 8) ≡ map (clock_calls game) all_goods
+    → map (λ calls. map (λ p. p.1.call) calls) (caller_parts closed 8) ≡ map (clock_calls game) all_goods
 scheduled_of game closed long desk borne is made =
-    let own : entries_of desk ≡ parts_of closed 8 = borne.entries ∙ ap (parts_of closed) is in
+    let own : desk_entries desk ≡ caller_parts closed 8 = borne.entries ∙ ap (caller_parts closed) is in
     let call_list = λ (calls : List (ℕ × Entry)). map (λ p. p.1.call) calls in
-    by_goods (map call_list (parts_of closed 8)) (clock_calls game) [] (length-map (parts_of closed 8) call_list ∙ (length-map closed.auctions (λ auction. part (λ e. e.caller) auction.history 8) ∙ long))
-    (λ good lt. map_at call_list (parts_of closed 8) good [] ∙ (ap (λ l. call_list (slice_index_or l good [])) (sym own) ∙ made.each good lt))
+    by_goods (map call_list (caller_parts closed 8)) (clock_calls game) [] (length-map (caller_parts closed 8) call_list ∙ (length-map closed.auctions (λ auction. part (λ e. e.caller) auction.history 8) ∙ long))
+    (λ good lt. map_at call_list (caller_parts closed 8) good [] ∙ (ap (λ l. call_list (slice_index_or l good [])) (sym own) ∙ made.each good lt))

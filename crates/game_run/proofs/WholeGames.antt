@@ -12,10 +12,10 @@ use Rattle.auction_core.specs.ClosedGame.{ClosedGame}
 use Rattle.tac_io.specs.AllAnswers.{all_answers}
 use Rattle.tac_io.specs.Lines.{count_of, held_of, link_of}
 use Rattle.tac_io.specs.States.{LinkState, LinksState}
-use Rattle.tac_io.specs.Told.{and_then_told, IsAtEnd}
+use Rattle.tac_io.specs.Known.{known_then, IsAtEnd}
 use Rattle.tac_io.specs.declared.line_got.LineGot.TheVariants as gots
 use Rattle.tac_io.specs.declared.lines.Lines.{Lines}
-use Rattle.tac_io.proofs.Tellings.{gave_twice}
+use Rattle.tac_io.proofs.KnownPieces.{gave_twice}
 use Rattle.line_protocol.specs.declared.asking.Request.{Request}
 use Rattle.line_protocol.specs.declared.asking.RequestFault.{RequestFault}
 use Rattle.line_protocol.specs.declared.saying.Said.{Said}
@@ -25,27 +25,27 @@ use Rattle.line_protocol.specs.declared.admission.Verdict.TheVariants.{Seated, S
 use Rattle.agent_gate.specs.Gates.{Seats}
 use Rattle.agent_gate.specs.Welcome.{welcome_text}
 use Rattle.game_run.specs.declared.arrivals.Arrivals.{Arrivals}
-use Rattle.game_run.specs.declared.arrivals.Spot.{Spot}
-use Rattle.game_run.specs.declared.arrivals.Spot.TheVariants.{Seat, Apart}
+use Rattle.game_run.specs.declared.arrivals.Holder.{Holder}
+use Rattle.game_run.specs.declared.arrivals.Holder.TheVariants.{Seat, Unseated}
 use Rattle.game_run.specs.Admission.{free_seats, seats_given, CameTo, MayGoOn}
 use Rattle.game_run.specs.Arriving.{IsGreeted, IsTurnedAway, Keeps, AreKept, AreTaken}
-use Rattle.game_run.specs.LinkRuns.{IsSeated, IsLeft}
-use Rattle.game_run.specs.Outcomes.{IsPlayed, IsNotPlayed}
-use Rattle.game_run.specs.Places.{AreFilled, AreLinksOf}
+use Rattle.game_run.specs.LinkRuns.{IsSeated, IsLeftUnplayed}
+use Rattle.game_run.specs.Outcomes.{IsPlayedOver, IsNotPlayed}
+use Rattle.game_run.specs.SeatedLinks.{AreFilled, AreLinksOf}
 use Rattle.game_run.specs.PlayedGame.{IsAbsent}
-use Rattle.game_run.specs.Staging.{IsServedAs, IsAgentsPart, IsPlayedThrough}
+use Rattle.game_run.specs.GameSessions.{IsServedAs, IsAgentsPart, IsPlayedThrough}
 use Rattle.game_run.proofs.Admitting.{follows}
 use Rattle.game_run.proofs.FirstLines.{first_line, begins_with}
 use Rattle.game_run.proofs.LinksBack.{filled_alike}
 use Rattle.game_run.proofs.SameStart.{caused_from, served_from}
-use Rattle.game_run.proofs.SeatPlaces.{seat_was_free, filled, links_hold, get_map}
+use Rattle.game_run.proofs.KeptSeats.{seat_was_free, filled, links_hold, get_map}
 use Rattle.game_run.proofs.Transcripts.{map_at}
 
--- ---- every kept spot can be given its link
+-- ---- every kept holder can be given its link
 
 module _ {L : Type 0} (state : L → LinkState) (game : GameFile) (given : List LinkState) (arrivals : Arrivals L) (kept : AreKept state game given arrivals) where
-  pub all_filled : AreFilled arrivals.lines.items arrivals.spots.items
-  all_filled = filled state (IsGreeted state) (λ seats agent before ls g. seat_was_free seats g.line agent g.seat) arrivals.lines.items (free_seats game) given arrivals.verdicts.items arrivals.spots.items
+  pub all_filled : AreFilled arrivals.lines.items arrivals.holders.items
+  all_filled = filled state (IsGreeted state) (λ seats agent before ls g. seat_was_free seats g.line agent g.seat) arrivals.lines.items (free_seats game) given arrivals.verdicts.items arrivals.holders.items
       (sym kept.wide) kept.links
 
 -- ---- a game that was not played
@@ -59,7 +59,7 @@ came_so Sits seats Taken before after h = h
 came_so Sits seats Lost before after h = h
 
 module _ {L : Type 0} (state : L → LinkState) where
-  left_so : (seats : Seats) (agent : ℕ) (before : LinkState) (lines : Lines L) → IsGreeted state seats agent before lines → IsLeft seats agent before (state (link_of lines))
+  left_so : (seats : Seats) (agent : ℕ) (before : LinkState) (lines : Lines L) → IsGreeted state seats agent before lines → IsLeftUnplayed seats agent before (state (link_of lines))
   left_so seats agent before lines g = (
     record {
       bytes = g.bytes;
@@ -73,24 +73,24 @@ module _ {L : Type 0} (state : L → LinkState) where
     g.quiet,
   )
 
-  left_at : (lines : List (Option (Lines L))) (seats : Seats) (v : Verdict) (before : LinkState) (spot : Spot L) → Keeps state (IsGreeted state) lines seats v before spot
-      → Keeps state (λ s agent b link. IsLeft s agent b (state link)) (map (λ o. option_map (λ l. link_of l) o) lines) seats v before spot
-  left_at lines seats v before (Apart link) k = k
+  left_at : (lines : List (Option (Lines L))) (seats : Seats) (v : Verdict) (before : LinkState) (holder : Holder L) → Keeps state (IsGreeted state) lines seats v before holder
+      → Keeps state (λ s agent b link. IsLeftUnplayed s agent b (state link)) (map (λ o. option_map (λ l. link_of l) o) lines) seats v before holder
+  left_at lines seats v before (Unseated link) k = k
   left_at lines seats v before (Seat agent) k = (link_of k.0, k.1, get_map (λ o. option_map (λ l. link_of l) o) lines agent (Some k.0) k.2, left_so seats agent before k.0 k.3)
 
   pub not_played : (game : GameFile) (port : ℕ) (links links' : LinksState L) (arrivals : Arrivals L) (ended : List L) → AreTaken state game links.pending links'.pending arrivals → MayGoOn arrivals.verdicts.items
-      → AreLinksOf (map (λ o. option_map (λ l. link_of l) o) arrivals.lines.items) arrivals.spots.items ended → links'.ports ≡ and_then_told links.ports (port ∷ []) → Rose links.faults links'.faults
+      → AreLinksOf (map (λ o. option_map (λ l. link_of l) o) arrivals.lines.items) arrivals.holders.items ended → links'.ports ≡ known_then links.ports (port ∷ []) → Rose links.faults links'.faults
       → IsNotPlayed state game port links links' ended
   not_played game port links links' arrivals ended taken may back ports fault =
-      let places = map (λ o. option_map (λ l. link_of l) o) arrivals.lines.items in
+      let agent_seats = map (λ o. option_map (λ l. link_of l) o) arrivals.lines.items in
       record {
         given = taken.given;
         from = taken.from;
         verdicts = arrivals.verdicts.items;
         more = may;
-        admitted = links_hold state (λ s agent b link. IsLeft s agent b (state link)) (CameTo IsLeft) (λ s agent b link h. h) (came_so IsLeft) places (free_seats game) (map state taken.given) arrivals.verdicts.items arrivals.spots.items ended
-            (follows (Keeps state (IsGreeted state) arrivals.lines.items) (Keeps state (λ s agent b link. IsLeft s agent b (state link)) places) (λ s. Unit {0}) (λ s v x y u h. tt)
-            (λ s v x spot u h. left_at arrivals.lines.items s v x spot h) (free_seats game) (map state taken.given) arrivals.verdicts.items arrivals.spots.items tt taken.kept.links) back;
+        admitted = links_hold state (λ s agent b link. IsLeftUnplayed s agent b (state link)) (CameTo IsLeftUnplayed) (λ s agent b link h. h) (came_so IsLeftUnplayed) agent_seats (free_seats game) (map state taken.given) arrivals.verdicts.items arrivals.holders.items ended
+            (follows (Keeps state (IsGreeted state) arrivals.lines.items) (Keeps state (λ s agent b link. IsLeftUnplayed s agent b (state link)) agent_seats) (λ s. Unit {0}) (λ s v x y u h. tt)
+            (λ s v x holder u h. left_at arrivals.lines.items s v x holder h) (free_seats game) (map state taken.given) arrivals.verdicts.items arrivals.holders.items tt taken.kept.links) back;
         ports = ports;
         fault = fault;
       }
@@ -127,38 +127,38 @@ module _ {L : Type 0} (state : L → LinkState) (may_answer : List ℕ → Resul
   absent_part agent None (Some link) no_lines part = absurd part
   absent_part agent (Some lines) l no_lines part = absurd (cc)
 
-  module _ (lines : List (Option (Lines L))) (places : List (Option L)) (wide : length lines ≡ 8) (through : IsPlayedThrough state may_answer text game closed lines places ends) where
-    runs_at : (seats : Seats) (v : Verdict) (before : LinkState) (spot : Spot L) → Keeps state (IsGreeted state) lines seats v before spot
-        → Keeps state (λ s agent b link. IsSeated may_answer text game closed ends s agent b (state link)) places seats v before spot
-    runs_at seats v before (Apart link) k = k
+  module _ (lines : List (Option (Lines L))) (agent_seats : List (Option L)) (wide : length lines ≡ 8) (through : IsPlayedThrough state may_answer text game closed lines agent_seats ends) where
+    runs_at : (seats : Seats) (v : Verdict) (before : LinkState) (holder : Holder L) → Keeps state (IsGreeted state) lines seats v before holder
+        → Keeps state (λ s agent b link. IsSeated may_answer text game closed ends s agent b (state link)) agent_seats seats v before holder
+    runs_at seats v before (Unseated link) k = k
     runs_at seats v before (Seat agent) k =
         let lt : agent < 8 = let within = slice_get_within lines agent (Some k.0) k.2 in omega (arith, within, wide) in
-        let part = subst (λ o. IsAgentsPart state may_answer text game closed ends agent o (slice_index_or places agent None)) (get_or_from_slice_get lines agent (Some k.0) None k.2) (through.each_agent agent lt) in
-        let served = served_link seats agent before k.0 (slice_index_or places agent None) k.3 part in
-        (served.0, k.1, slice_get-get_or places agent None (omega (arith, lt, through.wide)) ∙ ap (λ o. Some o) served.1, served.2)
+        let part = subst (λ o. IsAgentsPart state may_answer text game closed ends agent o (slice_index_or agent_seats agent None)) (get_or_from_slice_get lines agent (Some k.0) None k.2) (through.each_agent agent lt) in
+        let served = served_link seats agent before k.0 (slice_index_or agent_seats agent None) k.3 part in
+        (served.0, k.1, slice_get-get_or agent_seats agent None (omega (arith, lt, through.wide)) ∙ ap (λ o. Some o) served.1, served.2)
 
     absent : (taken : List Bool) → map (λ ls. is_some ls) lines ≡ taken → (agent : ℕ) → agent < 8 → slice_index_or taken agent false ≡ false → IsAbsent closed agent
     absent taken same agent lt free =
-        absent_part agent (slice_index_or lines agent None) (slice_index_or places agent None)
+        absent_part agent (slice_index_or lines agent None) (slice_index_or agent_seats agent None)
         (sym (map_at (λ (ls : Option (Lines L)). is_some ls) lines agent None) ∙ (ap (λ l. slice_index_or l agent false) same ∙ free)) (through.each_agent agent lt)
 
-  pub was_played : (pending pending' : Option (List L)) (arrivals : Arrivals L) (places : List (Option L)) (links : List L) → AreTaken state game pending pending' arrivals
-      → (MayGoOn arrivals.verdicts.items → IsAtEnd pending') → IsPlayedThrough state may_answer text game closed arrivals.lines.items places ends
-      → AreLinksOf places arrivals.spots.items links → IsPlayed state may_answer text game pending pending' arrivals.verdicts.items ends closed links
-  was_played pending pending' arrivals places links taken no_fewer through back =
+  pub was_played : (pending pending' : Option (List L)) (arrivals : Arrivals L) (agent_seats : List (Option L)) (links : List L) → AreTaken state game pending pending' arrivals
+      → (MayGoOn arrivals.verdicts.items → IsAtEnd pending') → IsPlayedThrough state may_answer text game closed arrivals.lines.items agent_seats ends
+      → AreLinksOf agent_seats arrivals.holders.items links → IsPlayedOver state may_answer text game pending pending' arrivals.verdicts.items ends closed links
+  was_played pending pending' arrivals agent_seats links taken no_fewer through back =
       let lines = arrivals.lines.items in let kept = taken.kept in
       let Sits = λ (s : Seats) (agent : ℕ) (b : LinkState) (link : L). IsSeated may_answer text game closed ends s agent b (state link) in
       record {
         given = taken.given;
         from = taken.from;
         all = record { no_more = kept.no_more; no_fewer = no_fewer };
-        admitted = links_hold state Sits (CameTo (IsSeated may_answer text game closed ends)) (λ s agent b link h. h) (came_so (IsSeated may_answer text game closed ends)) places (free_seats game) (map state taken.given) arrivals.verdicts.items arrivals.spots.items links
-            (follows (Keeps state (IsGreeted state) lines) (Keeps state Sits places) (λ s. Unit {0}) (λ s v x y u h. tt)
-            (λ s v x spot u h. runs_at lines places kept.wide through s v x spot h) (free_seats game) (map state taken.given) arrivals.verdicts.items arrivals.spots.items tt kept.links) back;
+        admitted = links_hold state Sits (CameTo (IsSeated may_answer text game closed ends)) (λ s agent b link h. h) (came_so (IsSeated may_answer text game closed ends)) agent_seats (free_seats game) (map state taken.given) arrivals.verdicts.items arrivals.holders.items links
+            (follows (Keeps state (IsGreeted state) lines) (Keeps state Sits agent_seats) (λ s. Unit {0}) (λ s v x y u h. tt)
+            (λ s v x holder u h. runs_at lines agent_seats kept.wide through s v x holder h) (free_seats game) (map state taken.given) arrivals.verdicts.items arrivals.holders.items tt kept.links) back;
         played = record {
           legal_game = through.legal_game;
           each_end = through.ended ∙ ap (λ taken. filter (λ agent. slice_index_or taken agent false) agents) kept.seats;
-          absent = absent lines places kept.wide through (seats_given game arrivals.verdicts.items).taken kept.seats;
+          absent = absent lines agent_seats kept.wide through (seats_given game arrivals.verdicts.items).taken kept.seats;
           scheduled = through.scheduled;
         };
       }
@@ -180,11 +180,11 @@ module _ {L : Type 0} (state : L → LinkState) (may_answer : List ℕ → Resul
   same_part agent (Some lines) None part = absurd part
   same_part agent (Some lines) (Some link) part = refl
 
-  -- the links of a game that was played can be given to their spots
-  pub filled_after : (lines : List (Option (Lines L))) (links : List (Option L)) (spots : List (Spot L)) → length lines ≡ 8 → IsPlayedThrough state may_answer text game closed lines links ends
-      → AreFilled lines spots → AreFilled links spots
-  filled_after lines links spots wide through filled =
-      filled_alike lines links spots
+  -- the links of a game that was played can be given to their holders
+  pub filled_after : (lines : List (Option (Lines L))) (links : List (Option L)) (holders : List (Holder L)) → length lines ≡ 8 → IsPlayedThrough state may_answer text game closed lines links ends
+      → AreFilled lines holders → AreFilled links holders
+  filled_after lines links holders wide through filled =
+      filled_alike lines links holders
       (same_lists (map (λ o. is_some o) lines) (map (λ o. is_some o) links)
       (length-map lines (λ o. is_some o) ∙ (wide ∙ (sym through.wide ∙ sym (length-map links (λ o. is_some o)))))
       (λ k lt. map_at (λ o. is_some o) lines k None

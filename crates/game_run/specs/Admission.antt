@@ -7,7 +7,7 @@ use Rattle.tac_io.specs.AllAnswers.{all_answers}
 use Rattle.tac_io.specs.Counts.{Rose}
 use Rattle.tac_io.specs.LinkCalls.{GaveBytes, SendsNothing}
 use Rattle.tac_io.specs.States.{LinkState}
-use Rattle.tac_io.specs.Told.{and_then_told, IsAtEnd, TakesSome}
+use Rattle.tac_io.specs.Known.{known_then, IsAtEnd, TakesSome}
 use Rattle.tac_io.specs.declared.line_got.LineGot.{LineGot}
 use Rattle.tac_io.specs.declared.line_got.LineGot.TheVariants as gots
 use Rattle.line_protocol.specs.declared.admission.Verdict.{Verdict}
@@ -48,7 +48,7 @@ refusal_line verdict = []
 -- the line was sent, or a fault of a write was counted and only its first bytes were sent
 abbrev pub IsSentOrCut : List ℕ → LinkState → LinkState → Type 0
 IsSentOrCut line before after =
-    ((after.sent ≡ and_then_told before.sent line) × (after.writes ≡ before.writes))
+    ((after.sent ≡ known_then before.sent line) × (after.writes ≡ before.writes))
     ⊎ (TakesSome before.sent after.sent line × Rose before.writes after.writes)
 
 -- the bytes that a link gave begin with a line of this verdict

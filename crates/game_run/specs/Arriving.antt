@@ -3,11 +3,11 @@ use Rattle.std.specs.Prelude.{◌≡◌, ℕ, ◌<◌, ◌≤◌, List, [], ◌�
 use Rattle.tac_base.specs.declared.limits.TheConstants.{LINE_BYTES, LINK_BYTES}
 use Rattle.game_text.specs.Games.{GameFile}
 use Rattle.tac_io.specs.LineAnswers.{goes_on}
-use Rattle.tac_io.specs.LineText.{Begins}
+use Rattle.tac_io.specs.LineText.{BeginsWithLine}
 use Rattle.tac_io.specs.Lines.{count_of, held_of, last_of, link_of}
 use Rattle.tac_io.specs.LinkCalls.{GaveBytes, ReadsNothing, SendsNothing}
 use Rattle.tac_io.specs.States.{LinkState}
-use Rattle.tac_io.specs.Told.{before_told}
+use Rattle.tac_io.specs.Known.{then_known}
 use Rattle.tac_io.specs.declared.lines.Lines.{Lines}
 use Rattle.line_protocol.specs.declared.admission.Verdict.{Verdict}
 use Rattle.line_protocol.specs.declared.admission.Verdict.TheVariants.{Seated, Lost}
@@ -15,8 +15,8 @@ use Rattle.agent_gate.specs.Gates.{Seats, verdict_of, seats_after}
 use Rattle.game_run.specs.declared.arrivals.Arrivals.{Arrivals}
 use Rattle.game_run.specs.declared.arrivals.Greeting.{Greeting}
 use Rattle.game_run.specs.declared.arrivals.Greeting.TheVariants as greetings
-use Rattle.game_run.specs.declared.arrivals.Spot.{Spot}
-use Rattle.game_run.specs.declared.arrivals.Spot.TheVariants.{Seat, Apart}
+use Rattle.game_run.specs.declared.arrivals.Holder.{Holder}
+use Rattle.game_run.specs.declared.arrivals.Holder.TheVariants.{Seat, Unseated}
 use Rattle.game_run.specs.Admission.{free_seats, seats_given, HasFirstLine, IsSentOrCut, IsLost, CameTo, AreAdmitted, MayGoOn}
 
 -- the agent that a verdict seats
@@ -29,7 +29,7 @@ abbrev pub IsUnseated : Seats → Verdict → LinkState → LinkState → Type 0
 IsUnseated seats verdict before after = HasFirstLine seats verdict before after × SendsNothing before after
 
 -- a line was sent, or its first bytes were, and nothing was read
-pub record IsAnswered (line : List ℕ) (before after : LinkState) : Type 0 where
+pub record IsOnlySent (line : List ℕ) (before after : LinkState) : Type 0 where
   pub read : ReadsNothing before after
   pub sent : IsSentOrCut line before after
 
@@ -43,7 +43,7 @@ module _ {L : Type 0} (state : L → LinkState) where
     pub bytes : List ℕ
     pub gave : GaveBytes bytes before (state (link_of lines))
     pub line : List ℕ
-    pub first : Begins bytes line (held_of lines).unread
+    pub first : BeginsWithLine bytes line (held_of lines).unread
     pub short : length line ≤ LINE_BYTES
     pub counted : count_of lines ≡ length bytes
     pub few : count_of lines ≤ LINK_BYTES
@@ -61,39 +61,39 @@ module _ {L : Type 0} (state : L → LinkState) where
   -- what became of a link, and of the gate
   abbrev pub IsGreeting : Seats → Seats → LinkState → Greeting L → Type 0
   IsGreeting seats seats' before (greetings.Seated agent lines) = (seats' ≡ seats_after seats (Seated agent)) × IsGreeted seats agent before lines
-  IsGreeting seats seats' before (greetings.Apart verdict link) = (seats' ≡ seats) × IsTurnedAway seats verdict before (state link)
+  IsGreeting seats seats' before (greetings.Unseated verdict link) = (seats' ≡ seats) × IsTurnedAway seats verdict before (state link)
 
 -- the arrivals with one more
-abbrev pub Adds : {L : Type 0} → Greeting L → Arrivals L → Arrivals L → Bool → Type 0
-Adds (greetings.Seated agent lines) before after seated =
-    (after.verdicts.items ≡ before.verdicts.items ++ Seated agent ∷ []) × (after.spots.items ≡ before.spots.items ++ Seat agent ∷ [])
+abbrev pub AddsArrival : {L : Type 0} → Greeting L → Arrivals L → Arrivals L → Bool → Type 0
+AddsArrival (greetings.Seated agent lines) before after seated =
+    (after.verdicts.items ≡ before.verdicts.items ++ Seated agent ∷ []) × (after.holders.items ≡ before.holders.items ++ Seat agent ∷ [])
     × (after.lines.items ≡ slice_set before.lines.items agent (Some lines)) × (agent ≤ 7) × (seated ≡ true)
-Adds (greetings.Apart verdict link) before after seated =
-    (after.verdicts.items ≡ before.verdicts.items ++ verdict ∷ []) × (after.spots.items ≡ before.spots.items ++ Apart link ∷ [])
+AddsArrival (greetings.Unseated verdict link) before after seated =
+    (after.verdicts.items ≡ before.verdicts.items ++ verdict ∷ []) × (after.holders.items ≡ before.holders.items ++ Unseated link ∷ [])
     × (after.lines.items ≡ before.lines.items) × (seated ≡ false)
 
 module _ {L : Type 0} (state : L → LinkState) where
   -- a link was taken in
-  pub record IsTakenIn (seats seats' : Seats) (before : LinkState) (old new : Arrivals L) (seated : Bool) : Type 0 where
+  pub record IsTakenIn (seats seats' : Seats) (before : LinkState) (arrivals arrivals' : Arrivals L) (seated : Bool) : Type 0 where
     pub greeting : Greeting L
     pub greets : IsGreeting state seats seats' before greeting
-    pub adds : Adds greeting old new seated
+    pub adds : AddsArrival greeting arrivals arrivals' seated
 
-  -- What is kept of a link at its spot: its seat, in which its lines are, or the link itself.
-  abbrev pub Keeps : {X : Type 0} → (Seats → ℕ → LinkState → X → Type 0) → List (Option X) → Seats → Verdict → LinkState → Spot L → Type 0
-  Keeps {X} Sits places seats verdict before (Seat agent) = (x : X) × (verdict ≡ Seated agent) × (slice_get places agent ≡ Some (Some x)) × Sits seats agent before x
-  Keeps Sits places seats verdict before (Apart link) = IsTurnedAway seats verdict before (state link)
+  -- What is kept of a link: its seat, in which its lines are, or the link itself.
+  abbrev pub Keeps : {X : Type 0} → (Seats → ℕ → LinkState → X → Type 0) → List (Option X) → Seats → Verdict → LinkState → Holder L → Type 0
+  Keeps {X} Sits agent_seats seats verdict before (Seat agent) = (x : X) × (verdict ≡ Seated agent) × (slice_get agent_seats agent ≡ Some (Some x)) × Sits seats agent before x
+  Keeps Sits agent_seats seats verdict before (Unseated link) = IsTurnedAway seats verdict before (state link)
 
-  -- Links were taken and read as long as another could be: each is kept at its spot, and a seat is taken if it has lines.
+  -- Links were taken and read as long as another could be: each has its holder, and a seat is taken if it has lines.
   pub record AreKept (game : GameFile) (given : List LinkState) (arrivals : Arrivals L) : Type 0 where
-    pub links : AreAdmitted (Keeps (IsGreeted state) arrivals.lines.items) (free_seats game) given arrivals.verdicts.items arrivals.spots.items
+    pub links : AreAdmitted (Keeps (IsGreeted state) arrivals.lines.items) (free_seats game) given arrivals.verdicts.items arrivals.holders.items
     pub seats : map (λ lines. is_some lines) arrivals.lines.items ≡ (seats_given game arrivals.verdicts.items).taken
     pub readable : (agent : ℕ) (lines : Lines L) → slice_get arrivals.lines.items agent ≡ Some (Some lines) → goes_on (last_of lines) ≡ true
     pub wide : length arrivals.lines.items ≡ 8
     pub no_more : (n : ℕ) → n < length arrivals.verdicts.items → MayGoOn (take n arrivals.verdicts.items)
 
-  -- the same for the links that were still to be given
+  -- the first of the links that were still to be given were taken and read so
   pub record AreTaken (game : GameFile) (pending pending' : Option (List L)) (arrivals : Arrivals L) : Type 0 where
     pub given : List L
-    pub from : pending ≡ before_told given pending'
+    pub from : pending ≡ then_known given pending'
     pub kept : AreKept game (map state given) arrivals

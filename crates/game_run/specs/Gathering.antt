@@ -2,31 +2,31 @@
 use Rattle.std.specs.Prelude.{◌≡◌, ℕ, ◌+◌, ◌<◌, ◌≤◌, List, ◌++◌, map, vec_len, vec_capacity}
 use Rattle.std.specs.List.{filter_map}
 use Rattle.floor.specs.Desks.{desk_caller}
-use Rattle.game_run.specs.declared.crew.Played.{Played}
-use Rattle.game_run.specs.declared.ending.Ending.{Ending}
+use Rattle.game_run.specs.declared.sessions.PlayedSeat.{PlayedSeat}
+use Rattle.game_run.specs.declared.session_ends.SessionEnds.{SessionEnds}
 use Rattle.game_run.specs.Seatings.{played_link, played_end}
 
--- there is room for this many more
-pub record HasRoom {L : Type 0} (ending : Ending L) (count : ℕ) : Type 0 where
-  pub desks : vec_len ending.desks + count ≤ vec_capacity ending.desks
-  pub ends : vec_len ending.ends + count ≤ vec_capacity ending.ends
-  pub links : vec_len ending.links + count ≤ vec_capacity ending.links
+-- there is memory for this many more
+pub record HasCapacity {L : Type 0} (session_ends : SessionEnds L) (count : ℕ) : Type 0 where
+  pub desks : vec_len session_ends.desks + count ≤ vec_capacity session_ends.desks
+  pub ends : vec_len session_ends.ends + count ≤ vec_capacity session_ends.ends
+  pub links : vec_len session_ends.links + count ≤ vec_capacity session_ends.links
 
--- this many were added, in the room that there was
-pub record TakesRoom {L : Type 0} (old new : Ending L) (count : ℕ) : Type 0 where
-  pub desks : vec_len new.desks ≤ vec_len old.desks + count
-  pub ends : vec_len new.ends ≤ vec_len old.ends + count
-  pub links : vec_len new.links ≤ vec_len old.links + count
-  pub desk_room : vec_capacity new.desks ≡ vec_capacity old.desks
-  pub end_room : vec_capacity new.ends ≡ vec_capacity old.ends
-  pub link_room : vec_capacity new.links ≡ vec_capacity old.links
+-- this many were added, in the memory that there was
+pub record TakesCapacity {L : Type 0} (before after : SessionEnds L) (count : ℕ) : Type 0 where
+  pub desks : vec_len after.desks ≤ vec_len before.desks + count
+  pub ends : vec_len after.ends ≤ vec_len before.ends + count
+  pub links : vec_len after.links ≤ vec_len before.links + count
+  pub desk_room : vec_capacity after.desks ≡ vec_capacity before.desks
+  pub end_room : vec_capacity after.ends ≡ vec_capacity before.ends
+  pub link_room : vec_capacity after.links ≡ vec_capacity before.links
 
 -- exactly these were added
-pub record Gathers {L : Type 0} (old new : Ending L) (played : List (Played L)) : Type 0 where
-  pub desks : new.desks.items ≡ old.desks.items ++ map (λ p. p.desk) played
-  pub ends : new.ends.items ≡ old.ends.items ++ filter_map played_end played
-  pub links : new.links.items ≡ old.links.items ++ map played_link played
+pub record Gathers {L : Type 0} (before after : SessionEnds L) (played : List (PlayedSeat L)) : Type 0 where
+  pub desks : after.desks.items ≡ before.desks.items ++ map (λ p. p.desk) played
+  pub ends : after.ends.items ≡ before.ends.items ++ filter_map played_end played
+  pub links : after.links.items ≡ before.links.items ++ map played_link played
 
 -- whoever played there is an agent
-abbrev pub IsAgents : {L : Type 0} → Played L → Type 0
+abbrev pub IsAgents : {L : Type 0} → PlayedSeat L → Type 0
 IsAgents played = desk_caller played.desk < 8

@@ -2,9 +2,9 @@ pub mod Admission
 pub mod LinkRuns
 pub mod PlayedGame
 pub mod Outcomes
-pub mod Places
+pub mod SeatedLinks
 pub mod Arriving
 pub mod Seatings
 pub mod Gathering
-pub mod Staging
-pub mod Rooms
+pub mod GameSessions
+pub mod ReservedMemory

@@ -39,5 +39,5 @@ pub record IsSeated (may_answer : List ℕ → Result Request RequestFault → T
   pub faults : HasSessionCause before after cause
 
 -- a link that has a seat in a game that was not played was sent nothing
-abbrev pub IsLeft : Seats → ℕ → LinkState → LinkState → Type 0
-IsLeft seats agent before after = HasFirstLine seats (Seated agent) before after × SendsNothing before after
+abbrev pub IsLeftUnplayed : Seats → ℕ → LinkState → LinkState → Type 0
+IsLeftUnplayed seats agent before after = HasFirstLine seats (Seated agent) before after × SendsNothing before after

@@ -3,7 +3,7 @@ use Rattle.std.specs.Prelude.{◌≡◌, ℕ, List, [], ◌∷◌, Result, Optio
 use Rattle.game_text.specs.Games.{GameFile}
 use Rattle.auction_core.specs.ClosedGame.{ClosedGame}
 use Rattle.tac_io.specs.Counts.{Rose}
-use Rattle.tac_io.specs.Told.{and_then_told, before_told}
+use Rattle.tac_io.specs.Known.{known_then, then_known}
 use Rattle.line_protocol.specs.declared.asking.Request.{Request}
 use Rattle.line_protocol.specs.declared.asking.RequestFault.{RequestFault}
 use Rattle.line_protocol.specs.declared.saying.Said.{Said}
@@ -15,16 +15,16 @@ use Rattle.game_run.specs.declared.run.GameEnd.{GameEnd}
 use Rattle.game_run.specs.declared.run.RunFault.{RunFault}
 use Rattle.game_run.specs.declared.run.RunFault.TheVariants.{Links, Memory}
 use Rattle.game_run.specs.Admission.{free_seats, AreAdmitted, AreAllTaken, CameTo, MayGoOn}
-use Rattle.game_run.specs.LinkRuns.{IsLeft, IsSeated}
+use Rattle.game_run.specs.LinkRuns.{IsLeftUnplayed, IsSeated}
 use Rattle.tac_io.specs.States.{LinkState, LinksState, TickerState}
 use Rattle.game_run.specs.PlayedGame.{IsPlayedBy}
 
 module _ {L : Type 0} (state : L → LinkState) where
   -- A game was played: the links are those that were still to be given, in order, each with its verdict and what became of it.
-  pub record IsPlayed (may_answer : List ℕ → Result Request RequestFault → Type 0) (text : Said → List ℕ) (game : GameFile)
+  pub record IsPlayedOver (may_answer : List ℕ → Result Request RequestFault → Type 0) (text : Said → List ℕ) (game : GameFile)
       (pending pending' : Option (List L)) (verdicts : List Verdict) (ends : List (ℕ × Cause)) (closed : ClosedGame) (links : List L) : Type 0 where
     pub given : List L
-    pub from : pending ≡ before_told given pending'
+    pub from : pending ≡ then_known given pending'
     pub all : AreAllTaken verdicts pending'
     pub admitted : AreAdmitted (CameTo (IsSeated may_answer text game closed ends)) (free_seats game) (map state given) verdicts (map state links)
     pub played : IsPlayedBy game verdicts ends closed
@@ -32,22 +32,22 @@ module _ {L : Type 0} (state : L → LinkState) where
   -- The links were asked to listen at the port and failed, and no game was played: another link could be taken.
   pub record IsNotPlayed (game : GameFile) (port : ℕ) (links links' : LinksState L) (ended : List L) : Type 0 where
     pub given : List L
-    pub from : links.pending ≡ before_told given links'.pending
+    pub from : links.pending ≡ then_known given links'.pending
     pub verdicts : List Verdict
     pub more : MayGoOn verdicts
-    pub admitted : AreAdmitted (CameTo IsLeft) (free_seats game) (map state given) verdicts (map state ended)
-    pub ports : links'.ports ≡ and_then_told links.ports (port ∷ [])
+    pub admitted : AreAdmitted (CameTo IsLeftUnplayed) (free_seats game) (map state given) verdicts (map state ended)
+    pub ports : links'.ports ≡ known_then links.ports (port ∷ [])
     pub fault : Rose links.faults links'.faults
 
   -- How a game ended: what its head says is what was played. The links were asked to listen at the port and did not fail.
-  pub record IsEnd (may_answer : List ℕ → Result Request RequestFault → Type 0) (text : Said → List ℕ) (game : GameFile) (port : ℕ)
+  pub record IsGameEnd (may_answer : List ℕ → Result Request RequestFault → Type 0) (text : Said → List ℕ) (game : GameFile) (port : ℕ)
       (links links' : LinksState L) (ticker ticker' : TickerState) (end : GameEnd L) : Type 0 where
     pub verdicts : List Verdict
     pub ends : List (ℕ × Cause)
     pub missed : ℕ
     pub head : head_of end.head ≡ Serve verdicts ends missed
-    pub played : IsPlayed may_answer text game links.pending links'.pending verdicts ends end.closed end.links.items
-    pub ports : links'.ports ≡ and_then_told links.ports (port ∷ [])
+    pub played : IsPlayedOver may_answer text game links.pending links'.pending verdicts ends end.closed end.links.items
+    pub ports : links'.ports ≡ known_then links.ports (port ∷ [])
     pub no_fault : links'.faults ≡ links.faults
     pub waits : WaitsForAll ticker ticker' missed
 

@@ -6,7 +6,7 @@ use Rattle.auction_rules.specs.Effects.{dollars}
 use Rattle.auction_rules.specs.History.{Entry}
 use Rattle.auction_rules.specs.Legal.{Legal}
 use Rattle.turn_lock.specs.Part.{part}
-use Rattle.trade_ledger.specs.CashHistory.{IsLegalCash, total_of}
+use Rattle.trade_ledger.specs.CashHistory.{IsLegalCash, cash_total}
 use Rattle.trade_ledger.specs.Posts.{Matched, trades_of_all}
 use Rattle.auction_core.specs.ClosedGame.{ClosedGame, all_goods}
 use Rattle.auction_core.specs.Setups.{setup_of}
@@ -16,8 +16,8 @@ use Rattle.line_protocol.specs.declared.admission.Verdict.{Verdict}
 use Rattle.game_run.specs.Admission.{seats_given}
 
 -- the parts of a caller in all histories
-abbrev pub parts_of : ClosedGame → ℕ → List (List (ℕ × Entry))
-parts_of closed caller = map (λ auction. part (λ e. e.caller) auction.history caller) closed.auctions
+abbrev pub caller_parts : ClosedGame → ℕ → List (List (ℕ × Entry))
+caller_parts closed caller = map (λ auction. part (λ e. e.caller) auction.history caller) closed.auctions
 
 -- the histories of the 28 auctions are legal by the rules of the game, and so is the cash history; it has exactly one post for each entry
 -- with trades, and a party's total is the sum of its dollars over all trades
@@ -26,7 +26,7 @@ pub record IsLegalGame (game : GameFile) (closed : ClosedGame) : Type 0 where
   pub legal : All (λ auction. Legal auction.setup auction.history) closed.auctions
   pub cash : IsLegalCash closed.cash
   pub matched : Matched (map (λ auction. auction.history) closed.auctions) closed.cash
-  pub totals : (party : ℕ) → party ≤ 8 → total_of closed.cash party ≡ dollars (trades_of_all (map (λ auction. auction.history) closed.auctions)) party
+  pub totals : (party : ℕ) → party ≤ 8 → cash_total closed.cash party ≡ dollars (trades_of_all (map (λ auction. auction.history) closed.auctions)) party
 
 -- which agents have a seat, in order
 abbrev pub seated_agents : GameFile → List Verdict → List ℕ
@@ -34,7 +34,7 @@ seated_agents game verdicts = filter (λ agent. slice_index_or (seats_given game
 
 -- a caller made no call
 pub record IsAbsent (closed : ClosedGame) (caller : ℕ) : Type 0 where
-  pub calls : parts_of closed caller ≡ replicate 28 []
+  pub calls : caller_parts closed caller ≡ replicate 28 []
   pub cash : part (λ e. e.caller) closed.cash caller ≡ []
 
 -- Each seated agent has one end, in rising order; an agent without a seat made no call; and the clock's calls of each good are those of
@@ -43,4 +43,4 @@ pub record IsPlayedBy (game : GameFile) (verdicts : List Verdict) (ends : List (
   pub legal_game : IsLegalGame game closed
   pub each_end : map (λ end. end.0) ends ≡ seated_agents game verdicts
   pub absent : (agent : ℕ) → agent < 8 → slice_index_or (seats_given game verdicts).taken agent false ≡ false → IsAbsent closed agent
-  pub scheduled : map (λ calls. map (λ p. p.1.call) calls) (parts_of closed clock) ≡ map (clock_calls game) all_goods
+  pub scheduled : map (λ calls. map (λ p. p.1.call) calls) (caller_parts closed clock) ≡ map (clock_calls game) all_goods

@@ -1,4 +1,4 @@
--- Eight places, and what is at them before and after the sessions.
+-- Eight seats, and what is at them before and after the sessions.
 use Rattle.std.specs.Prelude.{◌≡◌, ℕ, ◌<◌, List, [], ◌∷◌, ◌++◌, Option, Some, None, Result, true, map, replicate, IfSome}
 use Rattle.std.specs.Option.{option_map}
 use Rattle.trade_ledger.specs.declared.cash_calls.CashEntry.{CashEntry}
@@ -13,13 +13,13 @@ use Rattle.line_protocol.specs.declared.asking.RequestFault.{RequestFault}
 use Rattle.line_protocol.specs.declared.saying.Said.{Said}
 use Rattle.line_protocol.specs.declared.admission.Cause.{Cause}
 use Rattle.floor.specs.declared.desk.Desk.{Desk}
-use Rattle.floor.specs.Desks.{desk_ids, desk_caller, entries_at, entries_of, cash_of}
+use Rattle.floor.specs.Desks.{desk_ids, desk_caller, entries_at, desk_entries, desk_cash}
 use Rattle.game_text.specs.Schedule.{clock_calls}
 use Rattle.agent_gate.specs.Served.{HasSessionCause}
 use Rattle.agent_gate.specs.Sessions.{IsSession}
-use Rattle.game_run.specs.declared.crew.Two.{Two}
-use Rattle.game_run.specs.declared.crew.Place.{Place}
-use Rattle.game_run.specs.declared.crew.Played.{Played}
+use Rattle.game_run.specs.declared.sessions.Two.{Two}
+use Rattle.game_run.specs.declared.sessions.AgentSeat.{AgentSeat}
+use Rattle.game_run.specs.declared.sessions.PlayedSeat.{PlayedSeat}
 use Rattle.tac_io.specs.States.{LinkState}
 
 -- ---- two, four and eight in order
@@ -50,20 +50,20 @@ abbrev pub FloorIds : Type 0
 FloorIds = List (LockId AuctionHistory) × LockId (List CashEntry)
 
 -- an agent's desk of these locks that made no call, and lines that may be read on, if there are lines
-pub record IsReady {L : Type 0} (ids : FloorIds) (place : Place L) : Type 0 where
-  pub own : desk_ids place.desk ≡ ids
-  pub agent : desk_caller place.desk < 8
-  pub no_calls : (entries_of place.desk ≡ replicate 28 []) × (cash_of place.desk ≡ [])
-  pub more : IfSome place.lines (λ lines. goes_on (last_of lines) ≡ true)
+pub record IsReadySeat {L : Type 0} (ids : FloorIds) (agent_seat : AgentSeat L) : Type 0 where
+  pub own : desk_ids agent_seat.desk ≡ ids
+  pub agent : desk_caller agent_seat.desk < 8
+  pub no_calls : (desk_entries agent_seat.desk ≡ replicate 28 []) × (desk_cash agent_seat.desk ≡ [])
+  pub more : IfSome agent_seat.lines (λ lines. goes_on (last_of lines) ≡ true)
 
 -- the clock's desk of these locks that made no call
 pub record IsReadyClock (ids : FloorIds) (desk : Desk) : Type 0 where
   pub own : desk_ids desk ≡ ids
   pub caller : desk_caller desk ≡ 8
-  pub no_calls : (entries_of desk ≡ replicate 28 []) × (cash_of desk ≡ [])
+  pub no_calls : (desk_entries desk ≡ replicate 28 []) × (desk_cash desk ≡ [])
 
-abbrev pub AreEightReady : {L : Type 0} → FloorIds → Two (Two (Two (Place L))) → Type 0
-AreEightReady ids eight = AreBoth (AreBoth (AreBoth (IsReady ids))) eight
+abbrev pub AreEightReady : {L : Type 0} → FloorIds → Two (Two (Two (AgentSeat L))) → Type 0
+AreEightReady ids eight = AreBoth (AreBoth (AreBoth (IsReadySeat ids))) eight
 
 -- ---- after the sessions
 
@@ -78,27 +78,27 @@ module _ {L : Type 0} (state : L → LinkState) (may_answer : List ℕ → Resul
     pub session : IsSession may_answer text game (held_of lines) (count_of lines) (state (link_of lines)) (state link) before after count cause
     pub faults : HasSessionCause (state (link_of lines)) (state link) cause
 
-  -- a place without lines was left as it was; a place with lines had its session
+  -- a seat without lines was left as it was; a seat with lines had its session
   abbrev pub IsPlayedOut : Desk → Option (Lines L) → Desk → Option (L × Cause) → Type 0
   IsPlayedOut before None after None = after ≡ before
   IsPlayedOut before (Some lines) after (Some (link, cause)) = IsServedBy before lines after link cause
   IsPlayedOut before lines after end = ⊥
 
-  abbrev pub IsPlayedPlace : Place L → Played L → Type 0
-  IsPlayedPlace place played = IsPlayedOut place.desk place.lines played.desk played.end
+  abbrev pub IsPlayedSeat : AgentSeat L → PlayedSeat L → Type 0
+  IsPlayedSeat agent_seat played = IsPlayedOut agent_seat.desk agent_seat.lines played.desk played.end
 
-  abbrev pub AreEightPlayed : Two (Two (Two (Place L))) → Two (Two (Two (Played L))) → Type 0
-  AreEightPlayed places played = BothOver (BothOver (BothOver IsPlayedPlace)) places played
+  abbrev pub AreEightPlayed : Two (Two (Two (AgentSeat L))) → Two (Two (Two (PlayedSeat L))) → Type 0
+  AreEightPlayed agent_seats played = BothOver (BothOver (BothOver IsPlayedSeat)) agent_seats played
 
-  -- the same for places that were handed over
-  unfoldable pub AreTakenPlayed : Option (Two (Two (Two (Place L)))) → Two (Two (Two (Played L))) → Type 0
-  AreTakenPlayed places played = IfSome places (λ p. AreEightPlayed p played)
+  -- seats that were handed over, after their sessions
+  unfoldable pub AreTakenPlayed : Option (Two (Two (Two (AgentSeat L)))) → Two (Two (Two (PlayedSeat L))) → Type 0
+  AreTakenPlayed agent_seats played = IfSome agent_seats (λ p. AreEightPlayed p played)
 
 -- ---- how they are gathered
 
--- the link of a place, and the end of its agent, if it had a session
-abbrev pub played_link : {L : Type 0} → Played L → Option L
+-- the link of a seat, and the end of its agent, if it had a session
+abbrev pub played_link : {L : Type 0} → PlayedSeat L → Option L
 played_link played = option_map (λ end. end.0) played.end
 
-abbrev pub played_end : {L : Type 0} → Played L → Option (ℕ × Cause)
+abbrev pub played_end : {L : Type 0} → PlayedSeat L → Option (ℕ × Cause)
 played_end played = option_map (λ end. (desk_caller played.desk, end.1)) played.end

@@ -2,21 +2,21 @@
 ghost use Rattle.std.specs.Prelude.{◌≡◌, ◌<◌, ◌≤◌, ◌+◌, [], ◌∷◌, None, IfOk, OnOk, OnErr, IfSome, length, vec_len, vec_capacity, replicate};
 ghost use Rattle.tac_io.specs.Counts.{HasCause};
 ghost use Rattle.tac_io.specs.Lines.{count_of, held_of, last_of, link_of};
-ghost use Rattle.tac_io.specs.Told.{IsAtEnd, and_then_told};
+ghost use Rattle.tac_io.specs.Known.{IsAtEnd, known_then};
 ghost use Rattle.agent_gate.specs.Gates.{seats_after};
 ghost use Rattle.game_run.specs.Admission.{MayGoOn, refusal_line};
-ghost use Rattle.game_run.specs.Arriving.{AreTaken, IsAnswered, IsFirstRead, IsGreeting, IsTakenIn, seat_of};
+ghost use Rattle.game_run.specs.Arriving.{AreTaken, IsOnlySent, IsFirstRead, IsGreeting, IsTakenIn, seat_of};
 
-use crate::arrivals::{Arrivals, Greeting, Spot};
+use crate::arrivals::{Arrivals, Greeting, Holder};
 use agent_gate::Gate;
 use game_text::Game;
 use line_protocol::Verdict;
 use tac_base::Agent;
-use tac_base::limits::LINKS;
+use tac_base::limits::{AGENTS, LINKS};
 use tac_io::{Failed, LineGot, Lines, Link, Links};
 
-/// How many seats there are.
-const SEATS: usize = 8;
+/// How many seats there are: one for each agent.
+const SEATS: usize = AGENTS as usize;
 
 /// What a link without a seat is sent.
 fn refusal(verdict: &Verdict) -> &'static [u8]
@@ -57,7 +57,7 @@ fn first_verdict<L: Link>(gate: &mut Gate, lines: &mut Lines<L>) -> Verdict
 
 /// Sends a link its refusal.
 fn turn_away<L: Link>(verdict: &Verdict, mut lines: Lines<L>) -> L
-    ensures { IsAnswered (refusal_line verdict.now) (L.state (link_of lines)) (L.state result) }
+    ensures { IsOnlySent (refusal_line verdict.now) (L.state (link_of lines)) (L.state result) }
 {
     let _ = lines.send(refusal(verdict));
     lines.into_link()
@@ -73,7 +73,7 @@ fn greet<L: Link>(gate: &mut Gate, link: L) -> Greeting<L>
         Some(agent) => Greeting::Seated(agent, lines),
         None => {
             let link = turn_away(&verdict, lines);
-            Greeting::Apart(verdict, link)
+            Greeting::Unseated(verdict, link)
         }
     }
 }
@@ -81,23 +81,23 @@ fn greet<L: Link>(gate: &mut Gate, link: L) -> Greeting<L>
 /// Admits or refuses a link, and says whether it has a seat.
 fn take_in<L: Link + Drop>(gate: &mut Gate, arrivals: &mut Arrivals<L>, link: L) -> bool
     requires verdicts { vec_len arrivals.old.verdicts < vec_capacity arrivals.old.verdicts }
-    requires spots { vec_len arrivals.old.spots < vec_capacity arrivals.old.spots }
+    requires holders { vec_len arrivals.old.holders < vec_capacity arrivals.old.holders }
     requires seats { vec_len arrivals.old.lines ≡ 8 }
     ensures taken { IsTakenIn L.state gate.old gate.new (L.state link) arrivals.old arrivals.new result }
     ensures verdicts { (vec_len arrivals.new.verdicts ≡ vec_len arrivals.old.verdicts + 1) × (vec_capacity arrivals.new.verdicts ≡ vec_capacity arrivals.old.verdicts) }
-    ensures spots { (vec_len arrivals.new.spots ≡ vec_len arrivals.old.spots + 1) × (vec_capacity arrivals.new.spots ≡ vec_capacity arrivals.old.spots) }
+    ensures holders { (vec_len arrivals.new.holders ≡ vec_len arrivals.old.holders + 1) × (vec_capacity arrivals.new.holders ≡ vec_capacity arrivals.old.holders) }
     ensures seats { vec_len arrivals.new.lines ≡ 8 }
 {
     match greet(gate, link) {
         Greeting::Seated(agent, lines) => {
             arrivals.verdicts.push_reserved(Verdict::Seated(agent));
-            arrivals.spots.push_reserved(Spot::Seat(agent));
+            arrivals.holders.push_reserved(Holder::Seat(agent));
             arrivals.lines[usize::from(agent.get())] = Some(lines);
             true
         }
-        Greeting::Apart(verdict, link) => {
+        Greeting::Unseated(verdict, link) => {
             arrivals.verdicts.push_reserved(verdict);
-            arrivals.spots.push_reserved(Spot::Apart(link));
+            arrivals.holders.push_reserved(Holder::Unseated(link));
             false
         }
     }
@@ -111,14 +111,14 @@ pub(crate) fn admit<N: Links>(
     arrivals: &mut Arrivals<N::Link>,
 ) -> Result<(), Failed>
     requires ports { IfSome (N.state links.old).ports (λ ports. ports ≡ []) }
-    requires none { (arrivals.old.verdicts.items ≡ []) × (arrivals.old.spots.items ≡ []) }
+    requires none { (arrivals.old.verdicts.items ≡ []) × (arrivals.old.holders.items ≡ []) }
     requires free { arrivals.old.lines.items ≡ replicate 8 None }
-    requires room { (vec_capacity arrivals.old.verdicts ≡ LINKS) × (vec_capacity arrivals.old.spots ≡ LINKS) }
+    requires room { (vec_capacity arrivals.old.verdicts ≡ LINKS) × (vec_capacity arrivals.old.holders ≡ LINKS) }
     ensures taken { AreTaken N.Link.state game.now (N.state links.old).pending (N.state links.new).pending arrivals.new }
     ensures no_fewer { OnOk result (MayGoOn arrivals.new.verdicts.items → IsAtEnd (N.state links.new).pending) }
     ensures more { OnErr result (MayGoOn arrivals.new.verdicts.items) }
-    ensures few { vec_len arrivals.new.spots ≤ LINKS }
-    ensures ports { (N.state links.new).ports ≡ and_then_told (N.state links.old).ports (port ∷ []) }
+    ensures few { vec_len arrivals.new.holders ≤ LINKS }
+    ensures ports { (N.state links.new).ports ≡ known_then (N.state links.old).ports (port ∷ []) }
     ensures cause { HasCause (N.state links.old).faults (N.state links.new).faults result }
 {
     links.listen(port)?;

@@ -7,21 +7,21 @@ use tac_io::Lines;
 #[derive(Drop)]
 pub(crate) enum Greeting<L> {
     Seated(Agent, Lines<L>),
-    Apart(Verdict, L),
+    Unseated(Verdict, L),
 }
 
-/// Where a link is kept: at the place of its agent, or here.
+/// Who holds a link: the seat of its agent, or admission.
 #[derive(Drop)]
-pub(crate) enum Spot<L> {
+pub(crate) enum Holder<L> {
     Seat(Agent),
-    Apart(L),
+    Unseated(L),
 }
 
 /// The links that came, in order.
 #[derive(Drop)]
 pub(crate) struct Arrivals<L> {
     pub(crate) verdicts: Vec<Verdict>,
-    pub(crate) spots: Vec<Spot<L>>,
+    pub(crate) holders: Vec<Holder<L>>,
     /// The lines of the seated links, in the order of the agents.
     pub(crate) lines: Vec<Option<Lines<L>>>,
 }

@@ -3,10 +3,10 @@
 
 mod admission;
 mod arrivals;
-mod crew;
-mod ending;
+mod play;
 mod run;
 mod seating;
-mod stage;
+mod session_ends;
+mod sessions;
 
 pub use run::{GameEnd, RunFault, run_game};

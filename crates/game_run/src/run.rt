@@ -2,14 +2,14 @@
 ghost use Rattle.std.specs.Prelude.{◌≡◌, ◌≤◌, [], None, IfOk, IfErr, IfSome, map, replicate, vec_capacity, vec_len};
 ghost use Rattle.std.specs.Option.{option_map};
 ghost use Rattle.tac_io.specs.Lines.{link_of};
-ghost use Rattle.game_run.specs.Places.{AreFilled, AreLinksOf};
-ghost use Rattle.game_run.specs.Rooms.{IsEmptyHall, IsRoom};
-ghost use Rattle.game_run.specs.Outcomes.{IsEnd, IsRunFault};
+ghost use Rattle.game_run.specs.SeatedLinks.{AreFilled, AreLinksOf};
+ghost use Rattle.game_run.specs.ReservedMemory.{IsReadyForArrivals, IsReserved};
+ghost use Rattle.game_run.specs.Outcomes.{IsGameEnd, IsRunFault};
 
 use crate::admission::admit;
 use crate::arrivals::Arrivals;
-use crate::ending::{Ending, in_order, without_sessions};
-use crate::stage::{Over, Stage, make_stage, play_out};
+use crate::play::{Finished, OpenFloor, begin_floor, play_out};
+use crate::session_ends::{SessionEnds, in_order, without_sessions};
 use agent_gate::Dialect;
 use auction_core::Closed;
 use game_text::Game;
@@ -19,7 +19,7 @@ use std::sync::Wait;
 use std::thread::Threads;
 use std::time::Clock;
 use tac_base::Memory;
-use tac_base::limits::LINKS;
+use tac_base::limits::{AGENTS, LINKS};
 use tac_io::{Lines, Link, Links, Ticker};
 
 /// A game that was played.
@@ -40,82 +40,79 @@ pub enum RunFault<L> {
     Memory,
 }
 
-// All memory of a game.
+// All memory of a game, reserved before it listens.
 #[derive(Drop)]
-pub(crate) struct Room<L> {
-    pub(crate) stage: Stage<L>,
+pub(crate) struct Reserved<L> {
+    pub(crate) open_floor: OpenFloor<L>,
     pub(crate) arrivals: Arrivals<L>,
-    /// Room for the links at the end.
+    /// Memory for the links at the end.
     pub(crate) links: Vec<L>,
 }
-
-/// How many agents there are.
-const AGENTS: usize = 8;
 
 // No agent has lines.
 fn no_lines<L: Drop>(alloc: Global) -> Result<Vec<Option<Lines<L>>>, Memory>
     ensures { IfOk result (λ lines. lines.items ≡ replicate 8 None) }
 {
-    let mut lines = Vec::with_capacity(alloc, AGENTS)?;
+    let mut lines = Vec::with_capacity(alloc, usize::from(AGENTS))?;
     for _ in 0..AGENTS {
         lines.push_reserved(None);
     }
     Ok(lines)
 }
 
-// Room for the links that come.
-fn make_hall<L: Drop>(alloc: Global) -> Result<Arrivals<L>, Memory>
-    ensures { IfOk result IsEmptyHall }
+// Reserves memory for the links that come.
+fn reserve_arrivals<L: Drop>(alloc: Global) -> Result<Arrivals<L>, Memory>
+    ensures { IfOk result IsReadyForArrivals }
 {
     let verdicts = Vec::with_capacity(alloc, LINKS as usize)?;
-    let spots = Vec::with_capacity(alloc, LINKS as usize)?;
+    let holders = Vec::with_capacity(alloc, LINKS as usize)?;
     let lines = no_lines(alloc)?;
     Ok(Arrivals {
         verdicts,
-        spots,
+        holders,
         lines,
     })
 }
 
-// Takes all memory of a game.
-fn make_room<L: Drop>(alloc: Global, game: &Game) -> Result<Room<L>, Memory>
-    ensures { IfOk result (IsRoom game.now) }
+// Reserves all memory of a game.
+fn reserve<L: Drop>(alloc: Global, game: &Game) -> Result<Reserved<L>, Memory>
+    ensures { IfOk result (IsReserved game.now) }
 {
-    let stage = make_stage(alloc, game)?;
-    let arrivals = make_hall(alloc)?;
+    let open_floor = begin_floor(alloc, game)?;
+    let arrivals = reserve_arrivals(alloc)?;
     let links = Vec::with_capacity(alloc, LINKS as usize)?;
-    Ok(Room {
-        stage,
+    Ok(Reserved {
+        open_floor,
         arrivals,
         links,
     })
 }
 
 // The links that were taken, none of which played.
-fn leave<L: Link + Drop>(arrivals: Arrivals<L>, stage: Stage<L>, given: Vec<L>) -> Vec<L>
-    requires filled { AreFilled arrivals.lines.items arrivals.spots.items }
+fn leave<L: Link + Drop>(arrivals: Arrivals<L>, open_floor: OpenFloor<L>, given: Vec<L>) -> Vec<L>
+    requires filled { AreFilled arrivals.lines.items arrivals.holders.items }
     requires wide { vec_len arrivals.lines ≡ 8 }
-    requires places { (stage.ending.links.items ≡ []) × (vec_capacity stage.ending.links ≡ 8) }
-    requires room { (given.items ≡ []) × (vec_len arrivals.spots ≤ vec_capacity given) }
-    ensures { AreLinksOf (map (option_map link_of) arrivals.lines.items) arrivals.spots.items result.items }
+    requires agent_seats { (open_floor.session_ends.links.items ≡ []) × (vec_capacity open_floor.session_ends.links ≡ 8) }
+    requires room { (given.items ≡ []) × (vec_len arrivals.holders ≤ vec_capacity given) }
+    ensures { AreLinksOf (map (option_map link_of) arrivals.lines.items) arrivals.holders.items result.items }
 {
     let Arrivals {
         verdicts: _,
-        spots,
+        holders,
         lines,
     } = arrivals;
-    let Stage {
+    let OpenFloor {
         floor: _,
         desks: _,
-        ending,
-    } = stage;
-    let Ending {
+        session_ends,
+    } = open_floor;
+    let SessionEnds {
         desks: _,
         ends: _,
         links,
-    } = ending;
-    let places = without_sessions(lines, links);
-    in_order(spots, places, given)
+    } = session_ends;
+    let agent_seats = without_sessions(lines, links);
+    in_order(holders, agent_seats, given)
 }
 
 /// Plays a game over links. First it takes all the memory of the game. Then it listens on the port, takes links and reads a line of
@@ -133,33 +130,33 @@ pub fn run_game<R: Threads + Sync + Wait + Clock, D: Dialect + Sync, N: Links, T
 ) -> Result<GameEnd<N::Link>, RunFault<N::Link>>
     requires ports { IfSome (N.state links.old).ports (λ ports. ports ≡ []) }
     requires ticks { IfSome (T.state ticker.old).waited (λ ticks. ticks ≡ []) }
-    ensures played { IfOk result (IsEnd N.Link.state (D.may_answer dialect.now) (D.text dialect.now) game.now port
+    ensures played { IfOk result (IsGameEnd N.Link.state (D.may_answer dialect.now) (D.text dialect.now) game.now port
         (N.state links.old) (N.state links.new) (T.state ticker.old) (T.state ticker.new)) }
     ensures not_played { IfErr result (IsRunFault N.Link.state game.now port (N.state links.old) (N.state links.new)) }
     ensures untouched { IfErr result (λ _. ticker.new ≡ ticker.old) }
 {
-    let Ok(room) = make_room(alloc, game) else {
+    let Ok(reserved) = reserve(alloc, game) else {
         return Err(RunFault::Memory);
     };
-    let Room {
-        stage,
+    let Reserved {
+        open_floor,
         mut arrivals,
         links: given,
-    } = room;
+    } = reserved;
     if admit(game, port, links, &mut arrivals).is_err() {
-        return Err(RunFault::Links(leave(arrivals, stage, given)));
+        return Err(RunFault::Links(leave(arrivals, open_floor, given)));
     }
     let Arrivals {
         verdicts,
-        spots,
+        holders,
         lines,
     } = arrivals;
-    let Over {
+    let Finished {
         closed,
         ends,
-        links: places,
+        links: agent_seats,
         missed,
-    } = play_out(rt, game, dialect, stage, lines, ticker);
+    } = play_out(rt, game, dialect, open_floor, lines, ticker);
     Ok(GameEnd {
         closed,
         head: LogHead::Serve {
@@ -167,6 +164,6 @@ pub fn run_game<R: Threads + Sync + Wait + Clock, D: Dialect + Sync, N: Links, T
             ends,
             missed,
         },
-        links: in_order(spots, places, given),
+        links: in_order(holders, agent_seats, given),
     })
 }

@@ -2,12 +2,12 @@
 ghost use Rattle.std.specs.Prelude.{◌≡◌, ◌∷◌, ◌++◌, [], ◌≤◌, ◌+◌, map, vec_len};
 ghost use Rattle.game_run.specs.Seatings.{eight_of, four_of, two_of};
 
-use crate::crew::{Eight, Four, Place, Two};
+use crate::sessions::{AgentSeat, Eight, Four, Two};
 use floor::Desk;
 use tac_io::Lines;
 
-// The last place.
-fn last_place<L>(desks: &mut Vec<Desk>, lines: &mut Vec<Option<Lines<L>>>) -> Place<L>
+// The last seat.
+fn last_seat<L>(desks: &mut Vec<Desk>, lines: &mut Vec<Option<Lines<L>>>) -> AgentSeat<L>
     requires desks { 1 ≤ vec_len desks.old }
     requires lines { 1 ≤ vec_len lines.old }
     ensures desks { desks.old.items ≡ desks.new.items ++ result.desk ∷ [] }
@@ -15,14 +15,14 @@ fn last_place<L>(desks: &mut Vec<Desk>, lines: &mut Vec<Option<Lines<L>>>) -> Pl
     ensures desks_left { vec_len desks.new + 1 ≡ vec_len desks.old }
     ensures lines_left { vec_len lines.new + 1 ≡ vec_len lines.old }
 {
-    Place {
+    AgentSeat {
         desk: desks.pop().unwrap(),
         lines: lines.pop().unwrap(),
     }
 }
 
-// The last two places, in order.
-fn last_two<L>(desks: &mut Vec<Desk>, lines: &mut Vec<Option<Lines<L>>>) -> Two<Place<L>>
+// The last two seats, in order.
+fn last_two<L>(desks: &mut Vec<Desk>, lines: &mut Vec<Option<Lines<L>>>) -> Two<AgentSeat<L>>
     requires desks { 2 ≤ vec_len desks.old }
     requires lines { 2 ≤ vec_len lines.old }
     ensures desks { desks.old.items ≡ desks.new.items ++ map (λ p. p.desk) (two_of result) }
@@ -30,13 +30,13 @@ fn last_two<L>(desks: &mut Vec<Desk>, lines: &mut Vec<Option<Lines<L>>>) -> Two<
     ensures desks_left { vec_len desks.new + 2 ≡ vec_len desks.old }
     ensures lines_left { vec_len lines.new + 2 ≡ vec_len lines.old }
 {
-    let second = last_place(desks, lines);
-    let first = last_place(desks, lines);
+    let second = last_seat(desks, lines);
+    let first = last_seat(desks, lines);
     Two { first, second }
 }
 
-// The last four places, in order.
-fn last_four<L>(desks: &mut Vec<Desk>, lines: &mut Vec<Option<Lines<L>>>) -> Four<Place<L>>
+// The last four seats, in order.
+fn last_four<L>(desks: &mut Vec<Desk>, lines: &mut Vec<Option<Lines<L>>>) -> Four<AgentSeat<L>>
     requires desks { 4 ≤ vec_len desks.old }
     requires lines { 4 ≤ vec_len lines.old }
     ensures desks { desks.old.items ≡ desks.new.items ++ map (λ p. p.desk) (four_of result) }
@@ -49,11 +49,11 @@ fn last_four<L>(desks: &mut Vec<Desk>, lines: &mut Vec<Option<Lines<L>>>) -> Fou
     Two { first, second }
 }
 
-/// The places of the eight agents, in order.
-pub(crate) fn places<L: Drop>(
+/// The seats of the eight agents, in order.
+pub(crate) fn agent_seats<L: Drop>(
     mut desks: Vec<Desk>,
     mut lines: Vec<Option<Lines<L>>>,
-) -> Eight<Place<L>>
+) -> Eight<AgentSeat<L>>
     requires desks { vec_len desks ≡ 8 }
     requires lines { vec_len lines ≡ 8 }
     ensures desks { desks.items ≡ map (λ p. p.desk) (eight_of result) }

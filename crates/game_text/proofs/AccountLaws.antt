@@ -8,7 +8,7 @@ use Rattle.tac_base.proofs.NumeralLaws.{both_true}
 use Rattle.tac_base.specs.Clients.{Preferences, IsClient}
 use Rattle.text_forms.specs.declared.lines.BadLine.{BadLine}
 use Rattle.text_forms.specs.Words.{parts_of}
-use Rattle.text_forms.specs.Lines.{Remaining, lines_from, nothing_left, AreLeft}
+use Rattle.text_forms.specs.Lines.{Remaining, lines_from, nothing_left, AreLinesLeft}
 use Rattle.text_forms.specs.Rows.{within, is_in, all_in, row, row_text}
 use Rattle.text_forms.specs.Steps.{◌>>=◌, read_by, repeat, lines_of_parts, one_line}
 use Rattle.text_forms.proofs.Columns.{in_column, in_from, same_columns, abs_pos}
@@ -20,7 +20,7 @@ use Rattle.game_text.specs.declared.fault.GameFault.{GameFault}
 use Rattle.game_text.specs.declared.fault.GameFault.TheVariants.{TooLong}
 use Rattle.game_text.specs.ClientLines.{client_numbers}
 use Rattle.game_text.specs.AgentLines.{AreClients}
-use Rattle.game_text.specs.Headers.{nothing_from, end_of}
+use Rattle.game_text.specs.Headers.{nothing_from, read_end_line}
 use Rattle.game_text.specs.Accounts.{AccountFile, IsHolding, IsAccount, title_of, hold_column, hold_of, hold_text, owned_columns, owned_from, owned_of, owned_text, account_lines, IsAccountText, owned_part, account_in, account_of}
 use Rattle.game_text.proofs.Limits.{within_limit, by_length}
 use Rattle.game_text.proofs.ClientLaws.{client_row, client_count, client_range}
@@ -118,7 +118,7 @@ abbrev then_done : AccountFile → Remaining → Result AccountFile BadLine
 then_done account left = nothing_left left >>= λ done. Ok account
 
 abbrev then_end : AccountFile → Remaining → Result AccountFile BadLine
-then_end account left = read_by end_of left >>= λ end. then_done account end.1
+then_end account left = read_by read_end_line left >>= λ end. then_done account end.1
 
 abbrev then_clients : List ℤ → Remaining → Result AccountFile BadLine
 then_clients holdings left = repeat 8 0 owned_part left >>= λ clients. then_end (made holdings clients.0) clients.1
@@ -130,7 +130,7 @@ then_holdings left = read_by hold_of left >>= λ holdings. then_clients holdings
 abbrev after_holdings : List Preferences → List (List ℕ)
 after_holdings clients = lines_of_parts (one_line owned_text) 0 clients ++ codes "end" ∷ []
 
-pub account_in_is : (left : Remaining) (account : AccountFile) → account_in left ≡ Ok account → AreLeft (account_lines account) left × IsAccount account
+pub account_in_is : (left : Remaining) (account : AccountFile) → account_in left ≡ Ok account → AreLinesLeft (account_lines account) left × IsAccount account
 unfolding account_in
 account_in_is left account e =
     let b1 = bind_ok (read_by title_of left) (λ title. then_holdings title.1) account e in
@@ -140,7 +140,7 @@ account_in_is left account e =
     let b3 = bind_ok (repeat 8 0 owned_part l2) (λ clients. then_end (made holdings clients.0) clients.1) account b2.2 in
     let clients = b3.0.0 in let l3 = b3.0.1 in
     let g = made holdings clients in
-    let b4 = bind_ok (read_by end_of l3) (λ end. then_done g end.1) account b3.2 in
+    let b4 = bind_ok (read_by read_end_line l3) (λ end. then_done g end.1) account b3.2 in
     let l4 = b4.0.1 in
     let b5 = bind_ok (nothing_left l4) (λ done. Ok g) account b4.2 in
     let r1 = read_took title_of left b1.0 b1.1 in
@@ -150,12 +150,12 @@ account_in_is left account e =
     let held = s2.1 in
     let t2 = took_line l1 l2 r2.0 (hold_text holdings) s2.0 r2.1 in
     let p3 = repeat_took owned_part (one_line owned_text) IsClient owned_takes 8 0 l2 b3.0 b3.1 in
-    let r4 = read_took end_of l3 b4.0 b4.1 in
+    let r4 = read_took read_end_line l3 b4.0 b4.1 in
     let t4 = took_line l3 l4 r4.0 (codes "end") (end_is r4.0 b4.0.0 r4.2) r4.1 in
     let c3 = took_then l2 (lines_of_parts (one_line owned_text) 0 clients) l3 (codes "end" ∷ []) l4 p3.took t4 in
     let c2 = took_then l1 (hold_text holdings ∷ []) l2 (after_holdings clients) l4 t2 c3 in
     let c1 = took_then left (codes "account" ∷ []) l1 (hold_text holdings ∷ after_holdings clients) l4 t1 c2 in
-    subst (λ (x : AccountFile). AreLeft (account_lines x) left × IsAccount x) {x = g} (ok_is {E = BadLine} g account b5.2)
+    subst (λ (x : AccountFile). AreLinesLeft (account_lines x) left × IsAccount x) {x = g} (ok_is {E = BadLine} g account b5.2)
     (took_all left l4 (account_lines g) b5.0 c1 b5.1, record { clients = record { count = p3.count_is; each = p3.each }; count = held.count; holdings = held.each })
 
 account_is : (text : List ℕ) (account : AccountFile) → account_of text ≡ Ok account → IsAccountText account text × IsAccount account

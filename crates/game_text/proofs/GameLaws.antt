@@ -5,7 +5,7 @@ use Rattle.std.specs.List.{All}
 use Rattle.std.proofs.lemmas.Bool.{le-ltb}
 use Rattle.text_forms.specs.declared.lines.BadLine.{BadLine}
 use Rattle.text_forms.specs.Words.{parts_of}
-use Rattle.text_forms.specs.Lines.{Remaining, lines_from, nothing_left, AreLeft}
+use Rattle.text_forms.specs.Lines.{Remaining, lines_from, nothing_left, AreLinesLeft}
 use Rattle.text_forms.specs.Steps.{◌>>=◌, read_by, repeat, lines_of_parts, one_line}
 use Rattle.text_forms.proofs.Reading.{took_then, took_line, bind_ok, ok_is, read_took, Takes, line_takes, repeat_took, took_all}
 use Rattle.text_forms.proofs.PrintedLines.{ahead, at_end, left_ahead}
@@ -19,7 +19,7 @@ use Rattle.game_text.specs.ClosingOrders.{IsOrder, order_of, order_text}
 use Rattle.game_text.specs.AgentLines.{agents_in, agents_lines}
 use Rattle.game_text.specs.declared.hotel_nights.HotelNights.{HotelNights}
 use Rattle.game_text.specs.HotelNights.{nights_in, night_lines}
-use Rattle.game_text.specs.Headers.{header_of, header_text, end_of}
+use Rattle.game_text.specs.Headers.{header_of, header_text, read_end_line}
 use Rattle.game_text.specs.Games.{GameFile, nights_of, agents_of, IsGame, game_lines, IsTextOf, flight_part, game_in, game_of}
 use Rattle.game_text.proofs.Limits.{within_limit, by_length}
 use Rattle.game_text.proofs.FlightLaws.{flight_is, flight_again}
@@ -59,7 +59,7 @@ abbrev then_done : GameFile → Remaining → Result GameFile BadLine
 then_done game left = nothing_left left >>= λ done. Ok game
 
 abbrev then_end : GameFile → Remaining → Result GameFile BadLine
-then_end game left = read_by end_of left >>= λ end. then_done game end.1
+then_end game left = read_by read_end_line left >>= λ end. then_done game end.1
 
 abbrev then_agents : ℕ → List (List ℕ) → List FlightTerms → List ℕ → HotelNights → Remaining → Result GameFile BadLine
 then_agents version words flights order nights left = agents_in left >>= λ agents. then_end (made version words flights order nights agents.0) agents.1
@@ -89,7 +89,7 @@ after_flights order version nights agents = order_text order ∷ after_order ver
 abbrev after_words : List FlightTerms → List ℕ → ℕ → HotelNights → Agents → List (List ℕ)
 after_words flights order version nights agents = lines_of_parts (one_line flight_text) 0 flights ++ after_flights order version nights agents
 
-pub game_in_is : (left : Remaining) (game : GameFile) → game_in left ≡ Ok game → AreLeft (game_lines game) left × IsGame game
+pub game_in_is : (left : Remaining) (game : GameFile) → game_in left ≡ Ok game → AreLinesLeft (game_lines game) left × IsGame game
 unfolding game_in
 game_in_is left game e =
     let b1 = bind_ok (read_by header_of left) (λ header. then_words header.0 header.1) game e in
@@ -105,7 +105,7 @@ game_in_is left game e =
     let b6 = bind_ok (agents_in l5) (λ agents. then_end (made version words flights order nights agents.0) agents.1) game b5.2 in
     let agents = b6.0.0 in let l6 = b6.0.1 in
     let g = made version words flights order nights agents in
-    let b7 = bind_ok (read_by end_of l6) (λ end. then_done g end.1) game b6.2 in
+    let b7 = bind_ok (read_by read_end_line l6) (λ end. then_done g end.1) game b6.2 in
     let l7 = b7.0.1 in
     let b8 = bind_ok (nothing_left l7) (λ done. Ok g) game b7.2 in
     let r1 = read_took header_of left b1.0 b1.1 in
@@ -120,7 +120,7 @@ game_in_is left game e =
     let t4 = took_line l3 l4 r4.0 (order_text order) s4.0 r4.1 in
     let p5 = nights_took version s1.low s1.high l4 b5.0 b5.1 in
     let p6 = agents_took l5 b6.0 b6.1 in
-    let r7 = read_took end_of l6 b7.0 b7.1 in
+    let r7 = read_took read_end_line l6 b7.0 b7.1 in
     let t7 = took_line l6 l7 r7.0 (codes "end") (end_is r7.0 b7.0.0 r7.2) r7.1 in
     let c6 = took_then l5 (agents_lines agents) l6 (codes "end" ∷ []) l7 p6.0 t7 in
     let c5 = took_then l4 (night_lines version nights) l5 (after_nights agents) l7 p5.0 c6 in
@@ -128,7 +128,7 @@ game_in_is left game e =
     let c3 = took_then l2 (lines_of_parts (one_line flight_text) 0 flights) l3 (after_flights order version nights agents) l7 p3.took c4 in
     let c2 = took_then l1 (seats_text words ∷ []) l2 (after_words flights order version nights agents) l7 t2 c3 in
     let c1 = took_then left (header_text version ∷ []) l1 (seats_text words ∷ after_words flights order version nights agents) l7 t1 c2 in
-    subst (λ (x : GameFile). AreLeft (game_lines x) left × IsGame x) {x = g} (ok_is {E = BadLine} g game b8.2)
+    subst (λ (x : GameFile). AreLinesLeft (game_lines x) left × IsGame x) {x = g} (ok_is {E = BadLine} g game b8.2)
     (took_all left l7 (game_lines g) b8.0 c1 b8.1, record { version_low = s1.low; version_high = s1.high; words = s2.1; flight_count = p3.count_is; flights = p3.each; order = s4.1; nights = p5.1; agents = p6.1 })
 
 game_is : (text : List ℕ) (game : GameFile) → game_of text ≡ Ok game → IsTextOf game text × IsGame game

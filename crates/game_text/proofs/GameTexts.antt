@@ -15,7 +15,7 @@ use Rattle.game_text.specs.ClosingOrders.{order_text}
 use Rattle.game_text.specs.Endowments.{IsEndowment, endow_text}
 use Rattle.game_text.specs.ClientLines.{client_text}
 use Rattle.game_text.specs.AgentLines.{AreClients, AreAgents, client_lines, agents_lines}
-use Rattle.game_text.specs.Games.{GameFile, nights_of, agents_of, IsGame, game_lines, spelling, game_in, game_of}
+use Rattle.game_text.specs.Games.{GameFile, nights_of, agents_of, IsGame, game_lines, canonical_text, game_in, game_of}
 use Rattle.game_text.specs.HotelNights.{night_lines}
 use Rattle.game_text.proofs.FlightLaws.{flight_line}
 use Rattle.game_text.proofs.HotelNightLaws.{nights_are_lines, few_nights}
@@ -68,12 +68,12 @@ line_count game is =
 
 -- ---- reading it
 
-pub game_again : (game : GameFile) → IsGame game → game_of (spelling game) ≡ Ok game
+pub game_again : (game : GameFile) → IsGame game → game_of (canonical_text game) ≡ Ok game
 unfolding game_of
 game_again game is =
     let lines = game_is_lines game is in
-    let size : length (spelling game) ≤ 1048576 = let short = text_short 678 (game_lines game) lines in let count = line_count game is in omega (arith, short, count) in
-    let long : ltb 1048576 (length (spelling game)) ≡ false = le-ltb _ _ size in
+    let size : length (canonical_text game) ≤ 1048576 = let short = text_short 678 (game_lines game) lines in let count = line_count game is in omega (arith, short, count) in
+    let long : ltb 1048576 (length (canonical_text game)) ≡ false = le-ltb _ _ size in
     let cut = text_ahead 678 (game_lines game) lines in
-    let read : game_in (lines_from true 1 (parts_of 10 (spelling game))) ≡ Ok game = ap game_in cut.2 ∙ game_in_again game cut.1 cut.0 is in
+    let read : game_in (lines_from true 1 (parts_of 10 (canonical_text game))) ≡ Ok game = ap game_in cut.2 ∙ game_in_again game cut.1 cut.0 is in
     rw (long, read) refl

@@ -16,7 +16,7 @@ use Rattle.text_forms.proofs.Joins.{joined_parts}
 use Rattle.text_forms.proofs.RowLaws.{row_is, same_word}
 use Rattle.text_forms.proofs.PrintedLines.{IsLine, lacks_from, join_lacks, join_short, starts_kept}
 use Rattle.text_forms.proofs.Reading.{bind_ok, ok_is}
-use Rattle.game_text.specs.Headers.{header_of_words, header_of, header_text, nothing_from, end_of}
+use Rattle.game_text.specs.Headers.{header_of_words, header_of, header_text, nothing_from, read_end_line}
 use Rattle.game_text.specs.SeatWords.{is_seat_byte, is_seat_word, are_distinct, seats_of_words, seats_of, seats_text, AreSeats}
 use Rattle.game_text.proofs.Choices.{passed}
 use Rattle.game_text.proofs.Versions.{by_version}
@@ -58,8 +58,8 @@ pub nothing_more : (numbers : List ℤ) → length numbers ≡ 0 → numbers ≡
 nothing_more [] len = refl
 nothing_more (number ∷ numbers) len = absurd (omega (arith, len))
 
-pub end_is : (line : List ℕ) (u : Unit {0}) → end_of line ≡ Ok u → line ≡ codes "end"
-unfolding end_of
+pub end_is : (line : List ℕ) (u : Unit {0}) → read_end_line line ≡ Ok u → line ≡ codes "end"
+unfolding read_end_line
 end_is line u e =
     let a = bind_ok (row (codes "end") [] line) nothing_from u e in
     let r = row_is (codes "end") [] line a.0 a.1 in
@@ -69,8 +69,8 @@ pub header_again : (version : ℕ) → 1 ≤ version → version ≤ 2 → heade
 unfolding header_of
 header_again version low high = by_version (λ v. header_of (header_text v) ≡ Ok v) version low high refl refl
 
-pub end_again : end_of (codes "end") ≡ Ok tt
-unfolding end_of row
+pub end_again : read_end_line (codes "end") ≡ Ok tt
+unfolding read_end_line row
 end_again = refl
 
 pub header_line : (version : ℕ) → 1 ≤ version → version ≤ 2 → IsLine 678 (header_text version)

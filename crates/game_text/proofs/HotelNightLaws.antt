@@ -18,7 +18,7 @@ use Rattle.text_forms.proofs.RowLaws.{row_is, row_again, same_word}
 use Rattle.text_forms.proofs.PrintedLines.{IsLine, ahead, lacks_from, row_line}
 use Rattle.text_forms.proofs.Reading.{Took, took_then, took_line, bind_ok, ok_is, read_took}
 use Rattle.game_text.specs.declared.hotel_nights.HotelNights.{HotelNights}
-use Rattle.game_text.specs.HotelNights.{plain_nights, AreNights, room_columns, rooms_from, rooms_of, rooms_text, quotes_of_words, quotes_of, quotes_text, night_lines, nights_in}
+use Rattle.game_text.specs.HotelNights.{plain_nights, AreNights, room_columns, rooms_from, read_rooms, rooms_text, quotes_of_words, quotes_of, quotes_text, night_lines, nights_in}
 use Rattle.game_text.proofs.Choices.{passed}
 use Rattle.game_text.proofs.Versions.{by_version}
 
@@ -29,8 +29,8 @@ pub record AreRooms (rooms : List ℕ) : Type 0 where
   pub count : length rooms ≡ 8
   pub range : AllBetween 1 64 rooms
 
-rooms_is : (line rooms : List ℕ) → rooms_of line ≡ Ok rooms → (line ≡ rooms_text rooms) × AreRooms rooms
-unfolding rooms_of
+rooms_is : (line rooms : List ℕ) → read_rooms line ≡ Ok rooms → (line ≡ rooms_text rooms) × AreRooms rooms
+unfolding read_rooms
 rooms_is line rooms e =
     let a = bind_ok (row (codes "rooms") room_columns line) rooms_from rooms e in
     let numbers = a.0 in
@@ -46,8 +46,8 @@ rooms_count rooms are = omega (arith, length-map rooms pos, are.count)
 rooms_range : (rooms : List ℕ) → AreRooms rooms → all_in room_columns (map pos rooms) ≡ true
 rooms_range rooms are = within_columns 8 1 64 rooms (omega (arith, are.count)) are.range
 
-rooms_again : (rooms : List ℕ) → AreRooms rooms → rooms_of (rooms_text rooms) ≡ Ok rooms
-unfolding rooms_of
+rooms_again : (rooms : List ℕ) → AreRooms rooms → read_rooms (rooms_text rooms) ≡ Ok rooms
+unfolding read_rooms
 rooms_again rooms are =
     let read = row_again (codes "rooms") room_columns (map pos rooms) (lacks_from 32 (codes "rooms") refl) refl (rooms_count rooms are) (rooms_range rooms are) in
     rw (read, abs_pos rooms) refl
@@ -108,9 +108,9 @@ none_taken left x e = subst (λ (y : HotelNights × Remaining). Took left [] y.1
 both_taken : IsTaken 2
 unfolding nights_in
 both_taken left x e =
-    let a = bind_ok (read_by rooms_of left) (λ rooms. read_by quotes_of rooms.1 >>= λ quotes. Ok (record { rooms = rooms.0; live = quotes.0 }, quotes.1)) x e in
+    let a = bind_ok (read_by read_rooms left) (λ rooms. read_by quotes_of rooms.1 >>= λ quotes. Ok (record { rooms = rooms.0; live = quotes.0 }, quotes.1)) x e in
     let b = bind_ok (read_by quotes_of a.0.1) (λ quotes. Ok (record { rooms = a.0.0; live = quotes.0 }, quotes.1)) x a.2 in
-    let p = read_took rooms_of left a.0 a.1 in
+    let p = read_took read_rooms left a.0 a.1 in
     let s = rooms_is p.0 a.0.0 p.2 in
     let q = read_took quotes_of a.0.1 b.0 b.1 in
     subst (λ (y : HotelNights × Remaining). Took left (night_lines 2 y.0) y.1 × AreNights 2 y.0) (ok_is {E = BadLine} (record { rooms = a.0.0; live = b.0.0 }, b.0.1) x b.2) (

@@ -12,7 +12,7 @@ use Rattle.game_text.specs.Flights.{flight_text}
 use Rattle.game_text.specs.ClosingOrders.{order_text}
 use Rattle.game_text.specs.Endowments.{endow_text}
 use Rattle.game_text.specs.AgentLines.{client_lines}
-use Rattle.game_text.specs.Games.{GameFile, nights_of, spelling}
+use Rattle.game_text.specs.Games.{GameFile, nights_of, canonical_text}
 
 text_append : (xs ys : List (List ℕ)) → text_of (xs ++ ys) ≡ text_of xs ++ text_of ys
 text_append xs ys = flat_map-append (λ line. line ++ 10 ∷ []) xs ys
@@ -26,7 +26,7 @@ pub in_parts : (old first words flights order nights endow clients last : List �
     → o8 ≡ old ++ (first ++ (words ++ (flights ++ (order ++ (nights ++ ((endow ++ clients) ++ last))))))
 in_parts old first words flights order nights endow clients last o1 o2 o3 o4 o5 o6 o7 o8 e1 e2 e3 e4 e5 e6 e7 e8 = rw (e8, e7, e6, e5, e4, e3, e2, e1) (simp append_assoc)
 
-pub spelled : (game : GameFile) → spelling game ≡ (header_text game.version ++ 10 ∷ []) ++ ((seats_text game.words ++ 10 ∷ []) ++ (text_of (lines_of_parts (one_line flight_text) 0 game.flights)
+pub spelled : (game : GameFile) → canonical_text game ≡ (header_text game.version ++ 10 ∷ []) ++ ((seats_text game.words ++ 10 ∷ []) ++ (text_of (lines_of_parts (one_line flight_text) 0 game.flights)
     ++ ((order_text game.order ++ 10 ∷ []) ++ (text_of (night_lines game.version (nights_of game)) ++ ((text_of (lines_of_parts (one_line endow_text) 0 game.endow) ++ text_of (lines_of_parts client_lines 0 game.clients)) ++ codes "end\n")))))
 spelled game =
     let flights = lines_of_parts (one_line flight_text) 0 game.flights in

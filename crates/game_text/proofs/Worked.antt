@@ -11,8 +11,8 @@ use Rattle.game_text.specs.Flights.{flight_of}
 use Rattle.game_text.specs.ClosingOrders.{order_of}
 use Rattle.game_text.specs.Endowments.{endow_of}
 use Rattle.game_text.specs.ClientLines.{client_of}
-use Rattle.game_text.specs.Headers.{header_of, end_of}
-use Rattle.game_text.specs.HotelNights.{rooms_of, quotes_of}
+use Rattle.game_text.specs.Headers.{header_of, read_end_line}
+use Rattle.game_text.specs.HotelNights.{read_rooms, quotes_of}
 use Rattle.game_text.specs.Games.{upgraded, game_lines, game_in, game_of}
 use Rattle.game_text.specs.QuietGames.{quiet_game}
 
@@ -72,8 +72,8 @@ space_alone : header_of (codes " ") ≡ Err Keyword
 unfolding header_of
 space_alone = refl
 
-word_after_end : end_of (codes "end 1") ≡ Err WordCount
-unfolding end_of row
+word_after_end : read_end_line (codes "end 1") ≡ Err WordCount
+unfolding read_end_line row
 word_after_end = refl
 
 -- ---- the seat words
@@ -120,20 +120,20 @@ equal_hotels = refl
 
 -- ---- the hotel nights
 
-no_room : rooms_of (codes "rooms 0 16 16 16 16 16 16 16") ≡ Err OutOfRange
-unfolding rooms_of row numeral
+no_room : read_rooms (codes "rooms 0 16 16 16 16 16 16 16") ≡ Err OutOfRange
+unfolding read_rooms row numeral
 no_room = refl
 
-most_rooms : rooms_of (codes "rooms 1 16 16 16 16 16 16 64") ≡ Ok (1 ∷ 16 ∷ 16 ∷ 16 ∷ 16 ∷ 16 ∷ 16 ∷ 64 ∷ [])
-unfolding rooms_of row numeral
+most_rooms : read_rooms (codes "rooms 1 16 16 16 16 16 16 64") ≡ Ok (1 ∷ 16 ∷ 16 ∷ 16 ∷ 16 ∷ 16 ∷ 16 ∷ 64 ∷ [])
+unfolding read_rooms row numeral
 most_rooms = refl
 
-too_many_rooms : rooms_of (codes "rooms 16 16 16 16 16 16 16 65") ≡ Err OutOfRange
-unfolding rooms_of row numeral
+too_many_rooms : read_rooms (codes "rooms 16 16 16 16 16 16 16 65") ≡ Err OutOfRange
+unfolding read_rooms row numeral
 too_many_rooms = refl
 
-seven_nights : rooms_of (codes "rooms 16 16 16 16 16 16 16") ≡ Err WordCount
-unfolding rooms_of row
+seven_nights : read_rooms (codes "rooms 16 16 16 16 16 16 16") ≡ Err WordCount
+unfolding read_rooms row
 seven_nights = refl
 
 live_quotes : quotes_of (codes "quotes live") ≡ Ok true

@@ -8,15 +8,15 @@ use Rattle.text_forms.specs.declared.lines.Reason.{Reason}
 use Rattle.text_forms.specs.declared.rows.Column.{Column}
 use Rattle.text_forms.specs.declared.rows.Digits.TheVariants.{Ten}
 use Rattle.text_forms.specs.Words.{parts_of}
-use Rattle.text_forms.specs.Lines.{Remaining, lines_from, nothing_left, AreLeft}
+use Rattle.text_forms.specs.Lines.{Remaining, lines_from, nothing_left, AreLinesLeft}
 use Rattle.text_forms.specs.Rows.{row, row_text}
 use Rattle.text_forms.specs.Steps.{◌>>=◌, read_by, repeat, lines_of_parts, one_line}
 use Rattle.game_text.specs.declared.fault.GameFault.{GameFault}
 use Rattle.game_text.specs.declared.fault.GameFault.TheVariants.{TooLong}
 use Rattle.game_text.specs.ClientLines.{client_columns, client_from, client_numbers}
 use Rattle.game_text.specs.AgentLines.{AreClients}
-use Rattle.game_text.specs.Headers.{nothing_from, end_of}
-use Rattle.game_text.specs.Faults.{refused}
+use Rattle.game_text.specs.Headers.{nothing_from, read_end_line}
+use Rattle.game_text.specs.Faults.{or_game_fault}
 
 pub record AccountFile : Type 0 where
   pub clients : List Preferences
@@ -70,7 +70,7 @@ account_lines account =
 
 -- a text of an account: the lines that are neither empty nor comments are the canonical ones, each with its line end
 abbrev pub IsAccountText : AccountFile → List ℕ → Type 0
-IsAccountText account text = AreLeft (account_lines account) (lines_from true 1 (parts_of 10 text))
+IsAccountText account text = AreLinesLeft (account_lines account) (lines_from true 1 (parts_of 10 text))
 
 -- ---- the first bad line
 
@@ -83,10 +83,10 @@ account_in left = do
   title ← read_by title_of left
   holdings ← read_by hold_of title.1
   clients ← repeat 8 0 owned_part holdings.1
-  end ← read_by end_of clients.1
+  end ← read_by read_end_line clients.1
   done ← nothing_left end.1
   Ok (record { clients = clients.0; holdings = holdings.0 })
 
 -- the account of a text, or why it is refused
 unfoldable pub account_of : List ℕ → Result AccountFile GameFault
-account_of text = if nat_lt TEXT_BYTES (length text) then Err TooLong else refused (account_in (lines_from true 1 (parts_of 10 text)))
+account_of text = if nat_lt TEXT_BYTES (length text) then Err TooLong else or_game_fault (account_in (lines_from true 1 (parts_of 10 text)))

@@ -5,11 +5,11 @@ use Rattle.tac_base.specs.Clients.{Preferences}
 use Rattle.tac_base.specs.declared.limits.TheConstants.{GAME_BYTES}
 use Rattle.text_forms.specs.declared.lines.BadLine.{BadLine}
 use Rattle.text_forms.specs.Words.{parts_of}
-use Rattle.text_forms.specs.Lines.{Remaining, lines_from, nothing_left, text_of, AreLeft}
+use Rattle.text_forms.specs.Lines.{Remaining, lines_from, nothing_left, text_of, AreLinesLeft}
 use Rattle.text_forms.specs.Steps.{◌>>=◌, read_by, repeat, lines_of_parts, one_line}
 use Rattle.game_text.specs.declared.fault.GameFault.{GameFault}
 use Rattle.game_text.specs.declared.fault.GameFault.TheVariants.{TooLong}
-use Rattle.game_text.specs.Faults.{refused}
+use Rattle.game_text.specs.Faults.{or_game_fault}
 use Rattle.game_text.specs.SeatWords.{AreSeats, seats_of, seats_text}
 use Rattle.game_text.specs.Flights.{FlightTerms, IsFlight, flight_of, flight_text}
 use Rattle.game_text.specs.ClosingOrders.{IsOrder, order_of, order_text}
@@ -17,7 +17,7 @@ use Rattle.game_text.specs.declared.agents.Agents.{Agents}
 use Rattle.game_text.specs.AgentLines.{AreAgents, agents_in, agents_lines}
 use Rattle.game_text.specs.declared.hotel_nights.HotelNights.{HotelNights}
 use Rattle.game_text.specs.HotelNights.{AreNights, nights_in, night_lines}
-use Rattle.game_text.specs.Headers.{header_of, header_text, end_of}
+use Rattle.game_text.specs.Headers.{header_of, header_text, read_end_line}
 
 -- what a game file says
 pub record GameFile : Type 0 where
@@ -66,12 +66,12 @@ game_lines game =
     ++ codes "end" ∷ []))))
 
 -- the canonical text
-abbrev pub spelling : GameFile → List ℕ
-spelling game = text_of (game_lines game)
+abbrev pub canonical_text : GameFile → List ℕ
+canonical_text game = text_of (game_lines game)
 
 -- a text of a game: the lines that are neither empty nor comments are the canonical ones, each with its line end
 abbrev pub IsTextOf : GameFile → List ℕ → Type 0
-IsTextOf game text = AreLeft (game_lines game) (lines_from true 1 (parts_of 10 text))
+IsTextOf game text = AreLinesLeft (game_lines game) (lines_from true 1 (parts_of 10 text))
 
 -- ---- the first bad line
 
@@ -87,10 +87,10 @@ game_in left = do
   order ← read_by order_of flights.1
   nights ← nights_in header.0 order.1
   agents ← agents_in nights.1
-  end ← read_by end_of agents.1
+  end ← read_by read_end_line agents.1
   done ← nothing_left end.1
   Ok (record { version = header.0; words = words.0; flights = flights.0; order = order.0; rooms = nights.0.rooms; live = nights.0.live; endow = agents.0.endow; clients = agents.0.clients })
 
 -- the game of a text, or why it is refused
 unfoldable pub game_of : List ℕ → Result GameFile GameFault
-game_of text = if nat_lt GAME_BYTES (length text) then Err TooLong else refused (game_in (lines_from true 1 (parts_of 10 text)))
+game_of text = if nat_lt GAME_BYTES (length text) then Err TooLong else or_game_fault (game_in (lines_from true 1 (parts_of 10 text)))

@@ -33,5 +33,5 @@ abbrev pub nothing_from : List ℤ → Result (Unit {0}) Reason
 nothing_from numbers = Ok tt
 
 -- the last line
-unfoldable pub end_of : List ℕ → Result (Unit {0}) Reason
-end_of line = row (codes "end") [] line >>= nothing_from
+unfoldable pub read_end_line : List ℕ → Result (Unit {0}) Reason
+read_end_line line = row (codes "end") [] line >>= nothing_from

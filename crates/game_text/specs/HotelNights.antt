@@ -31,8 +31,8 @@ abbrev pub rooms_from : List ℤ → Result (List ℕ) Reason
 rooms_from numbers = Ok (map unsigned_abs numbers)
 
 -- the rooms of a line, or the first reason that applies
-unfoldable pub rooms_of : List ℕ → Result (List ℕ) Reason
-rooms_of line = row (codes "rooms") room_columns line >>= rooms_from
+unfoldable pub read_rooms : List ℕ → Result (List ℕ) Reason
+read_rooms line = row (codes "rooms") room_columns line >>= rooms_from
 
 -- the line of the rooms
 abbrev pub rooms_text : List ℕ → List ℕ
@@ -69,7 +69,7 @@ night_lines version nights = if version == 2 then rooms_text nights.rooms ∷ qu
 
 abbrev pub stated_nights_in : Remaining → Result (HotelNights × Remaining) BadLine
 stated_nights_in left = do
-  rooms ← read_by rooms_of left
+  rooms ← read_by read_rooms left
   quotes ← read_by quotes_of rooms.1
   Ok (record { rooms = rooms.0; live = quotes.0 }, quotes.1)
 

@@ -10,7 +10,7 @@ use crate::headers::{end_at, title_of};
 use std::marker::Model;
 use tac_base::Client;
 use tac_base::limits::{HOLDING, TEXT_BYTES};
-use text_forms::{BadLine, Column, Digits, Lines, Part, Reason, at_line, read_row, repeat};
+use text_forms::{BadLine, Column, Digits, Part, Reason, TextLines, at_line, read_row, repeat};
 
 /// An agent's clients and its holdings of the goods. The ranges are our own.
 #[derive(Clone, Copy, Debug, PartialEq, Eq)]
@@ -67,7 +67,7 @@ fn hold_of(line: &[u8]) -> Result<[i32; 28], Reason>
 }
 
 /// Reads the first line.
-fn title_at(lines: Lines<'_>) -> Result<((), Lines<'_>), BadLine>
+fn title_at(lines: TextLines<'_>) -> Result<((), TextLines<'_>), BadLine>
     ensures { result ≡ steps.read_by accounts.title_of lines.entry }
 {
     let (line, left) = lines.due()?;
@@ -76,7 +76,7 @@ fn title_at(lines: Lines<'_>) -> Result<((), Lines<'_>), BadLine>
 }
 
 /// Reads the line of the holdings.
-fn holdings_at(lines: Lines<'_>) -> Result<([i32; 28], Lines<'_>), BadLine>
+fn holdings_at(lines: TextLines<'_>) -> Result<([i32; 28], TextLines<'_>), BadLine>
     ensures { result ≡ steps.read_by accounts.hold_of lines.entry }
 {
     let (line, left) = lines.due()?;
@@ -93,7 +93,11 @@ impl Part for Owned {
 
     ghost gives = { λ _ client left. accounts.owned_part client left };
 
-    fn read<'a>(&self, client: u8, lines: Lines<'a>) -> Result<(Client, Lines<'a>), BadLine> {
+    fn read<'a>(
+        &self,
+        client: u8,
+        lines: TextLines<'a>,
+    ) -> Result<(Client, TextLines<'a>), BadLine> {
         let (line, left) = lines.due()?;
         let client = at_line(line.number(), owned_of(client, line.bytes()))?;
         Ok((client, left))
@@ -102,7 +106,7 @@ impl Part for Owned {
 
 /// The account of the lines that are left.
 #[tactic(auto, unfolding(crate::specs::Accounts::account_in))]
-fn account_in(lines: Lines<'_>) -> Result<Account, BadLine>
+fn account_in(lines: TextLines<'_>) -> Result<Account, BadLine>
     ensures { result ≡ accounts.account_in lines.entry }
 {
     let (_, left) = title_at(lines)?;
@@ -121,7 +125,7 @@ fn account_of(text: &[u8]) -> Result<Account, GameFault>
     if text.len() > TEXT_BYTES as usize {
         return Err(GameFault::TooLong);
     }
-    Ok(account_in(Lines::without_comments(text))?)
+    Ok(account_in(TextLines::without_comments(text))?)
 }
 
 /// Reads an account file. It takes no memory.

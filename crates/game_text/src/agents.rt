@@ -4,7 +4,7 @@ ghost use Rattle.game_text.specs.AgentLines as agents;
 use crate::client_lines::AllClients;
 use crate::endowments::Endowments;
 use tac_base::Client;
-use text_forms::{BadLine, Lines, repeat};
+use text_forms::{BadLine, TextLines, repeat};
 
 /// What a game file says of the agents.
 #[derive(Drop)]
@@ -15,7 +15,7 @@ pub(crate) struct Agents {
 
 /// Reads the lines between the closing order and the last line.
 #[tactic(auto, unfolding(crate::specs::AgentLines::agents_in))]
-pub(crate) fn agents_in(lines: Lines<'_>) -> Result<(Agents, Lines<'_>), BadLine>
+pub(crate) fn agents_in(lines: TextLines<'_>) -> Result<(Agents, TextLines<'_>), BadLine>
     ensures { result ≡ agents.agents_in lines.entry }
 {
     let mut endow = [[0; 12]; 8];

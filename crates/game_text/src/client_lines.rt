@@ -8,8 +8,8 @@ use crate::numbers::{byte_at, bytes_of, is_due};
 use std::alloc::AllocError;
 use tac_base::Client;
 use text_forms::{
-    BadLine, Column, Lines, Part, PrintedPart, Reason, at_line, print_parts, print_row, read_row,
-    repeat,
+    BadLine, Column, Part, PrintedPart, Reason, TextLines, at_line, print_parts, print_row,
+    read_row, repeat,
 };
 
 /// The numbers of a client's line: the agent, the client, the days, the premium and the values.
@@ -97,7 +97,11 @@ impl Part for AgentClients {
 
     ghost gives = { λ part client left. agents.client_part part.agent client left };
 
-    fn read<'a>(&self, client: u8, lines: Lines<'a>) -> Result<(Client, Lines<'a>), BadLine> {
+    fn read<'a>(
+        &self,
+        client: u8,
+        lines: TextLines<'a>,
+    ) -> Result<(Client, TextLines<'a>), BadLine> {
         let (line, left) = lines.due()?;
         let client = at_line(line.number(), client_of(self.agent, client, line.bytes()))?;
         Ok((client, left))
@@ -139,7 +143,11 @@ impl Part for AllClients {
 
     ghost gives = { λ _ agent left. agents.agent_part agent left };
 
-    fn read<'a>(&self, agent: u8, lines: Lines<'a>) -> Result<([Client; 8], Lines<'a>), BadLine> {
+    fn read<'a>(
+        &self,
+        agent: u8,
+        lines: TextLines<'a>,
+    ) -> Result<([Client; 8], TextLines<'a>), BadLine> {
         let mut clients = [Client::default(); 8];
         let left = repeat(&AgentClients { agent }, &mut clients, lines)?;
         Ok((clients, left))

@@ -5,7 +5,9 @@ ghost use Rattle.text_forms.specs.Rows as rows;
 
 use crate::numbers::{bytes_of, is_due};
 use std::alloc::AllocError;
-use text_forms::{BadLine, Column, Lines, Part, PrintedPart, Reason, at_line, print_row, read_row};
+use text_forms::{
+    BadLine, Column, Part, PrintedPart, Reason, TextLines, at_line, print_row, read_row,
+};
 
 /// The numbers of an endowment's line: the agent, and how many of each ticket it has.
 fn endow_columns() -> [Column; 13]
@@ -46,7 +48,11 @@ impl Part for Endowments {
 
     ghost gives = { λ _ agent left. agents.endow_part agent left };
 
-    fn read<'a>(&self, agent: u8, lines: Lines<'a>) -> Result<([u8; 12], Lines<'a>), BadLine> {
+    fn read<'a>(
+        &self,
+        agent: u8,
+        lines: TextLines<'a>,
+    ) -> Result<([u8; 12], TextLines<'a>), BadLine> {
         let (line, left) = lines.due()?;
         let endow = at_line(line.number(), endow_of(agent, line.bytes()))?;
         Ok((endow, left))

@@ -1,5 +1,5 @@
 ghost use Rattle.std.specs.Prelude.{◌≡◌};
-ghost use Rattle.game_text.specs.Faults.{fault_of};
+ghost use Rattle.game_text.specs.Faults.{game_fault};
 
 use text_forms::BadLine;
 use thiserror::Error;
@@ -16,7 +16,7 @@ pub enum GameFault {
 }
 
 impl From<BadLine> for GameFault {
-    ghost from_gives = { λ bad fault. fault ≡ fault_of bad };
+    ghost from_gives = { λ bad fault. fault ≡ game_fault bad };
 
     fn from(bad: BadLine) -> Self {
         GameFault::Line {

@@ -10,7 +10,7 @@ use std::alloc::AllocError;
 use std::marker::Model;
 use tac_base::limits::FLIGHT_DRAWS;
 use text_forms::{
-    BadLine, Column, Digits, Lines, Part, PrintedPart, Reason, at_line, print_row, read_row,
+    BadLine, Column, Digits, Part, PrintedPart, Reason, TextLines, at_line, print_row, read_row,
 };
 
 /// How the price of a flight moves: the game description's flight rule, with draws from the file.
@@ -126,7 +126,11 @@ impl Part for Flights {
 
     ghost gives = { λ _ good left. games.flight_part good left };
 
-    fn read<'a>(&self, good: u8, lines: Lines<'a>) -> Result<(FlightLine, Lines<'a>), BadLine> {
+    fn read<'a>(
+        &self,
+        good: u8,
+        lines: TextLines<'a>,
+    ) -> Result<(FlightLine, TextLines<'a>), BadLine> {
         let (line, left) = lines.due()?;
         let flight = at_line(line.number(), flight_of(good, line.bytes()))?;
         Ok((flight, left))

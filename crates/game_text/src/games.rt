@@ -15,7 +15,7 @@ use crate::{FlightLine, GameFault, SeatWord};
 use std::marker::Model;
 use tac_base::limits::GAME_BYTES;
 use tac_base::{Client, Good};
-use text_forms::{BadLine, Lines, at_line, repeat};
+use text_forms::{BadLine, TextLines, at_line, repeat};
 
 /// What a game file says. The ranges are those of the game description; the form of the file is our own.
 #[derive(Debug, Drop)]
@@ -58,7 +58,7 @@ impl Game {
 }
 
 /// Reads the first line.
-fn header_at(lines: Lines<'_>) -> Result<(u8, Lines<'_>), BadLine>
+fn header_at(lines: TextLines<'_>) -> Result<(u8, TextLines<'_>), BadLine>
     ensures { result ≡ steps.read_by headers.header_of lines.entry }
 {
     let (line, left) = lines.due()?;
@@ -67,7 +67,7 @@ fn header_at(lines: Lines<'_>) -> Result<(u8, Lines<'_>), BadLine>
 }
 
 /// Reads the line of the seat words.
-fn seats_at(lines: Lines<'_>) -> Result<([SeatWord; 8], Lines<'_>), BadLine>
+fn seats_at(lines: TextLines<'_>) -> Result<([SeatWord; 8], TextLines<'_>), BadLine>
     ensures { result ≡ steps.read_by seats.seats_of lines.entry }
 {
     let (line, left) = lines.due()?;
@@ -76,7 +76,7 @@ fn seats_at(lines: Lines<'_>) -> Result<([SeatWord; 8], Lines<'_>), BadLine>
 }
 
 /// Reads the line of the closing order.
-fn order_at(lines: Lines<'_>) -> Result<([Good; 8], Lines<'_>), BadLine>
+fn order_at(lines: TextLines<'_>) -> Result<([Good; 8], TextLines<'_>), BadLine>
     ensures { result ≡ steps.read_by orders.order_of lines.entry }
 {
     let (line, left) = lines.due()?;
@@ -86,7 +86,7 @@ fn order_at(lines: Lines<'_>) -> Result<([Good; 8], Lines<'_>), BadLine>
 
 /// The game of the lines that are left.
 #[tactic(auto, unfolding(crate::specs::Games::game_in))]
-fn game_in(lines: Lines<'_>) -> Result<Game, BadLine>
+fn game_in(lines: TextLines<'_>) -> Result<Game, BadLine>
     ensures { result ≡ games.game_in lines.entry }
 {
     let (version, left) = header_at(lines)?;
@@ -117,7 +117,7 @@ fn game_of(text: &[u8]) -> Result<Game, GameFault>
     if text.len() > GAME_BYTES as usize {
         return Err(GameFault::TooLong);
     }
-    Ok(game_in(Lines::without_comments(text))?)
+    Ok(game_in(TextLines::without_comments(text))?)
 }
 
 /// Reads a game file, version 1 or 2. It takes no memory.

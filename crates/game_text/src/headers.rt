@@ -4,7 +4,7 @@ ghost use Rattle.game_text.specs.Headers as headers;
 ghost use Rattle.text_forms.specs.Steps as steps;
 
 use std::alloc::AllocError;
-use text_forms::{BadLine, Lines, Reason, Words, at_line, read_row};
+use text_forms::{BadLine, Reason, TextLines, Words, at_line, read_row};
 
 /// The version of the first line's second word.
 fn version_of(word: &[u8]) -> Result<u8, Reason>
@@ -59,17 +59,17 @@ pub(crate) fn title_of(line: &[u8]) -> Result<(), Reason>
 }
 
 /// Checks the last line.
-#[tactic(auto, unfolding(crate::specs::Headers::end_of))]
+#[tactic(auto, unfolding(crate::specs::Headers::read_end_line))]
 fn end_of(line: &[u8]) -> Result<(), Reason>
-    ensures { result ≡ headers.end_of line.now }
+    ensures { result ≡ headers.read_end_line line.now }
 {
     let _numbers = read_row(line, b"end", &[])?;
     Ok(())
 }
 
 /// Reads the last line.
-pub(crate) fn end_at(lines: Lines<'_>) -> Result<((), Lines<'_>), BadLine>
-    ensures { result ≡ steps.read_by headers.end_of lines.entry }
+pub(crate) fn end_at(lines: TextLines<'_>) -> Result<((), TextLines<'_>), BadLine>
+    ensures { result ≡ steps.read_by headers.read_end_line lines.entry }
 {
     let (line, left) = lines.due()?;
     at_line(line.number(), end_of(line.bytes()))?;

@@ -7,7 +7,7 @@ ghost use Rattle.game_text.specs.HotelNights as nights;
 use crate::numbers::bytes_of;
 use std::alloc::AllocError;
 use tac_base::limits::NIGHT_ROOMS;
-use text_forms::{BadLine, Column, Lines, Reason, Words, at_line, print_row, read_row};
+use text_forms::{BadLine, Column, Reason, TextLines, Words, at_line, print_row, read_row};
 
 /// The rooms of each hotel night, by good 8..15, and whether quotes are live.
 #[derive(Drop)]
@@ -17,9 +17,9 @@ pub(crate) struct HotelNights {
 }
 
 /// The rooms of a line, or the first reason that applies.
-#[tactic(auto, unfolding(crate::specs::HotelNights::rooms_of))]
+#[tactic(auto, unfolding(crate::specs::HotelNights::read_rooms))]
 fn rooms_of(line: &[u8]) -> Result<[u8; 8], Reason>
-    ensures { result ≡ nights.rooms_of line.now }
+    ensures { result ≡ nights.read_rooms line.now }
 {
     let numbers = read_row(
         line,
@@ -30,8 +30,8 @@ fn rooms_of(line: &[u8]) -> Result<[u8; 8], Reason>
 }
 
 /// Reads the line of the rooms.
-fn rooms_at(lines: Lines<'_>) -> Result<([u8; 8], Lines<'_>), BadLine>
-    ensures { result ≡ steps.read_by nights.rooms_of lines.entry }
+fn rooms_at(lines: TextLines<'_>) -> Result<([u8; 8], TextLines<'_>), BadLine>
+    ensures { result ≡ steps.read_by nights.read_rooms lines.entry }
 {
     let (line, left) = lines.due()?;
     let rooms = at_line(line.number(), rooms_of(line.bytes()))?;
@@ -73,7 +73,7 @@ fn quotes_of(line: &[u8]) -> Result<bool, Reason>
 }
 
 /// Reads the line of the quotes.
-fn quotes_at(lines: Lines<'_>) -> Result<(bool, Lines<'_>), BadLine>
+fn quotes_at(lines: TextLines<'_>) -> Result<(bool, TextLines<'_>), BadLine>
     ensures { result ≡ steps.read_by nights.quotes_of lines.entry }
 {
     let (line, left) = lines.due()?;
@@ -83,7 +83,10 @@ fn quotes_at(lines: Lines<'_>) -> Result<(bool, Lines<'_>), BadLine>
 
 /// Reads the hotel nights of a file of this version; version 1 has no lines for them.
 #[tactic(auto, unfolding(crate::specs::HotelNights::nights_in))]
-pub(crate) fn nights_in(version: u8, lines: Lines<'_>) -> Result<(HotelNights, Lines<'_>), BadLine>
+pub(crate) fn nights_in(
+    version: u8,
+    lines: TextLines<'_>,
+) -> Result<(HotelNights, TextLines<'_>), BadLine>
     ensures { result ≡ nights.nights_in version lines.entry }
 {
     if version != 2 {

@@ -16,7 +16,7 @@ use text_forms::{print_parts, print_row};
 /// Appends the lines of a game. After an error the text may end within them.
 fn print_lines(game: &Game, out: &mut Vec<u8>) -> Result<(), AllocError>
     ensures range { OnOk result (games.IsGame game.now) }
-    ensures text { OnOk result (out.new.items ≡ out.old.items ++ games.spelling game.now) }
+    ensures text { OnOk result (out.new.items ≡ out.old.items ++ games.canonical_text game.now) }
 {
     print_header(game.version, out)?;
     print_seats(&game.words, out)?;
@@ -31,7 +31,7 @@ fn print_lines(game: &Game, out: &mut Vec<u8>) -> Result<(), AllocError>
 
 /// The canonical text of a game, in its version.
 pub fn print_game(alloc: Global, game: &Game) -> Result<Vec<u8>, Memory>
-    ensures text { IfOk result (λ text. text.items ≡ games.spelling game.now) }
+    ensures text { IfOk result (λ text. text.items ≡ games.canonical_text game.now) }
     // What is printed is read as the game again.
     ensures again { IfOk result (λ text. games.game_of text.items ≡ Ok game.now) }
 {

@@ -5,7 +5,7 @@ use Rattle.std.proofs.lemmas.List.Concat.{flat_map-cons}
 use Rattle.std.proofs.lemmas.List.{append_assoc, append-nil}
 use Rattle.text_forms.specs.Lines.{text_of}
 use Rattle.good_worth.specs.Worths.{Valuation}
-use Rattle.good_worth.specs.WorthTexts.{lines_below, head_lines, base_lines, changed_lines, spelling}
+use Rattle.good_worth.specs.WorthTexts.{lines_below, head_lines, base_lines, changed_lines, worth_text}
 
 pub no_text : (lines : ℕ → List (List ℕ)) (old : List ℕ) → old ≡ old ++ text_of (lines_below lines 0)
 unfolding lines_below
@@ -32,7 +32,7 @@ four_pieces h b c e =
     flat_map-append ended h (b ++ (c ++ e ∷ [])) ∙ ap (λ (t : List ℕ). text_of h ++ t) second
     ∙ sym (append_assoc (text_of h) (text_of b) (text_of c ++ (e ++ 10 ∷ []))) ∙ sym (append_assoc (text_of h ++ text_of b) (text_of c) (e ++ 10 ∷ []))
 
-pub whole : (v : Valuation) (a b c d : List ℕ) → a ≡ text_of (head_lines v) → b ≡ a ++ text_of (base_lines v) → c ≡ b ++ text_of (lines_below (changed_lines v) 28) → d ≡ c ++ (codes "end" ++ 10 ∷ []) → d ≡ spelling v
+pub whole : (v : Valuation) (a b c d : List ℕ) → a ≡ text_of (head_lines v) → b ≡ a ++ text_of (base_lines v) → c ≡ b ++ text_of (lines_below (changed_lines v) 28) → d ≡ c ++ (codes "end" ++ 10 ∷ []) → d ≡ worth_text v
 whole v a b c d head base changed end =
     end ∙ ap (λ (t : List ℕ). t ++ (codes "end" ++ 10 ∷ [])) (changed ∙ ap (λ (t : List ℕ). t ++ text_of (lines_below (changed_lines v) 28)) (base ∙ ap (λ (t : List ℕ). t ++ text_of (base_lines v)) head))
     ∙ sym (four_pieces (head_lines v) (base_lines v) (lines_below (changed_lines v) 28) (codes "end"))

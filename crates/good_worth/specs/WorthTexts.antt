@@ -4,7 +4,7 @@ use Rattle.text_forms.specs.Lines.{text_of}
 use Rattle.text_forms.specs.Rows.{row_text}
 use Rattle.game_text.specs.Accounts.{AccountFile}
 use Rattle.allocator.specs.SolvedTexts.{solved_lines}
-use Rattle.good_worth.specs.Worths.{Solution, Valuation, AreWorths, nothing, up_at, down_at}
+use Rattle.good_worth.specs.Worths.{Solution, Valuation, AreWorths, no_solution, up_at, down_at}
 
 -- good G UP DOWN
 abbrev pub good_text : Valuation → ℕ → List ℕ
@@ -19,14 +19,14 @@ lines_below lines zero = []
 lines_below lines (suc good) = lines_below lines good ++ lines good
 
 -- the text of a solution, as it is by itself
-abbrev pub lines_of : Solution → List (List ℕ)
-lines_of s = solved_lines s.total s.allocation s.tree
+abbrev pub solution_lines : Solution → List (List ℕ)
+solution_lines s = solved_lines s.total s.allocation s.tree
 
 -- more G and less G, each before its solution
 abbrev pub changed_lines : Valuation → ℕ → List (List ℕ)
 changed_lines v good =
-    row_text (codes "more") (pos good ∷ []) ∷ lines_of (slice_index_or v.more good nothing)
-    ++ row_text (codes "less") (pos good ∷ []) ∷ lines_of (slice_index_or v.less good nothing)
+    row_text (codes "more") (pos good ∷ []) ∷ solution_lines (slice_index_or v.more good no_solution)
+    ++ row_text (codes "less") (pos good ∷ []) ∷ solution_lines (slice_index_or v.less good no_solution)
 
 -- worth N, and the lines of the goods
 abbrev pub head_lines : Valuation → List (List ℕ)
@@ -34,15 +34,15 @@ head_lines v = row_text (codes "worth") (pos v.base.total ∷ []) ∷ lines_belo
 
 -- base, and the account's own solution
 abbrev pub base_lines : Valuation → List (List ℕ)
-base_lines v = codes "base" ∷ lines_of v.base
+base_lines v = codes "base" ∷ solution_lines v.base
 
 abbrev pub worth_lines : Valuation → List (List ℕ)
 worth_lines v = head_lines v ++ (base_lines v ++ (lines_below (changed_lines v) 28 ++ codes "end" ∷ []))
 
 -- the one text
-abbrev pub spelling : Valuation → List ℕ
-spelling v = text_of (worth_lines v)
+abbrev pub worth_text : Valuation → List ℕ
+worth_text v = text_of (worth_lines v)
 
 -- the text of some worths of the account
 abbrev pub IsWorthText : AccountFile → List ℕ → Type 0
-IsWorthText account text = (v : Valuation) × AreWorths account v × (text ≡ spelling v)
+IsWorthText account text = (v : Valuation) × AreWorths account v × (text ≡ worth_text v)

@@ -12,8 +12,8 @@ pub record Solution : Type 0 where
   pub allocation : List Package
   pub tree : Tree
 
-abbrev pub nothing : Solution
-nothing = record { total = 0; allocation = []; tree = leaf [] }
+abbrev pub no_solution : Solution
+no_solution = record { total = 0; allocation = []; tree = leaf [] }
 
 abbrev pub Solves : AccountFile → Solution → Type 0
 Solves account s = IsSolution account s.total s.allocation s.tree
@@ -25,7 +25,7 @@ pub record Valuation : Type 0 where
   pub less : List Solution
 
 abbrev pub total_at : List Solution → ℕ → ℕ
-total_at solutions good = (slice_index_or solutions good nothing).total
+total_at solutions good = (slice_index_or solutions good no_solution).total
 
 -- what one unit more of a good adds
 abbrev pub up_at : Valuation → ℕ → ℕ
@@ -38,7 +38,7 @@ down_at v good = v.base.total - total_at v.less good
 -- for each of the first goods the solution of the account that the change makes
 pub record AreChanged (change : ℕ → AccountFile) (count : ℕ) (solutions : List Solution) : Type 0 where
   pub size : length solutions ≡ count
-  pub each : (good : ℕ) → good < count → Solves (change good) (slice_index_or solutions good nothing)
+  pub each : (good : ℕ) → good < count → Solves (change good) (slice_index_or solutions good no_solution)
 
 abbrev pub AreMore : AccountFile → List Solution → Type 0
 AreMore account solutions = AreChanged (worth.more account) 28 solutions
@@ -47,10 +47,10 @@ abbrev pub AreLess : AccountFile → List Solution → Type 0
 AreLess account solutions = AreChanged (worth.less account) 28 solutions
 
 -- one more solution, for the changed account
-pub record IsGrown (account : AccountFile) (old new : List Solution) : Type 0 where
+pub record IsGrown (account : AccountFile) (before after : List Solution) : Type 0 where
   pub solution : Solution
   pub solves : Solves account solution
-  pub items : new ≡ old ++ solution ∷ []
+  pub items : after ≡ before ++ solution ∷ []
 
 pub record AreWorths (account : AccountFile) (v : Valuation) : Type 0 where
   pub base : Solves account v.base

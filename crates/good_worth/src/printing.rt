@@ -75,7 +75,7 @@ fn print_all_changed(alloc: Global, worths: &Worths, out: &mut Vec<u8>) -> Resul
 /// The text of the worths: the base's total, a line for each good, and the text of each best allocation. That these make the
 /// text, and in this form, is our own. `Memory` leaves no text.
 pub fn print_worths(alloc: Global, worths: &Worths) -> Result<Vec<u8>, Memory>
-    ensures { IfOk result (λ text. text.items ≡ texts.spelling (worths_of worths.now.base worths.now.more.items worths.now.less.items)) }
+    ensures { IfOk result (λ text. text.items ≡ texts.worth_text (worths_of worths.now.base worths.now.more.items worths.now.less.items)) }
 {
     let mut out = Vec::new(alloc);
     print_head(worths, &mut out)?;

@@ -216,7 +216,7 @@ few_standing : (agent : ℕ) (bids : List (Option Placed)) (closed : Bool) → A
 few_standing agent bids true own = omega arith
 few_standing agent bids false own = few_own agent 0 bids own
 
--- the same for the units that take the rooms
+-- an agent has at most 16 of the units that take the rooms
 pub few_won : (rooms agent : ℕ) (bids : List (Option Placed)) (closed : Bool) (units : List ShownUnit) → AreOwn 0 bids → AreShown (standing bids closed) units → won rooms units agent ≤ 16
 unfolding own_weigh_one
 few_won rooms agent bids closed units own shown =

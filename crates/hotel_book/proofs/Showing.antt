@@ -14,7 +14,7 @@ use Rattle.auction_rules.specs.Ask.{ask}
 use Rattle.auction_rules.specs.WinningNumber.{winning, winning_number}
 use Rattle.auction_rules.proofs.HotelUnits.{InOrder, stand_ordered}
 use Rattle.auction_rules.proofs.Shown.{permuted}
-use Rattle.hotel_book.specs.Ranked.{AreInOrder, AreSorted, last_price, won}
+use Rattle.hotel_book.specs.Ranked.{AreRanked, AreSortedUnits, last_price, won}
 use Rattle.hotel_book.specs.Book.{HotelBook, StandsFor, standing}
 use Rattle.hotel_book.proofs.Keeping.{stands_is}
 use Rattle.hotel_book.proofs.Winners.{ask_is, winning_is, in_order}
@@ -36,8 +36,8 @@ module _ (setup : Setup) (past : List Entry) (book : HotelBook) (units : List Sh
   pub as_many : length units ≡ length (stand setup.rules past)
   as_many = sym (ones units) ∙ shows (λ _. 1) ∙ ones (stand setup.rules past)
 
-  module _ (sorted : AreSorted units) where
-    pub follow : AreInOrder units
+  module _ (sorted : AreSortedUnits units) where
+    pub follow : AreRanked units
     follow = in_order (stand setup.rules past) units shows ordered sorted
 
     pub asked : 1 ≤ book.rooms → last_price book.rooms units ≡ ask book.rooms (stand setup.rules past)

@@ -6,18 +6,18 @@ use Rattle.std.proofs.lemmas.List.Elements.{All-from_recursion, recursion_from_A
 use Rattle.std.proofs.lemmas.List.Sums.{prefix_len-le-length}
 use Rattle.std.proofs.lemmas.Bool.Decides.{nat_tests}
 use Rattle.tac_base.specs.declared.units.Unit.{Unit as ShownUnit}
-use Rattle.hotel_book.specs.Ranked.{goes_first, AreSorted, last_price}
+use Rattle.hotel_book.specs.Ranked.{ranks_first, AreSortedUnits, last_price}
 
 -- ---- precedence
 
-pub not_back : (u v : ShownUnit) → goes_first u v ≡ true → goes_first v u ≡ false
+pub not_back : (u v : ShownUnit) → ranks_first u v ≡ true → ranks_first v u ≡ false
 not_back u v h = grind (arith, nat_tests)
 
-pub not_self : (u : ShownUnit) → goes_first u u ≡ false
+pub not_self : (u : ShownUnit) → ranks_first u u ≡ false
 not_self u = grind (arith, nat_tests)
 
 -- if u precedes v, what precedes u precedes v
-before_both : (u v w : ShownUnit) → goes_first u v ≡ true → goes_first w v ≡ false → goes_first w u ≡ false
+before_both : (u v w : ShownUnit) → ranks_first u v ≡ true → ranks_first w v ≡ false → ranks_first w u ≡ false
 before_both u v w h k = grind (arith, nat_tests)
 
 -- ---- lists
@@ -35,21 +35,21 @@ all-put P (suc i) u (v ∷ units) here h = (h.0, all-put P i u units here h.1)
 one_more : (n : ℕ) → 1 + n ≡ suc n
 one_more n = omega arith
 
-put_sorted : (u : ShownUnit) (units : List ShownUnit) → AreSorted units → AreSorted (insert units (position_or_len (goes_first u) units) u)
+put_sorted : (u : ShownUnit) (units : List ShownUnit) → AreSortedUnits units → AreSortedUnits (insert units (position_or_len (ranks_first u) units) u)
 put_sorted u [] h = (tt, tt)
-put_sorted u (v ∷ units) h = by_test (goes_first u v) refl (put_sorted u units h.1)
+put_sorted u (v ∷ units) h = by_test (ranks_first u v) refl (put_sorted u units h.1)
   where
     place : ℕ
-    place = position_or_len (goes_first u) units
+    place = position_or_len (ranks_first u) units
 
-    by_test : (b : Bool) → goes_first u v ≡ b → AreSorted (insert units place u) → AreSorted (insert (v ∷ units) (cond (not b) (1 + place) 0) u)
+    by_test : (b : Bool) → ranks_first u v ≡ b → AreSortedUnits (insert units place u) → AreSortedUnits (insert (v ∷ units) (cond (not b) (1 + place) 0) u)
     by_test true is rest =
-        ((not_back u v is, all-each (λ w. goes_first w v ≡ false) (λ w. goes_first w u ≡ false) units (λ w k. before_both u v w is k) h.0), h)
+        ((not_back u v is, all-each (λ w. ranks_first w v ≡ false) (λ w. ranks_first w u ≡ false) units (λ w k. before_both u v w is k) h.0), h)
     by_test false is rest =
-        subst (λ n. AreSorted (insert (v ∷ units) n u)) (sym (one_more place)) (all-put (λ w. goes_first w v ≡ false) place u units is h.0, rest)
+        subst (λ n. AreSortedUnits (insert (v ∷ units) n u)) (sym (one_more place)) (all-put (λ w. ranks_first w v ≡ false) place u units is h.0, rest)
 
-pub sorted_with : (u : ShownUnit) (units units' : List ShownUnit) (place : ℕ) → AreSorted units → place ≡ position_or_len (goes_first u) units → units' ≡ insert units place u → AreSorted units'
-sorted_with u units units' place h at is = subst AreSorted (sym (is ∙ ap (λ n. insert units n u) at)) (put_sorted u units h)
+pub sorted_with : (u : ShownUnit) (units units' : List ShownUnit) (place : ℕ) → AreSortedUnits units → place ≡ position_or_len (ranks_first u) units → units' ≡ insert units place u → AreSortedUnits units'
+sorted_with u units units' place h at is = subst AreSortedUnits (sym (is ∙ ap (λ n. insert units n u) at)) (put_sorted u units h)
 
 -- ---- a part of sorted units is sorted
 
@@ -61,12 +61,12 @@ all-filter P test (u ∷ units) h = by_test (test u) (all-filter P test units h.
     by_test true rest = (h.0, rest)
     by_test false rest = rest
 
-pub sorted-filter : (test : ShownUnit → Bool) (units : List ShownUnit) → AreSorted units → AreSorted (filter test units)
+pub sorted-filter : (test : ShownUnit → Bool) (units : List ShownUnit) → AreSortedUnits units → AreSortedUnits (filter test units)
 sorted-filter test [] h = tt
 sorted-filter test (u ∷ units) h = by_test (test u) (sorted-filter test units h.1)
   where
-    by_test : (b : Bool) → AreSorted (filter test units) → AreSorted (cond b (u ∷ filter test units) (filter test units))
-    by_test true rest = (all-filter (λ v. goes_first v u ≡ false) test units h.0, rest)
+    by_test : (b : Bool) → AreSortedUnits (filter test units) → AreSortedUnits (cond b (u ∷ filter test units) (filter test units))
+    by_test true rest = (all-filter (λ v. ranks_first v u ≡ false) test units h.0, rest)
     by_test false rest = rest
 
 -- ---- prices

@@ -14,7 +14,7 @@ use Rattle.auction_rules.proofs.Ranks.{In, count-cons, count_same}
 use Rattle.auction_rules.proofs.Counts.{none_pass}
 use Rattle.auction_rules.proofs.Asks.{IsReached, ask_reached, enough_raises}
 use Rattle.auction_rules.proofs.HotelUnits.{InOrder}
-use Rattle.hotel_book.specs.Ranked.{goes_first, AreInOrder, AreSorted, last_price, won}
+use Rattle.hotel_book.specs.Ranked.{ranks_first, AreRanked, AreSortedUnits, last_price, won}
 use Rattle.hotel_book.proofs.Sorting.{not_back, not_self}
 
 all_in : (P : ShownUnit → Type 0) (units : List ShownUnit) → AllByRecursion P units → (u : ShownUnit) → In u units → P u
@@ -34,14 +34,14 @@ no_is_none b h = rw h refl
 
 -- ---- the ask
 
-no_higher : (u v : ShownUnit) → goes_first v u ≡ false → v.price ≤ u.price
+no_higher : (u v : ShownUnit) → ranks_first v u ≡ false → v.price ≤ u.price
 no_higher u v h = grind (arith, nat_tests)
 
 prices : List ShownUnit → List ℕ
 prices units = map (λ u. u.price) units
 
 -- as many units as come up to a place have its price or more
-place_reached : (place : ℕ) (units : List ShownUnit) → AreSorted units → place < length units → suc place ≤ count_by (λ u. nat_le (get_or (prices units) place 0) u.price) units
+place_reached : (place : ℕ) (units : List ShownUnit) → AreSortedUnits units → place < length units → suc place ≤ count_by (λ u. nat_le (get_or (prices units) place 0) u.price) units
 unfolding prices
 place_reached place [] h lt = absurd (omega arith)
 place_reached zero (u ∷ units) h lt =
@@ -55,19 +55,19 @@ place_reached (suc place) (u ∷ units) h lt =
       yes_is_one (nat_le price u.price) (le-leb price u.price (lower place units h.0)),
     )
   where
-    lower : (i : ℕ) (others : List ShownUnit) → AllByRecursion (λ v. goes_first v u ≡ false) others → get_or (map (λ v. v.price) others) i 0 ≤ u.price
+    lower : (i : ℕ) (others : List ShownUnit) → AllByRecursion (λ v. ranks_first v u ≡ false) others → get_or (map (λ v. v.price) others) i 0 ≤ u.price
     lower i [] k = omega arith
     lower zero (v ∷ others) k = no_higher u v k.0
     lower (suc i) (v ∷ others) k = lower i others k.1
 
 -- a price that more units have than come before a place is no higher than the place's
-place_bounds : (place : ℕ) (units : List ShownUnit) (price : ℕ) → AreSorted units → suc place ≤ count_by (λ u. nat_le price u.price) units → price ≤ get_or (prices units) place 0
+place_bounds : (place : ℕ) (units : List ShownUnit) (price : ℕ) → AreSortedUnits units → suc place ≤ count_by (λ u. nat_le price u.price) units → price ≤ get_or (prices units) place 0
 unfolding prices
 place_bounds place [] price h many = absurd (omega arith)
 place_bounds zero (u ∷ units) price h many = by_test (nat_le price u.price) refl
   where
     none : nat_le price u.price ≡ false → (v : ShownUnit) → In v units → nat_le price v.price ≡ false
-    none is v in_units = let le = no_higher u v (all_in (λ w. goes_first w u ≡ false) units h.0 v in_units) in below price u.price v.price is le
+    none is v in_units = let le = no_higher u v (all_in (λ w. ranks_first w u ≡ false) units h.0 v in_units) in below price u.price v.price is le
       where
         below : (l m n : ℕ) → nat_le l m ≡ false → n ≤ m → nat_le l n ≡ false
         below l m n h le = grind (arith, nat_tests)
@@ -82,7 +82,7 @@ place_bounds (suc place) (u ∷ units) price h many =
 reached_alike : (standing : List BidUnit) (units : List ShownUnit) (price : ℕ) → AreShown standing units → count_by (λ u. nat_le price u.price) units ≡ units_at standing price
 reached_alike standing units price shown = shown (λ u. cond (nat_le price u.price) 1 0)
 
-pub ask_is : (rooms : ℕ) (standing : List BidUnit) (units : List ShownUnit) → 1 ≤ rooms → AreShown standing units → AreSorted units → last_price rooms units ≡ ask rooms standing
+pub ask_is : (rooms : ℕ) (standing : List BidUnit) (units : List ShownUnit) → 1 ≤ rooms → AreShown standing units → AreSortedUnits units → last_price rooms units ≡ ask rooms standing
 unfolding prices
 ask_is rooms standing units some shown sorted = let up = no_less in let down = no_more (ask_reached rooms standing) in omega (arith, up, down)
   where
@@ -157,20 +157,20 @@ one_tied u (v ∷ units) h = by_test (tied u v) refl (one_tied u units h.1)
 tied_units : ShownUnit → ShownUnit → Bool
 tied_units u v = tied (on_side true u) (on_side true v)
 
-all_later : (u : ShownUnit) (units : List ShownUnit) → count_by (tied_units u) units ≡ 0 → AllByRecursion (λ v. goes_first v u ≡ false) units → AllByRecursion (λ v. goes_first u v ≡ true) units
+all_later : (u : ShownUnit) (units : List ShownUnit) → count_by (tied_units u) units ≡ 0 → AllByRecursion (λ v. ranks_first v u ≡ false) units → AllByRecursion (λ v. ranks_first u v ≡ true) units
 unfolding tied_units tied
 all_later u [] none h = tt
 all_later u (v ∷ units) none h =
     let split = count-cons (tied_units u) v units in
-    (first (goes_first u v) refl (omega (arith, none, split)), all_later u units (omega (arith, none, split)) h.1)
+    (first (ranks_first u v) refl (omega (arith, none, split)), all_later u units (omega (arith, none, split)) h.1)
   where
-    first : (b : Bool) → goes_first u v ≡ b → cond (tied_units u v) 1 0 ≤ 0 → goes_first u v ≡ true
+    first : (b : Bool) → ranks_first u v ≡ b → cond (tied_units u v) 1 0 ≤ 0 → ranks_first u v ≡ true
     first true is le = is
     first false is le =
         let tie : tied_units u v ≡ true = rw (is, h.0) refl in
         absurd (omega (arith, yes_is_one (tied_units u v) tie, le))
 
-strict : (units : List ShownUnit) → ((u : ShownUnit) → count_by (tied_units u) units ≤ 1) → AreSorted units → AreInOrder units
+strict : (units : List ShownUnit) → ((u : ShownUnit) → count_by (tied_units u) units ≤ 1) → AreSortedUnits units → AreRanked units
 unfolding tied_units tied
 strict [] one h = tt
 strict (u ∷ units) one h = (
@@ -181,7 +181,7 @@ strict (u ∷ units) one h = (
     itself : (v : ShownUnit) → tied_units v v ≡ true
     itself v = rw (not_self v) refl
 
-pub in_order : (standing : List BidUnit) (units : List ShownUnit) → AreShown standing units → InOrder standing → AreSorted units → AreInOrder units
+pub in_order : (standing : List BidUnit) (units : List ShownUnit) → AreShown standing units → InOrder standing → AreSortedUnits units → AreRanked units
 unfolding tied_units tied
 in_order standing units shown ordered sorted =
     strict units (λ u. omega (arith, shown (λ v. cond (tied_units u v) 1 0), one_tied (on_side true u) standing ordered)) sorted
@@ -189,22 +189,22 @@ in_order standing units shown ordered sorted =
 -- ---- the winning numbers
 
 -- among units in order those win that are at the places below the number of rooms
-winners : (rooms : ℕ) (test : ShownUnit → Bool) (units : List ShownUnit) → AreInOrder units →
-    count_by (λ u. test u && nat_lt (count_by (λ v. goes_first v u) units) rooms) units ≡ count_by test (take rooms units)
+winners : (rooms : ℕ) (test : ShownUnit → Bool) (units : List ShownUnit) → AreRanked units →
+    count_by (λ u. test u && nat_lt (count_by (λ v. ranks_first v u) units) rooms) units ≡ count_by test (take rooms units)
 winners zero test [] h = refl
 winners (suc rooms) test [] h = refl
-winners zero test (u ∷ units) h = none_pass _ (u ∷ units) (λ v is. nobody (test v) (count_by (λ w. goes_first w v) (u ∷ units)))
+winners zero test (u ∷ units) h = none_pass _ (u ∷ units) (λ v is. nobody (test v) (count_by (λ w. ranks_first w v) (u ∷ units)))
   where
     nobody : (b : Bool) (n : ℕ) → (b && nat_lt n 0) ≡ false
     nobody true n = grind (arith, nat_tests)
     nobody false n = refl
 winners (suc rooms) test (u ∷ units) h =
     count-cons (λ v. test v && nat_lt (before v) (suc rooms)) u units
-    ∙ rw (first, count_same (λ v. test v && nat_lt (before v) (suc rooms)) (λ v. test v && nat_lt (count_by (λ w. goes_first w v) units) rooms) units later, winners rooms test units h.1)
+    ∙ rw (first, count_same (λ v. test v && nat_lt (before v) (suc rooms)) (λ v. test v && nat_lt (count_by (λ w. ranks_first w v) units) rooms) units later, winners rooms test units h.1)
     (sym (count-cons test u (take rooms units)))
   where
     before : ShownUnit → ℕ
-    before v = count_by (λ w. goes_first w v) (u ∷ units)
+    before v = count_by (λ w. ranks_first w v) (u ∷ units)
 
     and_true : (b : Bool) → (b && true) ≡ b
     and_true true = refl
@@ -215,9 +215,9 @@ winners (suc rooms) test (u ∷ units) h =
         let nothing : before u ≡ 0 =
         omega (
           arith,
-          count-cons (λ w. goes_first w u) u units,
-          no_is_none (goes_first u u) (not_self u),
-          none_pass (λ w. goes_first w u) units (λ w is. not_back u w (all_in (λ x. goes_first u x ≡ true) units h.0 w is)),
+          count-cons (λ w. ranks_first w u) u units,
+          no_is_none (ranks_first u u) (not_self u),
+          none_pass (λ w. ranks_first w u) units (λ w is. not_back u w (all_in (λ x. ranks_first u x ≡ true) units h.0 w is)),
         ) in
         let wins : nat_lt (before u) (suc rooms) ≡ true = rw nothing (within rooms) in
         rw wins (and_true (test u))
@@ -225,19 +225,19 @@ winners (suc rooms) test (u ∷ units) h =
         within : (n : ℕ) → nat_lt 0 (suc n) ≡ true
         within n = grind (arith, nat_tests)
 
-    later : (v : ShownUnit) → In v units → (test v && nat_lt (before v) (suc rooms)) ≡ (test v && nat_lt (count_by (λ w. goes_first w v) units) rooms)
+    later : (v : ShownUnit) → In v units → (test v && nat_lt (before v) (suc rooms)) ≡ (test v && nat_lt (count_by (λ w. ranks_first w v) units) rooms)
     later v is =
-        let one : ◌≡◌ {A = ℕ} (cond (goes_first u v) 1 0) 1 = yes_is_one (goes_first u v) (all_in (λ x. goes_first u x ≡ true) units h.0 v is) in
-        ap (λ b. test v && b) (shifted (before v) (count_by (λ w. goes_first w v) units) rooms (omega (arith, one, count-cons (λ w. goes_first w v) u units)))
+        let one : ◌≡◌ {A = ℕ} (cond (ranks_first u v) 1 0) 1 = yes_is_one (ranks_first u v) (all_in (λ x. ranks_first u x ≡ true) units h.0 v is) in
+        ap (λ b. test v && b) (shifted (before v) (count_by (λ w. ranks_first w v) units) rooms (omega (arith, one, count-cons (λ w. ranks_first w v) u units)))
       where
         shifted : (m n k : ℕ) → m ≡ suc n → nat_lt m (suc k) ≡ nat_lt n k
         shifted m n k e = grind (arith, nat_tests)
 
-pub winning_is : (rooms : ℕ) (standing : List BidUnit) (units : List ShownUnit) (agent : ℕ) → AreShown standing units → InOrder standing → AreSorted units → won rooms units agent ≡ winning rooms standing agent
+pub winning_is : (rooms : ℕ) (standing : List BidUnit) (units : List ShownUnit) (agent : ℕ) → AreShown standing units → InOrder standing → AreSortedUnits units → won rooms units agent ≡ winning rooms standing agent
 winning_is rooms standing units agent shown ordered sorted =
     sym (winners rooms (λ u. u.agent == agent) units (in_order standing units shown ordered sorted))
     ∙ (λ i. count_by (λ (u : ShownUnit). (u.agent == agent) && nat_lt (alike u i) rooms) units)
     ∙ shown (λ u. cond ((u.agent == agent) && nat_lt (count_by (λ v. precedes v (on_side true u)) standing) rooms) 1 0)
   where
-    alike : (u : ShownUnit) → count_by (λ v. goes_first v u) units ≡ count_by (λ v. precedes v (on_side true u)) standing
-    alike u = shown (λ v. cond (goes_first v u) 1 0)
+    alike : (u : ShownUnit) → count_by (λ v. ranks_first v u) units ≡ count_by (λ v. precedes v (on_side true u)) standing
+    alike u = shown (λ v. cond (ranks_first v u) 1 0)

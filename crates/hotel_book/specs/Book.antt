@@ -49,7 +49,7 @@ abbrev pub standing : List (Option Placed) → Bool → List BidUnit
 standing bids closed = if closed then [] else units_of_bids bids
 
 -- the units that a hotel keeps in order are those that stand
-pub record IsKept (bids : List (Option Placed)) (closed : Bool) (units : List ShownUnit) (price : ℕ) : Type 0 where
+pub record AreUnitsKept (bids : List (Option Placed)) (closed : Bool) (units : List ShownUnit) (price : ℕ) : Type 0 where
   pub eight : length bids ≡ 8
   pub own : AreOwn 0 bids
   pub shown : AreShown (standing bids closed) units
@@ -62,8 +62,8 @@ with_bid book bid =
     record book { bids = bids; published = if book.live then ask book.rooms (units_of_bids bids) else book.published }
 
 -- how many units may still be sold: 16 of each of the eight agents while the hotel is open
-abbrev pub units_left : HotelBook → ℕ
-units_left book = if book.closed then 0 else STANDING_UNITS
+abbrev pub hotel_units_left : HotelBook → ℕ
+hotel_units_left book = if book.closed then 0 else STANDING_UNITS
 
 -- the refusal of the bid of an agent that would win this many units, if there is one
 abbrev pub open_refusal : ℕ → ℕ → List Point → Option Reply

@@ -8,18 +8,18 @@ use Rattle.auction_rules.specs.Shown.{on_side}
 use Rattle.auction_rules.specs.Precedence.{precedes}
 
 -- the first unit precedes the second; all units of a hotel buy
-abbrev pub goes_first : ShownUnit → ShownUnit → Bool
-goes_first u v = precedes (on_side true u) (on_side true v)
+abbrev pub ranks_first : ShownUnit → ShownUnit → Bool
+ranks_first u v = precedes (on_side true u) (on_side true v)
 
 -- each unit precedes those after it
-abbrev pub AreInOrder : List ShownUnit → Type 0
-AreInOrder [] = ⊤
-AreInOrder (u ∷ units) = AllByRecursion (λ v. goes_first u v ≡ true) units × AreInOrder units
+abbrev pub AreRanked : List ShownUnit → Type 0
+AreRanked [] = ⊤
+AreRanked (u ∷ units) = AllByRecursion (λ v. ranks_first u v ≡ true) units × AreRanked units
 
 -- no unit precedes one before it
-abbrev pub AreSorted : List ShownUnit → Type 0
-AreSorted [] = ⊤
-AreSorted (u ∷ units) = AllByRecursion (λ v. goes_first v u ≡ false) units × AreSorted units
+abbrev pub AreSortedUnits : List ShownUnit → Type 0
+AreSortedUnits [] = ⊤
+AreSortedUnits (u ∷ units) = AllByRecursion (λ v. ranks_first v u ≡ false) units × AreSortedUnits units
 
 -- the price of the unit that takes the last room, and 0 if a room is left
 abbrev pub last_price : ℕ → List ShownUnit → ℕ
@@ -32,7 +32,7 @@ won rooms units agent = count_by (λ u. u.agent == agent) (take rooms units)
 -- the units are in order, and the ask and the eight winning numbers are theirs
 pub record IsRanked (rooms : ℕ) (units : List ShownUnit) (ask : ℕ) (winning : List ℕ) : Type 0 where
   pub some : 1 ≤ rooms
-  pub sorted : AreSorted units
+  pub sorted : AreSortedUnits units
   pub priced : All (λ u. u.price ≤ BID_PRICE) units
   pub asked : ask ≡ last_price rooms units
   pub wins : winning ≡ map (won rooms units) agents

@@ -13,8 +13,8 @@ ghost use Rattle.auction_rules.specs.Refusals.{is_wrong_caller, is_wrong_place};
 ghost use Rattle.auction_rules.specs.Legal.{entry_of};
 ghost use Rattle.auction_rules.specs.Follows.{Follows};
 ghost use Rattle.auction_rules.specs.Traded.{Spends, IsShort};
-ghost use Rattle.hotel_book.specs.Ranked.{AreInOrder};
-ghost use Rattle.hotel_book.specs.Book.{StandsFor, units_left, with_bid};
+ghost use Rattle.hotel_book.specs.Ranked.{AreRanked};
+ghost use Rattle.hotel_book.specs.Book.{StandsFor, hotel_units_left, with_bid};
 
 use crate::closing::fill;
 use crate::quotes::{after_bid, refusal};
@@ -38,14 +38,14 @@ pub struct Hotel {
 }
 
 impl Model for Hotel {
-    ghost use Rattle.hotel_book.specs.Book.{HotelBook, IsKept};
+    ghost use Rattle.hotel_book.specs.Book.{HotelBook, AreUnitsKept};
 
     ghost Value = { HotelBook };
 
     ghost view = { λ h. record { good = h.good; rooms = h.ranking.rooms; live = h.live; bids = h.bids; published = h.published; closed = h.closed } };
 
     // The ranked units are those that stand.
-    ghost invariant = { λ h. IsKept h.bids h.closed h.ranking.units h.published };
+    ghost invariant = { λ h. AreUnitsKept h.bids h.closed h.ranking.units h.published };
 }
 
 impl Hotel {
@@ -73,7 +73,7 @@ impl Hotel {
             StandsFor self.old setup past → at ≡ length past →
             Follows setup past agent (Call.Bid points.now) result fills.new (StandsFor self.new setup) }
         ensures none { fills.new ≡ [] }
-        ensures units { Spends (units_left self.old) (units_left self.new) fills.new }
+        ensures units { Spends (hotel_units_left self.old) (hotel_units_left self.new) fills.new }
     {
         fills.clear();
         let won = self.ranking.winning(agent);
@@ -107,7 +107,7 @@ impl Hotel {
         ensures follows { (setup : Setup) (past : List Entry) →
             StandsFor self.old setup past → at ≡ length past →
             Follows setup past clock Call.Publish result [] (StandsFor self.new setup) }
-        ensures units { units_left self.new ≤ units_left self.old }
+        ensures units { hotel_units_left self.new ≤ hotel_units_left self.old }
     {
         if self.closed {
             return Reply::Closed;
@@ -126,7 +126,7 @@ impl Hotel {
         ensures sells { (setup : Setup) (past : List Entry) →
             StandsFor self.old setup past → self.old.closed ≡ false →
             result ≡ Reply.Sold (min self.old.rooms (length (stand setup.rules past))) (asks.ask self.old.rooms (stand setup.rules past)) }
-        ensures units { Spends (units_left self.old) (units_left self.new) fills.new }
+        ensures units { Spends (hotel_units_left self.old) (hotel_units_left self.new) fills.new }
         ensures short { All IsShort fills.new }
     {
         if self.closed {
@@ -146,7 +146,7 @@ impl Hotel {
     pub fn units(&self) -> &[Unit]
         ensures units { (setup : Setup) (past : List Entry) →
             StandsFor self.now setup past → IsPermutation (map shown_unit (stand setup.rules past)) result.now }
-        ensures order { (setup : Setup) (past : List Entry) → StandsFor self.now setup past → AreInOrder result.now }
+        ensures order { (setup : Setup) (past : List Entry) → StandsFor self.now setup past → AreRanked result.now }
     {
         self.ranking.units()
     }

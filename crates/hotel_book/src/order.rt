@@ -4,7 +4,7 @@ ghost use Rattle.std.specs.List.{position, position_or_len};
 ghost use Rattle.tac_base.specs.declared.units.Unit.{Unit as ShownUnit};
 ghost use Rattle.auction_rules.specs.Units.{units_of};
 ghost use Rattle.auction_rules.specs.Shown.{shown_unit};
-ghost use Rattle.hotel_book.specs.Ranked.{goes_first, AreSorted};
+ghost use Rattle.hotel_book.specs.Ranked.{ranks_first, AreSortedUnits};
 
 use arrayvec::ArrayVec;
 use auction_rules::{BidUnit, Placed, push_units};
@@ -13,7 +13,7 @@ use tac_base::limits::{BID_PRICE, BID_UNITS, STANDING_UNITS};
 
 /// Whether the first unit precedes the second.
 fn precedes(first: &Unit, second: &Unit) -> bool
-    ensures { result ≡ goes_first first.now second.now }
+    ensures { result ≡ ranks_first first.now second.now }
 {
     second.price < first.price
         || (first.price == second.price
@@ -23,7 +23,7 @@ fn precedes(first: &Unit, second: &Unit) -> bool
 
 /// The index of the first unit that the given unit precedes.
 fn first_after(units: &[Unit], unit: &Unit) -> Option<usize>
-    ensures place { result ≡ position (goes_first unit.now) units.now }
+    ensures place { result ≡ position (ranks_first unit.now) units.now }
     ensures within { IfSome result (λ place. place < length units.now) }
 {
     units.iter().position(|other| precedes(unit, other))
@@ -32,7 +32,7 @@ fn first_after(units: &[Unit], unit: &Unit) -> Option<usize>
 /// The index of the first unit that the given unit precedes, or the number of units if there is none.
 #[tactic(auto, using(crate::proofs::Sorting::place_at, crate::proofs::Sorting::place_at_end))]
 fn place_of(units: &[Unit], unit: &Unit) -> usize
-    ensures place { result ≡ position_or_len (goes_first unit.now) units.now }
+    ensures place { result ≡ position_or_len (ranks_first unit.now) units.now }
     ensures within { result ≤ length units.now }
 {
     match first_after(units, unit) {
@@ -44,11 +44,11 @@ fn place_of(units: &[Unit], unit: &Unit) -> usize
 /// Inserts a unit in its place among units in order.
 fn put(units: &mut ArrayVec<Unit, STANDING_UNITS>, unit: &Unit)
     requires room { length units.old.items < STANDING_UNITS }
-    requires order { AreSorted units.old.items }
+    requires order { AreSortedUnits units.old.items }
     requires price { unit.now.price ≤ BID_PRICE }
     requires prices { All (λ u. u.price ≤ BID_PRICE) units.old.items }
     ensures len { length units.new.items ≡ length units.old.items + 1 }
-    ensures order { AreSorted units.new.items }
+    ensures order { AreSortedUnits units.new.items }
     ensures prices { All (λ u. u.price ≤ BID_PRICE) units.new.items }
     ensures units { (weight : ShownUnit → ℕ) → sum_by weight units.new.items ≡ sum_by weight units.old.items + weight unit.now }
 {
@@ -59,10 +59,10 @@ fn put(units: &mut ArrayVec<Unit, STANDING_UNITS>, unit: &Unit)
 /// Inserts the units of a bid in their places among units in order.
 pub(crate) fn put_all(units: &mut ArrayVec<Unit, STANDING_UNITS>, bid: &Placed)
     requires room { length units.old.items + BID_UNITS ≤ STANDING_UNITS }
-    requires order { AreSorted units.old.items }
+    requires order { AreSortedUnits units.old.items }
     requires prices { All (λ u. u.price ≤ BID_PRICE) units.old.items }
     ensures few { length (units_of bid.now) ≤ BID_UNITS }
-    ensures order { AreSorted units.new.items }
+    ensures order { AreSortedUnits units.new.items }
     ensures prices { All (λ u. u.price ≤ BID_PRICE) units.new.items }
     ensures units { (weight : ShownUnit → ℕ) →
         sum_by weight units.new.items ≡ sum_by weight units.old.items + sum_by (λ u. weight (shown_unit u)) (units_of bid.now) }

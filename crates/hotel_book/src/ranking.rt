@@ -5,7 +5,7 @@ ghost use Rattle.tac_base.specs.Goods.{agents};
 ghost use Rattle.auction_rules.specs.Units.{units_of};
 ghost use Rattle.auction_rules.specs.Shown.{shown_unit};
 ghost use Rattle.hotel_book.specs.Ranked as ranked;
-ghost use Rattle.hotel_book.specs.Ranked.{AreSorted};
+ghost use Rattle.hotel_book.specs.Ranked.{AreSortedUnits};
 
 use crate::order::{put_all, take_out};
 use arrayvec::ArrayVec;
@@ -90,7 +90,7 @@ impl Ranking {
     /// The units, in order of precedence.
     pub(crate) fn units(&self) -> &[Unit]
         ensures value { result.now ≡ self.now.units }
-        ensures sorted { AreSorted self.now.units }
+        ensures sorted { AreSortedUnits self.now.units }
     {
         self.units.as_slice()
     }
@@ -100,7 +100,7 @@ impl Ranking {
         ensures value { result ≡ ranked.last_price self.now.rooms self.now.units }
         ensures within { result ≤ BID_PRICE }
         ensures some { 1 ≤ self.now.rooms }
-        ensures sorted { AreSorted self.now.units }
+        ensures sorted { AreSortedUnits self.now.units }
     {
         self.ask
     }
@@ -109,7 +109,7 @@ impl Ranking {
     pub(crate) fn winning(&self, agent: Agent) -> u8
         ensures value { result ≡ ranked.won self.now.rooms self.now.units agent }
         ensures agent { agent ≤ 7 }
-        ensures sorted { AreSorted self.now.units }
+        ensures sorted { AreSortedUnits self.now.units }
     {
         self.winning[usize::from(agent.get())]
     }

@@ -2,6 +2,6 @@ pub mod Views
 pub mod OneObject
 pub mod PrintedPoints
 mod TextWords
-mod Told
+mod ReadBack
 mod PlainObjects
 mod Worked

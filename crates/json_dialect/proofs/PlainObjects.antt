@@ -26,7 +26,7 @@ use Rattle.bid_strings.specs.BidForm.{verdict, judged}
 use Rattle.bid_strings.proofs.Laws.{lawful_points}
 use Rattle.line_protocol.specs.declared.asking.Request.{Request}
 use Rattle.line_protocol.specs.declared.asking.Request.TheVariants.{Bid, Withdraw, Own, Quote, Cash, Quit}
-use Rattle.line_protocol.specs.Requests.{good_of}
+use Rattle.line_protocol.specs.Requests.{read_good}
 use Rattle.line_protocol.specs.RequestForms.{IsRequest}
 use Rattle.json_dialect.specs.JsonRequests as asked
 use Rattle.json_dialect.specs.JsonRequests.{asks_json, asked_by_value}
@@ -54,7 +54,7 @@ units_number : (z : ℤ) → unsigned_abs z < 100000 → IsNumber (signed_decima
 units_number (pos n) small = IsNumber-decimal n (omega (arith, small))
 units_number (negsuc n) small = IsNumber-signed_decimal (negsuc n) (omega (arith, small))
 
-whole_again : (n : ℕ) → n < 100000 → asked.number_of (number (unsigned n)) ≡ Some n
+whole_again : (n : ℕ) → n < 100000 → asked.json_number (number (unsigned n)) ≡ Some n
 whole_again n small =
     let long : ltb n (2 ^ 63) ≡ true = lt-ltb _ _ (omega (arith, small)) in
     let few : leb n 99999 ≡ true = le-leb _ _ (omega (arith, small)) in
@@ -94,10 +94,10 @@ points_numbers (point ∷ points) h =
     let price = digits.price in
     ((units_number point.units digits.units, (IsNumber-decimal point.price (omega (arith, price)), tt)), points_numbers points h.1)
 
-point_again : (point : Point) → HasFiveDigits point → asked.point_of (point_data point) ≡ Some point
+point_again : (point : Point) → HasFiveDigits point → asked.json_point (point_data point) ≡ Some point
 point_again point digits = rw (units_again point.units digits.units, whole_again point.price digits.price) refl
 
-points_again : (points : List Point) → AllByRecursion HasFiveDigits points → asked.points_from (points_data points) ≡ Some points
+points_again : (points : List Point) → AllByRecursion HasFiveDigits points → asked.json_points_from (points_data points) ≡ Some points
 points_again [] h = refl
 points_again (point ∷ points) h = rw (point_again point h.0, points_again points h.1) refl
 
@@ -224,12 +224,12 @@ is_plain (Quote good) range = plain_words (codes "quote") (IsUtf8-are_ascii (cod
 is_plain Cash range = plain_words (codes "cash") (IsUtf8-are_ascii (codes "\"cash\"") refl) end_tokens plain_end
 is_plain Quit range = plain_words (codes "quit") (IsUtf8-are_ascii (codes "\"quit\"") refl) end_tokens plain_end
 
-good_again : (good : ℕ) → good ≤ 27 → good_of (asked.number_of (number (unsigned good))) ≡ Ok good
+good_again : (good : ℕ) → good ≤ 27 → read_good (asked.json_number (number (unsigned good))) ≡ Ok good
 good_again good le =
     let in_range : ltb 27 good ≡ false = le-ltb _ _ le in
-    ap good_of (whole_again good (omega (arith, le))) ∙ rw in_range refl
+    ap read_good (whole_again good (omega (arith, le))) ∙ rw in_range refl
 
-bid_again : (points : List Point) → fault_of points ≡ None → judged (asked.points_of (array (points_data points))) ≡ Ok points
+bid_again : (points : List Point) → fault_of points ≡ None → judged (asked.json_points (array (points_data points))) ≡ Ok points
 bid_again points h = ap judged (points_again points (bid_points points h)) ∙ ap (verdict points) h
 
 is_asked : (request : Request) → IsRequest request → asked_by_value (Some (data_of request)) ≡ Ok request

@@ -8,7 +8,7 @@ use Rattle.std.proofs.lemmas.Fmt.{decimal_nonempty}
 use Rattle.tac_base.specs.declared.bids.Point.{Point}
 use Rattle.tac_base.proofs.NumeralLaws.{both_true, decimal_digits}
 use Rattle.bid_strings.specs.Spelling.{HasFiveDigits}
-use Rattle.json_dialect.specs.JsonReplies.{pair_text, point_text, points_text, placed, own_members, below_members, cash_members}
+use Rattle.json_dialect.specs.JsonReplies.{pair_text, json_point_text, points_text, placed, own_members, below_members, cash_members}
 
 -- letters, digits and the sign
 abbrev pub is_part : ℕ → Bool
@@ -100,14 +100,14 @@ price_word : (point : Point) → HasFiveDigits point → IsWord (decimal point.p
 price_word point digits = let price = digits.price in number_word point.price (omega (arith, price))
 
 pub points_words : (byte : ℕ) (points : List Point) (end : ℕ) (bytes : List ℕ) → is_part byte ≡ false → AllByRecursion HasFiveDigits points → is_part end ≡ false
-    → words_in (byte ∷ (join_with_byte 44 (map point_text points) ++ end ∷ bytes)) ≡ point_words points (words_in (end ∷ bytes))
+    → words_in (byte ∷ (join_with_byte 44 (map json_point_text points) ++ end ∷ bytes)) ≡ point_words points (words_in (end ∷ bytes))
 points_words byte [] end bytes b h e = gap byte (end ∷ bytes) b
 points_words byte (point ∷ []) end bytes b h e =
-    gap byte (point_text point ++ end ∷ bytes) b ∙ pair_words (signed_decimal point.units) (decimal point.price) end bytes (unit_word point h.0) (price_word point h.0)
+    gap byte (json_point_text point ++ end ∷ bytes) b ∙ pair_words (signed_decimal point.units) (decimal point.price) end bytes (unit_word point h.0) (price_word point h.0)
 points_words byte (point ∷ next ∷ points) end bytes b h e =
-    let others = join_with_byte 44 (map point_text (next ∷ points)) in
-    ap (λ (t : List ℕ). words_in (byte ∷ t)) (append_assoc (point_text point) (44 ∷ others) (end ∷ bytes))
-    ∙ gap byte (point_text point ++ 44 ∷ (others ++ end ∷ bytes)) b
+    let others = join_with_byte 44 (map json_point_text (next ∷ points)) in
+    ap (λ (t : List ℕ). words_in (byte ∷ t)) (append_assoc (json_point_text point) (44 ∷ others) (end ∷ bytes))
+    ∙ gap byte (json_point_text point ++ 44 ∷ (others ++ end ∷ bytes)) b
     ∙ pair_words (signed_decimal point.units) (decimal point.price) 44 (others ++ end ∷ bytes) (unit_word point h.0) (price_word point h.0)
     ∙ ap (λ (ws : List (List ℕ)). signed_decimal point.units ∷ decimal point.price ∷ ws) (points_words 44 (next ∷ points) end bytes refl h.1 e)
 
@@ -124,7 +124,7 @@ cash_words dollars small = ap (λ (ws : List (List ℕ)). codes "cash" ∷ ws) (
 pub own_words : (holding : ℤ) (left : List Point) → unsigned_abs holding < 2 ^ 64 → AllByRecursion HasFiveDigits left
     → words_in (44 ∷ (own_members holding left ++ codes "}")) ≡ codes "own" ∷ signed_decimal holding ∷ codes "points" ∷ point_words left []
 own_words holding left small digits =
-    let points = join_with_byte 44 (map point_text left) in
+    let points = join_with_byte 44 (map json_point_text left) in
     let closed : ((points ++ codes "]") ++ []) ++ codes "}" ≡ points ++ codes "]}" = ap (λ (t : List ℕ). t ++ codes "}") (append-nil (points ++ codes "]")) ∙ append_assoc points (codes "]") (codes "}") in
     ap (λ (t : List ℕ). words_in (44 ∷ (codes "\"own\":" ++ t))) (append_assoc (signed_decimal holding) (codes ",\"points\":" ++ (points_text left ++ [])) (codes "}"))
     ∙ ap (λ (ws : List (List ℕ)). codes "own" ∷ ws) (word_after 58 (signed_decimal holding) 44 _ refl (signed_word holding small) refl)

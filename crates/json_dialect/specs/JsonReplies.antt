@@ -17,16 +17,16 @@ abbrev pub pair_text : List ℕ → List ℕ → List ℕ
 pair_text first second = concat (codes "[" ∷ first ∷ codes "," ∷ second ∷ codes "]" ∷ [])
 
 -- a point, its units and its price
-abbrev pub point_text : Point → List ℕ
-point_text point = pair_text (signed_decimal point.units) (decimal point.price)
+abbrev pub json_point_text : Point → List ℕ
+json_point_text point = pair_text (signed_decimal point.units) (decimal point.price)
 
 -- the text that a point adds to the points before it
-abbrev pub next_text : ℕ → Point → List ℕ
-next_text count point = if nat_lt 0 count then 44 ∷ point_text point else point_text point
+abbrev pub json_next_text : ℕ → Point → List ℕ
+json_next_text count point = if nat_lt 0 count then 44 ∷ json_point_text point else json_point_text point
 
 -- the points, as `[[2,150],[1,100]]`
 abbrev pub points_text : List Point → List ℕ
-points_text points = concat (codes "[" ∷ join_with_byte 44 (map point_text points) ∷ codes "]" ∷ [])
+points_text points = concat (codes "[" ∷ join_with_byte 44 (map json_point_text points) ∷ codes "]" ∷ [])
 
 -- a holding and standing points
 abbrev pub own_members : ℤ → List Point → List ℕ
@@ -61,12 +61,12 @@ abbrev pub quote_members : Board → List ℕ
 quote_members board = concat (codes "\"quote\":" ∷ pair_text (decimal board.bid) (decimal board.ask) ∷ codes ",\"open\":" ∷ openness board.closed ∷ [])
 
 -- the start of an object with a position
-abbrev pub place : ℕ → List ℕ
-place position = concat (codes "{\"at\":" ∷ decimal position ∷ codes "," ∷ [])
+abbrev pub json_place : ℕ → List ℕ
+json_place position = concat (codes "{\"at\":" ∷ decimal position ∷ codes "," ∷ [])
 
 -- an object of a position and other members
 abbrev pub placed : ℕ → List ℕ → List ℕ
-placed position members = concat (place position ∷ members ∷ codes "}" ∷ [])
+placed position members = concat (json_place position ∷ members ∷ codes "}" ∷ [])
 
 abbrev pub fault_text : RequestFault → List ℕ
 fault_text faults.Syntax = codes "{\"no\":\"syntax\"}"

@@ -5,12 +5,13 @@ use Rattle.serde_json.specs.Data.{Data, Items, no_items, item, Members, no_membe
 use Rattle.serde_json.specs.Read.{read}
 use Rattle.serde_json.specs.Find.{as_array, as_i64, as_number, as_object, as_str, get_member}
 use Rattle.tac_base.specs.declared.bids.Point.{Point}
-use Rattle.bid_strings.specs.BidForm.{followed_by, judged, paired}
+use Rattle.bid_strings.specs.BidForm.{point_then, judged, paired}
 use Rattle.line_protocol.specs.declared.asking.Request.{Request}
 use Rattle.line_protocol.specs.declared.asking.Request.TheVariants as requests
 use Rattle.line_protocol.specs.declared.asking.RequestFault.{RequestFault}
 use Rattle.line_protocol.specs.declared.asking.RequestFault.TheVariants as faults
-use Rattle.line_protocol.specs.Requests.{◌>>=◌, good_of, with_points}
+use Rattle.text_forms.specs.Steps.{◌>>=◌}
+use Rattle.line_protocol.specs.Requests.{read_good, with_points}
 
 -- the value that serde_json reads in a line; bytes that are not UTF-8 have none
 abbrev pub value_of : List ℕ → Option Data
@@ -23,13 +24,13 @@ abbrev pub whole : Data → Option ℤ
 whole value = option_and_then as_i64 (as_number value)
 
 -- a number that is not below 0 and at most a limit
-abbrev pub within : ℕ → ℤ → Option ℕ
-within limit (pos n) = if nat_le n limit then Some n else None
-within limit (negsuc n) = None
+abbrev pub json_at_most : ℕ → ℤ → Option ℕ
+json_at_most limit (pos n) = if nat_le n limit then Some n else None
+json_at_most limit (negsuc n) = None
 
 -- a whole number in 0..99999
-abbrev pub number_of : Data → Option ℕ
-number_of value = option_and_then (within 99999) (whole value)
+abbrev pub json_number : Data → Option ℕ
+json_number value = option_and_then (json_at_most 99999) (whole value)
 
 abbrev pub small : ℤ → Option ℤ
 small units = if nat_le (unsigned_abs units) 99999 then Some units else None
@@ -44,19 +45,19 @@ signed_number_of value = option_and_then small (whole value)
 abbrev pub point_of_items : Items → Option Point
 point_of_items no_items = None
 point_of_items (item units no_items) = None
-point_of_items (item units (item price no_items)) = paired (signed_number_of units) (number_of price)
+point_of_items (item units (item price no_items)) = paired (signed_number_of units) (json_number price)
 point_of_items (item units (item price (item more items))) = None
 
-abbrev pub point_of : Data → Option Point
-point_of value = option_and_then point_of_items (as_array value)
+abbrev pub json_point : Data → Option Point
+json_point value = option_and_then point_of_items (as_array value)
 
-abbrev pub points_from : Items → Option (List Point)
-points_from no_items = Some []
-points_from (item point points) = followed_by (point_of point) (points_from points)
+abbrev pub json_points_from : Items → Option (List Point)
+json_points_from no_items = Some []
+json_points_from (item point points) = point_then (json_point point) (json_points_from points)
 
 -- the points of an array
-abbrev pub points_of : Data → Option (List Point)
-points_of value = option_and_then points_from (as_array value)
+abbrev pub json_points : Data → Option (List Point)
+json_points value = option_and_then json_points_from (as_array value)
 
 -- ---- objects
 
@@ -69,16 +70,16 @@ count_members (member key value members) = suc (count_members members)
 abbrev pub about : List ℕ → Option Data → Result Request RequestFault
 about word None = Err faults.Syntax
 about word (Some auction) =
-    if bytes_eq word (codes "withdraw") then (good_of (number_of auction) >>= λ good. Ok (requests.Withdraw good))
-    else if bytes_eq word (codes "own") then (good_of (number_of auction) >>= λ good. Ok (requests.Own good))
-    else if bytes_eq word (codes "quote") then (good_of (number_of auction) >>= λ good. Ok (requests.Quote good))
+    if bytes_eq word (codes "withdraw") then (read_good (json_number auction) >>= λ good. Ok (requests.Withdraw good))
+    else if bytes_eq word (codes "own") then (read_good (json_number auction) >>= λ good. Ok (requests.Own good))
+    else if bytes_eq word (codes "quote") then (read_good (json_number auction) >>= λ good. Ok (requests.Quote good))
     else Err faults.Syntax
 
 abbrev pub bid : List ℕ → Option Data → Option Data → Result Request RequestFault
 bid word None points = Err faults.Syntax
 bid word (Some auction) None = Err faults.Syntax
 bid word (Some auction) (Some points) =
-    if bytes_eq word (codes "bid") then (good_of (number_of auction) >>= λ good. with_points good (judged (points_of points)))
+    if bytes_eq word (codes "bid") then (read_good (json_number auction) >>= λ good. with_points good (judged (json_points points)))
     else Err faults.Syntax
 
 abbrev pub plain : List ℕ → Result Request RequestFault

@@ -28,7 +28,7 @@ fn print_pair(first: u16, second: u16, out: &mut Text)
 /// Appends the array of a point.
 fn print_point(point: &Point, out: &mut Text)
     requires { length out.old + 43 ≤ REPLY_TEXT }
-    ensures value { out.new ≡ out.old ++ json.point_text point.now }
+    ensures value { out.new ≡ out.old ++ json.json_point_text point.now }
     ensures len { length out.new ≤ length out.old + 12 }
 {
     out.push(b'[');
@@ -41,7 +41,7 @@ fn print_point(point: &Point, out: &mut Text)
 /// Appends the array of the next point.
 fn print_next(count: usize, point: &Point, out: &mut Text)
     requires { length out.old + 44 ≤ REPLY_TEXT }
-    ensures value { out.new ≡ out.old ++ json.next_text count point.now }
+    ensures value { out.new ≡ out.old ++ json.json_next_text count point.now }
     ensures len { length out.new ≤ length out.old + 13 }
 {
     if 0 < count {
@@ -132,9 +132,9 @@ fn print_members(reply: &Reply, out: &mut Text)
 /// Appends the start of an object with a position.
 fn print_place(position: u32, out: &mut Text)
     requires { length out.old + 32 ≤ REPLY_TEXT }
-    ensures value { out.new ≡ out.old ++ json.place position }
+    ensures value { out.new ≡ out.old ++ json.json_place position }
     ensures len { length out.new ≤ length out.old + 27 }
-    ensures one_line { IsOneLine (json.place position) }
+    ensures one_line { IsOneLine (json.json_place position) }
 {
     out.push_bytes(b"{\"at\":");
     print_numeral(u64::from(position), out);

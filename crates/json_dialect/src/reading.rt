@@ -20,7 +20,7 @@ const HIGHEST: i64 = 99_999;
 
 /// A whole number in 0..99999.
 fn number_of(value: &Value) -> Option<u64>
-    ensures { result ≡ json.number_of (view value.now) }
+    ensures { result ≡ json.json_number (view value.now) }
 {
     match value.as_i64() {
         Some(number) if 0 <= number && number <= HIGHEST => Some(number as u64),
@@ -40,7 +40,7 @@ fn signed_number_of(value: &Value) -> Option<i64>
 
 /// The good of a number.
 fn good_of(value: &Value) -> Result<Good, RequestFault>
-    ensures { result ≡ asked.good_of (json.number_of (view value.now)) }
+    ensures { result ≡ asked.read_good (json.json_number (view value.now)) }
 {
     let Some(number) = number_of(value) else {
         return Err(RequestFault::Syntax);
@@ -82,7 +82,7 @@ impl ReadPoint {
 /// The point of an array of two numbers.
 #[tactic(auto, using(crate::proofs::Views::not_two))]
 fn point_of(value: &Value) -> Option<ReadPoint>
-    ensures { result ≡ json.point_of (view value.now) }
+    ensures { result ≡ json.json_point (view value.now) }
 {
     let items = value.as_array()?;
     if items.len() != 2 {
@@ -100,7 +100,7 @@ fn point_of(value: &Value) -> Option<ReadPoint>
 
 /// Whether each value is a point.
 fn are_points(values: &[Value]) -> bool
-    ensures { result ≡ is_some (json.points_from (items_view values.now)) }
+    ensures { result ≡ is_some (json.json_points_from (items_view values.now)) }
 {
     for value in values {
         if point_of(value).is_none() {
@@ -112,8 +112,8 @@ fn are_points(values: &[Value]) -> bool
 
 /// The bid of these points, or the first fault from the left.
 fn judged_points(values: &[Value]) -> Result<Points, BidFault>
-    requires { is_some (json.points_from (items_view values.now)) ≡ true }
-    ensures { result ≡ judged (json.points_from (items_view values.now)) }
+    requires { is_some (json.json_points_from (items_view values.now)) ≡ true }
+    ensures { result ≡ judged (json.json_points_from (items_view values.now)) }
 {
     let mut draft = BidDraft::new();
     for value in values {
@@ -129,7 +129,7 @@ fn judged_points(values: &[Value]) -> Result<Points, BidFault>
 
 /// The bid of an array of points, or what is wrong with it: its form first.
 fn points_of(value: &Value) -> Result<Points, BidFault>
-    ensures { result ≡ judged (json.points_of (view value.now)) }
+    ensures { result ≡ judged (json.json_points (view value.now)) }
 {
     let Some(values) = value.as_array() else {
         return Err(BidFault::Syntax);

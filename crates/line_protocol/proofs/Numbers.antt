@@ -11,7 +11,7 @@ use Rattle.tac_base.specs.Numerals.{numeral, signed_numeral}
 use Rattle.tac_base.proofs.NumeralLaws.{numeral_is, numeral_again}
 use Rattle.tac_base.proofs.Signed.{signed_is, signed_again}
 use Rattle.line_protocol.specs.Replies.{place}
-use Rattle.line_protocol.specs.ReplyForms.{◌>>=◌, ended, at_most, within, next_within, small_holding, holding_of, place_of}
+use Rattle.line_protocol.specs.ReplyForms.{◌>>=◌, ended, at_most, read_at_most, next_within, small_holding, holding_of, read_place}
 
 -- ---- steps
 
@@ -40,14 +40,14 @@ at_most_is limit number n h =
     let c = cond_some (leb number limit) number n h in
     (c.1, subst (λ (m : ℕ). m ≤ limit) c.1 (leb-true number limit c.0))
 
-pub within_is : (limit : ℕ) (word : List ℕ) (n : ℕ) → limit < 2 ^ 32 → within limit word ≡ Some n → (word ≡ decimal n) × (n ≤ limit)
+pub within_is : (limit : ℕ) (word : List ℕ) (n : ℕ) → limit < 2 ^ 32 → read_at_most limit word ≡ Some n → (word ≡ decimal n) × (n ≤ limit)
 within_is limit word n small h =
     let b = bound (numeral 10 word) (at_most limit) n h in
     let m = at_most_is limit b.0 n b.2 in
     let few : n < 2 ^ 64 = omega (arith, m.1, small) in
     ((numeral_is 10 word n (b.1 ∙ ap (λ (k : ℕ). Some k) m.0) few).0, m.1)
 
-pub within_again : (limit n : ℕ) → limit < 2 ^ 32 → n ≤ limit → within limit (decimal n) ≡ Some n
+pub within_again : (limit n : ℕ) → limit < 2 ^ 32 → n ≤ limit → read_at_most limit (decimal n) ≡ Some n
 within_again limit n small le =
     let few : n < 10 ^ 10 = omega (arith, small, le) in
     rw (numeral_again 10 n (omega (arith, few)) (length-decimal-le 10 n (lit< tt) few (omega (arith, few))), le-leb n limit le) refl
@@ -56,7 +56,7 @@ within_again limit n small le =
 pub next_is : (limit : ℕ) (words : List (List ℕ)) (next : ℕ × List (List ℕ)) → limit < 2 ^ 32 → next_within limit words ≡ Some next → (words ≡ decimal next.0 ∷ next.1) × (next.0 ≤ limit)
 next_is limit [] next small h = absurd cc
 next_is limit (word ∷ words) next small h =
-    let b = bound (within limit word) (λ number. Some (number, words)) next h in
+    let b = bound (read_at_most limit word) (λ number. Some (number, words)) next h in
     let is = within_is limit word b.0 small b.1 in
     let same : (b.0, words) ≡ next = same_Some (b.0, words) next b.2 in
     subst (λ (x : ℕ × List (List ℕ)). (word ∷ words ≡ decimal x.0 ∷ x.1) × (x.0 ≤ limit)) same (ap (λ (w : List ℕ). w ∷ words) is.0, is.1)
@@ -66,7 +66,7 @@ next_again limit n words small le = rw (within_again limit n small le) refl
 
 -- ---- positions
 
-place_by : (first : ℕ) (rest : List ℕ) (position : ℕ) → ((eqb first 64 ≡ true) × (within 16777215 rest ≡ Some position)) ⊎ (None ≡ Some position) → (first ∷ rest ≡ place position) × (position ≤ 16777215)
+place_by : (first : ℕ) (rest : List ℕ) (position : ℕ) → ((eqb first 64 ≡ true) × (read_at_most 16777215 rest ≡ Some position)) ⊎ (None ≡ Some position) → (first ∷ rest ≡ place position) × (position ≤ 16777215)
 place_by first rest position h =
     elim h [
       | inl is ↦
@@ -75,9 +75,9 @@ place_by first rest position h =
       | inr e ↦ absurd cc
     ]
 
-pub place_is : (word : List ℕ) (position : ℕ) → place_of word ≡ Some position → (word ≡ place position) × (position ≤ 16777215)
+pub place_is : (word : List ℕ) (position : ℕ) → read_place word ≡ Some position → (word ≡ place position) × (position ≤ 16777215)
 place_is [] position h = absurd cc
-place_is (first ∷ rest) position h = place_by first rest position (either_way (eqb first 64) (within 16777215 rest) None position h)
+place_is (first ∷ rest) position h = place_by first rest position (either_way (eqb first 64) (read_at_most 16777215 rest) None position h)
 
 -- ---- signed numbers
 

@@ -20,7 +20,7 @@ use Rattle.line_protocol.specs.declared.saying.Said.{Said}
 use Rattle.line_protocol.specs.declared.saying.Said.TheVariants.{At, Cash, Quote, Spent, Fault, TooLong, Bye}
 use Rattle.line_protocol.specs.Replies.{place, reply_words, reply_text, said_text, state_word, fault_number}
 use Rattle.line_protocol.specs.Ranges.{IsReply, IsReplyText, IsSaid, IsSaidText}
-use Rattle.line_protocol.specs.ReplyForms.{placed_of, own_of, said_of_words, said_of, fault_at, state_of, answer_of_words, answer_of}
+use Rattle.line_protocol.specs.ReplyForms.{placed_of, own_of, said_of_words, read_said, fault_at, read_state, answer_of_words, answer_of}
 use Rattle.line_protocol.proofs.JoinedWords.{lacks, words_before, has_words}
 use Rattle.line_protocol.proofs.Numbers.{within_again, next_again, holding_again, dollars_again}
 use Rattle.line_protocol.proofs.StandingPoints.{left_again}
@@ -38,12 +38,12 @@ placed_words : (position : ℕ) (words : List (List ℕ)) → position ≤ 16777
 placed_words position words le h = joined_parts 32 (place position) words (place_lacks position le) h
 
 -- a line whose first word is a position
-placed_again : (position : ℕ) (words : List (List ℕ)) (text : List ℕ) (said : Said) → position ≤ 16777215 → words_of text ≡ place position ∷ words → placed_of position words ≡ Some said → said_of text ≡ Some said
-unfolding said_of
+placed_again : (position : ℕ) (words : List (List ℕ)) (text : List ℕ) (said : Said) → position ≤ 16777215 → words_of text ≡ place position ∷ words → placed_of position words ≡ Some said → read_said text ≡ Some said
+unfolding read_said
 placed_again position words text said le are again = ap said_of_words are ∙ rw (within_again 16777215 position (lit< tt) le) again
 
 -- a line of a position and two words or more
-line_again : (position : ℕ) (words : List (List ℕ)) (said : Said) → position ≤ 16777215 → AllByRecursion (Lacks 32) words → placed_of position words ≡ Some said → said_of (join_with_byte 32 (place position ∷ words)) ≡ Some said
+line_again : (position : ℕ) (words : List (List ℕ)) (said : Said) → position ≤ 16777215 → AllByRecursion (Lacks 32) words → placed_of position words ≡ Some said → read_said (join_with_byte 32 (place position ∷ words)) ≡ Some said
 line_again position words said le h again = placed_again position words (join_with_byte 32 (place position ∷ words)) said le (placed_words position words le h) again
 
 -- ---- replies
@@ -53,7 +53,7 @@ own_again holding left small limits =
     let h = has_words (spelling left) in
     ap (λ (ws : List (List ℕ)). own_of (signed_decimal holding ∷ ws)) h.2.words ∙ rw (holding_again holding small, h.2.joined, left_again left limits) refl
 
-reply_again : (position : ℕ) (reply : Reply) → position ≤ 16777215 → IsReply reply → said_of (said_text (At position reply)) ≡ Some (At position reply)
+reply_again : (position : ℕ) (reply : Reply) → position ≤ 16777215 → IsReply reply → read_said (said_text (At position reply)) ≡ Some (At position reply)
 reply_again position (Taken bought sold) le range =
     line_again position (reply_words (Taken bought sold)) (At position (Taken bought sold)) le
     (lacks 32 (codes "taken") refl, (number_lacks 255 bought (lit< tt) range.0, (number_lacks 255 sold (lit< tt) range.1, tt)))
@@ -81,7 +81,7 @@ reply_again position (BelowQuote need at offered) le range =
 
 -- ---- the other lines
 
-state_again : (closed : Bool) → state_of (state_word closed) ≡ Some closed
+state_again : (closed : Bool) → read_state (state_word closed) ≡ Some closed
 state_again true = refl
 state_again false = refl
 
@@ -89,13 +89,13 @@ state_lacks : (closed : Bool) → Lacks 32 (state_word closed)
 state_lacks true = lacks 32 (codes "closed") refl
 state_lacks false = lacks 32 (codes "open") refl
 
-quote_again : (board : Board) → IsSaid (Quote board) → said_of (said_text (Quote board)) ≡ Some (Quote board)
+quote_again : (board : Board) → IsSaid (Quote board) → read_said (said_text (Quote board)) ≡ Some (Quote board)
 quote_again board range =
     line_again board.count (codes "quote" ∷ decimal board.bid ∷ decimal board.ask ∷ state_word board.closed ∷ []) (Quote board) range.0
     (lacks 32 (codes "quote") refl, (number_lacks 10001 board.bid (lit< tt) range.1, (number_lacks 10001 board.ask (lit< tt) range.2, (state_lacks board.closed, tt))))
     (rw (next_again 10001 board.bid (decimal board.ask ∷ state_word board.closed ∷ []) (lit< tt) range.1, next_again 10001 board.ask (state_word board.closed ∷ []) (lit< tt) range.2, state_again board.closed) refl)
 
-cash_again : (position : ℕ) (dollars : ℤ) → position ≤ 16777215 → unsigned_abs dollars < 10 ^ 18 → said_of (said_text (Cash position dollars)) ≡ Some (Cash position dollars)
+cash_again : (position : ℕ) (dollars : ℤ) → position ≤ 16777215 → unsigned_abs dollars < 10 ^ 18 → read_said (said_text (Cash position dollars)) ≡ Some (Cash position dollars)
 cash_again position dollars le few =
     line_again position (codes "cash" ∷ signed_decimal dollars ∷ []) (Cash position dollars) le
     (lacks 32 (codes "cash") refl, (signed_lacks 32 dollars (lit< tt) (omega (arith, few)), tt)) (rw (dollars_again dollars few) refl)
@@ -107,23 +107,23 @@ number_again bid_faults.TooManyUnits = (lit≤ tt, refl)
 number_again bid_faults.Price = (lit≤ tt, refl)
 number_again bid_faults.ZeroUnits = (lit≤ tt, refl)
 
-bid_fault_again : (fault : BidFault) → said_of (said_text (Fault (faults.Bid fault))) ≡ Some (Fault (faults.Bid fault))
-unfolding said_of
+bid_fault_again : (fault : BidFault) → read_said (said_text (Fault (faults.Bid fault))) ≡ Some (Fault (faults.Bid fault))
+unfolding read_said
 bid_fault_again fault =
     let n = number_again fault in
     let number = fault_number fault in
     ap said_of_words (joined_parts 32 (codes "no") (codes "bid" ∷ decimal number ∷ []) (lacks 32 (codes "no") refl) (lacks 32 (codes "bid") refl, (number_lacks 5 number (lit< tt) n.0, tt)))
     ∙ rw (next_again 5 number [] (lit< tt) n.0, n.1) refl
 
-fault_again : (fault : RequestFault) → said_of (said_text (Fault fault)) ≡ Some (Fault fault)
-unfolding said_of
+fault_again : (fault : RequestFault) → read_said (said_text (Fault fault)) ≡ Some (Fault fault)
+unfolding read_said
 fault_again faults.Syntax = refl
 fault_again faults.NoSuchAuction = refl
 fault_again (faults.Bid fault) = bid_fault_again fault
 fault_again faults.Memory = refl
 
-said_again : (said : Said) → IsSaid said → said_of (said_text said) ≡ Some said
-unfolding said_of
+said_again : (said : Said) → IsSaid said → read_said (said_text said) ≡ Some said
+unfolding read_said
 said_again (At position reply) range = reply_again position reply range.0 range.1
 said_again (Cash position dollars) range = cash_again position dollars range.0 range.1
 said_again (Quote board) range = quote_again board range
@@ -132,8 +132,8 @@ said_again (Fault fault) range = fault_again fault
 said_again TooLong range = refl
 said_again Bye range = refl
 
-pub text_again : (text : List ℕ) (said : Said) → IsSaidText text said → said_of text ≡ Some said
-text_again text said is = ap said_of is.text ∙ said_again said is.range
+pub text_again : (text : List ℕ) (said : Said) → IsSaidText text said → read_said text ≡ Some said
+text_again text said is = ap read_said is.text ∙ said_again said is.range
 
 -- ---- a reply alone
 

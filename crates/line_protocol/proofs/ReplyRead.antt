@@ -20,7 +20,7 @@ use Rattle.line_protocol.specs.declared.saying.Said.{Said}
 use Rattle.line_protocol.specs.declared.saying.Said.TheVariants.{At, Cash, Quote, Spent, Fault, TooLong, Bye}
 use Rattle.line_protocol.specs.Replies.{reply_text, state_word, fault_number, place}
 use Rattle.line_protocol.specs.Ranges.{IsReplyText, IsSaidText}
-use Rattle.line_protocol.specs.ReplyForms.{◌>>=◌, ended, next_within, holding_of, place_of, left_of, taken_of, sold_of, below_of, own_of, refusal_of, reply_of, cash_of, state_of, next_state, quote_of, placed_of, fault_at, bid_fault_of, unplaced_of, said_of_words, said_of, answer_of_words, answer_of}
+use Rattle.line_protocol.specs.ReplyForms.{◌>>=◌, ended, next_within, holding_of, read_place, read_left, taken_of, sold_of, below_of, own_of, read_refusal, read_reply_words, read_cash, read_state, next_state, quote_of, placed_of, fault_at, bid_fault_of, unplaced_of, said_of_words, read_said, answer_of_words, answer_of}
 use Rattle.line_protocol.proofs.JoinedWords.{has_words}
 use Rattle.line_protocol.proofs.Numbers.{bound, ended_is, either_way, is_word, next_is, place_is, holding_is}
 use Rattle.line_protocol.proofs.OneLine.{placed}
@@ -77,9 +77,9 @@ own_is [] reply h = absurd cc
 own_is (holding ∷ []) reply h = absurd cc
 own_is (holding ∷ word ∷ words) reply h =
     let points = join_with_byte 32 (word ∷ words) in
-    let z = bound (holding_of holding) (λ held. left_of points >>= λ left. Some (Own held left)) reply h in
+    let z = bound (holding_of holding) (λ held. read_left points >>= λ left. Some (Own held left)) reply h in
     let number = holding_is holding z.0 z.1 in
-    let l = bound (left_of points) (λ left. Some (Own z.0 left)) reply z.2 in
+    let l = bound (read_left points) (λ left. Some (Own z.0 left)) reply z.2 in
     let left = left_is points l.0 l.1 in
     let text : line (codes "own") (holding ∷ word ∷ words) ≡ reply_text (Own z.0 l.0) =
     ap (λ (w : List ℕ). join_with_byte 32 (codes "own" ∷ w ∷ points ∷ [])) number.0 ∙ ap (λ (t : List ℕ). join_with_byte 32 (codes "own" ∷ signed_decimal z.0 ∷ t ∷ [])) left.text in
@@ -97,7 +97,7 @@ lone keyword known words made reply same h is =
     ap (λ (w : List ℕ). join_with_byte 32 (codes "no" ∷ w ∷ words)) (is_word keyword known same) ∙ ap (λ (ws : List (List ℕ)). join_with_byte 32 (codes "no" ∷ known ∷ ws)) e.1 in
     subst (λ (r : Reply). IsReplyText (join_with_byte 32 (codes "no" ∷ keyword ∷ words)) r) e.0 (record { range = is.range; text = text ∙ is.text })
 
-refusal_is : (words : List (List ℕ)) (reply : Reply) → refusal_of words ≡ Some reply → IsReplyText (line (codes "no") words) reply
+refusal_is : (words : List (List ℕ)) (reply : Reply) → read_refusal words ≡ Some reply → IsReplyText (line (codes "no") words) reply
 refusal_is [] reply h = absurd cc
 refusal_is (keyword ∷ words) reply h =
     elim (either_way (bytes_eq keyword (codes "closed")) (ended Closed words) _ reply h) [
@@ -129,7 +129,7 @@ done_is words reply h =
     let e = ended_is Done reply words h in
     subst (λ (r : Reply). IsReplyText (line (codes "done") words) r) e.0 (record { range = tt; text = ap (line (codes "done")) e.1 })
 
-reply_is : (keyword : List ℕ) (words : List (List ℕ)) (reply : Reply) → reply_of keyword words ≡ Some reply → IsReplyText (line keyword words) reply
+reply_is : (keyword : List ℕ) (words : List (List ℕ)) (reply : Reply) → read_reply_words keyword words ≡ Some reply → IsReplyText (line keyword words) reply
 reply_is keyword words reply h =
     elim (either_way (bytes_eq keyword (codes "taken")) (taken_of words) _ reply h) [
       | inl is ↦ after keyword (codes "taken") words reply is.0 (taken_is words reply is.1)
@@ -139,7 +139,7 @@ reply_is keyword words reply h =
           | inl is ↦ after keyword (codes "sold") words reply is.0 (sold_is words reply is.1)
           | inr h ↦ elim (either_way (bytes_eq keyword (codes "done")) (ended Done words) _ reply h) [
             | inl is ↦ after keyword (codes "done") words reply is.0 (done_is words reply is.1)
-            | inr h ↦ elim (either_way (bytes_eq keyword (codes "no")) (refusal_of words) None reply h) [
+            | inr h ↦ elim (either_way (bytes_eq keyword (codes "no")) (read_refusal words) None reply h) [
               | inl is ↦ after keyword (codes "no") words reply is.0 (refusal_is words reply is.1)
               | inr e ↦ absurd cc
             ]
@@ -153,7 +153,7 @@ reply_is keyword words reply h =
 abbrev placed_line : ℕ → List ℕ → List (List ℕ) → List ℕ
 placed_line position keyword words = join_with_byte 32 (place position ∷ keyword ∷ words)
 
-cash_is : (position : ℕ) (words : List (List ℕ)) (said : Said) → position ≤ 16777215 → cash_of position words ≡ Some said → IsSaidText (placed_line position (codes "cash") words) said
+cash_is : (position : ℕ) (words : List (List ℕ)) (said : Said) → position ≤ 16777215 → read_cash position words ≡ Some said → IsSaidText (placed_line position (codes "cash") words) said
 cash_is position [] said le h = absurd cc
 cash_is position (word ∷ words) said le h =
     let d = bound (signed_numeral 18 word) (λ dollars. ended (Cash position dollars) words) said h in
@@ -162,7 +162,7 @@ cash_is position (word ∷ words) said le h =
     subst (λ (s : Said). IsSaidText (placed_line position (codes "cash") (word ∷ words)) s) e.0
     (record { range = (le, signed_limit 18 18 word d.0 (lit≤ tt) d.1); text = ap (placed_line position (codes "cash")) words_are })
 
-state_is : (word : List ℕ) (closed : Bool) → state_of word ≡ Some closed → word ≡ state_word closed
+state_is : (word : List ℕ) (closed : Bool) → read_state word ≡ Some closed → word ≡ state_word closed
 state_is word closed h =
     elim (either_way (bytes_eq word (codes "open")) (Some false) _ closed h) [
       | inl is ↦ is_word word (codes "open") is.0 ∙ ap state_word (same_Some false closed is.1)
@@ -175,7 +175,7 @@ state_is word closed h =
 next_state_is : (words : List (List ℕ)) (next : Bool × List (List ℕ)) → next_state words ≡ Some next → words ≡ state_word next.0 ∷ next.1
 next_state_is [] next h = absurd cc
 next_state_is (word ∷ words) next h =
-    let c = bound (state_of word) (λ closed. Some (closed, words)) next h in
+    let c = bound (read_state word) (λ closed. Some (closed, words)) next h in
     subst (λ (x : Bool × List (List ℕ)). word ∷ words ≡ state_word x.0 ∷ x.1) (same_Some (c.0, words) next c.2) (ap (λ (w : List ℕ). w ∷ words) (state_is word c.0 c.1))
 
 board_of : ℕ → ℕ → ℕ → Bool → Board
@@ -196,9 +196,9 @@ quote_is count words said le h =
     subst (λ (s : Said). IsSaidText (placed_line count (codes "quote") words) s) e.0
     (record { range = (le, first.1, second.1); text = ap (placed_line count (codes "quote")) words_are })
 
-at_is : (position : ℕ) (keyword : List ℕ) (words : List (List ℕ)) (said : Said) → position ≤ 16777215 → (reply_of keyword words >>= λ reply. Some (At position reply)) ≡ Some said → IsSaidText (placed_line position keyword words) said
+at_is : (position : ℕ) (keyword : List ℕ) (words : List (List ℕ)) (said : Said) → position ≤ 16777215 → (read_reply_words keyword words >>= λ reply. Some (At position reply)) ≡ Some said → IsSaidText (placed_line position keyword words) said
 at_is position keyword words said le h =
-    let r = bound (reply_of keyword words) (λ reply. Some (At position reply)) said h in
+    let r = bound (read_reply_words keyword words) (λ reply. Some (At position reply)) said h in
     let is = reply_is keyword words r.0 r.1 in
     subst (λ (s : Said). IsSaidText (placed_line position keyword words) s) (same_Some (At position r.0) said r.2)
     (record { range = (le, is.range); text = ap (λ (t : List ℕ). place position ++ 32 ∷ t) is.text ∙ sym (placed position r.0) })
@@ -209,7 +209,7 @@ said_after position keyword known words said same is = subst (λ (w : List ℕ).
 placed_is : (position : ℕ) (words : List (List ℕ)) (said : Said) → position ≤ 16777215 → placed_of position words ≡ Some said → IsSaidText (line (place position) words) said
 placed_is position [] said le h = absurd cc
 placed_is position (keyword ∷ words) said le h =
-    elim (either_way (bytes_eq keyword (codes "cash")) (cash_of position words) _ said h) [
+    elim (either_way (bytes_eq keyword (codes "cash")) (read_cash position words) _ said h) [
       | inl is ↦ said_after position keyword (codes "cash") words said is.0 (cash_is position words said le is.1)
       | inr h ↦ elim (either_way (bytes_eq keyword (codes "quote")) (quote_of position words) _ said h) [
         | inl is ↦ said_after position keyword (codes "quote") words said is.0 (quote_is position words said le is.1)
@@ -293,19 +293,19 @@ words_are_said first words said h =
       | inr h ↦ elim (either_way (bytes_eq first (codes "no")) (unplaced_of words) _ said h) [
         | inl is ↦ subst (λ (w : List ℕ). IsSaidText (line w words) said) (sym (is_word first (codes "no") is.0)) (unplaced_is words said is.1)
         | inr h ↦
-            let p = bound (place_of first) (λ position. placed_of position words) said h in
+            let p = bound (read_place first) (λ position. placed_of position words) said h in
             let at = place_is first p.0 p.1 in
             subst (λ (w : List ℕ). IsSaidText (line w words) said) (sym at.0) (placed_is p.0 words said at.1 p.2)
       ]
     ]
 
-pub said_is : (text : List ℕ) (said : Said) → said_of text ≡ Some said → IsSaidText text said
-unfolding said_of
+pub said_is : (text : List ℕ) (said : Said) → read_said text ≡ Some said → IsSaidText text said
+unfolding read_said
 said_is text said h =
     let w = has_words text in
     subst (λ (t : List ℕ). IsSaidText t said) w.2.joined (words_are_said w.0 w.1 said (sym (ap said_of_words w.2.words) ∙ h))
 
-pub said_if : (text : List ℕ) (read : Option Said) → read ≡ said_of text → IfSome read (λ said. IsSaidText text said)
+pub said_if : (text : List ℕ) (read : Option Said) → read ≡ read_said text → IfSome read (λ said. IsSaidText text said)
 said_if text None e = tt
 said_if text (Some said) e = said_is text said (sym e)
 

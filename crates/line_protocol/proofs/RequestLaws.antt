@@ -20,7 +20,8 @@ use Rattle.line_protocol.specs.declared.asking.Request.{Request}
 use Rattle.line_protocol.specs.declared.asking.Request.TheVariants as requests
 use Rattle.line_protocol.specs.declared.asking.RequestFault.{RequestFault}
 use Rattle.line_protocol.specs.declared.asking.RequestFault.TheVariants as faults
-use Rattle.line_protocol.specs.Requests.{◌>>=◌, syntax, good_of, plain_of, about_of, with_points, bid_of, request_of_words, request_of}
+use Rattle.text_forms.specs.Steps.{◌>>=◌}
+use Rattle.line_protocol.specs.Requests.{syntax, read_good, plain_of, about_of, with_points, bid_request, request_of_words, request_of}
 use Rattle.line_protocol.specs.RequestForms.{Form, BidForm, WithdrawForm, OwnForm, QuoteForm, CashForm, QuitForm, IsForm, form_text, HasForm, answer_to, form_of, IsRequest, IsRequestText}
 use Rattle.line_protocol.proofs.JoinedWords.{lacks, words_before, has_words, same_or_not}
 
@@ -41,16 +42,16 @@ number_is word number h =
 
 -- what is asked of the auction of a number
 abbrev asked_of : (ℕ → Result Request RequestFault) → Option ℕ → Result Request RequestFault
-asked_of ask number = good_of number >>= ask
+asked_of ask number = read_good number >>= ask
 
 -- a keyword and a number
 pair_words : (keyword : List ℕ) (number : ℕ) → Lacks 32 keyword → number ≤ 99999 → words_of (join_with_byte 32 (keyword ∷ decimal number ∷ [])) ≡ keyword ∷ decimal number ∷ []
 pair_words keyword number lacking le = joined_parts 32 keyword (decimal number ∷ []) lacking (number_lacks number le, tt)
 
-bid_words : (keyword number points : List ℕ) → request_of_words (keyword ∷ number ∷ words_of points) ≡ bid_of keyword (good_of (numeral 5 number)) points
+bid_words : (keyword number points : List ℕ) → request_of_words (keyword ∷ number ∷ words_of points) ≡ bid_request keyword (read_good (numeral 5 number)) points
 bid_words keyword number points =
     let h = has_words points in
-    ap (λ (ws : List (List ℕ)). request_of_words (keyword ∷ number ∷ ws)) h.2.words ∙ ap (bid_of keyword (good_of (numeral 5 number))) h.2.joined
+    ap (λ (ws : List (List ℕ)). request_of_words (keyword ∷ number ∷ ws)) h.2.words ∙ ap (bid_request keyword (read_good (numeral 5 number))) h.2.joined
 
 pub formed : (form : Form) → IsForm form → request_of (form_text form) ≡ answer_to form
 unfolding request_of
@@ -88,7 +89,7 @@ plain_formed keyword =
       ]
     ]
 
-about_form : (keyword : List ℕ) (number : ℕ) → number ≤ 99999 → Formed (about_of keyword (good_of (Some number))) (join_with_byte 32 (keyword ∷ decimal number ∷ []))
+about_form : (keyword : List ℕ) (number : ℕ) → number ≤ 99999 → Formed (about_of keyword (read_good (Some number))) (join_with_byte 32 (keyword ∷ decimal number ∷ []))
 about_form keyword number le =
     let joined = λ (word : List ℕ). join_with_byte 32 (word ∷ decimal number ∷ []) in
     elim (same_or_not keyword (codes "withdraw")) [
@@ -102,20 +103,20 @@ about_form keyword number le =
       ]
     ]
 
-about_formed : (keyword number : List ℕ) (value : Option ℕ) → numeral 5 number ≡ value → Formed (about_of keyword (good_of value)) (join_with_byte 32 (keyword ∷ number ∷ []))
+about_formed : (keyword number : List ℕ) (value : Option ℕ) → numeral 5 number ≡ value → Formed (about_of keyword (read_good value)) (join_with_byte 32 (keyword ∷ number ∷ []))
 about_formed keyword number None e = inl (all_same (bytes_eq keyword (codes "withdraw")) (bytes_eq keyword (codes "own")) (bytes_eq keyword (codes "quote")) (Err syntax))
 about_formed keyword number (Some n) e =
     let is = number_is number n e in
     rw is.0 (about_form keyword n is.1)
 
-bid_form : (keyword points : List ℕ) (number : ℕ) → number ≤ 99999 → Formed (bid_of keyword (good_of (Some number)) points) (join_with_byte 32 (keyword ∷ decimal number ∷ points ∷ []))
+bid_form : (keyword points : List ℕ) (number : ℕ) → number ≤ 99999 → Formed (bid_request keyword (read_good (Some number)) points) (join_with_byte 32 (keyword ∷ decimal number ∷ points ∷ []))
 bid_form keyword points number le =
     elim (same_or_not keyword (codes "bid")) [
       | inl e ↦ inr (BidForm number points, le, ap (λ (word : List ℕ). join_with_byte 32 (word ∷ decimal number ∷ points ∷ [])) e)
       | inr not_bid ↦ inl (rw not_bid refl)
     ]
 
-bid_formed : (keyword number points : List ℕ) (value : Option ℕ) → numeral 5 number ≡ value → Formed (bid_of keyword (good_of value) points) (join_with_byte 32 (keyword ∷ number ∷ points ∷ []))
+bid_formed : (keyword number points : List ℕ) (value : Option ℕ) → numeral 5 number ≡ value → Formed (bid_request keyword (read_good value) points) (join_with_byte 32 (keyword ∷ number ∷ points ∷ []))
 bid_formed keyword number points None e = inl (all_same (bytes_eq keyword (codes "bid")) true true (Err syntax))
 bid_formed keyword number points (Some n) e =
     let is = number_is number n e in
@@ -197,7 +198,7 @@ request_if line (Err fault) e = tt
 
 -- ---- each text of a request is read as it
 
-good_again : (number : ℕ) → number ≤ 27 → good_of (Some number) ≡ Ok number
+good_again : (number : ℕ) → number ≤ 27 → read_good (Some number) ≡ Ok number
 good_again number le = grind (arith, nat_tests)
 
 form_range : (request : Request) → IsRequest request → IsForm (form_of request)

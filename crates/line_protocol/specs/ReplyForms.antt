@@ -31,13 +31,13 @@ abbrev pub at_most : ℕ → ℕ → Option ℕ
 at_most limit number = if nat_le number limit then Some number else None
 
 -- a numeral of a number that is at most a limit
-abbrev pub within : ℕ → List ℕ → Option ℕ
-within limit word = numeral 10 word >>= at_most limit
+abbrev pub read_at_most : ℕ → List ℕ → Option ℕ
+read_at_most limit word = numeral 10 word >>= at_most limit
 
 -- the number of the next word, and the words after it
 abbrev pub next_within : ℕ → List (List ℕ) → Option (ℕ × List (List ℕ))
 next_within limit [] = None
-next_within limit (word ∷ words) = within limit word >>= λ number. Some (number, words)
+next_within limit (word ∷ words) = read_at_most limit word >>= λ number. Some (number, words)
 
 abbrev pub small_holding : ℤ → Option ℤ
 small_holding holding = if nat_le (unsigned_abs holding) (unsigned_abs SHOWN_HOLDING) then Some holding else None
@@ -47,19 +47,19 @@ abbrev pub holding_of : List ℕ → Option ℤ
 holding_of word = signed_numeral 10 word >>= small_holding
 
 -- `@` and a position
-abbrev pub place_of : List ℕ → Option ℕ
-place_of [] = None
-place_of (first ∷ number) = if first == 64 then within POSITION number else None
+abbrev pub read_place : List ℕ → Option ℕ
+read_place [] = None
+read_place (first ∷ number) = if first == 64 then read_at_most POSITION number else None
 
 -- ---- replies
 
-abbrev pub bid_of : Result (List Point) BidFault → Option (List Point)
-bid_of (Err fault) = None
-bid_of (Ok points) = Some points
+abbrev pub points_or_none : Result (List Point) BidFault → Option (List Point)
+points_or_none (Err fault) = None
+points_or_none (Ok points) = Some points
 
 -- standing points
-abbrev pub left_of : List ℕ → Option (List Point)
-left_of text = if bytes_eq text (codes "()") then Some [] else bid_of (judged (points_of text))
+abbrev pub read_left : List ℕ → Option (List Point)
+read_left text = if bytes_eq text (codes "()") then Some [] else points_or_none (judged (points_of text))
 
 abbrev pub taken_of : List (List ℕ) → Option Reply
 taken_of words = next_within 255 words >>= λ bought. next_within 255 bought.1 >>= λ sold. ended (Taken bought.0 sold.0) sold.1
@@ -74,12 +74,12 @@ below_of words = next_within 255 words >>= λ need. next_within SHOWN_PRICE need
 abbrev pub own_of : List (List ℕ) → Option Reply
 own_of [] = None
 own_of (holding ∷ []) = None
-own_of (holding ∷ word ∷ words) = holding_of holding >>= λ held. left_of (join_with_byte 32 (word ∷ words)) >>= λ left. Some (Own held left)
+own_of (holding ∷ word ∷ words) = holding_of holding >>= λ held. read_left (join_with_byte 32 (word ∷ words)) >>= λ left. Some (Own held left)
 
 -- what follows `no`
-abbrev pub refusal_of : List (List ℕ) → Option Reply
-refusal_of [] = None
-refusal_of (keyword ∷ words) =
+abbrev pub read_refusal : List (List ℕ) → Option Reply
+read_refusal [] = None
+read_refusal (keyword ∷ words) =
     if bytes_eq keyword (codes "closed") then ended Closed words
     else if bytes_eq keyword (codes "wrongcall") then ended WrongCall words
     else if bytes_eq keyword (codes "nobid") then ended NoBid words
@@ -89,30 +89,30 @@ refusal_of (keyword ∷ words) =
     else None
 
 -- a reply without its position
-abbrev pub reply_of : List ℕ → List (List ℕ) → Option Reply
-reply_of keyword words =
+abbrev pub read_reply_words : List ℕ → List (List ℕ) → Option Reply
+read_reply_words keyword words =
     if bytes_eq keyword (codes "taken") then taken_of words
     else if bytes_eq keyword (codes "own") then own_of words
     else if bytes_eq keyword (codes "sold") then sold_of words
     else if bytes_eq keyword (codes "done") then ended Done words
-    else if bytes_eq keyword (codes "no") then refusal_of words
+    else if bytes_eq keyword (codes "no") then read_refusal words
     else None
 
 -- ---- the other lines
 
-abbrev pub cash_of : ℕ → List (List ℕ) → Option Said
-cash_of position [] = None
-cash_of position (word ∷ words) = signed_numeral CASH_DIGITS word >>= λ dollars. ended (Cash position dollars) words
+abbrev pub read_cash : ℕ → List (List ℕ) → Option Said
+read_cash position [] = None
+read_cash position (word ∷ words) = signed_numeral CASH_DIGITS word >>= λ dollars. ended (Cash position dollars) words
 
-abbrev pub state_of : List ℕ → Option Bool
-state_of word =
+abbrev pub read_state : List ℕ → Option Bool
+read_state word =
     if bytes_eq word (codes "open") then Some false
     else if bytes_eq word (codes "closed") then Some true
     else None
 
 abbrev pub next_state : List (List ℕ) → Option (Bool × List (List ℕ))
 next_state [] = None
-next_state (word ∷ words) = state_of word >>= λ closed. Some (closed, words)
+next_state (word ∷ words) = read_state word >>= λ closed. Some (closed, words)
 
 abbrev pub quote_of : ℕ → List (List ℕ) → Option Said
 quote_of count words =
@@ -123,9 +123,9 @@ quote_of count words =
 abbrev pub placed_of : ℕ → List (List ℕ) → Option Said
 placed_of position [] = None
 placed_of position (keyword ∷ words) =
-    if bytes_eq keyword (codes "cash") then cash_of position words
+    if bytes_eq keyword (codes "cash") then read_cash position words
     else if bytes_eq keyword (codes "quote") then quote_of position words
-    else (reply_of keyword words >>= λ reply. Some (At position reply))
+    else (read_reply_words keyword words >>= λ reply. Some (At position reply))
 
 abbrev pub fault_at : ℕ → Option BidFault
 fault_at number =
@@ -156,17 +156,17 @@ said_of_words [] = None
 said_of_words (first ∷ words) =
     if bytes_eq first (codes "bye") then ended Bye words
     else if bytes_eq first (codes "no") then unplaced_of words
-    else (place_of first >>= λ position. placed_of position words)
+    else (read_place first >>= λ position. placed_of position words)
 
 -- what a line says
-unfoldable pub said_of : List ℕ → Option Said
-said_of line = said_of_words (words_of line)
+unfoldable pub read_said : List ℕ → Option Said
+read_said line = said_of_words (words_of line)
 
 -- ---- a reply alone
 
 abbrev pub answer_of_words : List (List ℕ) → Option Reply
 answer_of_words [] = None
-answer_of_words (keyword ∷ words) = reply_of keyword words
+answer_of_words (keyword ∷ words) = read_reply_words keyword words
 
 -- the reply of a text without a position
 unfoldable pub answer_of : List ℕ → Option Reply

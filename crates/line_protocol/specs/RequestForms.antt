@@ -7,7 +7,8 @@ use Rattle.bid_strings.specs.Spelling.{spelling}
 use Rattle.line_protocol.specs.declared.asking.Request.{Request}
 use Rattle.line_protocol.specs.declared.asking.Request.TheVariants as requests
 use Rattle.line_protocol.specs.declared.asking.RequestFault.{RequestFault}
-use Rattle.line_protocol.specs.Requests.{◌>>=◌, good_of, with_points}
+use Rattle.text_forms.specs.Steps.{◌>>=◌}
+use Rattle.line_protocol.specs.Requests.{read_good, with_points}
 
 -- a line of a form, with its number and the bytes in place of points
 pub data Form : Type 0 where
@@ -45,10 +46,10 @@ HasForm line = (form : Form) × IsForm form × (line ≡ form_text form)
 
 -- the request of a form, if there is such an auction and the points are good
 abbrev pub answer_to : Form → Result Request RequestFault
-answer_to (BidForm number points) = good_of (Some number) >>= λ good. with_points good (judged (points_of points))
-answer_to (WithdrawForm number) = good_of (Some number) >>= λ good. Ok (requests.Withdraw good)
-answer_to (OwnForm number) = good_of (Some number) >>= λ good. Ok (requests.Own good)
-answer_to (QuoteForm number) = good_of (Some number) >>= λ good. Ok (requests.Quote good)
+answer_to (BidForm number points) = read_good (Some number) >>= λ good. with_points good (judged (points_of points))
+answer_to (WithdrawForm number) = read_good (Some number) >>= λ good. Ok (requests.Withdraw good)
+answer_to (OwnForm number) = read_good (Some number) >>= λ good. Ok (requests.Own good)
+answer_to (QuoteForm number) = read_good (Some number) >>= λ good. Ok (requests.Quote good)
 answer_to CashForm = Ok requests.Cash
 answer_to QuitForm = Ok requests.Quit
 

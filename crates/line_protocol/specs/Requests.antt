@@ -5,6 +5,7 @@ use Rattle.std.specs.Str.{bytes_eq}
 use Rattle.tac_base.specs.declared.bids.Point.{Point}
 use Rattle.tac_base.specs.declared.bids.BidFault.{BidFault}
 use Rattle.tac_base.specs.Numerals.{numeral}
+use Rattle.text_forms.specs.Steps.{◌>>=◌}
 use Rattle.text_forms.specs.Words.{words_of}
 use Rattle.bid_strings.specs.BidForm.{points_of, judged}
 use Rattle.line_protocol.specs.declared.asking.Request.{Request}
@@ -16,15 +17,10 @@ use Rattle.line_protocol.specs.declared.asking.RequestFault.TheVariants as fault
 abbrev pub syntax : RequestFault
 syntax = faults.Syntax
 
-infixl 10 ◌>>=◌
-abbrev pub ◌>>=◌ : {A B : Type 0} → Result A RequestFault → (A → Result B RequestFault) → Result B RequestFault
-(Ok x) >>= f = f x
-(Err fault) >>= f = Err fault
-
 -- the good of a numeral
-abbrev pub good_of : Option ℕ → Result ℕ RequestFault
-good_of None = Err faults.Syntax
-good_of (Some number) = if nat_lt 27 number then Err faults.NoSuchAuction else Ok number
+abbrev pub read_good : Option ℕ → Result ℕ RequestFault
+read_good None = Err faults.Syntax
+read_good (Some number) = if nat_lt 27 number then Err faults.NoSuchAuction else Ok number
 
 -- a line of one word
 abbrev pub plain_of : List ℕ → Result Request RequestFault
@@ -47,16 +43,16 @@ with_points good (Ok points) = Ok (requests.Bid good points)
 with_points good (Err fault) = Err (faults.Bid fault)
 
 -- a line of a keyword, a number and the rest of the line
-abbrev pub bid_of : List ℕ → Result ℕ RequestFault → List ℕ → Result Request RequestFault
-bid_of keyword good points =
+abbrev pub bid_request : List ℕ → Result ℕ RequestFault → List ℕ → Result Request RequestFault
+bid_request keyword good points =
     if bytes_eq keyword (codes "bid") then (good >>= λ g. with_points g (judged (points_of points)))
     else Err faults.Syntax
 
 abbrev pub request_of_words : List (List ℕ) → Result Request RequestFault
 request_of_words [] = Err faults.Syntax
 request_of_words (keyword ∷ []) = plain_of keyword
-request_of_words (keyword ∷ number ∷ []) = about_of keyword (good_of (numeral 5 number))
-request_of_words (keyword ∷ number ∷ word ∷ words) = bid_of keyword (good_of (numeral 5 number)) (join_with_byte 32 (word ∷ words))
+request_of_words (keyword ∷ number ∷ []) = about_of keyword (read_good (numeral 5 number))
+request_of_words (keyword ∷ number ∷ word ∷ words) = bid_request keyword (read_good (numeral 5 number)) (join_with_byte 32 (word ∷ words))
 
 -- what a line asks, or the first fault
 unfoldable pub request_of : List ℕ → Result Request RequestFault

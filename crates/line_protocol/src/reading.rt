@@ -22,7 +22,7 @@ fn ended<T: Drop>(value: T, mut words: Words<'_>) -> Option<T>
 
 /// The number of a numeral, if it is at most the limit.
 fn number_within(word: &[u8], limit: u64) -> Option<u64>
-    ensures value { result ≡ forms.within limit word.now }
+    ensures value { result ≡ forms.read_at_most limit word.now }
     ensures bound { IfSome result (λ n. n ≤ limit) }
 {
     let number = read_numeral(word, 10)?;
@@ -69,7 +69,7 @@ fn holding_of(word: &[u8]) -> Option<i32>
 
 /// The position of a word that begins with `@`.
 fn place_of(word: &[u8]) -> Option<u32>
-    ensures { result ≡ forms.place_of word.now }
+    ensures { result ≡ forms.read_place word.now }
 {
     match word {
         [] => None,
@@ -86,7 +86,7 @@ fn place_of(word: &[u8]) -> Option<u32>
 /// The standing points of a text.
 #[tactic(auto, using(crate::proofs::StandingPoints::standing))]
 fn left_of(text: &[u8]) -> Option<Left>
-    ensures { result ≡ forms.left_of text.now }
+    ensures { result ≡ forms.read_left text.now }
 {
     if text == b"()".as_slice() {
         return Some(Left::none());
@@ -138,7 +138,7 @@ fn own_of(mut words: Words<'_>) -> Option<Reply>
 
 /// The refusal after `no`.
 fn refusal_of(mut words: Words<'_>) -> Option<Reply>
-    ensures { result ≡ forms.refusal_of words.entry }
+    ensures { result ≡ forms.read_refusal words.entry }
 {
     let keyword = words.next()?;
     if keyword == b"closed".as_slice() {
@@ -160,7 +160,7 @@ fn refusal_of(mut words: Words<'_>) -> Option<Reply>
 
 /// The reply of a keyword and the words after it.
 fn reply_of(keyword: &[u8], words: Words<'_>) -> Option<Reply>
-    ensures { result ≡ forms.reply_of keyword.now words.entry }
+    ensures { result ≡ forms.read_reply_words keyword.now words.entry }
 {
     if keyword == b"taken".as_slice() {
         taken_of(words)
@@ -179,7 +179,7 @@ fn reply_of(keyword: &[u8], words: Words<'_>) -> Option<Reply>
 
 /// The reply of the words after `cash`.
 fn cash_of(position: u32, mut words: Words<'_>) -> Option<Said>
-    ensures { result ≡ forms.cash_of position words.entry }
+    ensures { result ≡ forms.read_cash position words.entry }
 {
     let word = words.next()?;
     let dollars = read_signed(word, CASH_DIGITS)?;
@@ -188,7 +188,7 @@ fn cash_of(position: u32, mut words: Words<'_>) -> Option<Said>
 
 /// Whether a word says that an auction is closed.
 fn state_of(word: &[u8]) -> Option<bool>
-    ensures { result ≡ forms.state_of word.now }
+    ensures { result ≡ forms.read_state word.now }
 {
     if word == b"open".as_slice() {
         Some(false)
@@ -285,9 +285,9 @@ fn unplaced_of(mut words: Words<'_>) -> Option<Said>
 }
 
 /// The reply of a line, over the definition of its form.
-#[tactic(auto, unfolding(crate::specs::ReplyForms::said_of))]
+#[tactic(auto, unfolding(crate::specs::ReplyForms::read_said))]
 fn said_of(line: &[u8]) -> Option<Said>
-    ensures { result ≡ forms.said_of line.now }
+    ensures { result ≡ forms.read_said line.now }
 {
     let mut words = Words::new(line);
     let first = words.next()?;

@@ -12,7 +12,7 @@ use text_forms::Words;
 
 /// The good of a numeral.
 fn good_of(word: &[u8]) -> Result<Good, RequestFault>
-    ensures { result ≡ asked.good_of (numeral 5 word.now) }
+    ensures { result ≡ asked.read_good (numeral 5 word.now) }
 {
     match read_numeral(word, 5) {
         None => Err(RequestFault::Syntax),
@@ -22,7 +22,7 @@ fn good_of(word: &[u8]) -> Result<Good, RequestFault>
 
 /// The good of a number.
 fn good_at(number: u64) -> Result<Good, RequestFault>
-    ensures { result ≡ asked.good_of (Some number) }
+    ensures { result ≡ asked.read_good (Some number) }
 {
     if 27 < number {
         return Err(RequestFault::NoSuchAuction);
@@ -48,7 +48,7 @@ fn plain_of(keyword: &[u8]) -> Result<Request, RequestFault>
 
 /// The request of a line of a keyword and a number.
 fn about_of(keyword: &[u8], number: &[u8]) -> Result<Request, RequestFault>
-    ensures { result ≡ asked.about_of keyword.now (asked.good_of (numeral 5 number.now)) }
+    ensures { result ≡ asked.about_of keyword.now (asked.read_good (numeral 5 number.now)) }
 {
     if keyword == b"withdraw".as_slice() {
         let good = good_of(number)?;
@@ -76,7 +76,7 @@ fn with_points(good: Good, points: &[u8]) -> Result<Request, RequestFault>
 
 /// The request of a line of a keyword, a number and the rest of the line.
 fn bid_of(keyword: &[u8], number: &[u8], points: &[u8]) -> Result<Request, RequestFault>
-    ensures { result ≡ asked.bid_of keyword.now (asked.good_of (numeral 5 number.now)) points.now }
+    ensures { result ≡ asked.bid_request keyword.now (asked.read_good (numeral 5 number.now)) points.now }
 {
     if keyword == b"bid".as_slice() {
         let good = good_of(number)?;

@@ -1,5 +1,5 @@
 ghost use Rattle.std.specs.Prelude.{◌≡◌, [], IfOk, replicate};
-ghost use Rattle.floor.specs.Desks.{cash_of, desk_caller, desk_ids, entries_of};
+ghost use Rattle.floor.specs.Desks.{desk_cash, desk_caller, desk_ids, desk_entries};
 ghost use Rattle.floor.specs.Floors.{floor_ids};
 
 use clock_events::run_clock;
@@ -16,7 +16,7 @@ use tac_io::{Look, LookingTicker, MemTicker, Ticker};
 fn begin_two(alloc: Global, game: &Game) -> Result<(Floor, Desk, Desk), Fail>
     ensures agent { IfOk result (λ r. desk_ids r.1 ≡ floor_ids r.0) }
     ensures clock { IfOk result (λ r. (desk_ids r.2 ≡ floor_ids r.0) × (desk_caller r.2 ≡ 8)) }
-    ensures no_calls { IfOk result (λ r. (entries_of r.2 ≡ replicate 28 []) × (cash_of r.2 ≡ [])) }
+    ensures no_calls { IfOk result (λ r. (desk_entries r.2 ≡ replicate 28 []) × (desk_cash r.2 ≡ [])) }
 {
     let (floor, mut desks) = Floor::begin(alloc, game)?;
     let clock = desks.pop().ok_or("there are nine desks")?;

@@ -3,7 +3,7 @@ ghost use Rattle.std.specs.Prelude.{◌≡◌, ◌<◌, ◌∷◌, [], Bool, IfO
 ghost use Rattle.tac_io.specs.LineAnswers.{goes_on};
 ghost use Rattle.tac_io.specs.Lines.{last_of};
 ghost use Rattle.tac_io.specs.MemFiles.{files_names};
-ghost use Rattle.tac_io.specs.Told.{and_then_told};
+ghost use Rattle.tac_io.specs.Known.{known_then};
 
 use std::alloc::{AllocError, Global};
 use std::rt::Clock;
@@ -166,7 +166,7 @@ fn links_come_in_order_and_fail_where_stated(rt: HostRuntime) -> Result<(), Fail
 // Whether a tick is due in time.
 fn is_due<R: Wait + Clock, T: Ticker + Send>(rt: &R, ticker: &mut T, tick: Tick) -> bool
     requires { IfSome (T.state ticker.old).waited (λ ticks. length ticks < 54) }
-    ensures { (late : Bool) × ((T.state ticker.new).waited ≡ and_then_told (T.state ticker.old).waited ((tick, late) ∷ [])) }
+    ensures { (late : Bool) × ((T.state ticker.new).waited ≡ known_then (T.state ticker.old).waited ((tick, late) ∷ [])) }
 {
     ticker.pace(100);
     match ticker.wait(rt, tick) {

@@ -11,7 +11,7 @@ use Rattle.auction_rules.specs.History.{Entry}
 use Rattle.auction_rules.specs.Effects.{nets as nets_of}
 use Rattle.auction_core.specs.Stored.{IsShown}
 use Rattle.log_text.specs.LoggedGames.{LoggedGame}
-use Rattle.log_reader.specs.SoundLog.{history_at}
+use Rattle.log_reader.specs.SoundLog.{logged_history}
 use Rattle.log_audit.specs.Flaws.{IsEarned}
 use Rattle.log_audit.specs.Auditing.{nets_by}
 use Rattle.log_audit.specs.Replays.{AreNets}
@@ -23,7 +23,7 @@ earned_within log earned good goods are low =
     omega (arith, low, goods, length-map earned (λ (r : Vec Nets). r.items), length-map log.histories (map nets_by), ap (λ (l : List (List Nets)). length l) are)
 
 -- the nets of a good
-pub row_of : (log : LoggedGame) (earned : List (Vec Nets)) (good : ℕ) (row : Vec Nets) → AreNets log earned → good < length earned → row ≡ get_or earned good row → row.items ≡ map nets_by (history_at log good)
+pub row_of : (log : LoggedGame) (earned : List (Vec Nets)) (good : ℕ) (row : Vec Nets) → AreNets log earned → good < length earned → row ≡ get_or earned good row → row.items ≡ map nets_by (logged_history log good)
 row_of log earned good row are inside is = by_history (slice_get log.histories good) refl
   where
     shown : Some row.items ≡ option_map (map nets_by) (slice_get log.histories good)
@@ -31,7 +31,7 @@ row_of log earned good row are inside is = by_history (slice_get log.histories g
         sym (slice_get-map (λ (r : Vec Nets). r.items) earned good ∙ ap (option_map (λ (r : Vec Nets). r.items)) (slice_get_read earned (length earned) good row refl inside is))
         ∙ (ap (λ (l : List (List Nets)). slice_get l good) are ∙ slice_get-map (map nets_by) log.histories good)
 
-    by_history : (found : Option (List Entry)) → slice_get log.histories good ≡ found → row.items ≡ map nets_by (history_at log good)
+    by_history : (found : Option (List Entry)) → slice_get log.histories good ≡ found → row.items ≡ map nets_by (logged_history log good)
     by_history None none = let never : Some row.items ≡ None = shown ∙ ap (option_map (map nets_by)) none in absurd cc
     by_history (Some history) at =
         let same : Some row.items ≡ Some (map nets_by history) = shown ∙ ap (option_map (map nets_by)) at in

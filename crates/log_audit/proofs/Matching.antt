@@ -18,7 +18,7 @@ use Rattle.trade_ledger.specs.declared.cash_calls.CashReply.TheVariants.{Done, C
 use Rattle.trade_ledger.specs.declared.cash_calls.CashEntry.{CashEntry}
 use Rattle.trade_ledger.specs.Posts.{is_post, posts_of, post_for, due_post, Matched}
 use Rattle.log_text.specs.LoggedGames.{LoggedGame, IsLogged, IsLoggedCash, IsLoggedCashEntry}
-use Rattle.log_reader.specs.SoundLog.{history_at}
+use Rattle.log_reader.specs.SoundLog.{logged_history}
 use Rattle.log_audit.specs.Flaws.{names, is_posted, IsEarned, IsDuePost, HasDuePost, HasPost}
 use Rattle.log_audit.proofs.Positions.{found_at, take_at, split_at, all_taken}
 use Rattle.log_audit.proofs.Sums.{naming, named, posts_named, posted_from_named, named_from_posted, post_within, due_least, IsHeavy, due_heavy, due_most}
@@ -152,7 +152,7 @@ module _ (log : LoggedGame) (logged : IsLogged log) (cash_logged : (position : �
             let here : named good position (e ∷ split.0) ≡ 1 + named good position split.0 = sum_by-cons (naming good position) e split.0 ∙ ap (λ b. cond {A = ℕ} b 1 0 + named good position split.0) own in
             absurd (omega (arith, first, sum, here, named_once good position))
 
-    due_by : (place caller : ℕ) (call : CashCall) (reply : CashReply) → slice_get log.cash place ≡ Some (record { caller = caller; call = call; reply = reply }) → IsDuePost (history_at log) (take place log.cash) caller call
+    due_by : (place caller : ℕ) (call : CashCall) (reply : CashReply) → slice_get log.cash place ≡ Some (record { caller = caller; call = call; reply = reply }) → IsDuePost (logged_history log) (take place log.cash) caller call
     due_by place caller (Read agent) reply at = tt
     due_by place caller (Post good position nets) reply at =
         let e : CashEntry = record { caller = caller; call = Post good position nets; reply = reply } in
@@ -161,7 +161,7 @@ module _ (log : LoggedGame) (logged : IsLogged log) (cash_logged : (position : �
         let one = is_due e i j x found.6 in
         let calls : Post good position nets ≡ Post i j (record { dollars = nets_of x.trades }) = ap (λ (c : CashEntry). c.call) one.1 in
         let good_is : good ≡ i = cc in let position_is : position ≡ j = cc in let nets_is : nets ≡ record { dollars = nets_of x.trades } = cc in
-        let history_is : history_at log good ≡ found.2 = ap (history_at log) good_is ∙ get_or_from_slice_get log.histories i found.2 [] found.4 in (
+        let history_is : logged_history log good ≡ found.2 = ap (logged_history log) good_is ∙ get_or_from_slice_get log.histories i found.2 [] found.4 in (
           (x, (λ k. slice_get (history_is k) (position_is k)) ∙ found.5, record { trades = one.0; caller_is = ap (λ (c : CashEntry). c.caller) one.1; nets_are = ap (λ (n : Nets). n.dollars) nets_is }),
           once_before place good position e at (λ k. eq-eqb good good refl k && eq-eqb position position refl k),
         )
@@ -172,7 +172,7 @@ module _ (log : LoggedGame) (logged : IsLogged log) (cash_logged : (position : �
     pub has_post_from : (good position : ℕ) → good < 28 → HasPost log good position
     has_post_from good position low e at some =
         let goods = logged.goods in
-        let least = due_least (naming good position) 0 good position log.histories (history_at log good) e (slice_get-get_or log.histories good [] (omega (arith, goods, low))) at in
+        let least = due_least (naming good position) 0 good position log.histories (logged_history log good) e (slice_get-get_or log.histories good [] (omega (arith, goods, low))) at in
         let here : sum_by (naming good position) (due_post (0 + good) position e) ≡ sum_by (naming good position) (due_post good position e) = ap (λ (g : ℕ). sum_by (naming good position) (due_post g position e)) (let first : 0 + good ≡ good = omega arith in first) in
         posted_from_named good position log.cash (omega (arith, least, here, by_trades e.trades some, posts_named good position log.cash, matched (naming good position)))
       where

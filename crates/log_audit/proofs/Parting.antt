@@ -7,7 +7,7 @@ use Rattle.log_text.specs.LoggedGames.{LoggedGame, IsLogged}
 use Rattle.log_audit.specs.declared.findings.Flaw.{Flaw}
 use Rattle.log_audit.specs.declared.findings.Flaw.TheVariants as flaws
 use Rattle.auction_core.specs.Setups.{setup_of}
-use Rattle.log_reader.specs.SoundLog.{IsSound, history_at, IsSoundHead}
+use Rattle.log_reader.specs.SoundLog.{IsSound, logged_history, IsSoundHead}
 use Rattle.log_audit.specs.declared.findings.Finding.TheVariants as findings
 use Rattle.log_audit.specs.Flaws.{IsFreeOf, ComesBefore, IsLower, turn_of, place_of, IsFirstFlaw, HasFairEntry, IsOnSchedule, HasTrueReading, HasDuePost, HasPost, HasDueScore}
 use Rattle.log_audit.specs.Auditing.{IsLowest, IsLowestBelow, IsLowestPlace}
@@ -85,7 +85,7 @@ module _ (game : GameFile) (log : LoggedGame) where
     pub entry_found : IsFirstFlaw game log (flaws.Entry good position)
     entry_found = record { has = λ free. unfair.unfair (free unfair.low); first = entry_first }
 
-  pub entries_free : ((good position : ℕ) → good < 28 → HasFairEntry (setup_of good game) (history_at log good) position) → HasNoneFrom game log 0 1
+  pub entries_free : ((good position : ℕ) → good < 28 → HasFairEntry (setup_of good game) (logged_history log good) position) → HasNoneFrom game log 0 1
   entries_free fair (flaws.Entry good position) low high = λ inside. fair good position inside
   entries_free fair (flaws.Clock g) low high = absurd (omega (arith, high))
   entries_free fair (flaws.Cash p) low high = absurd (omega (arith, high))
@@ -97,7 +97,7 @@ module _ (game : GameFile) (log : LoggedGame) where
   -- ---- the clock
 
   abbrev On : ℕ → Type 0
-  On good = IsOnSchedule game good (history_at log good)
+  On good = IsOnSchedule game good (logged_history log good)
 
   module _ (good : ℕ) (lowest : IsLowestBelow 28 On (Some good)) where
     clock_first : (other : Flaw) → 1 ≤ turn_of other → ComesBefore other (flaws.Clock good) → IsFreeOf game log other

@@ -10,7 +10,7 @@ use Rattle.trade_ledger.specs.declared.cash_calls.CashEntry.{CashEntry}
 use Rattle.auction_core.specs.Setups.{setup_of}
 use Rattle.game_text.specs.Games.{GameFile}
 use Rattle.log_text.specs.LoggedGames.{LoggedGame, IsLogged, IsLoggedHistory, IsLoggedEntry, IsLoggedCashEntry, AreHistories}
-use Rattle.log_reader.specs.SoundLog.{IsSound, history_at}
+use Rattle.log_reader.specs.SoundLog.{IsSound, logged_history}
 use Rattle.log_audit.specs.declared.findings.Flaw.{Flaw}
 use Rattle.log_audit.specs.declared.findings.Flaw.TheVariants as flaws
 use Rattle.log_audit.specs.Flaws.{IsFreeOf}
@@ -35,25 +35,25 @@ history_past (h ∷ histories) zero le = absurd (omega (arith, le))
 history_past (h ∷ histories) (suc i) le = history_past histories i (omega (arith, le))
 
 -- the place of an entry is one of a log's
-pub place_within : (log : LoggedGame) → IsLogged log → (good position : ℕ) (e : Entry) → slice_get (history_at log good) position ≡ Some e → (good < 28) × (position < 8256)
+pub place_within : (log : LoggedGame) → IsLogged log → (good position : ℕ) (e : Entry) → slice_get (logged_history log good) position ≡ Some e → (good < 28) × (position < 8256)
 place_within log logged good position e at = dite (dec_lt good 28)
     (λ low. let goods = logged.goods in let few = (histories_at 0 good log.histories logged.histories (omega (arith, goods, low))).few in
-    let inside = slice_get_within (history_at log good) position e at in (low, omega (arith, few, inside)))
+    let inside = slice_get_within (logged_history log good) position e at in (low, omega (arith, few, inside)))
     (λ high. let goods = logged.goods in let none : Some e ≡ None = sym at ∙ ap (λ (h : List Entry). slice_get h position) (history_past log.histories good (omega (arith, goods, high))) in absurd cc)
 
 module _ (game : GameFile) (log : LoggedGame) (logged : IsLogged log) where
-  called_at : (good : ℕ) → good < 28 → (position : ℕ) (e : Entry) → slice_get (history_at log good) position ≡ Some e → e.caller ≤ 8
+  called_at : (good : ℕ) → good < 28 → (position : ℕ) (e : Entry) → slice_get (logged_history log good) position ≡ Some e → e.caller ≤ 8
   called_at good low position e at =
       let goods = logged.goods in
       let history = histories_at 0 good log.histories logged.histories (omega (arith, goods, low)) in
-      (all_at (IsLoggedEntry (0 + good)) (history_at log good) history.entries position e at).caller
+      (all_at (IsLoggedEntry (0 + good)) (logged_history log good) history.entries position e at).caller
 
   cash_at : (position : ℕ) (e : CashEntry) → slice_get log.cash position ≡ Some e → IsLoggedCashEntry e
   cash_at position e at = all_at IsLoggedCashEntry log.cash logged.cash position e at
 
   pub sound_from_free : ((flaw : Flaw) → IsFreeOf game log flaw) → IsSound game log
   sound_from_free free = record {
-    legal = λ good low. legal_from_fair (setup_of good game) (history_at log good) (λ position. free (flaws.Entry good position) low) (called_at good low);
+    legal = λ good low. legal_from_fair (setup_of good game) (logged_history log good) (λ position. free (flaws.Entry good position) low) (called_at good low);
     scheduled = λ good low. free (flaws.Clock good) low;
     cash = legal_from_true log.cash cash_at (λ position. free (flaws.Cash position));
     matched = matched_from_due log logged cash_at (λ position. free (flaws.Post position)) (λ good position low. free (flaws.Unposted good position) low);
@@ -62,7 +62,7 @@ module _ (game : GameFile) (log : LoggedGame) (logged : IsLogged log) where
   }
 
   pub free_from_sound : IsSound game log → (flaw : Flaw) → IsFreeOf game log flaw
-  free_from_sound sound (flaws.Entry good position) = λ low. fair_from_legal (setup_of good game) (history_at log good) (sound.legal good low) position
+  free_from_sound sound (flaws.Entry good position) = λ low. fair_from_legal (setup_of good game) (logged_history log good) (sound.legal good low) position
   free_from_sound sound (flaws.Clock good) = λ low. sound.scheduled good low
   free_from_sound sound (flaws.Cash position) = true_from_legal log.cash sound.cash position
   free_from_sound sound (flaws.Post position) = due_posts_from log logged cash_at sound.matched position

@@ -5,11 +5,11 @@ use Rattle.trade_ledger.specs.declared.cash_calls.CashCall.TheVariants.{Post, Re
 use Rattle.trade_ledger.specs.declared.cash_calls.CashReply.{CashReply}
 use Rattle.trade_ledger.specs.declared.cash_calls.CashReply.TheVariants.{Done, Cash}
 use Rattle.trade_ledger.specs.declared.cash_calls.CashEntry.{CashEntry}
-use Rattle.trade_ledger.specs.CashHistory.{IsFit, IsLegalCash, reply_of}
+use Rattle.trade_ledger.specs.CashHistory.{IsFitCash, IsLegalCash, cash_reply_of}
 use Rattle.log_text.specs.LoggedGames.{IsLoggedCash, IsLoggedCashEntry}
 use Rattle.log_audit.specs.Flaws.{IsTrueReading, HasTrueReading}
 
-true_by : (before : List CashEntry) (e : CashEntry) (call : CashCall) → e.reply ≡ reply_of before e.call → IsTrueReading before e call
+true_by : (before : List CashEntry) (e : CashEntry) (call : CashCall) → e.reply ≡ cash_reply_of before e.call → IsTrueReading before e call
 true_by before e (Post good position nets) is = tt
 true_by before e (Read agent) is = is
 
@@ -18,7 +18,7 @@ pub true_from_legal : (cash : List CashEntry) → IsLegalCash cash → (position
 true_from_legal cash legal position e at = true_by (take position cash) e e.call (legal position e at).1
 
 due_by : (before : List CashEntry) (caller : ℕ) (call : CashCall) (reply : CashReply) → IsLoggedCash caller call reply
-    → IsTrueReading before (record { caller = caller; call = call; reply = reply }) call → IsFit caller call × (reply ≡ reply_of before call)
+    → IsTrueReading before (record { caller = caller; call = call; reply = reply }) call → IsFitCash caller call × (reply ≡ cash_reply_of before call)
 due_by before caller (Post good position nets) Done logged is = (tt, refl)
 due_by before caller (Post good position nets) (Cash dollars) logged is = absurd logged
 due_by before caller (Read agent) Done logged is = absurd logged

@@ -9,7 +9,7 @@ use Rattle.auction_rules.specs.History.{Entry}
 use Rattle.auction_rules.specs.Effects.{nets as nets_of}
 use Rattle.auction_rules.specs.Legal.{entries_of}
 use Rattle.trade_ledger.specs.declared.cash_calls.CashEntry.{CashEntry}
-use Rattle.trade_ledger.specs.CashHistory.{total_of}
+use Rattle.trade_ledger.specs.CashHistory.{cash_total}
 use Rattle.log_audit.specs.Flaws.{HasFairEntry, IsLower, is_posted}
 
 -- ---- the lowest place
@@ -19,12 +19,12 @@ abbrev pub IsLowest : (ℕ → Type 0) → Option ℕ → Type 0
 IsLowest Holds None = (n : ℕ) → Holds n
 IsLowest Holds (Some n) = (Holds n → ⊥) × ((k : ℕ) → k < n → Holds k)
 
--- the same of the numbers below a bound
+-- the lowest number below a bound at which a sentence does not hold, and none where it holds at each
 abbrev pub IsLowestBelow : ℕ → (ℕ → Type 0) → Option ℕ → Type 0
 IsLowestBelow bound Holds None = (n : ℕ) → n < bound → Holds n
 IsLowestBelow bound Holds (Some n) = (n < bound) × (Holds n → ⊥) × ((k : ℕ) → k < n → Holds k)
 
--- the same of the positions of all goods, the lowest good first
+-- the first position at which a sentence does not hold, the lowest good first, and none where it holds at each
 abbrev pub IsLowestPlace : (ℕ → ℕ → Type 0) → Option (ℕ × ℕ) → Type 0
 IsLowestPlace Holds None = (good position : ℕ) → good < 28 → Holds good position
 IsLowestPlace Holds (Some place) =
@@ -63,7 +63,7 @@ IsFollowed due made caller call (Some next) = ((caller ≡ clock) × (slice_get 
 
 -- each party has this much after a cash history
 abbrev pub AreTotals : List CashEntry → List ℤ → Type 0
-AreTotals history totals = (party : ℕ) → party < 9 → slice_index_or totals party (pos 0) ≡ total_of history party
+AreTotals history totals = (party : ℕ) → party < 9 → slice_index_or totals party (pos 0) ≡ cash_total history party
 
 -- ---- posts
 

@@ -14,13 +14,13 @@ use Rattle.trade_ledger.specs.declared.cash_calls.CashEntry.{CashEntry}
 use Rattle.trade_ledger.specs.CashHistory as cash_book
 use Rattle.auction_core.specs.Setups.{setup_of}
 use Rattle.score_sheet.specs.Settlement.{settlement_of}
-use Rattle.score_sheet.specs.Sheets.{Scored, IsDue}
+use Rattle.score_sheet.specs.Sheets.{Scored, IsDueScore}
 use Rattle.log_text.specs.LoggedGames.{LoggedGame}
 use Rattle.log_audit.specs.declared.findings.Flaw.{Flaw}
 use Rattle.log_audit.specs.declared.findings.Flaw.TheVariants as flaws
 use Rattle.log_audit.specs.declared.findings.Finding.{Finding}
 use Rattle.log_audit.specs.declared.findings.Finding.TheVariants as findings
-use Rattle.log_reader.specs.SoundLog.{history_at, clock_calls_in, auctions_in, IsSoundHead}
+use Rattle.log_reader.specs.SoundLog.{logged_history, clock_calls_in, auctions_in, IsSoundHead}
 
 -- ---- entries
 
@@ -43,7 +43,7 @@ IsOnSchedule game good history = clock_calls_in history ≡ clock_calls game goo
 -- a reading answers what the posts before it give its agent
 abbrev pub IsTrueReading : List CashEntry → CashEntry → CashCall → Type 0
 IsTrueReading before e (cash_calls.Post good position nets) = ⊤
-IsTrueReading before e (cash_calls.Read agent) = e.reply ≡ cash_book.reply_of before e.call
+IsTrueReading before e (cash_calls.Read agent) = e.reply ≡ cash_book.cash_reply_of before e.call
 
 abbrev pub HasTrueReading : List CashEntry → ℕ → Type 0
 HasTrueReading cash position = (e : CashEntry) → slice_get cash position ≡ Some e → IsTrueReading (take position cash) e e.call
@@ -72,24 +72,24 @@ IsDuePost history before caller (cash_calls.Post good position nets) =
 IsDuePost history before caller (cash_calls.Read agent) = ⊤
 
 abbrev pub HasDuePost : LoggedGame → ℕ → Type 0
-HasDuePost log position = (e : CashEntry) → slice_get log.cash position ≡ Some e → IsDuePost (history_at log) (take position log.cash) e.caller e.call
+HasDuePost log position = (e : CashEntry) → slice_get log.cash position ≡ Some e → IsDuePost (logged_history log) (take position log.cash) e.caller e.call
 
 -- an entry with a trade has a post that names it
 abbrev pub HasPost : LoggedGame → ℕ → ℕ → Type 0
-HasPost log good position = (e : Entry) → slice_get (history_at log good) position ≡ Some e → e.trades ≢ [] → is_posted log.cash good position ≡ true
+HasPost log good position = (e : Entry) → slice_get (logged_history log good) position ≡ Some e → e.trades ≢ [] → is_posted log.cash good position ≡ true
 
 -- ---- scores
 
 -- an agent's score, with its packages and its certificate, is the one that is due
 abbrev pub HasDueScore : GameFile → LoggedGame → ℕ → Type 0
-HasDueScore game log agent = (scored : Scored) → slice_get log.scores agent ≡ Some scored → IsDue game (settlement_of (auctions_in game log)) agent scored
+HasDueScore game log agent = (scored : Scored) → slice_get log.scores agent ≡ Some scored → IsDueScore game (settlement_of (auctions_in game log)) agent scored
 
 -- ---- all flaws
 
 -- the sentence that does not hold of a log with the flaw
 abbrev pub IsFreeOf : GameFile → LoggedGame → Flaw → Type 0
-IsFreeOf game log (flaws.Entry good position) = good < 28 → HasFairEntry (setup_of good game) (history_at log good) position
-IsFreeOf game log (flaws.Clock good) = good < 28 → IsOnSchedule game good (history_at log good)
+IsFreeOf game log (flaws.Entry good position) = good < 28 → HasFairEntry (setup_of good game) (logged_history log good) position
+IsFreeOf game log (flaws.Clock good) = good < 28 → IsOnSchedule game good (logged_history log good)
 IsFreeOf game log (flaws.Cash position) = HasTrueReading log.cash position
 IsFreeOf game log (flaws.Post position) = HasDuePost log position
 IsFreeOf game log (flaws.Unposted good position) = good < 28 → HasPost log good position

@@ -8,7 +8,7 @@ use Rattle.game_text.specs.Games.{GameFile}
 use Rattle.auction_core.specs.Auctions.{AuctionHistory}
 use Rattle.auction_core.specs.Setups.{setup_of}
 use Rattle.log_text.specs.LoggedGames.{LoggedGame}
-use Rattle.log_reader.specs.SoundLog.{history_at, auctions_in}
+use Rattle.log_reader.specs.SoundLog.{logged_history, auctions_in}
 use Rattle.log_audit.specs.declared.replaying.Replay.{Replay}
 use Rattle.log_audit.specs.declared.replaying.Replay.TheVariants as one
 use Rattle.log_audit.specs.declared.replaying.Replays.{Replays}
@@ -35,16 +35,16 @@ IsReplay setup history (one.Unfair position) = IsUnfair setup history position
 abbrev pub AreNets : LoggedGame → List (Vec Nets) → Type 0
 AreNets log nets = map (λ row. row.items) nets ≡ map (map nets_by) log.histories
 
--- the same of all goods
+-- the histories of all goods were replayed, and each entry is fair
 pub record AreReplayed (game : GameFile) (log : LoggedGame) (auctions : List AuctionHistory) (nets : List (Vec Nets)) : Type 0 where
   pub auctions_are : auctions ≡ auctions_in game log
   pub nets_are : AreNets log nets
-  pub fair : (good position : ℕ) → good < 28 → HasFairEntry (setup_of good game) (history_at log good) position
+  pub fair : (good position : ℕ) → good < 28 → HasFairEntry (setup_of good game) (logged_history log good) position
 
 pub record AreUnfair (game : GameFile) (log : LoggedGame) (good position : ℕ) : Type 0 where
   pub low : good < 28
-  pub unfair : HasFairEntry (setup_of good game) (history_at log good) position → ⊥
-  pub first : (other place : ℕ) → other < 28 → IsLower (other, place) (good, position) → HasFairEntry (setup_of other game) (history_at log other) place
+  pub unfair : HasFairEntry (setup_of good game) (logged_history log good) position → ⊥
+  pub first : (other place : ℕ) → other < 28 → IsLower (other, place) (good, position) → HasFairEntry (setup_of other game) (logged_history log other) place
 
 abbrev pub AreReplays : GameFile → LoggedGame → Replays → Type 0
 AreReplays game log (all.Fair auctions nets) = AreReplayed game log auctions.items nets.items

@@ -15,13 +15,11 @@ use crate::readings::false_reading;
 use crate::replaying::{Replays, replay_all};
 use crate::scheduling::off_schedule;
 use crate::scores::false_score;
-use auction_core::Closed;
 use game_text::Game;
 use log_reader::Log;
-use score_sheet::{Accounts, settle};
+use score_sheet::{Accounts, settle_auctions};
 use std::alloc::Global;
 use tac_base::{Memory, Nets};
-use trade_ledger::CashBook;
 
 /// The first flaw of the clock's calls.
 fn clock_flaw(alloc: Global, game: &Game, log: &Log) -> Result<Option<Flaw>, Memory>
@@ -101,10 +99,7 @@ pub fn audit_log(alloc: Global, game: &Game, log: &Log) -> Result<Finding, Memor
     if let Some(flaw) = post_flaw(alloc, log, &earned)? {
         return Ok(Finding::Unsound(flaw));
     }
-    // Settling only reads the auctions.
-    let cash = CashBook::begin(alloc)?;
-    let closed = Closed { auctions, cash };
-    let accounts = settle(&closed);
+    let accounts = settle_auctions(&auctions);
     match last_flaw(game, log, &accounts) {
         Some(flaw) => Ok(Finding::Unsound(flaw)),
         None => Ok(Finding::Sound),

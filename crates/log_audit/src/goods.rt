@@ -2,9 +2,6 @@ ghost use Rattle.std.specs.Prelude.{◌≡◌, ◌+◌, ◌<◌};
 
 use tac_base::{Good, Tick};
 
-/// How many goods there are.
-pub(crate) const GOODS: u8 = 28;
-
 /// The good of a number, 0..27.
 pub(crate) fn good_of(number: u8) -> Good
     requires { number < 28 }

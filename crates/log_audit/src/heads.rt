@@ -2,12 +2,12 @@
 ghost use Rattle.std.specs.Prelude.{◌≡◌, ◌==◌, ℕ, ◌≤◌, ◌↔◌, map, Some, length, slice_get, IsTrue};
 ghost use Rattle.std.specs.List.{list_any};
 ghost use Rattle.log_audit.specs.Auditing.{IsEndFollowed};
-ghost use Rattle.log_reader.specs.SoundLog.{seatings, seated_agents, IsAbsent, IsService, IsSoundHead};
+ghost use Rattle.log_reader.specs.SoundLog.{seatings, logged_seats, HasNoEntry, IsService, IsSoundHead};
 
-use crate::goods::{GOODS, good_of};
+use crate::goods::good_of;
 use line_protocol::{Cause, LogHead, Verdict};
 use log_reader::{Log, LogHistory};
-use tac_base::limits::{LINKS, TICKS};
+use tac_base::limits::{GOODS, LINKS, TICKS};
 use tac_base::{Agent, Entry};
 
 /// How many links were given the seat of an agent.
@@ -64,7 +64,7 @@ fn follow_end(
 
 /// Whether the ends are those of the seated agents, in rising order.
 fn are_ends(verdicts: &[Verdict], ends: &[(Agent, Cause)]) -> bool
-    ensures { IsTrue result ↔ (map (λ end. end.0) ends.now ≡ seated_agents verdicts.now) }
+    ensures { IsTrue result ↔ (map (λ end. end.0) ends.now ≡ logged_seats verdicts.now) }
 {
     let mut ended = 0;
     for agent in Agent::all() {
@@ -103,7 +103,7 @@ fn is_in_cash(log: &Log, agent: Agent) -> bool
 
 /// Whether an agent has no entry at all.
 fn is_absent(log: &Log, agent: Agent) -> bool
-    ensures { IsTrue result ↔ IsAbsent log.now agent }
+    ensures { IsTrue result ↔ HasNoEntry log.now agent }
 {
     for number in 0..GOODS {
         if is_in(log.history(good_of(number)), agent) {
@@ -115,7 +115,7 @@ fn is_absent(log: &Log, agent: Agent) -> bool
 
 /// Whether no agent without a seat has an entry.
 fn are_others_absent(log: &Log, verdicts: &[Verdict]) -> bool
-    ensures { IsTrue result ↔ ((agent : ℕ) → agent ≤ 7 → seatings verdicts.now agent ≡ 0 → IsAbsent log.now agent) }
+    ensures { IsTrue result ↔ ((agent : ℕ) → agent ≤ 7 → seatings verdicts.now agent ≡ 0 → HasNoEntry log.now agent) }
 {
     for agent in Agent::all() {
         if count_seats(verdicts, agent) == 0 && !is_absent(log, agent) {

@@ -2,14 +2,15 @@
 ghost use Rattle.std.specs.Prelude.{◌≡◌, ℕ, ◌<◌, ◌↔◌, ◌++◌, List, [], ◌∷◌, Some, None, length, map, slice_get, IsTrue};
 ghost use Rattle.auction_rules.specs.History.{Entry as HistoryEntry};
 ghost use Rattle.trade_ledger.specs.declared.cash_calls.CashEntry.{CashEntry};
-ghost use Rattle.log_reader.specs.SoundLog.{history_at};
+ghost use Rattle.log_reader.specs.SoundLog.{logged_history};
 ghost use Rattle.log_audit.specs.Flaws.{IsEarned, IsDuePost, HasDuePost, HasPost};
 ghost use Rattle.log_audit.specs.Replays.{AreNets};
 ghost use Rattle.log_audit.specs.Auditing.{AreNamed, IsLowest, IsLowestPlace, HasNamedEntry, nets_by};
 
-use crate::goods::{GOODS, good_of};
+use crate::goods::good_of;
 use crate::places::Places;
 use log_reader::{Log, LogHistory};
+use tac_base::limits::GOODS;
 use tac_base::{Caller, Entry, Good, Nets};
 use trade_ledger::{CashCall, CashEntry};
 
@@ -30,8 +31,8 @@ fn same_nets(a: &Nets, b: &Nets) -> bool
 /// What the trades of an entry, which is there, gave each party.
 fn nets_at(log: &Log, earned: &[Vec<Nets>], good: Good, position: u32) -> Nets
     requires nets { AreNets log.now earned.now }
-    requires inside { position < length (history_at log.now good) }
-    ensures { slice_get (map nets_by (history_at log.now good)) position ≡ Some result }
+    requires inside { position < length (logged_history log.now good) }
+    ensures { slice_get (map nets_by (logged_history log.now good)) position ≡ Some result }
 {
     // There are 28 histories, by the ranges of the log.
     let _head = log.head();
@@ -48,7 +49,7 @@ fn is_earned(
     nets: &Nets,
 ) -> bool
     requires { AreNets log.now earned.now }
-    ensures { IsTrue result ↔ ((e : HistoryEntry) × (slice_get (history_at log.now good) position ≡ Some e) × IsEarned caller nets.now e) }
+    ensures { IsTrue result ↔ ((e : HistoryEntry) × (slice_get (logged_history log.now good) position ≡ Some e) × IsEarned caller nets.now e) }
 {
     match log.history(good).entry(position) {
         Some(entry) => {
@@ -61,7 +62,7 @@ fn is_earned(
 /// Whether an entry of the cash history, if it is a post, is due, given the places named by the posts before it. Names its place.
 fn is_due(log: &Log, earned: &[Vec<Nets>], places: &mut Places, entry: &CashEntry) -> bool
     requires { AreNets log.now earned.now }
-    ensures answer { (before : List CashEntry) → AreNamed before places.old → IsTrue result ↔ IsDuePost (history_at log.now) before entry.now.caller entry.now.call }
+    ensures answer { (before : List CashEntry) → AreNamed before places.old → IsTrue result ↔ IsDuePost (logged_history log.now) before entry.now.caller entry.now.call }
     ensures named { (before : List CashEntry) → AreNamed before places.old → IsTrue result → AreNamed (before ++ entry.now ∷ []) places.new }
 {
     // No history has more than 8,256 entries, by the ranges of the log.

@@ -8,12 +8,12 @@ ghost use Rattle.log_audit.specs.Flaws.{HasFairEntry};
 ghost use Rattle.log_audit.specs.Auditing.{AreCounts, IsStruck};
 ghost use Rattle.log_audit.specs.Replays.{IsReplay, AreReplays};
 
-use crate::goods::{GOODS, good_of};
+use crate::goods::good_of;
 use auction_core::Auction;
 use game_text::Game;
 use log_reader::{Log, LogHistory};
 use std::alloc::Global;
-use tac_base::limits::{AGENT_CALLS, CLOCK_CALLS};
+use tac_base::limits::{AGENT_CALLS, CLOCK_CALLS, GOODS};
 use tac_base::{Caller, Entry, Good, Memory, Nets, Trade, same_reply};
 use turn_lock::Kept;
 

@@ -1,16 +1,16 @@
 // The clock's calls of a log, compared with those of the game's schedule.
 ghost use Rattle.std.specs.Prelude.{◌≡◌, ◌↔◌, ◌++◌, [], ◌∷◌, ◌≤◌, Some, length, slice_get, IfOk, OnOk, IsTrue};
 ghost use Rattle.game_text.specs.Schedule.{calls_at, clock_calls};
-ghost use Rattle.log_reader.specs.SoundLog.{clock_calls_in, history_at};
+ghost use Rattle.log_reader.specs.SoundLog.{clock_calls_in, logged_history};
 ghost use Rattle.log_audit.specs.Flaws.{IsOnSchedule};
 ghost use Rattle.log_audit.specs.Auditing.{IsFollowed, IsLowestBelow, calls_for};
 
-use crate::goods::{GOODS, good_of, tick_after};
+use crate::goods::{good_of, tick_after};
 use clock_events::{schedule, schedule_law};
 use game_text::Game;
 use log_reader::{Log, LogHistory};
 use std::alloc::{AllocError, Global};
-use tac_base::limits::TICKS;
+use tac_base::limits::{GOODS, TICKS};
 use tac_base::{Call, Caller, Entry, Good, Memory, Tick, same_call};
 
 /// Adds a call, if it is one of the good. After an error it was not added.
@@ -93,7 +93,7 @@ fn makes(history: &LogHistory, due: &[Call]) -> bool
 
 /// The lowest good whose clock's calls are not those of the schedule, if there is one.
 pub(crate) fn off_schedule(alloc: Global, game: &Game, log: &Log) -> Result<Option<Good>, Memory>
-    ensures { IfOk result (IsLowestBelow 28 (λ good. IsOnSchedule game.now good (history_at log.now good))) }
+    ensures { IfOk result (IsLowestBelow 28 (λ good. IsOnSchedule game.now good (logged_history log.now good))) }
 {
     for number in 0..GOODS {
         let good = good_of(number);

@@ -2,7 +2,7 @@
 ghost use Rattle.std.specs.Prelude.{◌≡◌, ◌<◌, ◌↔◌, IsTrue};
 ghost use Rattle.score_sheet.specs.Score as rules;
 ghost use Rattle.score_sheet.specs.Settlement.{settlement_of};
-ghost use Rattle.score_sheet.specs.Sheets.{IsDue};
+ghost use Rattle.score_sheet.specs.Sheets.{IsDueScore};
 ghost use Rattle.allocator.specs.Solutions.{IsSolution};
 ghost use Rattle.log_text.specs.LoggedGames.{IsLoggedScore};
 ghost use Rattle.log_reader.specs.SoundLog.{auctions_in};
@@ -10,7 +10,7 @@ ghost use Rattle.log_audit.specs.Flaws.{HasDueScore};
 ghost use Rattle.log_audit.specs.Auditing.{IsLowest};
 
 use bound_cert::check;
-use dual_bound::{is_enough, worth};
+use dual_bound::{allocation_worth, is_enough};
 use game_text::{Account, Game};
 use log_reader::{Log, ScoreLine};
 use score_sheet::{Accounts, short};
@@ -38,14 +38,14 @@ fn is_best(account: &Account, line: &ScoreLine) -> bool
     ensures { IsTrue result ↔ IsSolution account.now line.now.best line.now.allocation line.now.tree }
 {
     is_enough(account, &line.allocation)
-        && worth(account, &line.allocation) == line.best
+        && allocation_worth(account, &line.allocation) == line.best
         && check(account, line.best, &line.cert)
 }
 
 /// Whether a score is the one that is due to an agent.
 fn is_due(game: &Game, accounts: &Accounts, agent: Agent, line: &ScoreLine) -> bool
     requires { IsLoggedScore line.now }
-    ensures { IsTrue result ↔ IsDue game.now accounts.now agent line.now }
+    ensures { IsTrue result ↔ IsDueScore game.now accounts.now agent line.now }
 {
     let number = usize::from(agent.get());
     let account = Account {

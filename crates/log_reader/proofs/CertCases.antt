@@ -6,22 +6,22 @@ use Rattle.text_forms.specs.Lines.{NumberedLine, Remaining, due_of, at_line, blo
 use Rattle.bound_cert.specs.Trees.{Tree}
 use Rattle.bound_cert.specs.declared.faults.CertFault.{CertFault}
 use Rattle.bound_cert.specs.declared.faults.CertFault.TheVariants as certs
-use Rattle.bound_cert.specs.Faults.{IsRefusal as IsCertRefusal}
+use Rattle.bound_cert.specs.Faults.{IsCertRefusal}
 use Rattle.bound_cert.specs.Reading.{cert_of}
 use Rattle.log_text.specs.HeadForms.{formed}
-use Rattle.log_text.specs.SheetForms.{count_of}
+use Rattle.log_text.specs.SheetForms.{read_count}
 use Rattle.log_text.specs.LogReading.{cert_by, cert_in}
-use Rattle.log_reader.specs.Faults.{fault_by, refused, IsRefusal}
+use Rattle.log_reader.specs.Faults.{fault_by, or_log_fault, IsLogRefusal}
 
 -- ---- the certificate of a block
 
-by_reason : (b : Bool) (number line : ℕ) → IsRefusal (cond b (fault_by number certs.TooLong) (fault_by (number + line) certs.TooLong))
-    (refused {A = Tree} (cond b (Err (record { line = number; reason = TextEnd })) (Err (record { line = number + line; reason = TextEnd }))))
+by_reason : (b : Bool) (number line : ℕ) → IsLogRefusal (cond b (fault_by number certs.TooLong) (fault_by (number + line) certs.TooLong))
+    (or_log_fault {A = Tree} (cond b (Err (record { line = number; reason = TextEnd })) (Err (record { line = number + line; reason = TextEnd }))))
 by_reason true number line = refl
 by_reason false number line = refl
 
 -- a certificate that is refused refuses the log
-pub cert_refused : (number : ℕ) (fault : CertFault) (read : Result Tree CertFault) → IsCertRefusal fault read → IsRefusal (fault_by number fault) (refused (cert_by number read))
+pub cert_refused : (number : ℕ) (fault : CertFault) (read : Result Tree CertFault) → IsCertRefusal fault read → IsLogRefusal (fault_by number fault) (or_log_fault (cert_by number read))
 cert_refused number (certs.Line line reason) read h = rw h (by_reason (eqb reason 7) number line)
 cert_refused number certs.TooLong read h = rw h refl
 cert_refused number certs.Memory read h = tt
@@ -32,16 +32,16 @@ pub no_line : (agent : ℕ) (left : Remaining) (bad : BadLine) → due_of left �
 unfolding cert_in
 no_line agent left bad h = rw h refl
 
-pub no_count : (agent : ℕ) (left : Remaining) (line : NumberedLine) (after : Remaining) (bad : BadLine) → due_of left ≡ Ok (line, after) → at_line line.number (formed (count_of agent line.bytes)) ≡ Err bad → cert_in agent left ≡ Err bad
+pub no_count : (agent : ℕ) (left : Remaining) (line : NumberedLine) (after : Remaining) (bad : BadLine) → due_of left ≡ Ok (line, after) → at_line line.number (formed (read_count agent line.bytes)) ≡ Err bad → cert_in agent left ≡ Err bad
 unfolding cert_in
 no_count agent left line after bad h e = rw (h, e) refl
 
 -- the number of lines that was read
-pub counted : (agent number : ℕ) (bytes : List ℕ) (line : NumberedLine) (read : Option ℕ) (result : Result ℕ BadLine) → number ≡ line.number → bytes ≡ line.bytes → read ≡ count_of agent bytes → result ≡ at_line number (formed read) →
-    at_line line.number (formed (count_of agent line.bytes)) ≡ result
+pub counted : (agent number : ℕ) (bytes : List ℕ) (line : NumberedLine) (read : Option ℕ) (result : Result ℕ BadLine) → number ≡ line.number → bytes ≡ line.bytes → read ≡ read_count agent bytes → result ≡ at_line number (formed read) →
+    at_line line.number (formed (read_count agent line.bytes)) ≡ result
 counted agent number bytes line read result n b r h = rw (← n, ← b, ← r) (sym h)
 
-module _ (agent : ℕ) (left : Remaining) (line : NumberedLine) (after : Remaining) (count : ℕ) (due : due_of left ≡ Ok (line, after)) (counts : at_line line.number (formed (count_of agent line.bytes)) ≡ Ok count) where
+module _ (agent : ℕ) (left : Remaining) (line : NumberedLine) (after : Remaining) (count : ℕ) (due : due_of left ≡ Ok (line, after)) (counts : at_line line.number (formed (read_count agent line.bytes)) ≡ Ok count) where
   pub no_block : block_of count after ≡ None → cert_in agent left ≡ Err (record { line = line.number; reason = TextEnd })
   unfolding cert_in
   no_block h = rw (due, counts, h) refl

@@ -8,7 +8,7 @@ use Rattle.tac_base.specs.declared.calls.Trade.{Trade}
 use Rattle.text_forms.specs.Lines.{at_line}
 use Rattle.auction_core.specs.Calls.{IsFit}
 use Rattle.log_text.specs.HeadForms.{formed}
-use Rattle.log_text.specs.EntryForms.{trade_of, entry_of}
+use Rattle.log_text.specs.EntryForms.{trade_of, read_entry}
 use Rattle.log_text.specs.LoggedGames.{IsLoggedCall}
 use Rattle.log_text.proofs.EntryFormLaws.{trade_is, entry_is}
 
@@ -35,5 +35,5 @@ fit calls.Publish h = tt
 fit calls.Close h = tt
 
 -- an auction may be asked a call
-pub call_fit : (number : ℕ) (line : List ℕ) (read : Option (ℕ × Call × Reply)) (entry : ℕ × Call × Reply) → read ≡ entry_of line → Ok entry ≡ at_line number (formed read) → IsFit entry.1
+pub call_fit : (number : ℕ) (line : List ℕ) (read : Option (ℕ × Call × Reply)) (entry : ℕ × Call × Reply) → read ≡ read_entry line → Ok entry ≡ at_line number (formed read) → IsFit entry.1
 call_fit number line read entry is h = fit entry.1 (entry_is line entry (sym is ∙ formed_is number read entry (sym h))).call_range

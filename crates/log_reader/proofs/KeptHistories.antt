@@ -10,7 +10,7 @@ use Rattle.auction_rules.specs.History.{Entry}
 use Rattle.auction_core.specs.Calls.{IsFit}
 use Rattle.auction_core.specs.Stored.{entry_behind, stored}
 use Rattle.auction_core.proofs.Chains.{stored_more, stores_more}
-use Rattle.log_reader.specs.Histories.{IsKept, IsRead}
+use Rattle.log_reader.specs.Histories.{IsHistoryKept, IsEntryRead}
 
 -- what holds of each entry holds of the one at a position
 pub found_is : (P : StoredEntry → Type 0) (entries : List StoredEntry) (position : ℕ) (found : Option StoredEntry) → AllByRecursion P entries → slice_get entries position ≡ found → IfSome found P
@@ -27,7 +27,7 @@ module _ (entries : List StoredEntry) (trades : List Trade) (e : Entry) where
   abbrev behind : StoredEntry
   behind = entry_behind trades e.caller e.call e.reply e.trades
 
-  kept_more : IsKept entries trades → IsRead e.call e.trades → length entries < 8256 → length e.trades ≤ 128 → IsKept (entries ++ behind ∷ []) (trades ++ e.trades)
+  kept_more : IsHistoryKept entries trades → IsEntryRead e.call e.trades → length entries < 8256 → length e.trades ≤ 128 → IsHistoryKept (entries ++ behind ∷ []) (trades ++ e.trades)
   kept_more kept read room few = record {
     few = simp length-append (omega arith);
     few_trades = (let short = kept.few_trades in omega (arith, short, few, length-append trades e.trades, length-append entries (behind ∷ [])));
@@ -38,14 +38,14 @@ module _ (entries : List StoredEntry) (trades : List Trade) (e : Entry) where
   module _ (given : Result (Unit {0}) Memory) (new : List StoredEntry) (all : List Trade) where
     -- it is kept, whether the entry was stored or nothing was
     pub kept_after : OnOk given (new ≡ entries ++ behind ∷ []) → OnOk given (all ≡ trades ++ e.trades) → OnErr given (new ≡ entries) → OnErr given (all ≡ trades) →
-        IsKept entries trades → IsRead e.call e.trades → length entries < 8256 → length e.trades ≤ 128 → IsKept new all
+        IsHistoryKept entries trades → IsEntryRead e.call e.trades → length entries < 8256 → length e.trades ≤ 128 → IsHistoryKept new all
     kept_after more traded same none kept read room few = after given more traded same none
       where
-        after : (r : Result (Unit {0}) Memory) → OnOk r (new ≡ entries ++ behind ∷ []) → OnOk r (all ≡ trades ++ e.trades) → OnErr r (new ≡ entries) → OnErr r (all ≡ trades) → IsKept new all
+        after : (r : Result (Unit {0}) Memory) → OnOk r (new ≡ entries ++ behind ∷ []) → OnOk r (all ≡ trades ++ e.trades) → OnErr r (new ≡ entries) → OnErr r (all ≡ trades) → IsHistoryKept new all
         after (Ok u) a b c d = rw (a, b) (kept_more kept read room few)
         after (Err m) a b c d = rw (c, d) kept
 
-    pub pushed_after : OnOk given (new ≡ entries ++ behind ∷ []) → OnOk given (all ≡ trades ++ e.trades) → IsKept entries trades → OnOk given (stored new all ≡ stored entries trades ++ e ∷ [])
+    pub pushed_after : OnOk given (new ≡ entries ++ behind ∷ []) → OnOk given (all ≡ trades ++ e.trades) → IsHistoryKept entries trades → OnOk given (stored new all ≡ stored entries trades ++ e ∷ [])
     pushed_after more traded kept = after given more traded
       where
         after : (r : Result (Unit {0}) Memory) → OnOk r (new ≡ entries ++ behind ∷ []) → OnOk r (all ≡ trades ++ e.trades) → OnOk r (stored new all ≡ stored entries trades ++ e ∷ [])

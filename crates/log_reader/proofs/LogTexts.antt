@@ -10,7 +10,7 @@ use Rattle.log_text.proofs.LogTaking.{log_is}
 use Rattle.log_text.proofs.SheetGiving.{log_given}
 use Rattle.log_reader.specs.declared.fault.LogFault.{LogFault}
 use Rattle.log_reader.specs.declared.fault.LogFault.TheVariants as faults
-use Rattle.log_reader.specs.Faults.{refused, IsReading}
+use Rattle.log_reader.specs.Faults.{or_log_fault, IsLogReading}
 use Rattle.log_reader.specs.Logs.{log_of}
 use Rattle.log_reader.proofs.Refusals.{was_read, is_read}
 
@@ -18,15 +18,15 @@ pub long_text : (text : List ℕ) → 67108864 < length text → log_of text ≡
 unfolding log_of
 long_text text long = let test : ltb 67108864 (length text) ≡ true = grind (arith, nat_tests) in rw test refl
 
-short_text : (text : List ℕ) → length text ≤ 67108864 → log_of text ≡ refused (log_in (lines_from false 1 (parts_of 10 text)))
+short_text : (text : List ℕ) → length text ≤ 67108864 → log_of text ≡ or_log_fault (log_in (lines_from false 1 (parts_of 10 text)))
 unfolding log_of
 short_text text short = let test : ltb 67108864 (length text) ≡ false = grind (arith, nat_tests) in rw test refl
 
-pub short_reading : (text : List ℕ) (result : Result LoggedGame LogFault) → length text ≤ 67108864 → IsReading (λ log. log) result (refused (log_in (lines_from false 1 (parts_of 10 text)))) → IsReading (λ log. log) result (log_of text)
-short_reading text result short read = subst (IsReading (λ log. log) result) (sym (short_text text short)) read
+pub short_reading : (text : List ℕ) (result : Result LoggedGame LogFault) → length text ≤ 67108864 → IsLogReading (λ log. log) result (or_log_fault (log_in (lines_from false 1 (parts_of 10 text)))) → IsLogReading (λ log. log) result (log_of text)
+short_reading text result short read = subst (IsLogReading (λ log. log) result) (sym (short_text text short)) read
 
 -- the text is the one of the log that was read
-pub found_if : (text : List ℕ) (result : Result LoggedGame LogFault) → IsReading (λ log. log) result (refused (log_in (lines_from false 1 (parts_of 10 text)))) → IfOk result (λ log. (text ≡ logged_text log) × IsLogged log)
+pub found_if : (text : List ℕ) (result : Result LoggedGame LogFault) → IsLogReading (λ log. log) result (or_log_fault (log_in (lines_from false 1 (parts_of 10 text)))) → IfOk result (λ log. (text ≡ logged_text log) × IsLogged log)
 found_if text (Ok log) read = let is = log_is text log (was_read (log_in (lines_from false 1 (parts_of 10 text))) log read) in (is.same, is.range)
 found_if text (Err fault) read = tt
 

@@ -11,13 +11,13 @@ use Rattle.text_forms.specs.declared.lines.Reason.TheVariants.{TextEnd}
 use Rattle.text_forms.specs.declared.lines.BadLine.{BadLine}
 use Rattle.text_forms.specs.Words.{parts_of, words_of}
 use Rattle.text_forms.specs.Rows.{row}
-use Rattle.text_forms.specs.Lines.{NumberedLine, Remaining, lines_from, due_in, due_of, nothing_in, nothing_left, after_line, block_in, block_of, first_number}
+use Rattle.text_forms.specs.Lines.{NumberedLine, Remaining, lines_from, due_in, due_of, nothing_in, nothing_left, with_line, block_in, block_of, first_number}
 use Rattle.text_forms.specs.Steps.{◌>>=◌}
 use Rattle.text_forms.proofs.Reading.{ok_is}
 use Rattle.packages.specs.Features.{values_of}
 use Rattle.bound_cert.specs.declared.faults.CertFault.{CertFault}
 use Rattle.bound_cert.specs.declared.faults.CertFault.TheVariants as certs
-use Rattle.bound_cert.specs.Faults.{refused, IsRefusal}
+use Rattle.bound_cert.specs.Faults.{or_cert_fault, IsCertRefusal}
 use Rattle.bound_cert.specs.NodeLines.{is_leaf, leaf_columns, split_columns}
 use Rattle.bound_cert.specs.Trees.{Tree, split, Trees, more}
 use Rattle.bound_cert.specs.Reading.{Step, forest_by, tree_in, root_in, cert_of}
@@ -52,15 +52,15 @@ chosen_block : (b : Bool) (block : Option (List ℕ × Remaining)) (x : List ℕ
 chosen_block true block x h = h
 chosen_block false block x h = absurd cc
 
-mapped_block : (line : List ℕ) (block : Option (List ℕ × Remaining)) (x : List ℕ × Remaining) → option_map (after_line line) block ≡ Some x → (y : List ℕ × Remaining) × (block ≡ Some y) × (y.1 ≡ x.1)
+mapped_block : (line : List ℕ) (block : Option (List ℕ × Remaining)) (x : List ℕ × Remaining) → option_map (with_line line) block ≡ Some x → (y : List ℕ × Remaining) × (block ≡ Some y) × (y.1 ≡ x.1)
 mapped_block line None x h = absurd cc
-mapped_block line (Some y) x h = (y, refl, (let same : after_line line y ≡ x = cc in subst (λ (z : List ℕ × Remaining). y.1 ≡ z.1) same refl))
+mapped_block line (Some y) x h = (y, refl, (let same : with_line line y ≡ x = cc in subst (λ (z : List ℕ × Remaining). y.1 ≡ z.1) same refl))
 
 block_low_in : (number count : ℕ) (left : Remaining) (lines : List NumberedLine) (x : List ℕ × Remaining) → left.last ≤ last_number → AllByRecursion IsLow lines → block_in number count left lines ≡ Some x → AreLow x.1
 block_low_in number zero left lines x last low h = subst (λ (y : List ℕ × Remaining). AreLow y.1) (same_Some ([], record left { lines = lines }) x h) (record { lines = low; last = last })
 block_low_in number (suc count) left [] x last low h = absurd cc
 block_low_in number (suc count) left (line ∷ lines) x last low h =
-    let m = mapped_block line.bytes (block_in (number + 1) count left lines) x (chosen_block (eqb line.number number) (option_map (after_line line.bytes) (block_in (number + 1) count left lines)) x h) in
+    let m = mapped_block line.bytes (block_in (number + 1) count left lines) x (chosen_block (eqb line.number number) (option_map (with_line line.bytes) (block_in (number + 1) count left lines)) x h) in
     subst AreLow m.2 (block_low_in (number + 1) count left lines m.0 last low.1 m.1)
 
 pub block_low : (count : ℕ) (left : Remaining) (x : List ℕ × Remaining) → AreLow left → block_of count left ≡ Some x → AreLow x.1
@@ -137,10 +137,10 @@ tree_low zero left low = node_low zero (λ below is. absurd (omega arith)) left.
 tree_low (suc level) left low =
     node_low (suc level) (λ below is. let same : level ≡ below = omega arith in subst (λ (n : ℕ). KeepsLow Tree (tree_in n)) same (tree_low level)) left.lines left.last left.ended low
 
-nothing_low : (left : Remaining) (lines : List NumberedLine) → left.last ≤ last_number → AllByRecursion IsLow lines → Outcome (λ (x : Unit {0}). ⊤) (refused (nothing_in left lines))
+nothing_low : (left : Remaining) (lines : List NumberedLine) → left.last ≤ last_number → AllByRecursion IsLow lines → Outcome (λ (x : Unit {0}). ⊤) (or_cert_fault (nothing_in left lines))
 nothing_low left [] last low = ended_low left.ended left.last last
   where
-    ended_low : (b : Bool) (number : ℕ) → number ≤ last_number → Outcome (λ (x : Unit {0}). ⊤) (refused (cond b (Ok tt) (Err (record { line = number; reason = TextEnd }))))
+    ended_low : (b : Bool) (number : ℕ) → number ≤ last_number → Outcome (λ (x : Unit {0}). ⊤) (or_cert_fault (cond b (Ok tt) (Err (record { line = number; reason = TextEnd }))))
     ended_low true number is = tt
     ended_low false number is = is
 nothing_low left (line ∷ lines) last low = low.0
@@ -148,15 +148,15 @@ nothing_low left (line ∷ lines) last low = low.0
 root_low : (left : Remaining) → AreLow left → Outcome (λ (tree : Tree). ⊤) (root_in left)
 unfolding root_in
 root_low left low =
-    then_low (Leaves Tree) (λ (tree : Tree). ⊤) (tree_in 32 left) (λ tree. refused (nothing_left tree.1) >>= λ done. Ok tree.0) (tree_low 32 left low)
-    (λ tree is. then_low (λ (x : Unit {0}). ⊤) (λ (t : Tree). ⊤) (refused (nothing_left tree.1)) (λ done. Ok tree.0) (nothing_low tree.1 tree.1.lines is.last is.lines) (λ done _. tt))
+    then_low (Leaves Tree) (λ (tree : Tree). ⊤) (tree_in 32 left) (λ tree. or_cert_fault (nothing_left tree.1) >>= λ done. Ok tree.0) (tree_low 32 left low)
+    (λ tree is. then_low (λ (x : Unit {0}). ⊤) (λ (t : Tree). ⊤) (or_cert_fault (nothing_left tree.1)) (λ done. Ok tree.0) (nothing_low tree.1 tree.1.lines is.last is.lines) (λ done _. tt))
 
 text_low : (text : List ℕ) (long : Bool) → (long ≡ false → length text ≤ 67108864) → Outcome (λ (tree : Tree). ⊤) (cond long (Err certs.TooLong) (root_in (lines_from false 1 (parts_of 10 text))))
 text_low text true short = tt
 text_low text false short = root_low (lines_from false 1 (parts_of 10 text)) (whole_low text (short refl))
 
 -- the line that a certificate is refused at has a low number
-pub cert_low : (text : List ℕ) (fault : CertFault) → IsRefusal fault (cert_of text) → IsLowFault fault
+pub cert_low : (text : List ℕ) (fault : CertFault) → IsCertRefusal fault (cert_of text) → IsLowFault fault
 unfolding cert_of
 cert_low text (certs.Line line reason) h =
     subst (λ (read : Result Tree CertFault). Outcome (λ (tree : Tree). ⊤) read) h (text_low text (ltb 67108864 (length text)) (λ short. grind (arith, nat_tests)))

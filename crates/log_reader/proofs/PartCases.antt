@@ -9,18 +9,18 @@ use Rattle.bound_cert.specs.Trees.{Tree}
 use Rattle.line_protocol.specs.declared.admission.Verdict.{Verdict}
 use Rattle.line_protocol.specs.declared.admission.Cause.{Cause}
 use Rattle.line_protocol.specs.Heads.{Head, Serve}
-use Rattle.log_text.specs.HeadForms.{is_text, link_of, end_of, missed_of}
-use Rattle.log_text.specs.EntryForms.{cash_of, cash_entry_of}
-use Rattle.log_text.specs.SheetForms.{score_of, package_of}
+use Rattle.log_text.specs.HeadForms.{is_text, read_link, read_end, read_missed}
+use Rattle.log_text.specs.EntryForms.{read_cash_line, cash_entry_of}
+use Rattle.log_text.specs.SheetForms.{read_score, package_of}
 use Rattle.log_text.specs.LogReading.{line_by, as_long_as, is_served, served_in, head_by, head_in, cash_in, cert_in, score_in}
 
 -- ---- links, ends and the ticks that were missed
 
 abbrev pub links_in : Remaining → Result (List Verdict × Remaining) BadLine
-links_in left = as_long_as (codes "link") (λ place. line_by (link_of place)) 255 0 left
+links_in left = as_long_as (codes "link") (λ place. line_by (read_link place)) 255 0 left
 
 abbrev pub ends_in : Remaining → Result (List (ℕ × Cause) × Remaining) BadLine
-ends_in left = as_long_as (codes "end") (λ _. line_by end_of) 67108864 0 left
+ends_in left = as_long_as (codes "end") (λ _. line_by read_end) 67108864 0 left
 
 pub no_links : (left : Remaining) (bad : BadLine) → links_in left ≡ Err bad → served_in left ≡ Err bad
 no_links left bad h = rw h refl
@@ -30,10 +30,10 @@ module _ (left : Remaining) (links : List Verdict × Remaining) (linked : links_
   no_ends bad h = rw (linked, h) refl
 
   module _ (ends : List (ℕ × Cause) × Remaining) (ended : ends_in links.1 ≡ Ok ends) where
-    pub no_missed : (bad : BadLine) → line_by missed_of ends.1 ≡ Err bad → served_in left ≡ Err bad
+    pub no_missed : (bad : BadLine) → line_by read_missed ends.1 ≡ Err bad → served_in left ≡ Err bad
     no_missed bad h = rw (linked, ended, h) refl
 
-    pub served_is : (missed : ℕ × Remaining) → line_by missed_of ends.1 ≡ Ok missed → served_in left ≡ Ok (Serve links.0 ends.0 missed.0, missed.1)
+    pub served_is : (missed : ℕ × Remaining) → line_by read_missed ends.1 ≡ Ok missed → served_in left ≡ Ok (Serve links.0 ends.0 missed.0, missed.1)
     served_is missed h = rw (linked, ended, h) refl
 
 -- ---- the title, and how the game was played
@@ -53,11 +53,11 @@ module _ (left : Remaining) (title : Unit {0} × Remaining) (titled : line_by (i
 
 -- ---- the cash history
 
-pub no_cash : (left : Remaining) (bad : BadLine) → line_by cash_of left ≡ Err bad → cash_in left ≡ Err bad
+pub no_cash : (left : Remaining) (bad : BadLine) → line_by read_cash_line left ≡ Err bad → cash_in left ≡ Err bad
 unfolding cash_in
 no_cash left bad h = rw h refl
 
-pub cash_is : (left : Remaining) (count : ℕ × Remaining) → line_by cash_of left ≡ Ok count → cash_in left ≡ repeat count.0 0 (λ _. line_by cash_entry_of) count.1
+pub cash_is : (left : Remaining) (count : ℕ × Remaining) → line_by read_cash_line left ≡ Ok count → cash_in left ≡ repeat count.0 0 (λ _. line_by cash_entry_of) count.1
 unfolding cash_in
 cash_is left count h = rw h refl
 
@@ -66,11 +66,11 @@ cash_is left count h = rw h refl
 abbrev pub packages_in : ℕ → Remaining → Result (List Package × Remaining) BadLine
 packages_in agent left = repeat 8 0 (λ client. line_by (package_of agent client)) left
 
-pub no_score : (agent : ℕ) (left : Remaining) (bad : BadLine) → line_by (score_of agent) left ≡ Err bad → score_in agent left ≡ Err bad
+pub no_score : (agent : ℕ) (left : Remaining) (bad : BadLine) → line_by (read_score agent) left ≡ Err bad → score_in agent left ≡ Err bad
 unfolding score_in
 no_score agent left bad h = rw h refl
 
-module _ (agent : ℕ) (left : Remaining) (score : (ℕ × ℤ × ℕ × ℤ) × Remaining) (scored : line_by (score_of agent) left ≡ Ok score) where
+module _ (agent : ℕ) (left : Remaining) (score : (ℕ × ℤ × ℕ × ℤ) × Remaining) (scored : line_by (read_score agent) left ≡ Ok score) where
   pub no_packages : (bad : BadLine) → packages_in agent score.1 ≡ Err bad → score_in agent left ≡ Err bad
   unfolding score_in
   no_packages bad h = rw (scored, h) refl

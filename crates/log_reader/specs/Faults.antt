@@ -7,8 +7,8 @@ use Rattle.log_reader.specs.declared.fault.LogFault.{LogFault}
 use Rattle.log_reader.specs.declared.fault.LogFault.TheVariants.{Line, TooLong, Memory}
 
 -- a bad line as it is reported: by its number alone
-abbrev pub fault_of : BadLine → LogFault
-fault_of bad = Line bad.line
+abbrev pub log_fault : BadLine → LogFault
+log_fault bad = Line bad.line
 
 -- The fault of a log whose certificate, after the line of its number, has a fault. If it ends too early or too late, the line before it
 -- is the bad one.
@@ -18,17 +18,17 @@ fault_by number certs.TooLong = Line number
 fault_by number certs.Memory = Memory
 
 -- a bad line as the refusal that it is
-abbrev pub refused : {A : Type 0} → Result A BadLine → Result A LogFault
-refused (Ok x) = Ok x
-refused (Err bad) = Err (fault_of bad)
+abbrev pub or_log_fault : {A : Type 0} → Result A BadLine → Result A LogFault
+or_log_fault (Ok x) = Ok x
+or_log_fault (Err bad) = Err (log_fault bad)
 
 -- a reading was refused so, unless memory was refused
-abbrev pub IsRefusal : {A : Type 0} → LogFault → Result A LogFault → Type 0
-IsRefusal (Line line) read = read ≡ Err (Line line)
-IsRefusal TooLong read = read ≡ Err TooLong
-IsRefusal Memory read = ⊤
+abbrev pub IsLogRefusal : {A : Type 0} → LogFault → Result A LogFault → Type 0
+IsLogRefusal (Line line) read = read ≡ Err (Line line)
+IsLogRefusal TooLong read = read ≡ Err TooLong
+IsLogRefusal Memory read = ⊤
 
 -- what was returned, seen by a view, is what reading gives, unless memory was refused
-abbrev pub IsReading : {A B : Type 0} → (A → B) → Result A LogFault → Result B LogFault → Type 0
-IsReading view (Ok x) read = read ≡ Ok (view x)
-IsReading view (Err fault) read = IsRefusal fault read
+abbrev pub IsLogReading : {A B : Type 0} → (A → B) → Result A LogFault → Result B LogFault → Type 0
+IsLogReading view (Ok x) read = read ≡ Ok (view x)
+IsLogReading view (Err fault) read = IsLogRefusal fault read

@@ -21,8 +21,8 @@ use Rattle.line_protocol.specs.Heads.{Head, Play, Serve}
 use Rattle.log_text.specs.LoggedGames.{LoggedGame}
 
 -- the history of a good
-abbrev pub history_at : LoggedGame → ℕ → List Entry
-history_at log good = slice_index_or log.histories good []
+abbrev pub logged_history : LoggedGame → ℕ → List Entry
+logged_history log good = slice_index_or log.histories good []
 
 -- the calls of the clock in a history, in order
 abbrev pub clock_calls_in : List Entry → List Call
@@ -47,12 +47,12 @@ abbrev pub seatings : List Verdict → ℕ → ℕ
 seatings verdicts agent = count_by (gives_seat agent) verdicts
 
 -- the agents that have a seat, in rising order
-abbrev pub seated_agents : List Verdict → List ℕ
-seated_agents verdicts = filter (λ agent. nat_lt 0 (seatings verdicts agent)) agents
+abbrev pub logged_seats : List Verdict → List ℕ
+logged_seats verdicts = filter (λ agent. nat_lt 0 (seatings verdicts agent)) agents
 
 -- an agent has no entry, in the auction of any good or in the cash history
-pub record IsAbsent (log : LoggedGame) (agent : ℕ) : Type 0 where
-  pub calls : (good : ℕ) → good < 28 → list_any (λ e. e.caller == agent) (history_at log good) ≡ false
+pub record HasNoEntry (log : LoggedGame) (agent : ℕ) : Type 0 where
+  pub calls : (good : ℕ) → good < 28 → list_any (λ e. e.caller == agent) (logged_history log good) ≡ false
   pub cash : list_any (λ e. e.caller == agent) log.cash ≡ false
 
 -- At most 64 links were taken, and no seat was given twice. Each seated agent has one end, in rising order, and nobody else has one. At
@@ -60,9 +60,9 @@ pub record IsAbsent (log : LoggedGame) (agent : ℕ) : Type 0 where
 pub record IsService (log : LoggedGame) (verdicts : List Verdict) (ends : List (ℕ × Cause)) (missed : ℕ) : Type 0 where
   pub few_links : length verdicts ≤ LINKS
   pub seats_differ : (agent : ℕ) → agent ≤ 7 → seatings verdicts agent ≤ 1
-  pub each_end : map (λ end. end.0) ends ≡ seated_agents verdicts
+  pub each_end : map (λ end. end.0) ends ≡ logged_seats verdicts
   pub few_missed : missed ≤ TICKS
-  pub absent : (agent : ℕ) → agent ≤ 7 → seatings verdicts agent ≡ 0 → IsAbsent log agent
+  pub absent : (agent : ℕ) → agent ≤ 7 → seatings verdicts agent ≡ 0 → HasNoEntry log agent
 
 -- for a game from a script the head says nothing more
 abbrev pub IsSoundHead : LoggedGame → Head → Type 0
@@ -75,8 +75,8 @@ IsSoundHead log (Serve verdicts ends missed) = IsService log verdicts ends misse
 -- and it has exactly one post for each entry with a trade. Each agent's score is the one that is due to it, with a best allocation and a
 -- certificate for it. And the head agrees with all that.
 pub record IsSound (game : GameFile) (log : LoggedGame) : Type 0 where
-  pub legal : (good : ℕ) → good < 28 → Legal (setup_of good game) (history_at log good)
-  pub scheduled : (good : ℕ) → good < 28 → clock_calls_in (history_at log good) ≡ clock_calls game good
+  pub legal : (good : ℕ) → good < 28 → Legal (setup_of good game) (logged_history log good)
+  pub scheduled : (good : ℕ) → good < 28 → clock_calls_in (logged_history log good) ≡ clock_calls game good
   pub cash : IsLegalCash log.cash
   pub matched : Matched log.histories log.cash
   pub scores : IsSheet game (settlement_of (auctions_in game log)) log.scores

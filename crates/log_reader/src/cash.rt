@@ -3,7 +3,7 @@ ghost use Rattle.std.specs.Prelude.{◌≡◌, ◌≤◌, IfOk};
 ghost use Rattle.tac_base.specs.declared.limits.TheConstants.{CASH_ENTRIES};
 ghost use Rattle.log_text.specs.EntryForms as forms;
 ghost use Rattle.log_text.specs.LogReading as reading;
-ghost use Rattle.log_reader.specs.Faults.{refused, IsReading};
+ghost use Rattle.log_reader.specs.Faults.{or_log_fault, IsLogReading};
 
 use crate::LogFault;
 use crate::log_lines::{LogLines, well_formed};
@@ -45,7 +45,7 @@ fn cash_entry_at(lines: LogLines<'_>) -> Result<(CashEntry, LogLines<'_>), BadLi
 
 /// Reads the line before the entries: how many there are.
 fn cash_at(lines: LogLines<'_>) -> Result<(u32, LogLines<'_>), BadLine>
-    ensures same { result ≡ reading.line_by forms.cash_of lines.entry }
+    ensures same { result ≡ reading.line_by forms.read_cash_line lines.entry }
     ensures few { IfOk result (λ x. x.0 ≤ CASH_ENTRIES) }
 {
     let (line, left) = lines.due()?;
@@ -58,7 +58,7 @@ pub(crate) fn cash_in(
     alloc: Global,
     lines: LogLines<'_>,
 ) -> Result<(Vec<CashEntry>, LogLines<'_>), LogFault>
-    ensures { IsReading (λ x. (x.0.items, x.1)) result (refused (reading.cash_in lines.entry)) }
+    ensures { IsLogReading (λ x. (x.0.items, x.1)) result (or_log_fault (reading.cash_in lines.entry)) }
 {
     let (count, left) = cash_at(lines)?;
     read_all(alloc, &CashEntries, count, left)

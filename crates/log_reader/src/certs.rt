@@ -3,7 +3,7 @@ ghost use Rattle.std.specs.Prelude.{◌≡◌, ◌≤◌};
 ghost use Rattle.bound_cert.specs.Reading.{cert_of};
 ghost use Rattle.bound_cert.specs.Views.{tree_of};
 ghost use Rattle.log_text.specs.LogReading as reading;
-ghost use Rattle.log_reader.specs.Faults.{fault_by, refused, IsReading};
+ghost use Rattle.log_reader.specs.Faults.{fault_by, or_log_fault, IsLogReading};
 ghost use Rattle.log_reader.specs.Numbers.{last_number, IsLowFault};
 
 use crate::LogFault;
@@ -36,7 +36,7 @@ fn fault_at(number: u32, fault: CertFault) -> LogFault
 /// Reads the certificate of a block that follows the line of its number.
 fn cert_at(alloc: Global, number: u32, block: &[u8]) -> Result<Cert, LogFault>
     requires { number ≤ last_number }
-    ensures { IsReading (λ cert. tree_of cert.root) result (refused (reading.cert_by number (cert_of block.now))) }
+    ensures { IsLogReading (λ cert. tree_of cert.root) result (or_log_fault (reading.cert_by number (cert_of block.now))) }
 {
     match read_cert(alloc, block) {
         Ok(cert) => Ok(cert),
@@ -50,7 +50,7 @@ pub(crate) fn cert_in(
     agent: Agent,
     lines: LogLines<'_>,
 ) -> Result<(Cert, LogLines<'_>), LogFault>
-    ensures { IsReading (λ x. (tree_of x.0.root, x.1)) result (refused (reading.cert_in agent lines.entry)) }
+    ensures { IsLogReading (λ x. (tree_of x.0.root, x.1)) result (or_log_fault (reading.cert_in agent lines.entry)) }
 {
     let (line, left) = lines.due()?;
     let number = line.number();

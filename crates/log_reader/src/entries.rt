@@ -24,13 +24,13 @@ pub(crate) struct ReadEntry {
 impl Model for ReadEntry {
     ghost use Rattle.std.specs.Prelude.{◌≤◌};
     ghost use Rattle.auction_rules.specs.History.{Entry};
-    ghost use Rattle.log_reader.specs.Histories.{IsRead};
+    ghost use Rattle.log_reader.specs.Histories.{IsEntryRead};
 
     ghost Value = { Entry };
 
     ghost view = { λ e. record { caller = e.caller; call = e.call; reply = e.reply; trades = e.trades } };
 
-    ghost invariant = { λ e. IsRead e.call e.trades };
+    ghost invariant = { λ e. IsEntryRead e.call e.trades };
 }
 
 /// Reads the line of a trade in the auction of a good.
@@ -64,7 +64,7 @@ fn trades_in(good: Good, lines: LogLines<'_>) -> Result<(Fills, LogLines<'_>), B
 
 /// Reads the line of an entry.
 fn call_at(lines: LogLines<'_>) -> Result<((Caller, Call, Reply), LogLines<'_>), BadLine>
-    ensures same { result ≡ reading.line_by forms.entry_of lines.entry }
+    ensures same { result ≡ reading.line_by forms.read_entry lines.entry }
     ensures fit { IfOk result (λ x. IsFit x.0.1) }
 {
     let (line, left) = lines.due()?;

@@ -1,5 +1,5 @@
 ghost use Rattle.std.specs.Prelude.{◌≡◌};
-ghost use Rattle.log_reader.specs.Faults.{fault_of};
+ghost use Rattle.log_reader.specs.Faults.{log_fault};
 
 use text_forms::BadLine;
 use thiserror::Error;
@@ -19,7 +19,7 @@ pub enum LogFault {
 }
 
 impl From<BadLine> for LogFault {
-    ghost from_gives = { λ bad fault. fault ≡ fault_of bad };
+    ghost from_gives = { λ bad fault. fault ≡ log_fault bad };
 
     fn from(bad: BadLine) -> Self {
         LogFault::Line { line: bad.line }

@@ -3,7 +3,7 @@ ghost use Rattle.std.specs.Prelude.{◌≡◌};
 ghost use Rattle.line_protocol.specs.Heads.{head_of};
 ghost use Rattle.log_text.specs.HeadForms as forms;
 ghost use Rattle.log_text.specs.LogReading as reading;
-ghost use Rattle.log_reader.specs.Faults.{refused, IsReading};
+ghost use Rattle.log_reader.specs.Faults.{or_log_fault, IsLogReading};
 
 use crate::LogFault;
 use crate::log_lines::{LogLines, text_at, well_formed};
@@ -12,22 +12,23 @@ use line_protocol::{Cause, LogHead, Verdict};
 use log_text::{end_of, link_of, missed_of};
 use std::alloc::Global;
 use tac_base::Agent;
-use tac_base::limits::TEXT_BYTES;
+use tac_base::limits::{LOG_LINKS, TEXT_BYTES};
 use text_forms::BadLine;
-
-/// The most links that a log has, and the most missed ticks.
-const LINKS: u32 = 255;
 
 /// The links, in order of arrival.
 #[derive(Drop)]
 struct Links;
 
 impl Part for Links {
+    ghost use Rattle.tac_base.specs.declared.limits.TheConstants.{LOG_LINKS};
+    ghost use Rattle.log_text.specs.HeadForms as forms;
+    ghost use Rattle.log_text.specs.LogReading as reading;
+
     type Value = Verdict;
 
-    ghost gives = { λ _ place left. reading.line_by (forms.link_of place) left };
+    ghost gives = { λ _ place left. reading.line_by (forms.read_link place) left };
 
-    ghost most = { λ _. 255 };
+    ghost most = { λ _. LOG_LINKS };
 
     fn read<'a>(
         &self,
@@ -41,7 +42,7 @@ impl Part for Links {
 
 /// Reads the line of the link at this place.
 fn link_at<'a>(place: u8, lines: LogLines<'a>) -> Result<(Verdict, LogLines<'a>), BadLine>
-    ensures { result ≡ reading.line_by (forms.link_of place) lines.entry }
+    ensures { result ≡ reading.line_by (forms.read_link place) lines.entry }
 {
     let (line, left) = lines.due()?;
     let verdict = well_formed(line.number(), link_of(place, line.bytes()))?;
@@ -59,7 +60,7 @@ impl Part for Ends {
 
     type Value = (Agent, Cause);
 
-    ghost gives = { λ _ _ left. reading.line_by forms.end_of left };
+    ghost gives = { λ _ _ left. reading.line_by forms.read_end left };
 
     ghost most = { λ _. TEXT_BYTES };
 
@@ -75,7 +76,7 @@ impl Part for Ends {
 
 /// Reads the line of a session's end.
 fn end_at(lines: LogLines<'_>) -> Result<((Agent, Cause), LogLines<'_>), BadLine>
-    ensures { result ≡ reading.line_by forms.end_of lines.entry }
+    ensures { result ≡ reading.line_by forms.read_end lines.entry }
 {
     let (line, left) = lines.due()?;
     let end = well_formed(line.number(), end_of(line.bytes()))?;
@@ -84,7 +85,7 @@ fn end_at(lines: LogLines<'_>) -> Result<((Agent, Cause), LogLines<'_>), BadLine
 
 /// Reads the line of the ticks that were missed.
 fn missed_at(lines: LogLines<'_>) -> Result<(u8, LogLines<'_>), BadLine>
-    ensures { result ≡ reading.line_by forms.missed_of lines.entry }
+    ensures { result ≡ reading.line_by forms.read_missed lines.entry }
 {
     let (line, left) = lines.due()?;
     let missed = well_formed(line.number(), missed_of(line.bytes()))?;
@@ -93,9 +94,9 @@ fn missed_at(lines: LogLines<'_>) -> Result<(u8, LogLines<'_>), BadLine>
 
 /// Reads what became of each link, why each session ended, and how many ticks were missed.
 fn served_in(alloc: Global, lines: LogLines<'_>) -> Result<(LogHead, LogLines<'_>), LogFault>
-    ensures { IsReading (λ x. (head_of x.0, x.1)) result (refused (reading.served_in lines.entry)) }
+    ensures { IsLogReading (λ x. (head_of x.0, x.1)) result (or_log_fault (reading.served_in lines.entry)) }
 {
-    let (verdicts, left) = read_while(alloc, &Links, b"link", LINKS, lines)?;
+    let (verdicts, left) = read_while(alloc, &Links, b"link", LOG_LINKS, lines)?;
     let (ends, left) = read_while(alloc, &Ends, b"end", TEXT_BYTES, left)?;
     let (missed, left) = missed_at(left)?;
     Ok((
@@ -135,7 +136,7 @@ pub(crate) fn head_in(
     alloc: Global,
     lines: LogLines<'_>,
 ) -> Result<(LogHead, LogLines<'_>), LogFault>
-    ensures { IsReading (λ x. (head_of x.0, x.1)) result (refused (reading.head_in lines.entry)) }
+    ensures { IsLogReading (λ x. (head_of x.0, x.1)) result (or_log_fault (reading.head_in lines.entry)) }
 {
     let (_, left) = text_at(b"taclog 1", lines)?;
     let (served, left) = served_at(left)?;

@@ -5,8 +5,8 @@ ghost use Rattle.auction_core.specs.Calls.{IsFit};
 ghost use Rattle.auction_core.specs.Stored.{IsShown, entry_behind};
 ghost use Rattle.log_text.specs.EntryForms as forms;
 ghost use Rattle.log_text.specs.LogReading as reading;
-ghost use Rattle.log_reader.specs.Faults.{refused, IsReading};
-ghost use Rattle.log_reader.specs.Histories.{IsRead};
+ghost use Rattle.log_reader.specs.Faults.{or_log_fault, IsLogReading};
+ghost use Rattle.log_reader.specs.Histories.{IsEntryRead};
 
 use crate::LogFault;
 use crate::entries::{ReadEntry, entry_in};
@@ -31,13 +31,13 @@ impl Model for LogHistory {
     ghost use Rattle.std.specs.Prelude.{List};
     ghost use Rattle.auction_rules.specs.History.{Entry};
     ghost use Rattle.auction_core.specs.Stored.{stored};
-    ghost use Rattle.log_reader.specs.Histories.{IsKept};
+    ghost use Rattle.log_reader.specs.Histories.{IsHistoryKept};
 
     ghost Value = { List Entry };
 
     ghost view = { λ h. stored h.entries.items h.trades.items };
 
-    ghost invariant = { λ h. IsKept h.entries.items h.trades.items };
+    ghost invariant = { λ h. IsHistoryKept h.entries.items h.trades.items };
 }
 
 impl LogHistory {
@@ -111,7 +111,7 @@ fn store(entries: &mut Vec<Entry>, trades: &mut Vec<Trade>, entry: ReadEntry) ->
     requires { vec_len trades.old < 2 ^ 32 }
     ensures entries { OnOk result (entries.new.items ≡ entries.old.items ++ entry_behind trades.old.items entry.caller entry.call entry.reply entry.trades ∷ []) }
     ensures trades { OnOk result (trades.new.items ≡ trades.old.items ++ entry.trades) }
-    ensures read { IsRead entry.call entry.trades }
+    ensures read { IsEntryRead entry.call entry.trades }
     ensures few { length entry.trades ≤ ENTRY_TRADES }
     ensures entries_kept { OnErr result (entries.new.items ≡ entries.old.items) }
     ensures trades_kept { OnErr result (trades.new.items ≡ trades.old.items) }
@@ -168,7 +168,7 @@ fn history_in(
     good: Good,
     lines: LogLines<'_>,
 ) -> Result<(LogHistory, LogLines<'_>), LogFault>
-    ensures { IsReading (λ x. x) result (refused (reading.history_in good lines.entry)) }
+    ensures { IsLogReading (λ x. x) result (or_log_fault (reading.history_in good lines.entry)) }
 {
     let (count, mut left) = auction_at(good, lines)?;
     let mut history = LogHistory::new(alloc);

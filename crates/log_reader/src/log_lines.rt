@@ -8,12 +8,12 @@ ghost use Rattle.log_text.specs.LogReading as reading;
 ghost use Rattle.log_reader.specs.Numbers.{last_number, nothing_begins};
 
 use std::marker::Model;
-use text_forms::{BadLine, Lines, NumberedLine, Reason, Words};
+use text_forms::{BadLine, NumberedLine, Reason, TextLines, Words};
 
 /// The lines that are left of a log's text, whose numbers are no greater than 67,108,865.
 #[derive(Debug, Drop)]
 pub(crate) struct LogLines<'a> {
-    lines: Lines<'a>,
+    lines: TextLines<'a>,
 }
 
 impl<'a> Model for LogLines<'a> {
@@ -34,7 +34,7 @@ impl<'a> LogLines<'a> {
         ensures { result ≡ lines.lines_from false 1 (parts_of 10 text.now) }
     {
         LogLines {
-            lines: Lines::new(text),
+            lines: TextLines::new(text),
         }
     }
 

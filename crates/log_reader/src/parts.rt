@@ -2,7 +2,7 @@
 ghost use Rattle.std.specs.Prelude.{◌≤◌};
 ghost use Rattle.text_forms.specs.Steps as steps;
 ghost use Rattle.log_text.specs.LogReading as reading;
-ghost use Rattle.log_reader.specs.Faults.{refused, IsReading};
+ghost use Rattle.log_reader.specs.Faults.{or_log_fault, IsLogReading};
 
 use crate::LogFault;
 use crate::log_lines::LogLines;
@@ -15,7 +15,7 @@ pub(crate) trait Part {
     ghost use Rattle.std.specs.Prelude.{ℕ, ◌<◌, Result};
     ghost use Rattle.text_forms.specs.Lines.{Remaining};
     ghost use Rattle.text_forms.specs.declared.lines.BadLine.{BadLine};
-    ghost use Rattle.log_reader.specs.Faults.{refused, IsReading};
+    ghost use Rattle.log_reader.specs.Faults.{or_log_fault, IsLogReading};
 
     ghost gives: { Self → ℕ → Remaining → Result (Self.Value × Remaining) BadLine };
 
@@ -30,7 +30,7 @@ pub(crate) trait Part {
         lines: LogLines<'a>,
     ) -> Result<(Self::Value, LogLines<'a>), LogFault>
         requires { number < most self.now }
-        ensures { IsReading (λ x. x) result (refused (gives self.now number lines.entry)) };
+        ensures { IsLogReading (λ x. x) result (or_log_fault (gives self.now number lines.entry)) };
 }
 
 /// Reads this many parts, one after another, and gives the lines after them.
@@ -41,7 +41,7 @@ pub(crate) fn read_all<'a, P: Part>(
     lines: LogLines<'a>,
 ) -> Result<(Vec<P::Value>, LogLines<'a>), LogFault>
     requires { count ≤ P.most part.now }
-    ensures { IsReading (λ x. (x.0.items, x.1)) result (refused (steps.repeat count 0 (P.gives part.now) lines.entry)) }
+    ensures { IsLogReading (λ x. (x.0.items, x.1)) result (or_log_fault (steps.repeat count 0 (P.gives part.now) lines.entry)) }
 {
     let mut values = Vec::new(alloc);
     let mut left = lines;
@@ -65,7 +65,7 @@ pub(crate) fn read_while<'a, P: Part>(
     lines: LogLines<'a>,
 ) -> Result<(Vec<P::Value>, LogLines<'a>), LogFault>
     requires { most ≤ P.most part.now }
-    ensures { IsReading (λ x. (x.0.items, x.1)) result (refused (reading.as_long_as word.now (P.gives part.now) most 0 lines.entry)) }
+    ensures { IsLogReading (λ x. (x.0.items, x.1)) result (or_log_fault (reading.as_long_as word.now (P.gives part.now) most 0 lines.entry)) }
 {
     let mut values = Vec::new(alloc);
     let mut left = lines;

@@ -3,7 +3,7 @@ ghost use Rattle.text_forms.specs.Words.{parts_of};
 ghost use Rattle.text_forms.specs.Lines.{lines_from};
 ghost use Rattle.log_text.specs.LoggedGames.{LoggedGame, IsLogged, logged_text};
 ghost use Rattle.log_text.specs.LogReading as reading;
-ghost use Rattle.log_reader.specs.Faults.{refused, IsReading};
+ghost use Rattle.log_reader.specs.Faults.{or_log_fault, IsLogReading};
 ghost use Rattle.log_reader.specs.Logs.{log_of};
 
 use crate::cash::cash_in;
@@ -19,7 +19,7 @@ use tac_base::limits::TEXT_BYTES;
 /// The log of a text that is not too long.
 fn log_in(alloc: Global, text: &[u8]) -> Result<Log, LogFault>
     requires { length text.now ≤ TEXT_BYTES }
-    ensures { IsReading (λ log. log) result (refused (reading.log_in (lines_from false 1 (parts_of 10 text.now)))) }
+    ensures { IsLogReading (λ log. log) result (or_log_fault (reading.log_in (lines_from false 1 (parts_of 10 text.now)))) }
 {
     let (head, left) = head_in(alloc, LogLines::new(text))?;
     let (histories, left) = read_all(alloc, &Histories, 28, left)?;
@@ -39,7 +39,7 @@ fn log_in(alloc: Global, text: &[u8]) -> Result<Log, LogFault>
 /// Reads the text of a log: its first and its second part together, and nothing else. Only forms and ranges are tested.
 pub fn read_log(alloc: Global, text: &[u8]) -> Result<Log, LogFault>
     // Which log it is, or the first bad line, unless memory was refused.
-    ensures exact { IsReading (λ log. log) result (log_of text.now) }
+    ensures exact { IsLogReading (λ log. log) result (log_of text.now) }
     ensures too_long { (result ≡ Err LogFault.TooLong) ↔ (TEXT_BYTES < length text.now) }
     // The text is the one of the log, which is in its ranges.
     ensures found { IfOk result (λ log. (text.now ≡ logged_text log) × IsLogged log) }

@@ -2,7 +2,7 @@ ghost use Rattle.std.specs.Prelude.{◌≡◌};
 ghost use Rattle.text_forms.specs.Steps as steps;
 ghost use Rattle.log_text.specs.SheetForms as forms;
 ghost use Rattle.log_text.specs.LogReading as reading;
-ghost use Rattle.log_reader.specs.Faults.{refused, IsReading};
+ghost use Rattle.log_reader.specs.Faults.{or_log_fault, IsLogReading};
 
 use crate::LogFault;
 use crate::certs::cert_in;
@@ -79,7 +79,7 @@ fn score_at(
     agent: Agent,
     lines: LogLines<'_>,
 ) -> Result<((u32, i64, u32, i64), LogLines<'_>), BadLine>
-    ensures { result ≡ reading.line_by (forms.score_of agent) lines.entry }
+    ensures { result ≡ reading.line_by (forms.read_score agent) lines.entry }
 {
     let (line, left) = lines.due()?;
     let score = well_formed(line.number(), score_of(agent, line.bytes()))?;
@@ -119,7 +119,7 @@ fn score_in(
     agent: Agent,
     lines: LogLines<'_>,
 ) -> Result<(ScoreLine, LogLines<'_>), LogFault>
-    ensures { IsReading (λ x. x) result (refused (reading.score_in agent lines.entry)) }
+    ensures { IsLogReading (λ x. x) result (or_log_fault (reading.score_in agent lines.entry)) }
 {
     let ((best, cash, short, score), left) = score_at(agent, lines)?;
     let (allocation, left) = packages_in(agent, left)?;

@@ -25,7 +25,7 @@ use Rattle.bid_strings.specs.BidForm.{points_of, judged}
 use Rattle.bid_strings.specs.Spelling.{left_word, right_word, point_words, spelling, HasFiveDigits}
 use Rattle.bid_strings.proofs.Laws.{bid_again, lawful_points}
 use Rattle.line_protocol.specs.Replies.{reply_text}
-use Rattle.line_protocol.specs.ReplyForms.{left_of}
+use Rattle.line_protocol.specs.ReplyForms.{read_left}
 use Rattle.line_protocol.proofs.JoinedWords.{lacks, words_before}
 use Rattle.line_protocol.proofs.StandingPoints.{left_again}
 use Rattle.log_text.specs.LogText.{call_text}
@@ -109,7 +109,7 @@ own_reply None left = None
 
 abbrev own_at : List (List ℕ) → Option Reply
 own_at [] = None
-own_at (holding ∷ words) = own_reply (signed_numeral 20 holding) (left_of (join_with_byte 32 words))
+own_at (holding ∷ words) = own_reply (signed_numeral 20 holding) (read_left (join_with_byte 32 words))
 
 abbrev refusal_at : List (List ℕ) → Option Reply
 refusal_at [] = None

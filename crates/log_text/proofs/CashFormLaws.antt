@@ -26,8 +26,8 @@ use Rattle.trade_ledger.specs.declared.cash_calls.CashEntry.{CashEntry}
 use Rattle.line_protocol.specs.ReplyForms.{◌>>=◌}
 use Rattle.line_protocol.proofs.JoinedWords.{lacks}
 use Rattle.line_protocol.proofs.Numbers.{bound, either_way, is_word, dollars_again}
-use Rattle.log_text.specs.HeadForms.{numbers_of, number_at}
-use Rattle.log_text.specs.EntryForms.{net_column, post_columns, made_post, post_of, read_of, reading_of, first_is, starts_post, cash_entry_by, cash_entry_of, caller_of}
+use Rattle.log_text.specs.HeadForms.{read_numbers, number_at}
+use Rattle.log_text.specs.EntryForms.{net_column, post_columns, made_post, post_of, read_of, read_reading, first_is, starts_post, cash_entry_by, cash_entry_of, read_caller}
 use Rattle.log_text.specs.LoggedGames.{IsNet, IsLoggedCash, IsLoggedCashEntry}
 use Rattle.log_text.proofs.RowForms.{numbers_is, numbers_again}
 use Rattle.log_text.proofs.EntryFormLaws.{caller_is, caller_again}
@@ -98,7 +98,7 @@ record IsCashText (caller : ℕ) (text : List ℕ) (e : CashEntry) : Type 0 wher
 
 post_is : (caller : ℕ) (text : List ℕ) (e : CashEntry) → caller ≤ 8 → post_of caller text ≡ Some e → IsCashText caller text e
 post_is caller text e low h =
-    let b = bound (numbers_of (codes "post") post_columns text) (λ numbers. Some (made_post caller numbers)) e h in
+    let b = bound (read_numbers (codes "post") post_columns text) (λ numbers. Some (made_post caller numbers)) e h in
     let r = numbers_is (codes "post") post_columns text b.0 b.1 in
     let are = post_numbers b.0 r.count r.range in
     subst (IsCashText caller text) (same_Some (made_post caller b.0) e b.2)
@@ -120,7 +120,7 @@ read_is agent keyword sign word e low h =
       | inr n ↦ absurd cc
     ]
 
-reading_is : (agent : ℕ) (words : List (List ℕ)) (e : CashEntry) → agent ≤ 7 → reading_of agent words ≡ Some e → IsCashText agent (join_with_byte 32 words) e
+reading_is : (agent : ℕ) (words : List (List ℕ)) (e : CashEntry) → agent ≤ 7 → read_reading agent words ≡ Some e → IsCashText agent (join_with_byte 32 words) e
 reading_is agent [] e low h = absurd cc
 reading_is agent (keyword ∷ []) e low h = absurd cc
 reading_is agent (keyword ∷ sign ∷ []) e low h = absurd cc
@@ -137,17 +137,17 @@ agent_by false caller read e low test h = (low_by caller low test, h)
 
 cash_text_is : (caller : ℕ) (text : List ℕ) (e : CashEntry) → caller ≤ 8 → cash_entry_by caller text ≡ Some e → IsCashText caller text e
 cash_text_is caller text e low h =
-    elim (either_way (starts_post text) (post_of caller text) (cond (eqb caller 8) None (reading_of caller (words_of text))) e h) [
+    elim (either_way (starts_post text) (post_of caller text) (cond (eqb caller 8) None (read_reading caller (words_of text))) e h) [
       | inl is ↦ post_is caller text e low is.1
       | inr other ↦
-          let agent = agent_by (eqb caller 8) caller (reading_of caller (words_of text)) e low refl other in
+          let agent = agent_by (eqb caller 8) caller (read_reading caller (words_of text)) e low refl other in
           subst (λ (t : List ℕ). IsCashText caller t e) (join_with_byte-slice_split 32 text) (reading_is caller (words_of text) e agent.0 agent.1)
     ]
 
 pub cash_entry_is : (line : List ℕ) (e : CashEntry) → cash_entry_of line ≡ Some e → (line ≡ cash_entry_body e) × IsLoggedCashEntry e
 unfolding cash_entry_of
 cash_entry_is line e h =
-    let a = bound (caller_of 8 line) (λ called. cash_entry_by called.0 called.1) e h in
+    let a = bound (read_caller 8 line) (λ called. cash_entry_by called.0 called.1) e h in
     let caller = caller_is 8 line a.0 (lit≤ tt) a.1 in
     let is = cash_text_is a.0.0 a.0.1 e caller.1 a.2 in
     (caller.0 ∙ (λ i. decimal (sym is.caller_same i) ++ 32 ∷ is.text_is i), is.range)

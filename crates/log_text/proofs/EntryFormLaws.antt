@@ -34,8 +34,8 @@ use Rattle.line_protocol.proofs.RequestLaws.{judged_good}
 use Rattle.line_protocol.proofs.ReplyRead.{answer_if}
 use Rattle.line_protocol.proofs.ReplyAgain.{answer_again}
 use Rattle.log_text.specs.LogText.{call_text}
-use Rattle.log_text.specs.HeadForms.{digit_of, numbers_of, number_at}
-use Rattle.log_text.specs.EntryForms.{auction_of, trade_of, bid_by, update_of, word_call, call_of_words, call_of, caller_of, sides_of, entry_of, cash_of}
+use Rattle.log_text.specs.HeadForms.{digit_of, read_numbers, number_at}
+use Rattle.log_text.specs.EntryForms.{auction_of, trade_of, bid_by, read_update, word_call, call_of_words, read_call, read_caller, sides_of, read_entry, read_cash_line}
 use Rattle.log_text.specs.Logged.{IsCall, IsReply as IsShownReply}
 use Rattle.log_text.specs.LoggedGames.{IsLoggedCall, IsLoggedTrade}
 use Rattle.log_text.proofs.RowForms.{digit_is, digit_again, numbers_is, numbers_again, Within, columns_of, each_within}
@@ -67,7 +67,7 @@ pub auction_is : (good : ℕ) (line : List ℕ) (count : ℕ) → auction_of goo
 unfolding auction_of
 auction_is good line count h =
     let columns = columns_of ((0, 27) ∷ (0, 8256) ∷ []) in
-    let b = bound (numbers_of (codes "auction") columns line) (λ numbers. cond (eqb (number_at numbers 0) good) (Some (number_at numbers 1)) None) count h in
+    let b = bound (read_numbers (codes "auction") columns line) (λ numbers. cond (eqb (number_at numbers 0) good) (Some (number_at numbers 1)) None) count h in
     let r = numbers_is (codes "auction") columns line b.0 b.1 in
     let two = two_numbers 0 27 0 8256 b.0 (each_within ((0, 27) ∷ (0, 8256) ∷ []) b.0 r.count r.range) in
     let c = cond_some (eqb (number_at b.0 0) good) (number_at b.0 1) count b.2 in (
@@ -105,7 +105,7 @@ pub trade_is : (good : ℕ) (line : List ℕ) (t : Trade) → trade_of good line
 unfolding trade_of
 trade_is good line t h =
     let ranges = (0, 8) ∷ (0, 8) ∷ (1, 16) ∷ (0, 10000) ∷ [] in
-    let b = bound (numbers_of (codes "trade") (columns_of ranges) line) (λ numbers. Some (made_trade good numbers)) t h in
+    let b = bound (read_numbers (codes "trade") (columns_of ranges) line) (λ numbers. Some (made_trade good numbers)) t h in
     let r = numbers_is (codes "trade") (columns_of ranges) line b.0 b.1 in
     let are = trade_numbers good b.0 (each_within ranges b.0 r.count r.range) in
     subst (λ (x : Trade). (line ≡ trade_body x) × IsLoggedTrade good x) (same_Some (made_trade good b.0) t b.2) (r.text ∙ are.0, are.1)
@@ -147,10 +147,10 @@ update_numbers (x ∷ []) h = absurd h.1
 update_numbers (x ∷ y ∷ []) h = (λ i. row_text (codes "update") (h.0.same i ∷ h.1.0.same i ∷ []), (h.0.least, h.0.most, h.1.0.most))
 update_numbers (x ∷ y ∷ z ∷ more) h = absurd h.1.1
 
-update_is : (text : List ℕ) (call : Call) → update_of text ≡ Some call → (text ≡ call_text call) × IsLoggedCall call
+update_is : (text : List ℕ) (call : Call) → read_update text ≡ Some call → (text ≡ call_text call) × IsLoggedCall call
 update_is text call h =
     let ranges = (1, 53) ∷ (0, 4294967295) ∷ [] in
-    let b = bound (numbers_of (codes "update") (columns_of ranges) text) (λ numbers. Some (calls.Update (number_at numbers 0) (number_at numbers 1))) call h in
+    let b = bound (read_numbers (codes "update") (columns_of ranges) text) (λ numbers. Some (calls.Update (number_at numbers 0) (number_at numbers 1))) call h in
     let r = numbers_is (codes "update") (columns_of ranges) text b.0 b.1 in
     let are = update_numbers b.0 (each_within ranges b.0 r.count r.range) in
     subst (λ (c : Call). (text ≡ call_text c) × IsLoggedCall c) (same_Some (calls.Update (number_at b.0 0) (number_at b.0 1)) call b.2) (r.text ∙ are.0, are.1)
@@ -170,19 +170,19 @@ call_words_is text (keyword ∷ []) call e h =
 call_words_is text (keyword ∷ word ∷ words) call e h =
     let rest = join_with_byte 32 (word ∷ words) in
     let whole : text ≡ keyword ++ 32 ∷ rest = sym (join_with_byte-slice_split 32 text) ∙ ap (join_with_byte 32) e in
-    elim (either_way (bytes_eq keyword (codes "bid")) (bid_by (judged (points_of rest))) (update_of text) call h) [
+    elim (either_way (bytes_eq keyword (codes "bid")) (bid_by (judged (points_of rest))) (read_update text) call h) [
       | inl is ↦
           let bid = bid_call_is rest call (judged (points_of rest)) refl is.1 in
           (whole ∙ ap (λ (w : List ℕ). w ++ 32 ∷ rest) (is_word keyword (codes "bid") is.0) ∙ bid.0, bid.1)
       | inr other ↦ update_is text call other
     ]
 
-pub call_is : (text : List ℕ) (call : Call) → call_of text ≡ Some call → (text ≡ call_text call) × IsLoggedCall call
-unfolding call_of
+pub call_is : (text : List ℕ) (call : Call) → read_call text ≡ Some call → (text ≡ call_text call) × IsLoggedCall call
+unfolding read_call
 call_is text call h = call_words_is text (words_of text) call refl h
 
-pub call_again : (call : Call) → IsLoggedCall call → call_of (call_text call) ≡ Some call
-unfolding call_of
+pub call_again : (call : Call) → IsLoggedCall call → read_call (call_text call) ≡ Some call
+unfolding read_call
 call_again (calls.Bid points) h =
     let w = has_words (spelling points) in
     ap (call_of_words (call_text (calls.Bid points))) (words_before (codes "bid" ∷ []) (spelling points) (lacks 32 (codes "bid") refl, tt) ∙ ap (λ (ws : List (List ℕ)). codes "bid" ∷ ws) w.2.words)
@@ -202,7 +202,7 @@ call_again calls.Close h = refl
 
 -- ---- callers
 
-pub caller_is : (most : ℕ) (line : List ℕ) (called : ℕ × List ℕ) → most ≤ 9 → caller_of most line ≡ Some called → (line ≡ decimal called.0 ++ 32 ∷ called.1) × (called.0 ≤ most)
+pub caller_is : (most : ℕ) (line : List ℕ) (called : ℕ × List ℕ) → most ≤ 9 → read_caller most line ≡ Some called → (line ≡ decimal called.0 ++ 32 ∷ called.1) × (called.0 ≤ most)
 caller_is most [] called small h = absurd cc
 caller_is most (digit ∷ []) called small h = absurd cc
 caller_is most (digit ∷ space ∷ text) called small h =
@@ -215,11 +215,11 @@ caller_is most (digit ∷ space ∷ text) called small h =
       | inr e ↦ absurd cc
     ]
 
-pub caller_again : (most caller : ℕ) (text : List ℕ) → most ≤ 9 → caller ≤ most → caller_of most (decimal caller ++ 32 ∷ text) ≡ Some (caller, text)
+pub caller_again : (most caller : ℕ) (text : List ℕ) → most ≤ 9 → caller ≤ most → read_caller most (decimal caller ++ 32 ∷ text) ≡ Some (caller, text)
 caller_again most caller text small le =
     let digit : decimal caller ≡ (48 + caller) ∷ [] = decimal_digit caller (omega (arith, le, small)) in
     let read : digit_of most ((48 + caller) ∷ []) ≡ Some caller = sym (ap (digit_of most) digit) ∙ digit_again most caller small le in
-    ap (λ (w : List ℕ). caller_of most (w ++ 32 ∷ text)) digit ∙ rw read refl
+    ap (λ (w : List ℕ). read_caller most (w ++ 32 ∷ text)) digit ∙ rw read refl
 
 -- ---- entries
 
@@ -236,12 +236,12 @@ pub record IsEntryLine (line : List ℕ) (caller : ℕ) (call : Call) (reply : R
 answered : (text : List ℕ) (read : Option Reply) (reply : Reply) → answer_of text ≡ read → read ≡ Some reply → IsReplyText text reply
 answered text read reply e h = answer_if text (Some reply) (sym (e ∙ h))
 
-pub entry_is : (line : List ℕ) (entry : ℕ × Call × Reply) → entry_of line ≡ Some entry → IsEntryLine line entry.0 entry.1 entry.2
-unfolding entry_of
+pub entry_is : (line : List ℕ) (entry : ℕ × Call × Reply) → read_entry line ≡ Some entry → IsEntryLine line entry.0 entry.1 entry.2
+unfolding read_entry
 entry_is line entry h =
-    let a = bound (caller_of 8 line) (λ called. sides_of (parts_of 61 called.1) >>= λ sides. call_of sides.0 >>= λ call. answer_of sides.1 >>= λ reply. Some (called.0, call, reply)) entry h in
-    let s = bound (sides_of (parts_of 61 a.0.1)) (λ sides. call_of sides.0 >>= λ call. answer_of sides.1 >>= λ reply. Some (a.0.0, call, reply)) entry a.2 in
-    let c = bound (call_of s.0.0) (λ call. answer_of s.0.1 >>= λ reply. Some (a.0.0, call, reply)) entry s.2 in
+    let a = bound (read_caller 8 line) (λ called. sides_of (parts_of 61 called.1) >>= λ sides. read_call sides.0 >>= λ call. answer_of sides.1 >>= λ reply. Some (called.0, call, reply)) entry h in
+    let s = bound (sides_of (parts_of 61 a.0.1)) (λ sides. read_call sides.0 >>= λ call. answer_of sides.1 >>= λ reply. Some (a.0.0, call, reply)) entry a.2 in
+    let c = bound (read_call s.0.0) (λ call. answer_of s.0.1 >>= λ reply. Some (a.0.0, call, reply)) entry s.2 in
     let r = bound (answer_of s.0.1) (λ reply. Some (a.0.0, c.0, reply)) entry c.2 in
     let caller = caller_is 8 line a.0 (lit≤ tt) a.1 in
     let sides = sides_is a.0.1 s.0.0 s.0.1 s.1 in
@@ -263,8 +263,8 @@ logged_call (calls.Update tick draw) h = let le = h.1 in let few = h.2 in (omega
 logged_call calls.Publish h = tt
 logged_call calls.Close h = tt
 
-pub entry_again : (caller : ℕ) (call : Call) (reply : Reply) → caller ≤ 8 → IsLoggedCall call → IsReply reply → entry_of (entry_body caller call reply) ≡ Some (caller, call, reply)
-unfolding entry_of
+pub entry_again : (caller : ℕ) (call : Call) (reply : Reply) → caller ≤ 8 → IsLoggedCall call → IsReply reply → read_entry (entry_body caller call reply) ≡ Some (caller, call, reply)
+unfolding read_entry
 entry_again caller call reply low called replied =
     let text = (call_text call ++ 32 ∷ []) ++ 61 ∷ 32 ∷ reply_text reply in
     let sides = sides_again (call_text call) (reply_text reply) (lacks_append 61 (call_text call) (32 ∷ []) (call_lacks call (logged_call call called)) (refl, tt)) in
@@ -280,17 +280,17 @@ cash_row [] h = absurd h
 cash_row (a ∷ []) h = (ap (λ (z : ℤ). z ∷ []) h.0.same, h.0.most)
 cash_row (a ∷ b ∷ more) h = absurd h.1
 
-pub cash_is : (line : List ℕ) (count : ℕ) → cash_of line ≡ Some count → (line ≡ cash_body count) × (count ≤ 238048)
-unfolding cash_of
+pub cash_is : (line : List ℕ) (count : ℕ) → read_cash_line line ≡ Some count → (line ≡ cash_body count) × (count ≤ 238048)
+unfolding read_cash_line
 cash_is line count h =
     let ranges = (0, 238048) ∷ [] in
-    let b = bound (numbers_of (codes "cash") (columns_of ranges) line) (λ numbers. Some (number_at numbers 0)) count h in
+    let b = bound (read_numbers (codes "cash") (columns_of ranges) line) (λ numbers. Some (number_at numbers 0)) count h in
     let r = numbers_is (codes "cash") (columns_of ranges) line b.0 b.1 in
     let one = cash_row b.0 (each_within ranges b.0 r.count r.range) in
     subst (λ (m : ℕ). (line ≡ cash_body m) × (m ≤ 238048)) (same_Some (number_at b.0 0) count b.2) (r.text ∙ ap (row_text (codes "cash")) one.0, one.1)
 
-pub cash_again : (count : ℕ) → count ≤ 238048 → cash_of (cash_body count) ≡ Some count
-unfolding cash_of
+pub cash_again : (count : ℕ) → count ≤ 238048 → read_cash_line (cash_body count) ≡ Some count
+unfolding read_cash_line
 cash_again count le =
     let read = numbers_again (codes "cash") (columns_of ((0, 238048) ∷ [])) (pos count ∷ []) (lacks 32 (codes "cash") refl) refl refl (rw (in_within 0 238048 count (omega arith) le) refl) in
     rw read refl

@@ -20,7 +20,7 @@ use Rattle.line_protocol.specs.ReplyForms.{◌>>=◌}
 use Rattle.line_protocol.proofs.JoinedWords.{lacks}
 use Rattle.line_protocol.proofs.Numbers.{bound, either_way, is_word}
 use Rattle.log_text.specs.LogText.{verdict_text, cause_text}
-use Rattle.log_text.specs.HeadForms.{digit_of, numbers_of, number_at, word_verdict, seated_of, verdict_of, link_of_words, link_of, cause_of, ended_of, end_of_words, end_of, missed_of}
+use Rattle.log_text.specs.HeadForms.{digit_of, read_numbers, number_at, read_refused, seated_of, read_verdict, link_of_words, read_link, read_cause, ended_of, end_of_words, read_end, read_missed}
 use Rattle.log_text.specs.LoggedGames.{IsLoggedVerdict, IsLoggedEnd}
 use Rattle.log_text.proofs.RowForms.{digit_is, digit_again, numbers_is, numbers_again, Within, columns_of, each_within}
 
@@ -45,7 +45,7 @@ known_verdict : (word known : List ℕ) (made verdict : Verdict) → bytes_eq wo
 known_verdict word known made verdict same h is =
     subst (λ (v : Verdict). AreVerdict (word ∷ []) v) (same_Some made verdict h) (record { range = is.range; same = ap (λ (w : List ℕ). w ∷ []) (is_word word known same) ∙ is.same })
 
-word_verdict_is : (word : List ℕ) (verdict : Verdict) → word_verdict word ≡ Some verdict → AreVerdict (word ∷ []) verdict
+word_verdict_is : (word : List ℕ) (verdict : Verdict) → read_refused word ≡ Some verdict → AreVerdict (word ∷ []) verdict
 word_verdict_is word verdict h =
     elim (either_way (bytes_eq word (codes "syntax")) (Some Syntax) _ verdict h) [
       | inl is ↦ known_verdict word (codes "syntax") Syntax verdict is.0 is.1 (record { range = tt; same = refl })
@@ -72,7 +72,7 @@ seated_is word agent verdict h =
       | inr e ↦ absurd cc
     ]
 
-verdict_is : (words : List (List ℕ)) (verdict : Verdict) → verdict_of words ≡ Some verdict → AreVerdict words verdict
+verdict_is : (words : List (List ℕ)) (verdict : Verdict) → read_verdict words ≡ Some verdict → AreVerdict words verdict
 verdict_is [] verdict h = absurd cc
 verdict_is (word ∷ []) verdict h = word_verdict_is word verdict h
 verdict_is (word ∷ agent ∷ []) verdict h = seated_is word agent verdict h
@@ -82,7 +82,7 @@ link_words_is : (place : ℕ) (words : List (List ℕ)) (verdict : Verdict) → 
 link_words_is place [] verdict h = absurd cc
 link_words_is place (keyword ∷ []) verdict h = absurd cc
 link_words_is place (keyword ∷ number ∷ words) verdict h =
-    elim (either_way (bytes_eq keyword (codes "link") && bytes_eq number (decimal place)) (verdict_of words) None verdict h) [
+    elim (either_way (bytes_eq keyword (codes "link") && bytes_eq number (decimal place)) (read_verdict words) None verdict h) [
       | inl is ↦
           let both = both_true (bytes_eq keyword (codes "link")) (bytes_eq number (decimal place)) is.0 in
           let are = verdict_is words verdict is.1 in (
@@ -94,8 +94,8 @@ link_words_is place (keyword ∷ number ∷ words) verdict h =
       | inr e ↦ absurd cc
     ]
 
-pub link_is : (place : ℕ) (line : List ℕ) (verdict : Verdict) → link_of place line ≡ Some verdict → (line ≡ join_with_byte 32 (link_words place verdict)) × IsLoggedVerdict verdict
-unfolding link_of
+pub link_is : (place : ℕ) (line : List ℕ) (verdict : Verdict) → read_link place line ≡ Some verdict → (line ≡ join_with_byte 32 (link_words place verdict)) × IsLoggedVerdict verdict
+unfolding read_link
 link_is place line verdict h =
     let are = link_words_is place (words_of line) verdict h in
     (sym (join_with_byte-slice_split 32 line) ∙ ap (join_with_byte 32) are.0, are.1)
@@ -107,15 +107,15 @@ verdict_lacks WrongWord h = (lacks 32 (codes "wrongword") refl, tt)
 verdict_lacks Taken h = (lacks 32 (codes "taken") refl, tt)
 verdict_lacks Lost h = (lacks 32 (codes "lost") refl, tt)
 
-verdict_again : (verdict : Verdict) → IsLoggedVerdict verdict → verdict_of (verdict_words verdict) ≡ Some verdict
+verdict_again : (verdict : Verdict) → IsLoggedVerdict verdict → read_verdict (verdict_words verdict) ≡ Some verdict
 verdict_again (Seated agent) h = rw (digit_again 7 agent (lit≤ tt) h) refl
 verdict_again Syntax h = refl
 verdict_again WrongWord h = refl
 verdict_again Taken h = refl
 verdict_again Lost h = refl
 
-pub link_again : (place : ℕ) (verdict : Verdict) → place < 2 ^ 32 → IsLoggedVerdict verdict → link_of place (join_with_byte 32 (link_words place verdict)) ≡ Some verdict
-unfolding link_of
+pub link_again : (place : ℕ) (verdict : Verdict) → place < 2 ^ 32 → IsLoggedVerdict verdict → read_link place (join_with_byte 32 (link_words place verdict)) ≡ Some verdict
+unfolding read_link
 link_again place verdict small h =
     let words = joined_parts 32 (codes "link") (decimal place ∷ verdict_words verdict) (lacks 32 (codes "link") refl) (decimal_lacks 32 place (lit< tt) (omega (arith, small)), verdict_lacks verdict h) in
     ap (link_of_words place) words ∙ rw (is_same (decimal place)) (verdict_again verdict h)
@@ -128,7 +128,7 @@ end_words end = codes "end" ∷ decimal end.0 ∷ cause_text end.1 ∷ []
 known_cause : (word known : List ℕ) (made cause : Cause) → bytes_eq word known ≡ true → Some made ≡ Some cause → known ≡ cause_text made → word ≡ cause_text cause
 known_cause word known made cause same h is = is_word word known same ∙ is ∙ ap cause_text (same_Some made cause h)
 
-cause_is : (word : List ℕ) (cause : Cause) → cause_of word ≡ Some cause → word ≡ cause_text cause
+cause_is : (word : List ℕ) (cause : Cause) → read_cause word ≡ Some cause → word ≡ cause_text cause
 cause_is word cause h =
     elim (either_way (bytes_eq word (codes "quit")) (Some Quit) _ cause h) [
       | inl is ↦ known_cause word (codes "quit") Quit cause is.0 is.1 refl
@@ -147,7 +147,7 @@ cause_is word cause h =
       ]
     ]
 
-cause_again : (cause : Cause) → cause_of (cause_text cause) ≡ Some cause
+cause_again : (cause : Cause) → read_cause (cause_text cause) ≡ Some cause
 cause_again Quit = refl
 cause_again End = refl
 cause_again ReadFault = refl
@@ -163,11 +163,11 @@ cause_lacks Budget = lacks 32 (codes "budget") refl
 
 ended_is : (keyword agent word : List ℕ) (end : ℕ × Cause) → ended_of keyword agent word ≡ Some end → (keyword ∷ agent ∷ word ∷ [] ≡ end_words end) × IsLoggedEnd end
 ended_is keyword agent word end h =
-    elim (either_way (bytes_eq keyword (codes "end")) (digit_of 7 agent >>= λ seat. cause_of word >>= λ cause. Some (seat, cause)) None end h) [
+    elim (either_way (bytes_eq keyword (codes "end")) (digit_of 7 agent >>= λ seat. read_cause word >>= λ cause. Some (seat, cause)) None end h) [
       | inl is ↦
-          let b = bound (digit_of 7 agent) (λ seat. cause_of word >>= λ cause. Some (seat, cause)) end is.1 in
+          let b = bound (digit_of 7 agent) (λ seat. read_cause word >>= λ cause. Some (seat, cause)) end is.1 in
           let d = digit_is 7 agent b.0 (lit≤ tt) b.1 in
-          let c = bound (cause_of word) (λ cause. Some (b.0, cause)) end b.2 in
+          let c = bound (read_cause word) (λ cause. Some (b.0, cause)) end b.2 in
           let same : (b.0, c.0) ≡ end = same_Some (b.0, c.0) end c.2 in
           subst (λ (x : ℕ × Cause). (keyword ∷ agent ∷ word ∷ [] ≡ end_words x) × IsLoggedEnd x) same (
             ap (λ (w : List ℕ). w ∷ agent ∷ word ∷ []) (is_word keyword (codes "end") is.0)
@@ -184,14 +184,14 @@ end_words_is (keyword ∷ agent ∷ []) end h = absurd cc
 end_words_is (keyword ∷ agent ∷ word ∷ []) end h = ended_is keyword agent word end h
 end_words_is (keyword ∷ agent ∷ word ∷ other ∷ words) end h = absurd cc
 
-pub end_is : (line : List ℕ) (end : ℕ × Cause) → end_of line ≡ Some end → (line ≡ join_with_byte 32 (end_words end)) × IsLoggedEnd end
-unfolding end_of
+pub end_is : (line : List ℕ) (end : ℕ × Cause) → read_end line ≡ Some end → (line ≡ join_with_byte 32 (end_words end)) × IsLoggedEnd end
+unfolding read_end
 end_is line end h =
     let are = end_words_is (words_of line) end h in
     (sym (join_with_byte-slice_split 32 line) ∙ ap (join_with_byte 32) are.0, are.1)
 
-pub end_again : (end : ℕ × Cause) → IsLoggedEnd end → end_of (join_with_byte 32 (end_words end)) ≡ Some end
-unfolding end_of
+pub end_again : (end : ℕ × Cause) → IsLoggedEnd end → read_end (join_with_byte 32 (end_words end)) ≡ Some end
+unfolding read_end
 end_again end h =
     let words = joined_parts 32 (codes "end") (decimal end.0 ∷ cause_text end.1 ∷ []) (lacks 32 (codes "end") refl) (decimal_lacks 32 end.0 (lit< tt) (omega (arith, h)), (cause_lacks end.1, tt)) in
     ap end_of_words words ∙ rw (digit_again 7 end.0 (lit≤ tt) h, cause_again end.1) refl
@@ -206,16 +206,16 @@ missed_row [] h = absurd h
 missed_row (a ∷ []) h = (ap (λ (z : ℤ). z ∷ []) h.0.same, h.0.most)
 missed_row (a ∷ b ∷ more) h = absurd h.1
 
-pub missed_is : (line : List ℕ) (missed : ℕ) → missed_of line ≡ Some missed → (line ≡ missed_text missed) × (missed ≤ 255)
-unfolding missed_of
+pub missed_is : (line : List ℕ) (missed : ℕ) → read_missed line ≡ Some missed → (line ≡ missed_text missed) × (missed ≤ 255)
+unfolding read_missed
 missed_is line missed h =
-    let b = bound (numbers_of (codes "missed") (columns_of ((0, 255) ∷ [])) line) (λ numbers. Some (number_at numbers 0)) missed h in
+    let b = bound (read_numbers (codes "missed") (columns_of ((0, 255) ∷ [])) line) (λ numbers. Some (number_at numbers 0)) missed h in
     let r = numbers_is (codes "missed") (columns_of ((0, 255) ∷ [])) line b.0 b.1 in
     let one = missed_row b.0 (each_within ((0, 255) ∷ []) b.0 r.count r.range) in
     subst (λ (m : ℕ). (line ≡ missed_text m) × (m ≤ 255)) (same_Some (number_at b.0 0) missed b.2) (r.text ∙ ap (row_text (codes "missed")) one.0, one.1)
 
-pub missed_again : (missed : ℕ) → missed ≤ 255 → missed_of (missed_text missed) ≡ Some missed
-unfolding missed_of
+pub missed_again : (missed : ℕ) → missed ≤ 255 → read_missed (missed_text missed) ≡ Some missed
+unfolding read_missed
 missed_again missed le =
     let read = numbers_again (codes "missed") (columns_of ((0, 255) ∷ [])) (pos missed ∷ []) (lacks 32 (codes "missed") refl) refl refl (rw (in_within 0 255 missed (omega arith) le) refl) in
     rw read refl

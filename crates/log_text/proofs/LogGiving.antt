@@ -39,10 +39,10 @@ use Rattle.line_protocol.specs.Ranges.{IsReply}
 use Rattle.line_protocol.specs.Replies.{reply_text}
 use Rattle.line_protocol.proofs.JoinedWords.{lacks, same_or_not}
 use Rattle.log_text.specs.LogText.{call_text, verdict_text, cause_text, link_line, end_line, missed_line, head_text, first_lines, auction_line, trade_line, entry_line, entry_text, auction_text, cash_line, cash_entry_line, cash_text, histories_text}
-use Rattle.log_text.specs.HeadForms.{is_text, link_of, end_of, missed_of}
-use Rattle.log_text.specs.EntryForms.{first_is, auction_of, trade_of, entry_of, cash_of, cash_entry_of}
+use Rattle.log_text.specs.HeadForms.{is_text, read_link, read_end, read_missed}
+use Rattle.log_text.specs.EntryForms.{first_is, auction_of, trade_of, read_entry, read_cash_line, cash_entry_of}
 use Rattle.log_text.specs.LogReading.{line_by, begins, as_long_as, is_served, served_in, head_by, head_in, entry_in, history_in, cash_in}
-use Rattle.log_text.specs.LoggedGames.{IsLoggedVerdict, IsLoggedEnd, IsServed, IsLoggedHead, IsLoggedCall, IsLoggedTrade, IsLoggedEntry, IsNet, IsLoggedCash, IsLoggedHistory, IsLoggedCashEntry, AreHistories}
+use Rattle.log_text.specs.LoggedGames.{IsLoggedVerdict, IsLoggedEnd, IsServedHead, IsLoggedHead, IsLoggedCall, IsLoggedTrade, IsLoggedEntry, IsNet, IsLoggedCash, IsLoggedHistory, IsLoggedCashEntry, AreHistories}
 use Rattle.log_text.proofs.Cuts.{lacks_append}
 use Rattle.log_text.proofs.Answered.{call_one_line, reply_lacks}
 use Rattle.log_text.proofs.EntryFormLaws.{auction_body, auction_again, trade_body, trade_again, entry_body, entry_again, logged_call, logged_reply, cash_body, cash_again}
@@ -88,12 +88,12 @@ link_lacks place verdict is =
     let small = is.small in
     join_lacks 10 (link_words place verdict) refl (lacks 10 (codes "link") refl, (decimal_lacks 10 place (lit< tt) (omega (arith, small)), verdict_lacks verdict is.range))
 
-link_gives : GivesBytes (λ place. line_by (link_of place)) (λ place v. link_line (place, v)) IsLink Any
+link_gives : GivesBytes (λ place. line_by (read_link place)) (λ place v. link_line (place, v)) IsLink Any
 unfolding GivesBytes
 link_gives place verdict is number rest q = (
   number + 1,
-  ap (λ (t : List ℕ). line_by (link_of place) (at number t)) (whole_line (join_with_byte 32 (link_words place verdict)) (link_line (place, verdict)) rest (link_text place verdict))
-      ∙ line_given (link_of place) number (join_with_byte 32 (link_words place verdict)) rest verdict (link_lacks place verdict is) (link_again place verdict is.small is.range),
+  ap (λ (t : List ℕ). line_by (read_link place) (at number t)) (whole_line (join_with_byte 32 (link_words place verdict)) (link_line (place, verdict)) rest (link_text place verdict))
+      ∙ line_given (read_link place) number (join_with_byte 32 (link_words place verdict)) rest verdict (link_lacks place verdict is) (link_again place verdict is.small is.range),
 )
 
 link_starts : Starts (codes "link") (λ place v. link_line (place, v)) IsLink
@@ -133,12 +133,12 @@ cause_lacks byte cause which = elim which [
 end_lacks : (end : ℕ × Cause) → IsLoggedEnd end → Lacks 10 (join_with_byte 32 (end_words end))
 end_lacks end is = join_lacks 10 (end_words end) refl (lacks 10 (codes "end") refl, (decimal_lacks 10 end.0 (lit< tt) (omega (arith, is)), (cause_lacks 10 end.1 (inl refl), tt)))
 
-end_gives : GivesBytes (λ _. line_by end_of) (λ _ e. end_line e) (λ _ e. IsLoggedEnd e) Any
+end_gives : GivesBytes (λ _. line_by read_end) (λ _ e. end_line e) (λ _ e. IsLoggedEnd e) Any
 unfolding GivesBytes
 end_gives i end is number rest q = (
   number + 1,
-  ap (λ (t : List ℕ). line_by end_of (at number t)) (whole_line (join_with_byte 32 (end_words end)) (end_line end) rest (end_text end))
-      ∙ line_given end_of number (join_with_byte 32 (end_words end)) rest end (end_lacks end is) (end_again end is),
+  ap (λ (t : List ℕ). line_by read_end (at number t)) (whole_line (join_with_byte 32 (end_words end)) (end_line end) rest (end_text end))
+      ∙ line_given read_end number (join_with_byte 32 (end_words end)) rest end (end_lacks end is) (end_again end is),
 )
 
 -- the first word of the line of an end
@@ -161,10 +161,10 @@ each_alike P from (x ∷ xs) all = (All-head P x xs all, each_alike P (from + 1)
 missed_lacks : (missed : ℕ) → missed ≤ 255 → Lacks 10 (missed_text missed)
 missed_lacks missed le = join_lacks 10 (codes "missed" ∷ decimal missed ∷ []) refl (lacks 10 (codes "missed") refl, (decimal_lacks 10 missed (lit< tt) (omega (arith, le)), tt))
 
-missed_given : (missed number : ℕ) (rest : List ℕ) → missed ≤ 255 → line_by missed_of (at number (missed_line missed ++ rest)) ≡ Ok (missed, at (number + 1) rest)
+missed_given : (missed number : ℕ) (rest : List ℕ) → missed ≤ 255 → line_by read_missed (at number (missed_line missed ++ rest)) ≡ Ok (missed, at (number + 1) rest)
 missed_given missed number rest le =
-    ap (λ (t : List ℕ). line_by missed_of (at number t)) (whole_line (missed_text missed) (missed_line missed) rest (missed_end missed))
-    ∙ line_given missed_of number (missed_text missed) rest missed (missed_lacks missed le) (missed_again missed le)
+    ap (λ (t : List ℕ). line_by read_missed (at number t)) (whole_line (missed_text missed) (missed_line missed) rest (missed_end missed))
+    ∙ line_given read_missed number (missed_text missed) rest missed (missed_lacks missed le) (missed_again missed le)
 
 missed_begins : (missed : ℕ) → missed ≤ 255 → (word : List ℕ) → bytes_eq (codes "missed") word ≡ false → (rest : List ℕ) → BeginsNot word (missed_line missed ++ rest)
 missed_begins missed le word test rest number =
@@ -180,23 +180,23 @@ ends_begin (end ∷ ends) missed all le rest number =
     ap (λ (t : List ℕ). begins (codes "link") (at number t)) (ap (λ (t : List ℕ). t ++ (missed_line missed ++ rest)) (flat_map-cons end_line end ends) ∙ append_assoc (end_line end) (flat_map end_line ends) (missed_line missed ++ rest))
     ∙ end_begins end (All-head IsLoggedEnd end ends all) (codes "link") false refl number (flat_map end_line ends ++ (missed_line missed ++ rest))
 
-served_given : (links : List Verdict) (ends : List (ℕ × Cause)) (missed : ℕ) → IsServed links ends missed → (number : ℕ) (rest : List ℕ) →
+served_given : (links : List Verdict) (ends : List (ℕ × Cause)) (missed : ℕ) → IsServedHead links ends missed → (number : ℕ) (rest : List ℕ) →
     (m : ℕ) × (served_in (at number ((flat_map link_line (enumerate_from 0 links) ++ (flat_map end_line ends ++ missed_line missed)) ++ rest)) ≡ Ok (Serve links ends missed, at m rest))
 served_given links ends missed is number rest =
     let after_links = flat_map end_line ends ++ (missed_line missed ++ rest) in
-    let a = as_long_given (codes "link") (λ place. line_by (link_of place)) (λ place v. link_line (place, v)) IsLink link_gives link_starts links 255 0 is.few_links (are_links 0 links (let few = is.few_links in omega (arith, few)) is.links_are) number after_links
+    let a = as_long_given (codes "link") (λ place. line_by (read_link place)) (λ place v. link_line (place, v)) IsLink link_gives link_starts links 255 0 is.few_links (are_links 0 links (let few = is.few_links in omega (arith, few)) is.links_are) number after_links
     (ends_begin ends missed is.ends_are is.few_missed rest) in
-    let b = as_long_given (codes "end") (λ _. line_by end_of) (λ _ e. end_line e) (λ _ e. IsLoggedEnd e) end_gives end_starts ends 67108864 0 is.few_ends (each_alike IsLoggedEnd 0 ends is.ends_are) a.0 (missed_line missed ++ rest)
+    let b = as_long_given (codes "end") (λ _. line_by read_end) (λ _ e. end_line e) (λ _ e. IsLoggedEnd e) end_gives end_starts ends 67108864 0 is.few_ends (each_alike IsLoggedEnd 0 ends is.ends_are) a.0 (missed_line missed ++ rest)
     (missed_begins missed is.few_missed (codes "end") refl rest) in
     let c = missed_given missed b.0 rest is.few_missed in
     let links_are = ap (λ (t : List ℕ). t ++ after_links) (sym (parts_numbered (λ place v. link_line (place, v)) 0 links)) in
     let ends_are = ap (λ (t : List ℕ). t ++ (missed_line missed ++ rest)) (sym (parts_alike end_line 0 ends)) in
     let whole = append_assoc (flat_map link_line (enumerate_from 0 links)) (flat_map end_line ends ++ missed_line missed) rest
     ∙ ap (λ (t : List ℕ). flat_map link_line (enumerate_from 0 links) ++ t) (append_assoc (flat_map end_line ends) (missed_line missed) rest) in
-    let first : as_long_as (codes "link") (λ place. line_by (link_of place)) 255 0 (at number ((flat_map link_line (enumerate_from 0 links) ++ (flat_map end_line ends ++ missed_line missed)) ++ rest)) ≡ Ok (links, at a.0 after_links) =
-    ap (λ (t : List ℕ). as_long_as (codes "link") (λ place. line_by (link_of place)) 255 0 (at number t)) (whole ∙ links_are) ∙ a.1 in
-    let second : as_long_as (codes "end") (λ _. line_by end_of) 67108864 0 (at a.0 after_links) ≡ Ok (ends, at b.0 (missed_line missed ++ rest)) =
-    ap (λ (t : List ℕ). as_long_as (codes "end") (λ _. line_by end_of) 67108864 0 (at a.0 t)) ends_are ∙ b.1 in
+    let first : as_long_as (codes "link") (λ place. line_by (read_link place)) 255 0 (at number ((flat_map link_line (enumerate_from 0 links) ++ (flat_map end_line ends ++ missed_line missed)) ++ rest)) ≡ Ok (links, at a.0 after_links) =
+    ap (λ (t : List ℕ). as_long_as (codes "link") (λ place. line_by (read_link place)) 255 0 (at number t)) (whole ∙ links_are) ∙ a.1 in
+    let second : as_long_as (codes "end") (λ _. line_by read_end) 67108864 0 (at a.0 after_links) ≡ Ok (ends, at b.0 (missed_line missed ++ rest)) =
+    ap (λ (t : List ℕ). as_long_as (codes "end") (λ _. line_by read_end) 67108864 0 (at a.0 t)) ends_are ∙ b.1 in
     (b.0 + 1, rw (first, second, c) refl)
 
 pub text_given : (text : List ℕ) (number : ℕ) (rest : List ℕ) → Lacks 10 text → line_by (is_text text) (at number ((text ++ 10 ∷ []) ++ rest)) ≡ Ok (tt, at (number + 1) rest)
@@ -299,9 +299,9 @@ entry_gives : (good : ℕ) → GivesBytes (λ _. entry_in good) (λ _ e. entry_t
 unfolding GivesBytes entry_in
 entry_gives good i e is number rest none =
     let after = flat_map trade_line e.trades ++ rest in
-    let line = ap (λ (t : List ℕ). line_by entry_of (at number t))
+    let line = ap (λ (t : List ℕ). line_by read_entry (at number t))
     (append_assoc (entry_line e.caller e.call e.reply) (flat_map trade_line e.trades) rest ∙ whole_line (entry_body e.caller e.call e.reply) (entry_line e.caller e.call e.reply) after (entry_end e.caller e.call e.reply))
-    ∙ line_given entry_of number (entry_body e.caller e.call e.reply) after (e.caller, e.call, e.reply) (entry_lacks e.caller e.call e.reply is.caller is.call is.reply) (entry_again e.caller e.call e.reply is.caller is.call is.reply) in
+    ∙ line_given read_entry number (entry_body e.caller e.call e.reply) after (e.caller, e.call, e.reply) (entry_lacks e.caller e.call e.reply is.caller is.call is.reply) (entry_again e.caller e.call e.reply is.caller is.call is.reply) in
     let trades = as_long_given (codes "trade") (λ _. line_by (trade_of good)) (λ _ t. trade_line t) (λ _ t. IsLoggedTrade good t) (trade_gives good) (trade_starts good) e.trades 128 0 is.few (each_alike (IsLoggedTrade good) 0 e.trades is.trades) (number + 1) rest none in
     let second : as_long_as (codes "trade") (λ _. line_by (trade_of good)) 128 0 (at (number + 1) after) ≡ Ok (e.trades, at trades.0 rest) =
     ap (λ (t : List ℕ). as_long_as (codes "trade") (λ _. line_by (trade_of good)) 128 0 (at (number + 1) (t ++ rest))) (sym (parts_alike trade_line 0 e.trades)) ∙ trades.1 in
@@ -412,8 +412,8 @@ pub cash_given : (cash : List CashEntry) → length cash ≤ 238048 → All IsLo
 unfolding cash_in
 cash_given cash few are number rest =
     let after = flat_map cash_entry_line cash ++ rest in
-    let line = ap (λ (t : List ℕ). line_by cash_of (at number t)) (cash_history_text cash rest)
-    ∙ line_given cash_of number (cash_body (length cash)) after (length cash) (cash_line_lacks (length cash) few) (cash_again (length cash) few) in
+    let line = ap (λ (t : List ℕ). line_by read_cash_line (at number t)) (cash_history_text cash rest)
+    ∙ line_given read_cash_line number (cash_body (length cash)) after (length cash) (cash_line_lacks (length cash) few) (cash_again (length cash) few) in
     let entries = repeat_given (λ _. line_by cash_entry_of) (λ _ e. cash_entry_line e) (λ _ e. IsLoggedCashEntry e) Any cash_gives (any_kept (λ _ e. cash_entry_line e) (λ _ e. IsLoggedCashEntry e)) cash 0 (each_alike IsLoggedCashEntry 0 cash are) (number + 1) rest tt in
     let second : repeat (length cash) 0 (λ _. line_by cash_entry_of) (at (number + 1) after) ≡ Ok (cash, at entries.0 rest) =
     ap (λ (t : List ℕ). repeat (length cash) 0 (λ _. line_by cash_entry_of) (at (number + 1) (t ++ rest))) (sym (parts_alike cash_entry_line 0 cash)) ∙ entries.1 in

@@ -14,7 +14,7 @@ use Rattle.auction_rules.specs.History.{Entry}
 use Rattle.trade_ledger.specs.declared.cash_calls.CashEntry.{CashEntry}
 use Rattle.text_forms.specs.declared.lines.BadLine.{BadLine}
 use Rattle.text_forms.specs.Words.{parts_of}
-use Rattle.text_forms.specs.Lines.{NumberedLine, Remaining, lines_from, text_of, due_of, at_line, after_line, first_number, block_in, block_of, nothing_left}
+use Rattle.text_forms.specs.Lines.{NumberedLine, Remaining, lines_from, text_of, due_of, at_line, with_line, first_number, block_in, block_of, nothing_left}
 use Rattle.text_forms.specs.Steps.{◌>>=◌, repeat, lines_of_parts, one_line}
 use Rattle.text_forms.specs.declared.lines.Reason.TheVariants.{TextEnd}
 use Rattle.text_forms.proofs.Joins.{parts_more}
@@ -23,7 +23,7 @@ use Rattle.tac_base.proofs.Signed.{Lacks}
 use Rattle.packages.specs.declared.travel_packages.Package.{Package}
 use Rattle.packages.specs.Packages.{IsPackage}
 use Rattle.bound_cert.specs.Trees.{Tree, IsCertificate}
-use Rattle.bound_cert.specs.Texts.{tree_lines, spelling}
+use Rattle.bound_cert.specs.Texts.{tree_lines, cert_text}
 use Rattle.bound_cert.specs.Reading.{cert_of}
 use Rattle.bound_cert.specs.declared.faults.CertFault.{CertFault}
 use Rattle.bound_cert.specs.declared.faults.CertFault.TheVariants as certs
@@ -36,11 +36,11 @@ use Rattle.line_protocol.specs.Heads.{Head, Play, Serve}
 use Rattle.line_protocol.proofs.Numbers.{either_way, is_word}
 use Rattle.log_text.specs.LogText.{link_line, end_line, missed_line, head_text, first_lines, auction_line, trade_line, entry_line, entry_text, auction_text, cash_line, cash_entry_line, cash_text, histories_text}
 use Rattle.log_text.specs.SheetText.{score_line, package_line, cert_line, agent_lines, sheet_lines, sheet_part}
-use Rattle.log_text.specs.HeadForms.{formed, is_text, link_of, end_of, missed_of}
-use Rattle.log_text.specs.EntryForms.{auction_of, trade_of, entry_of, cash_of, cash_entry_of}
-use Rattle.log_text.specs.SheetForms.{score_of, package_of, count_of}
+use Rattle.log_text.specs.HeadForms.{formed, is_text, read_link, read_end, read_missed}
+use Rattle.log_text.specs.EntryForms.{auction_of, trade_of, read_entry, read_cash_line, cash_entry_of}
+use Rattle.log_text.specs.SheetForms.{read_score, package_of, read_count}
 use Rattle.log_text.specs.LogReading.{line_by, as_long_as, is_served, served_in, head_by, head_in, entry_in, history_in, cash_in, cert_by, block_by, cert_in, score_in, log_in}
-use Rattle.log_text.specs.LoggedGames.{LoggedGame, logged_text, IsLoggedVerdict, IsLoggedEnd, IsServed, IsLoggedHead, IsLoggedTrade, IsLoggedEntry, IsLoggedHistory, IsLoggedCashEntry, IsLoggedScore, AreHistories, IsLogged}
+use Rattle.log_text.specs.LoggedGames.{LoggedGame, logged_text, IsLoggedVerdict, IsLoggedEnd, IsServedHead, IsLoggedHead, IsLoggedTrade, IsLoggedEntry, IsLoggedHistory, IsLoggedCashEntry, IsLoggedScore, AreHistories, IsLogged}
 use Rattle.log_text.proofs.HeadFormLaws.{link_is, end_is, missed_is}
 use Rattle.log_text.proofs.EntryFormLaws.{auction_is, trade_is, entry_is, cash_is}
 use Rattle.log_text.proofs.CashFormLaws.{cash_entry_is}
@@ -57,23 +57,23 @@ text_took text left x e =
     let c = cond_some (bytes_eq r.0 text) tt x.0 r.2 in
     took_as left x.1 (r.0 ++ 10 ∷ []) (text ++ 10 ∷ []) (ap (λ (t : List ℕ). t ++ 10 ∷ []) (is_word r.0 text c.0)) r.1
 
-link_takes : TakesBytes (λ place. line_by (link_of place)) (λ place v. link_line (place, v)) (λ _ v. IsLoggedVerdict v)
+link_takes : TakesBytes (λ place. line_by (read_link place)) (λ place v. link_line (place, v)) (λ _ v. IsLoggedVerdict v)
 unfolding TakesBytes
 link_takes place left x are e =
-    let r = line_took (link_of place) left x e in
+    let r = line_took (read_link place) left x e in
     let is = link_is place r.0 x.0 r.2 in
     (took_as left x.1 (r.0 ++ 10 ∷ []) (link_line (place, x.0)) (ap (λ (t : List ℕ). t ++ 10 ∷ []) is.0 ∙ link_text place x.0) r.1, is.1)
 
-end_takes : TakesBytes (λ _. line_by end_of) (λ _ e. end_line e) (λ _ e. IsLoggedEnd e)
+end_takes : TakesBytes (λ _. line_by read_end) (λ _ e. end_line e) (λ _ e. IsLoggedEnd e)
 unfolding TakesBytes
 end_takes i left x are e =
-    let r = line_took end_of left x e in
+    let r = line_took read_end left x e in
     let is = end_is r.0 x.0 r.2 in
     (took_as left x.1 (r.0 ++ 10 ∷ []) (end_line x.0) (ap (λ (t : List ℕ). t ++ 10 ∷ []) is.0 ∙ end_text x.0) r.1, is.1)
 
-missed_took : (left : Remaining) (x : ℕ × Remaining) → line_by missed_of left ≡ Ok x → TookBytes left (missed_line x.0) x.1 × (x.0 ≤ 255)
+missed_took : (left : Remaining) (x : ℕ × Remaining) → line_by read_missed left ≡ Ok x → TookBytes left (missed_line x.0) x.1 × (x.0 ≤ 255)
 missed_took left x e =
-    let r = line_took missed_of left x e in
+    let r = line_took read_missed left x e in
     let is = missed_is r.0 x.0 r.2 in
     (took_as left x.1 (r.0 ++ 10 ∷ []) (missed_line x.0) (ap (λ (t : List ℕ). t ++ 10 ∷ []) is.0 ∙ missed_end x.0) r.1, is.1)
 
@@ -116,11 +116,11 @@ after_kind (Serve links ends missed) = served_text links ends missed
 
 served_took : (left : Remaining) (x : Head × Remaining) → AreLines left → served_in left ≡ Ok x → TookPart after_kind IsLoggedHead left x
 served_took left x are e =
-    let a = bind_ok (as_long_as (codes "link") (λ place. line_by (link_of place)) 255 0 left) (λ links. as_long_as (codes "end") (λ _. line_by end_of) 67108864 0 links.1 >>= λ ends. line_by missed_of ends.1 >>= λ missed. Ok (Serve links.0 ends.0 missed.0, missed.1)) x e in
-    let b = bind_ok (as_long_as (codes "end") (λ _. line_by end_of) 67108864 0 a.0.1) (λ ends. line_by missed_of ends.1 >>= λ missed. Ok (Serve a.0.0 ends.0 missed.0, missed.1)) x a.2 in
-    let c = bind_ok (line_by missed_of b.0.1) (λ missed. Ok (Serve a.0.0 b.0.0 missed.0, missed.1)) x b.2 in
-    let links = as_long_took (codes "link") (λ place. line_by (link_of place)) (λ place v. link_line (place, v)) (λ _ v. IsLoggedVerdict v) link_takes 255 0 left a.0 are a.1 in
-    let ends = as_long_took (codes "end") (λ _. line_by end_of) (λ _ e. end_line e) (λ _ e. IsLoggedEnd e) end_takes 67108864 0 a.0.1 b.0 (links.0.took.lines are) b.1 in
+    let a = bind_ok (as_long_as (codes "link") (λ place. line_by (read_link place)) 255 0 left) (λ links. as_long_as (codes "end") (λ _. line_by read_end) 67108864 0 links.1 >>= λ ends. line_by read_missed ends.1 >>= λ missed. Ok (Serve links.0 ends.0 missed.0, missed.1)) x e in
+    let b = bind_ok (as_long_as (codes "end") (λ _. line_by read_end) 67108864 0 a.0.1) (λ ends. line_by read_missed ends.1 >>= λ missed. Ok (Serve a.0.0 ends.0 missed.0, missed.1)) x a.2 in
+    let c = bind_ok (line_by read_missed b.0.1) (λ missed. Ok (Serve a.0.0 b.0.0 missed.0, missed.1)) x b.2 in
+    let links = as_long_took (codes "link") (λ place. line_by (read_link place)) (λ place v. link_line (place, v)) (λ _ v. IsLoggedVerdict v) link_takes 255 0 left a.0 are a.1 in
+    let ends = as_long_took (codes "end") (λ _. line_by read_end) (λ _ e. end_line e) (λ _ e. IsLoggedEnd e) end_takes 67108864 0 a.0.1 b.0 (links.0.took.lines are) b.1 in
     let missed = missed_took b.0.1 c.0 c.1 in
     subst (TookPart after_kind IsLoggedHead left) (ok_is {E = BadLine} (Serve a.0.0 b.0.0 c.0.0, c.0.1) x c.2) (record {
       took = took_both left a.0.1 c.0.1 (flat_map link_line (enumerate_from 0 a.0.0)) (flat_map end_line b.0.0 ++ missed_line c.0.0)
@@ -161,9 +161,9 @@ kind_text true left x are e =
   where
     serves : (left : Remaining) (x : Head × Remaining) → served_in left ≡ Ok x → (links : List Verdict) × (ends : List (ℕ × Cause)) × (missed : ℕ) × (x.0 ≡ Serve links ends missed)
     serves left x e =
-        let a = bind_ok (as_long_as (codes "link") (λ place. line_by (link_of place)) 255 0 left) (λ links. as_long_as (codes "end") (λ _. line_by end_of) 67108864 0 links.1 >>= λ ends. line_by missed_of ends.1 >>= λ missed. Ok (Serve links.0 ends.0 missed.0, missed.1)) x e in
-        let b = bind_ok (as_long_as (codes "end") (λ _. line_by end_of) 67108864 0 a.0.1) (λ ends. line_by missed_of ends.1 >>= λ missed. Ok (Serve a.0.0 ends.0 missed.0, missed.1)) x a.2 in
-        let c = bind_ok (line_by missed_of b.0.1) (λ missed. Ok (Serve a.0.0 b.0.0 missed.0, missed.1)) x b.2 in
+        let a = bind_ok (as_long_as (codes "link") (λ place. line_by (read_link place)) 255 0 left) (λ links. as_long_as (codes "end") (λ _. line_by read_end) 67108864 0 links.1 >>= λ ends. line_by read_missed ends.1 >>= λ missed. Ok (Serve links.0 ends.0 missed.0, missed.1)) x e in
+        let b = bind_ok (as_long_as (codes "end") (λ _. line_by read_end) 67108864 0 a.0.1) (λ ends. line_by read_missed ends.1 >>= λ missed. Ok (Serve a.0.0 ends.0 missed.0, missed.1)) x a.2 in
+        let c = bind_ok (line_by read_missed b.0.1) (λ missed. Ok (Serve a.0.0 b.0.0 missed.0, missed.1)) x b.2 in
         (a.0.0, b.0.0, c.0.0, ap (λ (y : Head × Remaining). y.0) (sym (ok_is {E = BadLine} (Serve a.0.0 b.0.0 c.0.0, c.0.1) x c.2)))
 
     served_form : (links : List Verdict) (ends : List (ℕ × Cause)) (missed : ℕ) → with_kind true (Serve links ends missed) ≡ head_text (Serve links ends missed)
@@ -195,9 +195,9 @@ made_entry caller call reply trades = record { caller = caller; call = call; rep
 entry_takes : (good : ℕ) → TakesBytes (λ _. entry_in good) (λ _ e. entry_text e) (λ _ e. IsLoggedEntry good e)
 unfolding TakesBytes entry_in
 entry_takes good i left x are e =
-    let a = bind_ok (line_by entry_of left) (λ line. as_long_as (codes "trade") (λ _. line_by (trade_of good)) 128 0 line.1 >>= λ trades. Ok (made_entry line.0.0 line.0.1 line.0.2 trades.0, trades.1)) x e in
+    let a = bind_ok (line_by read_entry left) (λ line. as_long_as (codes "trade") (λ _. line_by (trade_of good)) 128 0 line.1 >>= λ trades. Ok (made_entry line.0.0 line.0.1 line.0.2 trades.0, trades.1)) x e in
     let b = bind_ok (as_long_as (codes "trade") (λ _. line_by (trade_of good)) 128 0 a.0.1) (λ trades. Ok (made_entry a.0.0.0 a.0.0.1 a.0.0.2 trades.0, trades.1)) x a.2 in
-    let r = line_took entry_of left a.0 a.1 in
+    let r = line_took read_entry left a.0 a.1 in
     let is = entry_is r.0 a.0.0 r.2 in
     let trades = as_long_took (codes "trade") (λ _. line_by (trade_of good)) (λ _ t. trade_line t) (λ _ t. IsLoggedTrade good t) (trade_takes good) 128 0 a.0.1 b.0 (r.1.lines are) b.1 in
     subst (λ (y : Entry × Remaining). TookBytes left (entry_text y.0) y.1 × IsLoggedEntry good y.0) (ok_is {E = BadLine} (made_entry a.0.0.0 a.0.0.1 a.0.0.2 b.0.0, b.0.1) x b.2) (
@@ -230,8 +230,8 @@ record AreLoggedCash (cash : List CashEntry) : Type 0 where
 cash_took : (left : Remaining) (x : List CashEntry × Remaining) → AreLines left → cash_in left ≡ Ok x → TookPart cash_text AreLoggedCash left x
 unfolding cash_in
 cash_took left x are e =
-    let a = bind_ok (line_by cash_of left) (λ count. repeat count.0 0 (λ _. line_by cash_entry_of) count.1) x e in
-    let r = line_took cash_of left a.0 a.1 in
+    let a = bind_ok (line_by read_cash_line left) (λ count. repeat count.0 0 (λ _. line_by cash_entry_of) count.1) x e in
+    let r = line_took read_cash_line left a.0 a.1 in
     let is = cash_is r.0 a.0.0 r.2 in
     let entries = repeat_took_bytes (λ _. line_by cash_entry_of) (λ _ e. cash_entry_line e) (λ _ e. IsLoggedCashEntry e) cash_takes a.0.0 0 a.0.1 x (r.1.lines are) a.2 in
     let few = is.1 in
@@ -265,9 +265,9 @@ block_took number zero left lines x e =
     subst (TookBlock 0 (map (λ line. line.bytes) lines) left) (same_Some ([], record left { lines = lines }) x e) (record { taken = []; count_is = refl; parts = refl; bytes = refl; same = refl })
 block_took number (suc count) left [] x e = absurd cc
 block_took number (suc count) left (line ∷ lines) x e =
-    elim (either_way (eqb line.number number) (option_map (after_line line.bytes) (block_in (number + 1) count left lines)) None x e) [
+    elim (either_way (eqb line.number number) (option_map (with_line line.bytes) (block_in (number + 1) count left lines)) None x e) [
       | inl is ↦
-          let inner = mapped (block_in (number + 1) count left lines) (after_line line.bytes) x is.1 in
+          let inner = mapped (block_in (number + 1) count left lines) (with_line line.bytes) x is.1 in
           let more = block_took (number + 1) count left lines inner.0 inner.1 in
           subst (TookBlock (suc count) (line.bytes ∷ map (λ l. l.bytes) lines) left) inner.2 (record {
             taken = line.bytes ∷ more.taken;
@@ -303,7 +303,7 @@ record IsShortCert (tree : Tree) : Type 0 where
   few : length (tree_lines tree) ≤ 4294967295
 
 record TookCert (number count : ℕ) (left : Remaining) (x : Tree × Remaining) : Type 0 where
-  took : AreLines left → (TookBytes left (spelling x.0) x.1) × (count ≡ length (tree_lines x.0))
+  took : AreLines left → (TookBytes left (cert_text x.0) x.1) × (count ≡ length (tree_lines x.0))
   fits : IsCertificate x.0
 
 cert_block : (number count : ℕ) (left : Remaining) (block : Option (List ℕ × Remaining)) (x : Tree × Remaining) → block_of count left ≡ block → block_by number block ≡ Ok x → TookCert number count left x
@@ -312,7 +312,7 @@ cert_block number count left (Some block) x at e =
     let b = bind_ok (cert_by number (cert_of block.0)) (λ tree. Ok (tree, block.1)) x e in
     let printed = cert_printed block.0 b.0 (cert_ok number (cert_of block.0) b.0 b.1) in
     let taken = block_took (first_number left.lines) count left left.lines block at in
-    let text : text_of taken.taken ≡ spelling b.0 = sym taken.bytes ∙ printed.same in
+    let text : text_of taken.taken ≡ cert_text b.0 = sym taken.bytes ∙ printed.same in
     subst (TookCert number count left) (ok_is {E = BadLine} (b.0, block.1) x b.2) (record {
       took = λ are.
           let lacks : AllByRecursion (Lacks 10) (taken.taken ++ map (λ line. line.bytes) block.1.lines) = subst (AllByRecursion (Lacks 10)) taken.parts are in
@@ -340,17 +340,17 @@ line_again_by form left line x due read = rw (due, read) refl
 cert_took : (agent : ℕ) (left : Remaining) (x : Tree × Remaining) → AreLines left → cert_in agent left ≡ Ok x → TookPart (cert_text agent) IsShortCert left x
 unfolding cert_in
 cert_took agent left x are e =
-    let a = bind_ok (due_of left) (λ line. at_line line.0.number (formed (count_of agent line.0.bytes)) >>= λ count. block_by line.0.number (block_of count line.1)) x e in
-    let b = bind_ok (at_line a.0.0.number (formed (count_of agent a.0.0.bytes))) (λ count. block_by a.0.0.number (block_of count a.0.1)) x a.2 in
-    let r = line_took (count_of agent) left (b.0, a.0.1) (line_again_by (count_of agent) left a.0 b.0 a.1 b.1) in
+    let a = bind_ok (due_of left) (λ line. at_line line.0.number (formed (read_count agent line.0.bytes)) >>= λ count. block_by line.0.number (block_of count line.1)) x e in
+    let b = bind_ok (at_line a.0.0.number (formed (read_count agent a.0.0.bytes))) (λ count. block_by a.0.0.number (block_of count a.0.1)) x a.2 in
+    let r = line_took (read_count agent) left (b.0, a.0.1) (line_again_by (read_count agent) left a.0 b.0 a.1 b.1) in
     let is = count_is agent r.0 b.0 r.2 in
     let cert = cert_block a.0.0.number b.0 a.0.1 (block_of b.0 a.0.1) x refl b.2 in
     let block = cert.took (r.1.lines are) in
     let few = is.1 in
     let count = block.1 in
     record {
-      took = took_as left x.1 ((cert_line agent (length (tree_lines x.0)) ++ 10 ∷ []) ++ spelling x.0) (cert_text agent x.0) (sym (flat_map-cons (λ l. l ++ 10 ∷ []) (cert_line agent (length (tree_lines x.0))) (tree_lines x.0)))
-          (took_both left a.0.1 x.1 (cert_line agent (length (tree_lines x.0)) ++ 10 ∷ []) (spelling x.0)
+      took = took_as left x.1 ((cert_line agent (length (tree_lines x.0)) ++ 10 ∷ []) ++ cert_text x.0) (cert_text agent x.0) (sym (flat_map-cons (λ l. l ++ 10 ∷ []) (cert_line agent (length (tree_lines x.0))) (tree_lines x.0)))
+          (took_both left a.0.1 x.1 (cert_line agent (length (tree_lines x.0)) ++ 10 ∷ []) (cert_text x.0)
           (took_as left a.0.1 (r.0 ++ 10 ∷ []) (cert_line agent (length (tree_lines x.0)) ++ 10 ∷ []) (ap (λ (t : List ℕ). t ++ 10 ∷ []) is.0 ∙ ap (λ (n : ℕ). cert_line agent n ++ 10 ∷ []) count) r.1) block.0);
       range = record { fits = cert.fits; few = omega (arith, few, count) };
     }
@@ -374,10 +374,10 @@ agent_text agent scored =
 score_took : (agent : ℕ) (left : Remaining) (x : Scored × Remaining) → AreLines left → score_in agent left ≡ Ok x → TookPart (λ scored. text_of (agent_lines agent scored)) IsLoggedScore left x
 unfolding score_in
 score_took agent left x are e =
-    let a = bind_ok (line_by (score_of agent) left) (λ score. repeat 8 0 (λ client. line_by (package_of agent client)) score.1 >>= λ packages. cert_in agent packages.1 >>= λ cert. Ok (made_scored score.0 packages.0 cert.0, cert.1)) x e in
+    let a = bind_ok (line_by (read_score agent) left) (λ score. repeat 8 0 (λ client. line_by (package_of agent client)) score.1 >>= λ packages. cert_in agent packages.1 >>= λ cert. Ok (made_scored score.0 packages.0 cert.0, cert.1)) x e in
     let b = bind_ok (repeat 8 0 (λ client. line_by (package_of agent client)) a.0.1) (λ packages. cert_in agent packages.1 >>= λ cert. Ok (made_scored a.0.0 packages.0 cert.0, cert.1)) x a.2 in
     let c = bind_ok (cert_in agent b.0.1) (λ cert. Ok (made_scored a.0.0 b.0.0 cert.0, cert.1)) x b.2 in
-    let r = line_took (score_of agent) left a.0 a.1 in
+    let r = line_took (read_score agent) left a.0 a.1 in
     let is = score_is agent r.0 a.0.0 r.2 in
     let packages = repeat_took_bytes (λ client. line_by (package_of agent client)) (λ client p. text_of (package_line agent client p ∷ [])) (λ _ p. IsPackage p) (package_takes agent) 8 0 a.0.1 b.0 (r.1.lines are) b.1 in
     let cert = cert_took agent b.0.1 c.0 (packages.0.took.lines (r.1.lines are)) c.1 in

@@ -12,7 +12,7 @@ use Rattle.text_forms.specs.declared.rows.Column.{Column}
 use Rattle.text_forms.specs.Rows.{within, is_in, all_in, row, row_text}
 use Rattle.text_forms.proofs.Columns.{IsWithin, is_within, in_within}
 use Rattle.text_forms.proofs.RowLaws.{IsRow, is_column, row_is, row_again}
-use Rattle.log_text.specs.HeadForms.{digit_of, numbers_by, numbers_of}
+use Rattle.log_text.specs.HeadForms.{digit_of, numbers_by, read_numbers}
 
 -- ---- one digit
 
@@ -42,11 +42,11 @@ numbers_ok : (read : Result (List ℤ) Reason) (numbers : List ℤ) → numbers_
 numbers_ok (Err reason) numbers h = absurd cc
 numbers_ok (Ok read) numbers h = ap (λ (ns : List ℤ). Ok ns) (same_Some read numbers h)
 
-pub numbers_is : (keyword : List ℕ) (columns : List Column) (line : List ℕ) (numbers : List ℤ) → numbers_of keyword columns line ≡ Some numbers → IsRow keyword columns line numbers
+pub numbers_is : (keyword : List ℕ) (columns : List Column) (line : List ℕ) (numbers : List ℤ) → read_numbers keyword columns line ≡ Some numbers → IsRow keyword columns line numbers
 numbers_is keyword columns line numbers h = row_is keyword columns line numbers (numbers_ok (row keyword columns line) numbers h)
 
 pub numbers_again : (keyword : List ℕ) (columns : List Column) (numbers : List ℤ) → Lacks 32 keyword → list_all is_column columns ≡ true → length numbers ≡ length columns → all_in columns numbers ≡ true →
-    numbers_of keyword columns (row_text keyword numbers) ≡ Some numbers
+    read_numbers keyword columns (row_text keyword numbers) ≡ Some numbers
 numbers_again keyword columns numbers lacks are count range = ap numbers_by (row_again keyword columns numbers lacks are count range)
 
 -- a number in each of these ranges

@@ -24,8 +24,8 @@ use Rattle.line_protocol.specs.ReplyForms.{◌>>=◌}
 use Rattle.line_protocol.proofs.JoinedWords.{lacks, same_or_not}
 use Rattle.line_protocol.proofs.Numbers.{bound, either_way, is_word}
 use Rattle.log_text.specs.SheetText.{package_line, cert_line}
-use Rattle.log_text.specs.HeadForms.{numbers_of, number_at}
-use Rattle.log_text.specs.SheetForms.{amount_column, any_column, score_columns, score_of, trip_columns, trip_at, checked, trip_of, package_of, count_columns, count_of}
+use Rattle.log_text.specs.HeadForms.{read_numbers, number_at}
+use Rattle.log_text.specs.SheetForms.{amount_column, any_column, score_columns, read_score, trip_columns, trip_in, checked, read_trip, package_of, count_columns, read_count}
 use Rattle.log_text.proofs.RowForms.{numbers_is, numbers_again, Within, columns_of, each_within}
 
 -- ---- scores
@@ -84,10 +84,10 @@ pub record IsScoreLine (agent : ℕ) (line : List ℕ) (best : ℕ) (cash : ℤ)
 abbrev made_score : List ℤ → ℕ × ℤ × ℕ × ℤ
 made_score numbers = (number_at numbers 1, get_or numbers 2 (pos 0), number_at numbers 3, get_or numbers 4 (pos 0))
 
-pub score_is : (agent : ℕ) (line : List ℕ) (s : ℕ × ℤ × ℕ × ℤ) → score_of agent line ≡ Some s → IsScoreLine agent line s.0 s.1 s.2 s.3
-unfolding score_of
+pub score_is : (agent : ℕ) (line : List ℕ) (s : ℕ × ℤ × ℕ × ℤ) → read_score agent line ≡ Some s → IsScoreLine agent line s.0 s.1 s.2 s.3
+unfolding read_score
 score_is agent line s h =
-    let b = bound (numbers_of (codes "score") score_columns line) (λ numbers. cond (eqb (number_at numbers 0) agent) (Some (made_score numbers)) None) s h in
+    let b = bound (read_numbers (codes "score") score_columns line) (λ numbers. cond (eqb (number_at numbers 0) agent) (Some (made_score numbers)) None) s h in
     let r = numbers_is (codes "score") score_columns line b.0 b.1 in
     let are = score_numbers b.0 r.count r.range in
     let c = cond_some (eqb (number_at b.0 0) agent) (made_score b.0) s b.2 in
@@ -100,8 +100,8 @@ score_is agent line s h =
     })
 
 pub score_again : (agent best : ℕ) (cash : ℤ) (short : ℕ) (score : ℤ) → agent ≤ 7 → best ≤ 14000 → unsigned_abs cash < 10 ^ 18 → short ≤ 4294967295 → unsigned_abs score < 10 ^ 18 →
-    score_of agent (score_body agent best cash short score) ≡ Some (best, cash, short, score)
-unfolding score_of
+    read_score agent (score_body agent best cash short score) ≡ Some (best, cash, short, score)
+unfolding read_score
 score_again agent best cash short score low few paid lacking total =
     let read = numbers_again (codes "score") score_columns (pos agent ∷ pos best ∷ cash ∷ pos short ∷ score ∷ []) (lacks 32 (codes "score") refl) refl refl
     (rw (in_within 0 7 agent (omega arith) low, in_within 0 14000 best (omega arith) few, amount_again cash paid, in_within 0 4294967295 short (omega arith) lacking, amount_again score total) refl) in
@@ -115,7 +115,7 @@ byte_range = (0, 255)
 abbrev trip_ranges : List (ℕ × ℕ)
 trip_ranges = byte_range ∷ byte_range ∷ byte_range ∷ byte_range ∷ byte_range ∷ byte_range ∷ byte_range ∷ byte_range ∷ []
 
-trip_numbers : (numbers : List ℤ) → Within trip_ranges numbers → row_text (codes "package") numbers ≡ package_line (number_at numbers 0) (number_at numbers 1) (trip_at numbers)
+trip_numbers : (numbers : List ℤ) → Within trip_ranges numbers → row_text (codes "package") numbers ≡ package_line (number_at numbers 0) (number_at numbers 1) (trip_in numbers)
 trip_numbers [] h = absurd h
 trip_numbers (a ∷ []) h = absurd h.1
 trip_numbers (a ∷ b ∷ []) h = absurd h.1.1
@@ -128,15 +128,15 @@ trip_numbers (a ∷ b ∷ c ∷ d ∷ e ∷ f ∷ g ∷ k ∷ []) h =
     λ i. row_text (codes "package") (h.0.same i ∷ h.1.0.same i ∷ h.1.1.0.same i ∷ h.1.1.1.0.same i ∷ h.1.1.1.1.0.same i ∷ h.1.1.1.1.1.0.same i ∷ h.1.1.1.1.1.1.0.same i ∷ h.1.1.1.1.1.1.1.0.same i ∷ [])
 trip_numbers (a ∷ b ∷ c ∷ d ∷ e ∷ f ∷ g ∷ k ∷ l ∷ more) h = absurd h.1.1.1.1.1.1.1.1
 
-trip_is : (agent client : ℕ) (line : List ℕ) (p : Package) → trip_of agent client line ≡ Some p → (line ≡ package_line agent client p) × IsPackage p
+trip_is : (agent client : ℕ) (line : List ℕ) (p : Package) → read_trip agent client line ≡ Some p → (line ≡ package_line agent client p) × IsPackage p
 trip_is agent client line p h =
-    let b = bound (numbers_of (codes "package") trip_columns line) (λ numbers. cond (eqb (number_at numbers 0) agent && eqb (number_at numbers 1) client) (checked (trip_at numbers)) None) p h in
+    let b = bound (read_numbers (codes "package") trip_columns line) (λ numbers. cond (eqb (number_at numbers 0) agent && eqb (number_at numbers 1) client) (checked (trip_in numbers)) None) p h in
     let r = numbers_is (codes "package") trip_columns line b.0 b.1 in
     let text = trip_numbers b.0 (each_within trip_ranges b.0 r.count r.range) in
-    elim (either_way (eqb (number_at b.0 0) agent && eqb (number_at b.0 1) client) (checked (trip_at b.0)) None p b.2) [
+    elim (either_way (eqb (number_at b.0 0) agent && eqb (number_at b.0 1) client) (checked (trip_in b.0)) None p b.2) [
       | inl is ↦
           let both = both_true (eqb (number_at b.0 0) agent) (eqb (number_at b.0 1) client) is.0 in
-          let c = cond_some (is_package (trip_at b.0)) (trip_at b.0) p is.1 in (
+          let c = cond_some (is_package (trip_in b.0)) (trip_in b.0) p is.1 in (
             r.text ∙ text ∙ (λ i. package_line (eqb-true (number_at b.0 0) agent both.0 i) (eqb-true (number_at b.0 1) client both.1 i) (c.1 i)),
             subst IsPackage c.1 c.0,
           )
@@ -146,7 +146,7 @@ trip_is agent client line p h =
 pub package_is : (agent client : ℕ) (line : List ℕ) (p : Package) → package_of agent client line ≡ Some p → (line ≡ package_line agent client p) × IsPackage p
 unfolding package_of
 package_is agent client line p h =
-    elim (either_way (bytes_eq line (package_line agent client packages.None)) (Some packages.None) (trip_of agent client line) p h) [
+    elim (either_way (bytes_eq line (package_line agent client packages.None)) (Some packages.None) (read_trip agent client line) p h) [
       | inl is ↦ subst (λ (x : Package). (line ≡ package_line agent client x) × IsPackage x) (same_Some packages.None p is.1) (is_word line (package_line agent client packages.None) is.0, refl)
       | inr other ↦ trip_is agent client line p other
     ]
@@ -251,11 +251,11 @@ count_numbers (x ∷ []) h = absurd h.1
 count_numbers (x ∷ y ∷ []) h = (λ i. row_text (codes "cert") (h.0.same i ∷ h.1.0.same i ∷ []), h.1.0.most)
 count_numbers (x ∷ y ∷ z ∷ more) h = absurd h.1.1
 
-pub count_is : (agent : ℕ) (line : List ℕ) (count : ℕ) → count_of agent line ≡ Some count → (line ≡ count_body agent count) × (count ≤ 4294967295)
-unfolding count_of
+pub count_is : (agent : ℕ) (line : List ℕ) (count : ℕ) → read_count agent line ≡ Some count → (line ≡ count_body agent count) × (count ≤ 4294967295)
+unfolding read_count
 count_is agent line count h =
     let ranges = (0, 7) ∷ (0, 4294967295) ∷ [] in
-    let b = bound (numbers_of (codes "cert") (columns_of ranges) line) (λ numbers. cond (eqb (number_at numbers 0) agent) (Some (number_at numbers 1)) None) count h in
+    let b = bound (read_numbers (codes "cert") (columns_of ranges) line) (λ numbers. cond (eqb (number_at numbers 0) agent) (Some (number_at numbers 1)) None) count h in
     let r = numbers_is (codes "cert") (columns_of ranges) line b.0 b.1 in
     let are = count_numbers b.0 (each_within ranges b.0 r.count r.range) in
     let c = cond_some (eqb (number_at b.0 0) agent) (number_at b.0 1) count b.2 in (
@@ -263,8 +263,8 @@ count_is agent line count h =
       subst (λ (n : ℕ). n ≤ 4294967295) c.1 are.1,
     )
 
-pub count_again : (agent count : ℕ) → agent ≤ 7 → count ≤ 4294967295 → count_of agent (count_body agent count) ≡ Some count
-unfolding count_of
+pub count_again : (agent count : ℕ) → agent ≤ 7 → count ≤ 4294967295 → read_count agent (count_body agent count) ≡ Some count
+unfolding read_count
 count_again agent count low few =
     let columns = columns_of ((0, 7) ∷ (0, 4294967295) ∷ []) in
     let read = numbers_again (codes "cert") columns (pos agent ∷ pos count ∷ []) (lacks 32 (codes "cert") refl) refl refl (rw (in_within 0 7 agent (omega arith) low, in_within 0 4294967295 count (omega arith) few) refl) in

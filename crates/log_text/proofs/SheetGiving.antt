@@ -13,14 +13,14 @@ use Rattle.trade_ledger.specs.declared.cash_calls.CashEntry.{CashEntry}
 use Rattle.text_forms.specs.declared.lines.BadLine.{BadLine}
 use Rattle.text_forms.specs.Words.{parts_of, words_of}
 use Rattle.text_forms.specs.Rows.{row_text}
-use Rattle.text_forms.specs.Lines.{NumberedLine, Remaining, lines_from, text_of, due_of, at_line, first_number, after_line, block_in, block_of, nothing_left}
+use Rattle.text_forms.specs.Lines.{NumberedLine, Remaining, lines_from, text_of, due_of, at_line, first_number, with_line, block_in, block_of, nothing_left}
 use Rattle.text_forms.specs.Steps.{◌>>=◌, repeat, lines_of_parts, one_line}
 use Rattle.text_forms.proofs.PrintedLines.{join_lacks}
 use Rattle.packages.specs.declared.travel_packages.Package.{Package}
 use Rattle.packages.specs.declared.travel_packages.Package.TheVariants as packages
 use Rattle.packages.specs.Packages.{IsPackage}
 use Rattle.bound_cert.specs.Trees.{Tree, leaf, split, IsCertificate}
-use Rattle.bound_cert.specs.Texts.{tree_lines, spelling}
+use Rattle.bound_cert.specs.Texts.{tree_lines, cert_text}
 use Rattle.bound_cert.specs.Reading.{cert_of}
 use Rattle.bound_cert.proofs.TreesAgain.{text_again}
 use Rattle.score_sheet.specs.Sheets.{Scored}
@@ -29,7 +29,7 @@ use Rattle.line_protocol.proofs.JoinedWords.{lacks}
 use Rattle.log_text.specs.LogText.{cash_text, histories_text, first_lines}
 use Rattle.log_text.specs.SheetText.{score_line, package_line, cert_line, agent_lines, sheet_lines, sheet_part}
 use Rattle.log_text.specs.HeadForms.{formed, is_text}
-use Rattle.log_text.specs.SheetForms.{score_of, package_of, count_of}
+use Rattle.log_text.specs.SheetForms.{read_score, package_of, read_count}
 use Rattle.log_text.specs.LogReading.{line_by, cert_by, block_by, cert_in, score_in, head_in, history_in, cash_in, log_in}
 use Rattle.log_text.specs.LoggedGames.{LoggedGame, logged_text, IsLoggedScore, IsLogged}
 use Rattle.log_text.proofs.SheetFormLaws.{score_again, package_again, count_again, package_lacks, score_lacks}
@@ -83,18 +83,18 @@ count_lacks agent count low few = join_lacks 10 (codes "cert" ∷ decimal agent 
 abbrev cert_text : ℕ → Tree → List ℕ
 cert_text agent tree = text_of (cert_line agent (length (tree_lines tree)) ∷ tree_lines tree)
 
-cert_given : (agent : ℕ) (tree : Tree) → agent ≤ 7 → IsCertificate tree → length (tree_lines tree) ≤ 4294967295 → length (spelling tree) ≤ 67108864 → (number : ℕ) (rest : List ℕ) →
+cert_given : (agent : ℕ) (tree : Tree) → agent ≤ 7 → IsCertificate tree → length (tree_lines tree) ≤ 4294967295 → length (cert_text tree) ≤ 67108864 → (number : ℕ) (rest : List ℕ) →
     (m : ℕ) × (cert_in agent (at number (cert_text agent tree ++ rest)) ≡ Ok (tree, at m rest))
 unfolding cert_in
 cert_given agent tree low fits few short number rest =
     let line = cert_line agent (length (tree_lines tree)) in
-    let after = spelling tree ++ rest in
+    let after = cert_text tree ++ rest in
     let made : cert_text agent tree ++ rest ≡ line ++ 10 ∷ after =
-    ap (λ (t : List ℕ). t ++ rest) (flat_map-cons (λ l. l ++ 10 ∷ []) line (tree_lines tree) ∙ append_assoc line (10 ∷ []) (spelling tree)) ∙ append_assoc line (10 ∷ spelling tree) rest in
+    ap (λ (t : List ℕ). t ++ rest) (flat_map-cons (λ l. l ++ 10 ∷ []) line (tree_lines tree) ∙ append_assoc line (10 ∷ []) (cert_text tree)) ∙ append_assoc line (10 ∷ cert_text tree) rest in
     let here = ap (at number) made ∙ next_at number line after (count_lacks agent (length (tree_lines tree)) low few) in
     let read = count_again agent (length (tree_lines tree)) low few in
     let block = block_found (tree_lines tree) (number + 1) rest (some_line tree) (tree_lacks 32 tree fits) in
-    let cert = text_again (spelling tree) tree fits short refl in
+    let cert = text_again (cert_text tree) tree fits short refl in
     (block.0, ap (cert_in agent) here ∙ rw (read, block.1, cert) refl)
 
 -- ---- scores
@@ -103,7 +103,7 @@ cert_given agent tree low fits few short number rest =
 pub record IsScore (agent : ℕ) (scored : Scored) : Type 0 where
   pub low : agent ≤ 7
   pub range : IsLoggedScore scored
-  pub short : length (spelling scored.tree) ≤ 67108864
+  pub short : length (cert_text scored.tree) ≤ 67108864
 
 package_gives : (agent : ℕ) → agent ≤ 7 → GivesBytes (λ client. line_by (package_of agent client)) (λ client p. text_of (package_line agent client p ∷ [])) (λ client p. (client ≤ 7) × IsPackage p) Any
 unfolding GivesBytes
@@ -131,8 +131,8 @@ score_gives agent scored is number rest q =
     ∙ append_assoc line (10 ∷ []) (text_of (packages ++ (cert_line agent (length (tree_lines scored.tree)) ∷ tree_lines scored.tree)) ++ rest)
     ∙ ap (λ (t : List ℕ). line ++ 10 ∷ (t ++ rest)) (flat_map-append (λ l. l ++ 10 ∷ []) packages (cert_line agent (length (tree_lines scored.tree)) ∷ tree_lines scored.tree))
     ∙ ap (λ (t : List ℕ). line ++ 10 ∷ t) (append_assoc (text_of packages) (cert_text agent scored.tree) rest) in
-    let first = ap (λ (t : List ℕ). line_by (score_of agent) (at number t)) made
-    ∙ line_given (score_of agent) number line after (scored.best, scored.cash, scored.short, scored.score) (score_lacks agent scored.best scored.cash scored.short scored.score low range.best range.cash range.short range.score)
+    let first = ap (λ (t : List ℕ). line_by (read_score agent) (at number t)) made
+    ∙ line_given (read_score agent) number line after (scored.best, scored.cash, scored.short, scored.score) (score_lacks agent scored.best scored.cash scored.short scored.score low range.best range.cash range.short range.score)
     (score_again agent scored.best scored.cash scored.short scored.score low range.best range.cash range.short range.score) in
     let eight = range.eight in
     let all = repeat_given (λ client. line_by (package_of agent client)) (λ client p. text_of (package_line agent client p ∷ [])) (λ client p. (client ≤ 7) × IsPackage p) Any (package_gives agent low)
@@ -156,7 +156,7 @@ short_scores from (s ∷ ss) most few all short le =
     let two = ap length (flat_map-append (λ l. l ++ 10 ∷ []) packages cert) in
     let parts = length-append (text_of packages) (text_of cert) in
     let last = ap length (flat_map-cons (λ l. l ++ 10 ∷ []) (cert_line from (length (tree_lines s.tree))) (tree_lines s.tree)) in
-    let lines = length-append (cert_line from (length (tree_lines s.tree)) ++ 10 ∷ []) (spelling s.tree) in (
+    let lines = length-append (cert_line from (length (tree_lines s.tree)) ++ 10 ∷ []) (cert_text s.tree) in (
       record { low = omega (arith, few); range = All-head IsLoggedScore s ss all; short = omega (arith, short, le, both, first, whole, two, parts, last, lines) },
       short_scores (from + 1) ss most (omega (arith, few)) (All-tail IsLoggedScore s ss all) (omega (arith, short, both)) le,
     )

@@ -13,7 +13,7 @@ use Rattle.text_forms.specs.declared.lines.Reason.{Reason}
 use Rattle.text_forms.specs.declared.lines.Reason.TheVariants.{TextEnd}
 use Rattle.text_forms.specs.declared.lines.BadLine.{BadLine}
 use Rattle.text_forms.specs.Words.{parts_of}
-use Rattle.text_forms.specs.Lines.{NumberedLine, Remaining, lines_from, text_of, due_of, nothing_left, AreLeft, is_nothing}
+use Rattle.text_forms.specs.Lines.{NumberedLine, Remaining, lines_from, text_of, due_of, nothing_left, AreLinesLeft, is_nothing}
 use Rattle.text_forms.specs.Steps.{◌>>=◌, read_by, repeat, lines_of_parts}
 use Rattle.text_forms.proofs.Reading.{Took, bind_ok, ok_is, read_took, took_all}
 use Rattle.log_text.specs.HeadForms.{formed}

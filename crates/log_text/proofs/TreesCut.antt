@@ -13,7 +13,7 @@ use Rattle.text_forms.proofs.Columns.{abs_pos}
 use Rattle.packages.specs.Features.{values_of}
 use Rattle.bound_cert.specs.NodeLines.{leaf_text, split_text}
 use Rattle.bound_cert.specs.Texts.{tree_lines, forest_lines}
-use Rattle.bound_cert.specs.Trees.{Tree, leaf, split, Trees, no_trees, more, count_of, are_prices, is_tree, are_trees}
+use Rattle.bound_cert.specs.Trees.{Tree, leaf, split, Trees, no_trees, more, tree_count, are_prices, is_tree, are_trees}
 use Rattle.log_text.specs.Logged.{IsSigned}
 use Rattle.tac_base.proofs.Signed.{Lacks}
 use Rattle.text_forms.proofs.PrintedLines.{join_lacks}
@@ -68,17 +68,17 @@ prices_are prices h = prices_signed prices (both_true (eqb (length prices) 28) (
 record IsSplit (depth client feature : ℕ) (children : Trees) : Type 0 where
   client_signed : IsSigned (pos client)
   feature_signed : IsSigned (pos feature)
-  counted : count_of children ≡ values_of feature
+  counted : tree_count children ≡ values_of feature
   below : are_trees depth children ≡ true
 
 split_is : (depth client feature : ℕ) (children : Trees) → is_tree (suc depth) (split client feature children) ≡ true → IsSplit depth client feature children
 split_is depth client feature children h =
-    let all = both_true (ltb client 8 && ltb feature 4 && eqb (count_of children) (values_of feature)) (are_trees depth children) h in
-    let three = both_true (ltb client 8 && ltb feature 4) (eqb (count_of children) (values_of feature)) all.0 in
+    let all = both_true (ltb client 8 && ltb feature 4 && eqb (tree_count children) (values_of feature)) (are_trees depth children) h in
+    let three = both_true (ltb client 8 && ltb feature 4) (eqb (tree_count children) (values_of feature)) all.0 in
     let two = both_true (ltb client 8) (ltb feature 4) three.0 in
     let low : client < 8 = by_test client 8 two.0 in
     let low' : feature < 4 = by_test feature 4 two.1 in
-    record { client_signed = small client 8 low (omega arith); feature_signed = small feature 4 low' (omega arith); counted = eqb-true (count_of children) (values_of feature) three.1; below = all.1 }
+    record { client_signed = small client 8 low (omega arith); feature_signed = small feature 4 low' (omega arith); counted = eqb-true (tree_count children) (values_of feature) three.1; below = all.1 }
   where
     by_test : (a b : ℕ) → ltb a b ≡ true → a < b
     by_test a b e = grind (arith, nat_tests)
@@ -131,7 +131,7 @@ mutual
       let rest = forest_same depth children children' us vs is.below is'.below (is.counted ∙ ap values_of both.1 ∙ sym is'.counted) cut.1 in
       ((λ i. split (both.0 i) (both.1 i) (rest.0 i)), rest.1)
 
-  forest_same : (depth : ℕ) (ts us : Trees) (rest more_rest : List ℕ) → are_trees depth ts ≡ true → are_trees depth us ≡ true → count_of ts ≡ count_of us →
+  forest_same : (depth : ℕ) (ts us : Trees) (rest more_rest : List ℕ) → are_trees depth ts ≡ true → are_trees depth us ≡ true → tree_count ts ≡ tree_count us →
       text_of (forest_lines ts) ++ rest ≡ text_of (forest_lines us) ++ more_rest → (ts ≡ us) × (rest ≡ more_rest)
   forest_same depth no_trees no_trees rest more_rest h k n e = (refl, e)
   forest_same depth no_trees (more u us) rest more_rest h k n e = absurd (omega (arith, n))

@@ -9,7 +9,7 @@ use Rattle.text_forms.specs.Words.{parts_of}
 use Rattle.text_forms.specs.Rows.{row}
 use Rattle.text_forms.specs.Lines.{lines_from}
 use Rattle.text_forms.specs.Steps.{repeat}
-use Rattle.log_text.specs.EntryForms.{auction_of, entry_of}
+use Rattle.log_text.specs.EntryForms.{auction_of, read_entry}
 use Rattle.log_text.specs.LogReading.{head_in, entry_in, history_in, log_in}
 use Rattle.log_text.specs.LoggedGames.{LoggedGame}
 
@@ -31,7 +31,7 @@ too_many_entries = refl
 
 -- an entry that is due is no trade
 trade_first : read (codes "taclog 1\nplay\nauction 0 1\ntrade 0 1 1 60\n") ≡ bad 4 Spelling
-unfolding log_in head_in repeat history_in entry_in auction_of entry_of row numeral
+unfolding log_in head_in repeat history_in entry_in auction_of read_entry row numeral
 trade_first = refl
 
 -- the text ends too early, after a line that has no line end

@@ -19,7 +19,7 @@ use Rattle.line_protocol.specs.ReplyForms.{◌>>=◌, answer_of}
 use Rattle.trade_ledger.specs.declared.cash_calls.CashCall.TheVariants.{Post, Read}
 use Rattle.trade_ledger.specs.declared.cash_calls.CashReply.TheVariants.{Done, Cash}
 use Rattle.trade_ledger.specs.declared.cash_calls.CashEntry.{CashEntry}
-use Rattle.log_text.specs.HeadForms.{digit_of, numbers_of, number_at}
+use Rattle.log_text.specs.HeadForms.{digit_of, read_numbers, number_at}
 
 -- ---- auctions
 
@@ -29,7 +29,7 @@ auction_columns = within 0 27 ∷ within 0 AUCTION_ENTRIES ∷ []
 -- the number of entries of the line before the entries of a good
 unfoldable pub auction_of : ℕ → List ℕ → Option ℕ
 auction_of good line =
-    numbers_of (codes "auction") auction_columns line
+    read_numbers (codes "auction") auction_columns line
     >>= λ numbers. if number_at numbers 0 == good then Some (number_at numbers 1) else None
 
 abbrev pub trade_columns : List Column
@@ -38,7 +38,7 @@ trade_columns = within 0 8 ∷ within 0 8 ∷ within 1 BID_UNITS ∷ within 0 BI
 -- the trade of a line, in the auction of a good
 unfoldable pub trade_of : ℕ → List ℕ → Option Trade
 trade_of good line =
-    numbers_of (codes "trade") trade_columns line
+    read_numbers (codes "trade") trade_columns line
     >>= λ numbers. Some (record { buyer = number_at numbers 0; seller = number_at numbers 1; good = good; units = number_at numbers 2; price = number_at numbers 3 })
 
 -- ---- calls
@@ -50,8 +50,8 @@ bid_by (Ok points) = Some (calls.Bid points)
 abbrev pub update_columns : List Column
 update_columns = within 1 UPDATE_TICKS ∷ within 0 4294967295 ∷ []
 
-abbrev pub update_of : List ℕ → Option Call
-update_of text = numbers_of (codes "update") update_columns text >>= λ numbers. Some (calls.Update (number_at numbers 0) (number_at numbers 1))
+abbrev pub read_update : List ℕ → Option Call
+read_update text = read_numbers (codes "update") update_columns text >>= λ numbers. Some (calls.Update (number_at numbers 0) (number_at numbers 1))
 
 abbrev pub word_call : List ℕ → Option Call
 word_call word =
@@ -66,18 +66,18 @@ abbrev pub call_of_words : List ℕ → List (List ℕ) → Option Call
 call_of_words text [] = None
 call_of_words text (keyword ∷ []) = word_call keyword
 call_of_words text (keyword ∷ word ∷ words) =
-    if bytes_eq keyword (codes "bid") then bid_by (judged (points_of (join_with_byte 32 (word ∷ words)))) else update_of text
+    if bytes_eq keyword (codes "bid") then bid_by (judged (points_of (join_with_byte 32 (word ∷ words)))) else read_update text
 
-unfoldable pub call_of : List ℕ → Option Call
-call_of text = call_of_words text (words_of text)
+unfoldable pub read_call : List ℕ → Option Call
+read_call text = call_of_words text (words_of text)
 
 -- ---- entries
 
 -- a digit, a space, and what follows them
-abbrev pub caller_of : ℕ → List ℕ → Option (ℕ × List ℕ)
-caller_of most [] = None
-caller_of most (digit ∷ []) = None
-caller_of most (digit ∷ space ∷ text) = if space == 32 then (digit_of most (digit ∷ []) >>= λ caller. Some (caller, text)) else None
+abbrev pub read_caller : ℕ → List ℕ → Option (ℕ × List ℕ)
+read_caller most [] = None
+read_caller most (digit ∷ []) = None
+read_caller most (digit ∷ space ∷ text) = if space == 32 then (digit_of most (digit ∷ []) >>= λ caller. Some (caller, text)) else None
 
 -- a text without the space at its end, and without that at its start
 abbrev pub before_space : List ℕ → Option (List ℕ)
@@ -94,11 +94,11 @@ sides_of (call ∷ []) = None
 sides_of (call ∷ part ∷ parts) = before_space call >>= λ left. after_space (join_with_byte 61 (part ∷ parts)) >>= λ right. Some (left, right)
 
 -- the caller, the call and the reply of the line of an entry
-unfoldable pub entry_of : List ℕ → Option (ℕ × Call × Reply)
-entry_of line =
-    caller_of 8 line >>= λ called.
+unfoldable pub read_entry : List ℕ → Option (ℕ × Call × Reply)
+read_entry line =
+    read_caller 8 line >>= λ called.
     sides_of (parts_of 61 called.1) >>= λ sides.
-    call_of sides.0 >>= λ call.
+    read_call sides.0 >>= λ call.
     answer_of sides.1 >>= λ reply.
     Some (called.0, call, reply)
 
@@ -108,8 +108,8 @@ abbrev pub cash_columns : List Column
 cash_columns = within 0 CASH_ENTRIES ∷ []
 
 -- the number of entries of the line before them
-unfoldable pub cash_of : List ℕ → Option ℕ
-cash_of line = numbers_of (codes "cash") cash_columns line >>= λ numbers. Some (number_at numbers 0)
+unfoldable pub read_cash_line : List ℕ → Option ℕ
+read_cash_line line = read_numbers (codes "cash") cash_columns line >>= λ numbers. Some (number_at numbers 0)
 
 -- a number of 32 bits with a sign
 abbrev pub net_column : Column
@@ -123,7 +123,7 @@ made_post caller numbers = record { caller = caller; call = Post (number_at numb
 
 -- the post of a caller and a text
 abbrev pub post_of : ℕ → List ℕ → Option CashEntry
-post_of caller text = numbers_of (codes "post") post_columns text >>= λ numbers. Some (made_post caller numbers)
+post_of caller text = read_numbers (codes "post") post_columns text >>= λ numbers. Some (made_post caller numbers)
 
 -- the reading of an agent's own cash
 abbrev pub read_of : ℕ → List ℕ → List ℕ → List ℕ → Option CashEntry
@@ -132,12 +132,12 @@ read_of agent keyword sign word =
     then (signed_numeral CASH_DIGITS word >>= λ dollars. Some (record { caller = agent; call = Read agent; reply = Cash dollars }))
     else None
 
-abbrev pub reading_of : ℕ → List (List ℕ) → Option CashEntry
-reading_of agent [] = None
-reading_of agent (keyword ∷ []) = None
-reading_of agent (keyword ∷ sign ∷ []) = None
-reading_of agent (keyword ∷ sign ∷ word ∷ []) = read_of agent keyword sign word
-reading_of agent (keyword ∷ sign ∷ word ∷ other ∷ words) = None
+abbrev pub read_reading : ℕ → List (List ℕ) → Option CashEntry
+read_reading agent [] = None
+read_reading agent (keyword ∷ []) = None
+read_reading agent (keyword ∷ sign ∷ []) = None
+read_reading agent (keyword ∷ sign ∷ word ∷ []) = read_of agent keyword sign word
+read_reading agent (keyword ∷ sign ∷ word ∷ other ∷ words) = None
 
 -- whether the first word is that of a post
 abbrev pub first_is : List ℕ → List (List ℕ) → Bool
@@ -152,7 +152,7 @@ abbrev pub cash_entry_by : ℕ → List ℕ → Option CashEntry
 cash_entry_by caller text =
     if starts_post text then post_of caller text
     else if caller == 8 then None
-    else reading_of caller (words_of text)
+    else read_reading caller (words_of text)
 
 unfoldable pub cash_entry_of : List ℕ → Option CashEntry
-cash_entry_of line = caller_of 8 line >>= λ called. cash_entry_by called.0 called.1
+cash_entry_of line = read_caller 8 line >>= λ called. cash_entry_by called.0 called.1

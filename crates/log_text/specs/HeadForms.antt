@@ -32,8 +32,8 @@ abbrev pub numbers_by : Result (List ℤ) Reason → Option (List ℤ)
 numbers_by (Err reason) = None
 numbers_by (Ok numbers) = Some numbers
 
-abbrev pub numbers_of : List ℕ → List Column → List ℕ → Option (List ℤ)
-numbers_of keyword columns line = numbers_by (row keyword columns line)
+abbrev pub read_numbers : List ℕ → List Column → List ℕ → Option (List ℤ)
+read_numbers keyword columns line = numbers_by (row keyword columns line)
 
 -- the number at a place among them
 abbrev pub number_at : List ℤ → ℕ → ℕ
@@ -41,8 +41,8 @@ number_at numbers place = unsigned_abs (slice_index_or numbers place (pos 0))
 
 -- ---- links
 
-abbrev pub word_verdict : List ℕ → Option Verdict
-word_verdict word =
+abbrev pub read_refused : List ℕ → Option Verdict
+read_refused word =
     if bytes_eq word (codes "syntax") then Some Syntax
     else if bytes_eq word (codes "wrongword") then Some WrongWord
     else if bytes_eq word (codes "taken") then Some Taken
@@ -52,25 +52,25 @@ word_verdict word =
 abbrev pub seated_of : List ℕ → List ℕ → Option Verdict
 seated_of word agent = if bytes_eq word (codes "seated") then (digit_of 7 agent >>= λ seat. Some (Seated seat)) else None
 
-abbrev pub verdict_of : List (List ℕ) → Option Verdict
-verdict_of [] = None
-verdict_of (word ∷ []) = word_verdict word
-verdict_of (word ∷ agent ∷ []) = seated_of word agent
-verdict_of (word ∷ agent ∷ other ∷ words) = None
+abbrev pub read_verdict : List (List ℕ) → Option Verdict
+read_verdict [] = None
+read_verdict (word ∷ []) = read_refused word
+read_verdict (word ∷ agent ∷ []) = seated_of word agent
+read_verdict (word ∷ agent ∷ other ∷ words) = None
 
 abbrev pub link_of_words : ℕ → List (List ℕ) → Option Verdict
 link_of_words place [] = None
 link_of_words place (keyword ∷ []) = None
-link_of_words place (keyword ∷ number ∷ words) = if bytes_eq keyword (codes "link") && bytes_eq number (decimal place) then verdict_of words else None
+link_of_words place (keyword ∷ number ∷ words) = if bytes_eq keyword (codes "link") && bytes_eq number (decimal place) then read_verdict words else None
 
 -- the verdict of the line of a link at this place
-unfoldable pub link_of : ℕ → List ℕ → Option Verdict
-link_of place line = link_of_words place (words_of line)
+unfoldable pub read_link : ℕ → List ℕ → Option Verdict
+read_link place line = link_of_words place (words_of line)
 
 -- ---- ends of sessions
 
-abbrev pub cause_of : List ℕ → Option Cause
-cause_of word =
+abbrev pub read_cause : List ℕ → Option Cause
+read_cause word =
     if bytes_eq word (codes "quit") then Some Quit
     else if bytes_eq word (codes "end") then Some End
     else if bytes_eq word (codes "readfault") then Some ReadFault
@@ -80,7 +80,7 @@ cause_of word =
 
 abbrev pub ended_of : List ℕ → List ℕ → List ℕ → Option (ℕ × Cause)
 ended_of keyword agent word =
-    if bytes_eq keyword (codes "end") then (digit_of 7 agent >>= λ seat. cause_of word >>= λ cause. Some (seat, cause)) else None
+    if bytes_eq keyword (codes "end") then (digit_of 7 agent >>= λ seat. read_cause word >>= λ cause. Some (seat, cause)) else None
 
 abbrev pub end_of_words : List (List ℕ) → Option (ℕ × Cause)
 end_of_words [] = None
@@ -90,11 +90,11 @@ end_of_words (keyword ∷ agent ∷ word ∷ []) = ended_of keyword agent word
 end_of_words (keyword ∷ agent ∷ word ∷ other ∷ words) = None
 
 -- the agent and the cause of the line of a session's end
-unfoldable pub end_of : List ℕ → Option (ℕ × Cause)
-end_of line = end_of_words (words_of line)
+unfoldable pub read_end : List ℕ → Option (ℕ × Cause)
+read_end line = end_of_words (words_of line)
 
 -- ---- missed ticks
 
 -- the number of the line of the ticks that were missed
-unfoldable pub missed_of : List ℕ → Option ℕ
-missed_of line = numbers_of (codes "missed") (within 0 255 ∷ []) line >>= λ numbers. Some (number_at numbers 0)
+unfoldable pub read_missed : List ℕ → Option ℕ
+read_missed line = read_numbers (codes "missed") (within 0 255 ∷ []) line >>= λ numbers. Some (number_at numbers 0)

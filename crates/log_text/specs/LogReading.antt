@@ -19,9 +19,9 @@ use Rattle.score_sheet.specs.Sheets.{Scored}
 use Rattle.line_protocol.specs.declared.admission.Verdict.{Verdict}
 use Rattle.line_protocol.specs.declared.admission.Cause.{Cause}
 use Rattle.line_protocol.specs.Heads.{Head, Play, Serve}
-use Rattle.log_text.specs.HeadForms.{formed, is_text, link_of, end_of, missed_of}
-use Rattle.log_text.specs.EntryForms.{first_is, auction_of, trade_of, entry_of, cash_of, cash_entry_of}
-use Rattle.log_text.specs.SheetForms.{score_of, package_of, count_of}
+use Rattle.log_text.specs.HeadForms.{formed, is_text, read_link, read_end, read_missed}
+use Rattle.log_text.specs.EntryForms.{first_is, auction_of, trade_of, read_entry, read_cash_line, cash_entry_of}
+use Rattle.log_text.specs.SheetForms.{read_score, package_of, read_count}
 use Rattle.log_text.specs.LoggedGames.{LoggedGame}
 
 -- the next line, by its form
@@ -58,9 +58,9 @@ is_served line = if bytes_eq line (codes "play") then Some false else if bytes_e
 
 abbrev pub served_in : Remaining → Result (Head × Remaining) BadLine
 served_in left = do
-  links ← as_long_as (codes "link") (λ place. line_by (link_of place)) 255 0 left
-  ends ← as_long_as (codes "end") (λ _. line_by end_of) TEXT_BYTES 0 links.1
-  missed ← line_by missed_of ends.1
+  links ← as_long_as (codes "link") (λ place. line_by (read_link place)) 255 0 left
+  ends ← as_long_as (codes "end") (λ _. line_by read_end) TEXT_BYTES 0 links.1
+  missed ← line_by read_missed ends.1
   Ok (Serve links.0 ends.0 missed.0, missed.1)
 
 abbrev pub head_by : Bool → Remaining → Result (Head × Remaining) BadLine
@@ -77,7 +77,7 @@ head_in left = do
 
 unfoldable pub entry_in : ℕ → Remaining → Result (Entry × Remaining) BadLine
 entry_in good left = do
-  line ← line_by entry_of left
+  line ← line_by read_entry left
   trades ← as_long_as (codes "trade") (λ _. line_by (trade_of good)) ENTRY_TRADES 0 line.1
   Ok (record { caller = line.0.0; call = line.0.1; reply = line.0.2; trades = trades.0 }, trades.1)
 
@@ -88,7 +88,7 @@ history_in good left = do
 
 unfoldable pub cash_in : Remaining → Result (List CashEntry × Remaining) BadLine
 cash_in left = do
-  count ← line_by cash_of left
+  count ← line_by read_cash_line left
   repeat count.0 0 (λ _. line_by cash_entry_of) count.1
 
 -- ---- the sheet
@@ -111,12 +111,12 @@ block_by number (Some block) = cert_by number (cert_of block.0) >>= λ tree. Ok 
 unfoldable pub cert_in : ℕ → Remaining → Result (Tree × Remaining) BadLine
 cert_in agent left = do
   line ← due_of left
-  count ← at_line line.0.number (formed (count_of agent line.0.bytes))
+  count ← at_line line.0.number (formed (read_count agent line.0.bytes))
   block_by line.0.number (block_of count line.1)
 
 unfoldable pub score_in : ℕ → Remaining → Result (Scored × Remaining) BadLine
 score_in agent left = do
-  score ← line_by (score_of agent) left
+  score ← line_by (read_score agent) left
   packages ← repeat 8 0 (λ client. line_by (package_of agent client)) score.1
   cert ← cert_in agent packages.1
   Ok (record { best = score.0.0; cash = score.0.1; short = score.0.2; score = score.0.3; allocation = packages.0; tree = cert.0 }, cert.1)

@@ -48,7 +48,7 @@ abbrev pub IsLoggedEnd : ℕ × Cause → Type 0
 IsLoggedEnd end = end.0 ≤ 7
 
 -- at most 255 links, and 255 ticks that were missed; no text has room for more ends
-pub record IsServed (links : List Verdict) (ends : List (ℕ × Cause)) (missed : ℕ) : Type 0 where
+pub record IsServedHead (links : List Verdict) (ends : List (ℕ × Cause)) (missed : ℕ) : Type 0 where
   pub few_links : length links ≤ 255
   pub links_are : All IsLoggedVerdict links
   pub few_ends : length ends ≤ TEXT_BYTES
@@ -57,7 +57,7 @@ pub record IsServed (links : List Verdict) (ends : List (ℕ × Cause)) (missed 
 
 abbrev pub IsLoggedHead : Head → Type 0
 IsLoggedHead Play = ⊤
-IsLoggedHead (Serve links ends missed) = IsServed links ends missed
+IsLoggedHead (Serve links ends missed) = IsServedHead links ends missed
 
 abbrev pub IsLoggedCall : Call → Type 0
 IsLoggedCall (calls.Bid points) = fault_of points ≡ None

@@ -9,7 +9,7 @@ use Rattle.score_sheet.specs.Sheets.{Scored}
 use Rattle.log_text.specs.Logged.{IsNumber, IsSigned}
 
 -- a night for each of the three ticket types
-pub record AreNights (nights : List ℕ) : Type 0 where
+pub record AreTicketNights (nights : List ℕ) : Type 0 where
   pub count : length nights ≡ 3
   pub first : IsNumber (slice_index nights 0)
   pub second : IsNumber (slice_index nights 1)
@@ -17,7 +17,7 @@ pub record AreNights (nights : List ℕ) : Type 0 where
 
 abbrev pub IsShownPackage : Package → Type 0
 IsShownPackage None = ⊤
-IsShownPackage (Trip hotel arrive depart nights) = IsNumber hotel × IsNumber arrive × IsNumber depart × AreNights nights
+IsShownPackage (Trip hotel arrive depart nights) = IsNumber hotel × IsNumber arrive × IsNumber depart × AreTicketNights nights
 
 -- the numbers of a score, a package for each of eight clients, and a certificate
 pub record IsKnownScore (scored : Scored) : Type 0 where

@@ -9,7 +9,7 @@ use Rattle.packages.specs.declared.travel_packages.Package.{Package}
 use Rattle.packages.specs.declared.travel_packages.Package.TheVariants as packages
 use Rattle.packages.specs.Packages.{is_package}
 use Rattle.line_protocol.specs.ReplyForms.{◌>>=◌}
-use Rattle.log_text.specs.HeadForms.{numbers_of, number_at}
+use Rattle.log_text.specs.HeadForms.{read_numbers, number_at}
 use Rattle.log_text.specs.SheetText.{package_line}
 
 -- dollars of at most 18 digits, with a sign
@@ -23,9 +23,9 @@ abbrev pub score_columns : List Column
 score_columns = within 0 7 ∷ within 0 BEST_TOTAL ∷ amount_column ∷ any_column ∷ amount_column ∷ []
 
 -- the best total, the cash, the tickets that are short and the score of the line of an agent
-unfoldable pub score_of : ℕ → List ℕ → Option (ℕ × ℤ × ℕ × ℤ)
-score_of agent line =
-    numbers_of (codes "score") score_columns line
+unfoldable pub read_score : ℕ → List ℕ → Option (ℕ × ℤ × ℕ × ℤ)
+read_score agent line =
+    read_numbers (codes "score") score_columns line
     >>= λ numbers. if number_at numbers 0 == agent
     then Some (number_at numbers 1, slice_index_or numbers 2 (pos 0), number_at numbers 3, slice_index_or numbers 4 (pos 0))
     else None
@@ -36,22 +36,22 @@ abbrev pub trip_columns : List Column
 trip_columns = replicate 8 (within 0 255)
 
 -- the trip of the numbers of a row
-abbrev pub trip_at : List ℤ → Package
-trip_at numbers = packages.Trip (number_at numbers 2) (number_at numbers 3) (number_at numbers 4) (number_at numbers 5 ∷ number_at numbers 6 ∷ number_at numbers 7 ∷ [])
+abbrev pub trip_in : List ℤ → Package
+trip_in numbers = packages.Trip (number_at numbers 2) (number_at numbers 3) (number_at numbers 4) (number_at numbers 5 ∷ number_at numbers 6 ∷ number_at numbers 7 ∷ [])
 
 -- a trip that is one of the packages
 abbrev pub checked : Package → Option Package
 checked trip = if is_package trip then Some trip else None
 
 -- the trip of the line of an agent's client
-abbrev pub trip_of : ℕ → ℕ → List ℕ → Option Package
-trip_of agent client line =
-    numbers_of (codes "package") trip_columns line
-    >>= λ numbers. if (number_at numbers 0 == agent) && (number_at numbers 1 == client) then checked (trip_at numbers) else None
+abbrev pub read_trip : ℕ → ℕ → List ℕ → Option Package
+read_trip agent client line =
+    read_numbers (codes "package") trip_columns line
+    >>= λ numbers. if (number_at numbers 0 == agent) && (number_at numbers 1 == client) then checked (trip_in numbers) else None
 
 -- the package of the line of an agent's client
 unfoldable pub package_of : ℕ → ℕ → List ℕ → Option Package
-package_of agent client line = if bytes_eq line (package_line agent client packages.None) then Some packages.None else trip_of agent client line
+package_of agent client line = if bytes_eq line (package_line agent client packages.None) then Some packages.None else read_trip agent client line
 
 -- ---- certificates
 
@@ -59,7 +59,7 @@ abbrev pub count_columns : List Column
 count_columns = within 0 7 ∷ any_column ∷ []
 
 -- the number of lines of an agent's certificate, of the line before them
-unfoldable pub count_of : ℕ → List ℕ → Option ℕ
-count_of agent line =
-    numbers_of (codes "cert") count_columns line
+unfoldable pub read_count : ℕ → List ℕ → Option ℕ
+read_count agent line =
+    read_numbers (codes "cert") count_columns line
     >>= λ numbers. if number_at numbers 0 == agent then Some (number_at numbers 1) else None

@@ -5,7 +5,7 @@ use Rattle.std.specs.List.{flat_map, range_with_len}
 use Rattle.tac_base.specs.Clients.{Preferences}
 use Rattle.game_text.specs.Accounts.{AccountFile}
 use Rattle.packages.specs.declared.travel_packages.Package.TheVariants.{Trip}
-use Rattle.packages.specs.Goods.{good_of, thing_of}
+use Rattle.packages.specs.Goods.{good_number, thing_of}
 use Rattle.packages.specs.Packages.{utility_of}
 use Rattle.packages.specs.Listing.{trips, packages, packages_of}
 use Rattle.packages.specs.Features.{rank_of}
@@ -16,7 +16,7 @@ museum_trip : utility_of (record { arrive = 1; depart = 3; premium = 100; values
 museum_trip = refl
 
 -- each good has its number
-goods : map (λ good. good_of (thing_of good)) (range_with_len 0 28) ≡ range_with_len 0 28
+goods : map (λ good. good_number (thing_of good)) (range_with_len 0 28) ≡ range_with_len 0 28
 goods = refl
 
 -- the trips stand in the order of their ranks

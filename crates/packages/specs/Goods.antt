@@ -13,11 +13,11 @@ pub data Thing : Type 0 where
   ticket : ℕ → ℕ → Thing
 
 -- the number of a good
-abbrev pub good_of : Thing → ℕ
-good_of (inbound day) = inbound_flight day
-good_of (outbound day) = outbound_flight day
-good_of (room hotel night) = hotel_night hotel night
-good_of (ticket kind night) = ticket_night kind night
+abbrev pub good_number : Thing → ℕ
+good_number (inbound day) = inbound_flight day
+good_number (outbound day) = outbound_flight day
+good_number (room hotel night) = hotel_night hotel night
+good_number (ticket kind night) = ticket_night kind night
 
 -- the good of a number
 abbrev pub thing_of : ℕ → Thing

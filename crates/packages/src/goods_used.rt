@@ -1,5 +1,5 @@
 ghost use Rattle.std.specs.Prelude.{◌≡◌, ◌≤◌};
-ghost use Rattle.packages.specs.Goods.{good_of, thing_of};
+ghost use Rattle.packages.specs.Goods.{good_number, thing_of};
 ghost use Rattle.packages.specs.Packages.{IsPackage, use_of};
 
 use crate::travel_packages::Package;
@@ -13,7 +13,7 @@ pub fn uses(package: &Package, good: Good) -> u8
     ensures few { result ≤ 1 }
 
     // Decoding a good and encoding it again gives its number.
-    ensures number { good_of (thing_of good) ≡ good }
+    ensures number { good_number (thing_of good) ≡ good }
 {
     let number = good.get();
     match package {

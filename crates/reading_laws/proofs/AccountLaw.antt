@@ -1,9 +1,9 @@
 -- The first bad line of account files.
 use Rattle.std.proofs.Common.{◌≡◌, ℕ, ◌≤◌, ◌↔◌, true, false, ltb, List, length, Ok, refl, sym, ap, ◌∙◌}
 use Rattle.std.proofs.lemmas.Bool.{le-ltb}
-use Rattle.text_forms.specs.Lines.{number_of}
+use Rattle.text_forms.specs.Lines.{reason_number}
 use Rattle.text_forms.proofs.PrintedLines.{left_ahead}
-use Rattle.game_text.specs.Faults.{refused}
+use Rattle.game_text.specs.Faults.{or_game_fault}
 use Rattle.game_text.specs.Accounts.{AccountFile, account_lines, account_in, account_of}
 use Rattle.game_text.proofs.AccountLaws.{account_in_is, account_in_again}
 use Rattle.reading_laws.specs.FirstBadLine.{IsFirstBadLine}
@@ -22,12 +22,12 @@ only text is =
     let ahead = left_ahead (account_lines is.0) (left_of true text) is.2 in
     (is.0, ap account_in ahead.2 ∙ account_in_again is.0 ahead.1 ahead.0 is.1)
 
-short_account : (text : List ℕ) → length text ≤ 67108864 → account_of text ≡ refused (account_in (left_of true text))
+short_account : (text : List ℕ) → length text ≤ 67108864 → account_of text ≡ or_game_fault (account_in (left_of true text))
 unfolding account_of
 short_account text short = let long : ltb 67108864 (length text) ≡ false = le-ltb _ _ short in rw long refl
 
 pub account_law : (text : List ℕ) (line : ℕ) → length text ≤ 67108864 → IsRefusedAccountAt text line ↔ IsFirstBadLine IsTextOfAccount text line
 account_law text line short = (
   λ r. let bad = bad_line_of (account_in (left_of true text)) line r.0 (sym (short_account text short) ∙ r.1) in is_first IsBadAt any_line Never true account_in IsTextOfAccount found only account_closes one_place text (nothing_within IsBadAt any_line (left_of true text)) line bad.bad bad.is bad.at,
-  λ is. let r = is_refused IsBadAt any_line Never true account_in IsTextOfAccount found only account_closes text (nothing_within IsBadAt any_line (left_of true text)) line is in (number_of r.0.reason, short_account text short ∙ shown (account_in (left_of true text)) r.0 line r.1 r.2),
+  λ is. let r = is_refused IsBadAt any_line Never true account_in IsTextOfAccount found only account_closes text (nothing_within IsBadAt any_line (left_of true text)) line is in (reason_number r.0.reason, short_account text short ∙ shown (account_in (left_of true text)) r.0 line r.1 r.2),
 )

@@ -6,7 +6,7 @@ use Rattle.text_forms.specs.Rows.{row}
 use Rattle.text_forms.specs.Steps.{read_by, repeat}
 use Rattle.text_forms.proofs.PrintedLines.{lacks_from}
 use Rattle.game_text.specs.Accounts.{title_of, hold_of, owned_of, owned_part, account_in}
-use Rattle.game_text.specs.Headers.{end_of}
+use Rattle.game_text.specs.Headers.{read_end_line}
 use Rattle.game_text.specs.QuietGames.{quiet_client}
 use Rattle.reading_laws.proofs.Steady.{any_line, Never, Closes, IsPlain}
 use Rattle.reading_laws.proofs.LineSteps.{IsBadAt, line_goes_on, parts_go_on, text_ends}
@@ -50,5 +50,5 @@ account_closes =
     then_closes (λ left. read_by title_of left) _ (line_goes_on any_line Never title_of (codes "account") tt (record { lacks = lacks_from 10 (codes "account") refl; kept = refl }) refl title_read) (λ title.
     then_closes (λ left. read_by hold_of left) _ (line_goes_on any_line Never hold_of nothing_held (replicate 28 (pos 0)) (record { lacks = lacks_from 10 nothing_held refl; kept = refl }) refl hold_read) (λ holdings.
     then_closes (repeat 8 0 owned_part) _ owned_go (λ clients.
-    then_closes (λ left. read_by end_of left) _ end_goes (λ end.
+    then_closes (λ left. read_by read_end_line left) _ end_goes (λ end.
     text_ends any_line Never (record { clients = clients; holdings = holdings })))))

@@ -1,7 +1,7 @@
 -- The block of a certificate in a log.
 use Rattle.std.proofs.Common.{◌≡◌, ℕ, zero, suc, ◌+◌, Bool, true, false, cond, List, [], ◌∷◌, ◌++◌, Option, Some, None, refl, sym, ap, subst, ◌∙◌}
 use Rattle.std.specs.Prelude.{◌==◌, option_map}
-use Rattle.text_forms.specs.Lines.{NumberedLine, Remaining, after_line, block_in, block_of}
+use Rattle.text_forms.specs.Lines.{NumberedLine, Remaining, with_line, block_in, block_of}
 use Rattle.reading_laws.proofs.Steady.{onto}
 
 -- the lines of a block, which are the same whatever follows
@@ -18,7 +18,7 @@ same_some : {A : Type 0} (x y : A) → some x ≡ Some y → x ≡ y
 same_some x y h = cc
 
 longer : (number count : ℕ) (left : Remaining) (line : NumberedLine) (lines : List NumberedLine) (b : List ℕ × Remaining) → ((c : List ℕ × Remaining) → block_in (number + 1) count left lines ≡ Some c → Block (number + 1) count left lines c.0 c.1) → (line.number == number) ≡ true
-    → (inner : Option (List ℕ × Remaining)) → block_in (number + 1) count left lines ≡ inner → option_map (after_line line.bytes) inner ≡ Some b → Block number (suc count) left (line ∷ lines) b.0 b.1
+    → (inner : Option (List ℕ × Remaining)) → block_in (number + 1) count left lines ≡ inner → option_map (with_line line.bytes) inner ≡ Some b → Block number (suc count) left (line ∷ lines) b.0 b.1
 longer number count left line lines b each is None e k = absurd cc
 longer number count left line lines b each is (Some c) e k =
     let rest = each c e in
@@ -30,7 +30,7 @@ longer number count left line lines b each is (Some c) e k =
     })
 
 by_number : (number count : ℕ) (left : Remaining) (line : NumberedLine) (lines : List NumberedLine) (b : List ℕ × Remaining) → ((c : List ℕ × Remaining) → block_in (number + 1) count left lines ≡ Some c → Block (number + 1) count left lines c.0 c.1)
-    → (same : Bool) → (line.number == number) ≡ same → cond same (option_map (after_line line.bytes) (block_in (number + 1) count left lines)) None ≡ Some b → Block number (suc count) left (line ∷ lines) b.0 b.1
+    → (same : Bool) → (line.number == number) ≡ same → cond same (option_map (with_line line.bytes) (block_in (number + 1) count left lines)) None ≡ Some b → Block number (suc count) left (line ∷ lines) b.0 b.1
 by_number number count left line lines b each true is k = longer number count left line lines b each is (block_in (number + 1) count left lines) refl k
 by_number number count left line lines b each false is k = absurd cc
 

@@ -3,14 +3,14 @@ use Rattle.std.proofs.Common.{◌≡◌, ℕ, zero, suc, ◌⊎◌, inl, inr, Li
 use Rattle.std.specs.Prelude.{codes, replicate}
 use Rattle.tac_base.specs.Numerals.{numeral}
 use Rattle.text_forms.specs.declared.lines.Reason.{Reason}
-use Rattle.text_forms.specs.Lines.{NumberedLine, Remaining, due_of, at_line, nothing_left, number_of}
+use Rattle.text_forms.specs.Lines.{NumberedLine, Remaining, due_of, at_line, nothing_left, reason_number}
 use Rattle.text_forms.specs.Rows.{row}
 use Rattle.text_forms.specs.Steps.{◌>>=◌}
 use Rattle.text_forms.proofs.PrintedLines.{lacks_from}
 use Rattle.packages.specs.Features.{values_of}
 use Rattle.bound_cert.specs.declared.faults.CertFault.{CertFault}
 use Rattle.bound_cert.specs.declared.faults.CertFault.TheVariants.{Line, TooLong, Memory}
-use Rattle.bound_cert.specs.Faults.{refused}
+use Rattle.bound_cert.specs.Faults.{or_cert_fault}
 use Rattle.bound_cert.specs.NodeLines.{node_line_of}
 use Rattle.bound_cert.specs.Reading.{forest_by, node_by, tree_in, root_in}
 use Rattle.bound_cert.proofs.NodeCases.{SaidNode, said_node}
@@ -44,7 +44,7 @@ zero_leaf_read = (_, refl, λ level number other. read level number other) where
 
 -- the next node, without its number
 abbrev node_in : Step SaidNode CertFault
-node_in left = refused (due_of left) >>= λ line. refused (at_line line.0.number (node_line_of line.0.bytes)) >>= λ node. Ok (node, line.1)
+node_in left = or_cert_fault (due_of left) >>= λ line. or_cert_fault (at_line line.0.number (node_line_of line.0.bytes)) >>= λ node. Ok (node, line.1)
 
 node_reads : ReadsLine IsFaultAt any_line Never node_in
 node_reads = record {
@@ -59,7 +59,7 @@ node_reads = record {
   by_form : (line : NumberedLine) (r : Result SaidNode Reason) → node_line_of line.bytes ≡ r
       → ((value : SaidNode) × ((other : Remaining) → node_in (onto (line ∷ []) other) ≡ Ok (value, other))) ⊎ ((fault : CertFault) × IsFaultAt fault line.number × ((other : Remaining) → node_in (onto (line ∷ []) other) ≡ Err fault))
   by_form line (Ok node) e = inl (node, λ other. rw e refl)
-  by_form line (Err reason) e = inr (Line line.number (number_of reason), refl, λ other. rw e refl)
+  by_form line (Err reason) e = inr (Line line.number (reason_number reason), refl, λ other. rw e refl)
 
 -- a leaf where no split may stand
 lowest_reads : ReadsLine IsFaultAt any_line Never (tree_in 0)
@@ -78,7 +78,7 @@ lowest_reads = record {
   by_form line (Ok node) e =
       said_node (λ node. node_line_of line.bytes ≡ Ok node → ((value : Tree) × ((other : Remaining) → tree_in 0 (onto (line ∷ []) other) ≡ Ok (value, other))) ⊎ ((fault : CertFault) × IsFaultAt fault line.number × ((other : Remaining) → tree_in 0 (onto (line ∷ []) other) ≡ Err fault)))
       (λ prices h. inl (leaf prices, λ other. rw h refl)) (λ client feature h. inr (Line line.number 8, refl, λ other. rw h refl)) node e
-  by_form line (Err reason) e = inr (Line line.number (number_of reason), refl, λ other. rw e refl)
+  by_form line (Err reason) e = inr (Line line.number (reason_number reason), refl, λ other. rw e refl)
 
 -- ---- trees
 
@@ -102,12 +102,12 @@ abbrev with_number : ℕ → Remaining → Result SaidNode CertFault → Result 
 with_number number after said = said >>= λ node. Ok (number, node, after)
 
 abbrev said_by : NumberedLine → Result SaidNode CertFault
-said_by line = refused (at_line line.number (node_line_of line.bytes))
+said_by line = or_cert_fault (at_line line.number (node_line_of line.bytes))
 
 -- the number of a node's line is of no use where a split may stand
 unnumbered : (level : ℕ) (left : Remaining) → (node_in left >>= λ node. node_by (tree_in level) node.0 node.1) ≡ tree_in (suc level) left
 unfolding tree_in
-unnumbered level left = by_line (refused (due_of left)) where
+unnumbered level left = by_line (or_cert_fault (due_of left)) where
   by_node : (number : ℕ) (after : Remaining) (r : Result SaidNode CertFault) → (before_lines after r >>= λ node. node_by (tree_in level) node.0 node.1) ≡ (with_number number after r >>= λ node. node_by (tree_in level) node.1 node.2)
   by_node number after (Ok node) = refl
   by_node number after (Err fault) = refl
@@ -128,8 +128,8 @@ tree_goes_on (suc level) =
 pub root_closes : Closes IsFaultAt any_line Never root_in
 unfolding root_in
 root_closes =
-    closes_then IsFaultAt any_line Never (tree_in 32) (λ tree left. refused (nothing_left left) >>= λ done. Ok tree) (tree_goes_on 32)
-    (λ tree. closes_end IsFaultAt any_line Never (λ left. refused (nothing_left left) >>= λ done. Ok tree) (record {
+    closes_then IsFaultAt any_line Never (tree_in 32) (λ tree left. or_cert_fault (nothing_left left) >>= λ done. Ok tree) (tree_goes_on 32)
+    (λ tree. closes_end IsFaultAt any_line Never (λ left. or_cert_fault (nothing_left left) >>= λ done. Ok tree) (record {
       value = tree;
       done = λ last. refl;
       cut = λ last. (Line last 7, refl, refl);

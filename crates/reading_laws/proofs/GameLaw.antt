@@ -2,11 +2,11 @@
 use Rattle.std.proofs.Common.{◌≡◌, ℕ, ◌≤◌, ◌↔◌, true, false, ltb, List, length, Result, Ok, Err, refl, sym, ap, ◌∙◌}
 use Rattle.std.proofs.lemmas.Bool.{le-ltb}
 use Rattle.text_forms.specs.declared.lines.BadLine.{BadLine}
-use Rattle.text_forms.specs.Lines.{number_of}
+use Rattle.text_forms.specs.Lines.{reason_number}
 use Rattle.text_forms.proofs.PrintedLines.{left_ahead}
 use Rattle.game_text.specs.declared.fault.GameFault.{GameFault}
 use Rattle.game_text.specs.declared.fault.GameFault.TheVariants.{Line}
-use Rattle.game_text.specs.Faults.{refused}
+use Rattle.game_text.specs.Faults.{or_game_fault}
 use Rattle.game_text.specs.Games.{GameFile, game_lines, game_in, game_of}
 use Rattle.game_text.proofs.GameLaws.{game_in_is, game_in_again}
 use Rattle.reading_laws.specs.FirstBadLine.{IsFirstBadLine}
@@ -28,12 +28,12 @@ abbrev line_in : GameFault → ℕ
 line_in (Line line reason) = line
 line_in fault = 0
 
-pub bad_line_of : {A : Type 0} (r : Result A BadLine) (line reason : ℕ) → refused r ≡ Err (Line line reason) → BadLineOf r line
+pub bad_line_of : {A : Type 0} (r : Result A BadLine) (line reason : ℕ) → or_game_fault r ≡ Err (Line line reason) → BadLineOf r line
 bad_line_of (Ok x) line reason e = absurd cc
 bad_line_of (Err bad) line reason e = record { bad = bad; is = refl; at = cc }
 
-pub shown : {A : Type 0} (r : Result A BadLine) (bad : BadLine) (line : ℕ) → r ≡ Err bad → IsBadAt bad line → refused r ≡ Err (Line line (number_of bad.reason))
-shown r bad line e at = ap refused e ∙ ap (λ (n : ℕ). Err (Line n (number_of bad.reason))) at
+pub shown : {A : Type 0} (r : Result A BadLine) (bad : BadLine) (line : ℕ) → r ≡ Err bad → IsBadAt bad line → or_game_fault r ≡ Err (Line line (reason_number bad.reason))
+shown r bad line e at = ap or_game_fault e ∙ ap (λ (n : ℕ). Err (Line n (reason_number bad.reason))) at
 
 -- ---- the law
 
@@ -48,12 +48,12 @@ only text is =
 pub one_place : (bad : BadLine) (m n : ℕ) → IsBadAt bad m → IsBadAt bad n → m ≡ n
 one_place bad m n a b = sym a ∙ b
 
-short_game : (text : List ℕ) → length text ≤ 1048576 → game_of text ≡ refused (game_in (left_of true text))
+short_game : (text : List ℕ) → length text ≤ 1048576 → game_of text ≡ or_game_fault (game_in (left_of true text))
 unfolding game_of
 short_game text short = let long : ltb 1048576 (length text) ≡ false = le-ltb _ _ short in rw long refl
 
 pub game_law : (text : List ℕ) (line : ℕ) → length text ≤ 1048576 → IsRefusedGameAt text line ↔ IsFirstBadLine IsGameText text line
 game_law text line short = (
   λ r. let bad = bad_line_of (game_in (left_of true text)) line r.0 (sym (short_game text short) ∙ r.1) in is_first IsBadAt any_line Never true game_in IsGameText found only game_closes one_place text (nothing_within IsBadAt any_line (left_of true text)) line bad.bad bad.is bad.at,
-  λ is. let r = is_refused IsBadAt any_line Never true game_in IsGameText found only game_closes text (nothing_within IsBadAt any_line (left_of true text)) line is in (number_of r.0.reason, short_game text short ∙ shown (game_in (left_of true text)) r.0 line r.1 r.2),
+  λ is. let r = is_refused IsBadAt any_line Never true game_in IsGameText found only game_closes text (nothing_within IsBadAt any_line (left_of true text)) line is in (reason_number r.0.reason, short_game text short ∙ shown (game_in (left_of true text)) r.0 line r.1 r.2),
 )

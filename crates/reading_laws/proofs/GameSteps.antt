@@ -15,8 +15,8 @@ use Rattle.game_text.specs.ClosingOrders.{IsOrder, order_of, order_text}
 use Rattle.game_text.specs.Endowments.{IsEndowment, endow_of, endow_text}
 use Rattle.game_text.specs.ClientLines.{client_of, client_text}
 use Rattle.game_text.specs.AgentLines.{AreClients, agents_in, agent_part, endow_part, client_part}
-use Rattle.game_text.specs.HotelNights.{nights_in, stated_nights_in, plain_nights, rooms_of, quotes_of}
-use Rattle.game_text.specs.Headers.{header_of, header_text, end_of}
+use Rattle.game_text.specs.HotelNights.{nights_in, stated_nights_in, plain_nights, read_rooms, quotes_of}
+use Rattle.game_text.specs.Headers.{header_of, header_text, read_end_line}
 use Rattle.game_text.specs.Games.{GameFile, game_in, flight_part}
 use Rattle.game_text.specs.Schedule.{hotel_nights}
 use Rattle.game_text.specs.QuietGames.{quiet_client, quiet_flight, quiet_game}
@@ -78,8 +78,8 @@ agents_go =
 abbrev rooms_line : List ℕ
 rooms_line = codes "rooms 16 16 16 16 16 16 16 16"
 
-rooms_read : rooms_of rooms_line ≡ Ok (replicate 8 16)
-unfolding rooms_of row numeral
+rooms_read : read_rooms rooms_line ≡ Ok (replicate 8 16)
+unfolding read_rooms row numeral
 rooms_read = refl
 
 quotes_read : quotes_of (codes "quotes minute") ≡ Ok false
@@ -88,7 +88,7 @@ quotes_read = refl
 
 stated_nights_go : Goes stated_nights_in
 stated_nights_go =
-    then_goes (λ left. read_by rooms_of left) (λ rooms left. read_by quotes_of left >>= λ quotes. Ok (record { rooms = rooms; live = quotes.0 }, quotes.1)) (line_goes_on any_line Never rooms_of rooms_line (replicate 8 16) (record { lacks = lacks_from 10 rooms_line refl; kept = refl }) refl rooms_read)
+    then_goes (λ left. read_by read_rooms left) (λ rooms left. read_by quotes_of left >>= λ quotes. Ok (record { rooms = rooms; live = quotes.0 }, quotes.1)) (line_goes_on any_line Never read_rooms rooms_line (replicate 8 16) (record { lacks = lacks_from 10 rooms_line refl; kept = refl }) refl rooms_read)
     (λ rooms. then_goes (λ left. read_by quotes_of left) (λ quotes left. Ok (record { rooms = rooms; live = quotes }, left)) (line_goes_on any_line Never quotes_of (codes "quotes minute") false (record { lacks = lacks_from 10 (codes "quotes minute") refl; kept = refl }) refl quotes_read)
     (λ quotes. done_goes (record { rooms = rooms; live = quotes })))
 
@@ -100,8 +100,8 @@ nights_go : (version : ℕ) → Goes (nights_in version)
 unfolding nights_in
 nights_go version = either_goes (version == 2) stated_nights_in (λ left. Ok (plain_nights, left)) stated_nights_go (done_goes plain_nights)
 
-pub end_goes : Goes (λ left. read_by end_of left)
-end_goes = line_goes_on any_line Never end_of (codes "end") tt (plain 678 _ end_line) refl end_again
+pub end_goes : Goes (λ left. read_by read_end_line left)
+end_goes = line_goes_on any_line Never read_end_line (codes "end") tt (plain 678 _ end_line) refl end_again
 
 -- ---- a whole text
 
@@ -117,5 +117,5 @@ game_closes =
     then_closes (λ left. read_by order_of left) _ (line_goes_on any_line Never order_of (order_text hotel_nights) hotel_nights (plain 678 _ (order_line hotel_nights quiet_order)) refl (order_again hotel_nights quiet_order)) (λ order.
     then_closes (nights_in version) _ (nights_go version) (λ nights.
     then_closes agents_in _ agents_go (λ agents.
-    then_closes (λ left. read_by end_of left) _ end_goes (λ end.
+    then_closes (λ left. read_by read_end_line left) _ end_goes (λ end.
     text_ends any_line Never (record { version = version; words = words; flights = flights; order = order; rooms = nights.rooms; live = nights.live; endow = agents.endow; clients = agents.clients }))))))))

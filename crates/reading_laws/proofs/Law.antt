@@ -7,7 +7,7 @@ use Rattle.text_forms.specs.Words.{parts_of}
 use Rattle.text_forms.specs.Lines.{NumberedLine, Remaining, is_comment, lines_from, text_of}
 use Rattle.text_forms.proofs.Stepping.{HasPart, has_part, chosen}
 use Rattle.bound_cert.proofs.TreesAgain.{parts_again, lines_lack-append}
-use Rattle.reading_laws.specs.FirstBadLine.{lines_of, with_ends, Begins, IsFirstBadLine}
+use Rattle.reading_laws.specs.FirstBadLine.{lines_with_ends, with_ends, BeginsText, IsFirstBadLine}
 use Rattle.reading_laws.proofs.Steady.{Reader, onto, ending, Ends, Closes, OutcomeAtEnd, Refuses, AtLine, AtEnd, Within, Never}
 use Rattle.reading_laws.proofs.Spots.{AllLack, Front, with_end, parts_lack, front_lacks, plain_lacks, spot, end_spot, numbered, part_after, front_again, last_lacks, take_before, agree_before, ends_append, same_front, same_end}
 
@@ -23,7 +23,7 @@ module _ {X E : Type 0} (IsAt : E → ℕ → Type 0) (is_calm : List ℕ → Bo
     (found : (text : List ℕ) (value : X) → read (left_of skips text) ≡ Ok value → IsText text) (only : (text : List ℕ) → IsText text → (value : X) × (read (left_of skips text) ≡ Ok value)) where
   -- if this many lines before a place would have been read with others after them, they begin a text of the kind
   begins : (text : List ℕ) (prior parts : List (List ℕ)) (front : List NumberedLine) (more : List (List ℕ)) → parts_of 10 text ≡ prior ++ parts → HasPart parts → Front skips 1 prior front → Ends IsAt is_calm In read front more
-      → Begins IsText text (length prior)
+      → BeginsText IsText text (length prior)
   begins text prior parts front more are h f e =
       let lines = prior ++ more in
       let last = more ++ [] ∷ [] in
@@ -51,14 +51,14 @@ module _ {X E : Type 0} (IsAt : E → ℕ → Type 0) (is_calm : List ℕ → Bo
     at : IsAt fault line
     first : IsFirstBadLine IsText text line
 
-  before_next : (text : List ℕ) (count : ℕ) → Begins IsText text count → Begins IsText text (suc count - 1)
-  before_next text count h = let same : suc count - 1 ≡ count = omega arith in subst (Begins IsText text) (sym same) h
+  before_next : (text : List ℕ) (count : ℕ) → BeginsText IsText text count → BeginsText IsText text (suc count - 1)
+  before_next text count h = let same : suc count - 1 ≡ count = omega arith in subst (BeginsText IsText text) (sym same) h
 
   -- a text that agrees with another so far has the same parts up to a line
-  taken_to : (text other : List ℕ) (prior : List (List ℕ)) (bytes next : List ℕ) (after : List (List ℕ)) → parts_of 10 text ≡ prior ++ bytes ∷ next ∷ after → take (suc (length prior)) (lines_of other) ≡ take (suc (length prior)) (lines_of text)
-      → take (length (prior ++ bytes ∷ [])) (lines_of other) ≡ map with_end (prior ++ bytes ∷ [])
+  taken_to : (text other : List ℕ) (prior : List (List ℕ)) (bytes next : List ℕ) (after : List (List ℕ)) → parts_of 10 text ≡ prior ++ bytes ∷ next ∷ after → take (suc (length prior)) (lines_with_ends other) ≡ take (suc (length prior)) (lines_with_ends text)
+      → take (length (prior ++ bytes ∷ [])) (lines_with_ends other) ≡ map with_end (prior ++ bytes ∷ [])
   taken_to text other prior bytes next after are same =
-      ap (λ (n : ℕ). take n (lines_of other)) count ∙ same ∙ ap (λ (n : ℕ). take n (lines_of text)) (sym count) ∙ ap (λ (ps : List (List ℕ)). take (length lines) (with_ends ps)) {y = lines ++ next ∷ after} (are ∙ sym (append_assoc prior (bytes ∷ []) (next ∷ after)))
+      ap (λ (n : ℕ). take n (lines_with_ends other)) count ∙ same ∙ ap (λ (n : ℕ). take n (lines_with_ends text)) (sym count) ∙ ap (λ (ps : List (List ℕ)). take (length lines) (with_ends ps)) {y = lines ++ next ∷ after} (are ∙ sym (append_assoc prior (bytes ∷ []) (next ∷ after)))
       ∙ take_before lines (next ∷ after) (next, after, refl) where
         lines : List (List ℕ)
         lines = prior ++ bytes ∷ []
@@ -75,7 +75,7 @@ module _ {X E : Type 0} (IsAt : E → ℕ → Type 0) (is_calm : List ℕ → Bo
       ∙ ap (λ (n : ℕ). onto front (onto (record { number = n; bytes = line.bytes } ∷ []) (lines_from skips (1 + length prior + 1) (part ∷ parts)))) (sym number)
 
   line_fits_none : (text : List ℕ) (fault : E) (prior : List (List ℕ)) (front : List NumberedLine) (line : NumberedLine) (next : List ℕ) (after : List (List ℕ)) → parts_of 10 text ≡ prior ++ line.bytes ∷ next ∷ after → Front skips 1 prior front → line.number ≡ 1 + length prior
-      → skips && is_comment line.bytes ≡ false → ((other : Remaining) → read (onto front (onto (line ∷ []) other)) ≡ Err fault) → Begins IsText text (suc (length prior)) → ⊥
+      → skips && is_comment line.bytes ≡ false → ((other : Remaining) → read (onto front (onto (line ∷ []) other)) ≡ Err fault) → BeginsText IsText text (suc (length prior)) → ⊥
   line_fits_none text fault prior front line next after are f number kept again b =
       let heads = same_front (prior ++ line.bytes ∷ []) (parts_of 10 b.0) (parts_lack b.0) (has_part 10 b.0) (taken_to text b.0 prior line.bytes next after are b.2) in
       let value = only b.0 b.1 in
@@ -95,18 +95,18 @@ module _ {X E : Type 0} (IsAt : E → ℕ → Type 0) (is_calm : List ℕ → Bo
       }
 
   -- a text that agrees with another to its end is that text
-  whole_to : (text other : List ℕ) (prior : List (List ℕ)) (rest : List ℕ) → parts_of 10 text ≡ prior ++ rest ∷ [] → take (suc (length prior)) (lines_of other) ≡ take (suc (length prior)) (lines_of text) → parts_of 10 other ≡ parts_of 10 text
+  whole_to : (text other : List ℕ) (prior : List (List ℕ)) (rest : List ℕ) → parts_of 10 text ≡ prior ++ rest ∷ [] → take (suc (length prior)) (lines_with_ends other) ≡ take (suc (length prior)) (lines_with_ends text) → parts_of 10 other ≡ parts_of 10 text
   whole_to text other prior rest are same = same_end prior rest (parts_of 10 other) (last_lacks prior rest (subst AllLack are (parts_lack text))) (has_part 10 other) taken ∙ sym are where
-    whole : lines_of text ≡ map with_end prior ++ rest ∷ []
+    whole : lines_with_ends text ≡ map with_end prior ++ rest ∷ []
     whole = ap with_ends are ∙ ends_append prior rest []
 
     count : suc (length prior) ≡ length (map with_end prior ++ rest ∷ [])
     count = let l = length-append (map with_end prior) (rest ∷ []) in let m = length-map prior with_end in omega (arith, l, m)
 
-    taken : take (suc (length prior)) (lines_of other) ≡ map with_end prior ++ rest ∷ []
+    taken : take (suc (length prior)) (lines_with_ends other) ≡ map with_end prior ++ rest ∷ []
     taken = same ∙ ap (take (suc (length prior))) whole ∙ ap (λ (n : ℕ). take n (map with_end prior ++ rest ∷ [])) count ∙ take-length (map with_end prior ++ rest ∷ [])
 
-  end_fits_none : (text : List ℕ) (fault : E) (prior : List (List ℕ)) (rest : List ℕ) → parts_of 10 text ≡ prior ++ rest ∷ [] → read (left_of skips text) ≡ Err fault → Begins IsText text (suc (length prior)) → ⊥
+  end_fits_none : (text : List ℕ) (fault : E) (prior : List (List ℕ)) (rest : List ℕ) → parts_of 10 text ≡ prior ++ rest ∷ [] → read (left_of skips text) ≡ Err fault → BeginsText IsText text (suc (length prior)) → ⊥
   end_fits_none text fault prior rest are refused b =
       let value = only b.0 b.1 in
       not_both (read (left_of skips b.0)) value.0 fault value.1 (ap (λ (ps : List (List ℕ)). read (lines_from skips 1 ps)) (whole_to text b.0 prior rest are b.2) ∙ refused)
@@ -142,8 +142,8 @@ module _ {X E : Type 0} (IsAt : E → ℕ → Type 0) (is_calm : List ℕ → Bo
         ]
 
     -- a text that agrees with one of the kind so far does so before
-    begins_less : (text : List ℕ) (fewer count : ℕ) → fewer ≤ count → Begins IsText text count → Begins IsText text fewer
-    begins_less text fewer count le b = (b.0, b.1, agree_before fewer count (lines_of b.0) (lines_of text) le b.2)
+    begins_less : (text : List ℕ) (fewer count : ℕ) → fewer ≤ count → BeginsText IsText text count → BeginsText IsText text fewer
+    begins_less text fewer count le b = (b.0, b.1, agree_before fewer count (lines_with_ends b.0) (lines_with_ends text) le b.2)
 
     -- there is one first bad line
     one_bad : (text : List ℕ) (m n : ℕ) → IsFirstBadLine IsText text m → IsFirstBadLine IsText text n → m ≡ n

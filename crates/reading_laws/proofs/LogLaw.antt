@@ -13,14 +13,14 @@ use Rattle.text_forms.specs.Lines.{NumberedLine, Remaining, lines_from, text_of,
 use Rattle.text_forms.specs.Steps.{◌>>=◌, repeat}
 use Rattle.text_forms.proofs.Reading.{bind_ok, ok_is}
 use Rattle.bound_cert.specs.Reading.{cert_of}
-use Rattle.bound_cert.specs.Texts.{tree_lines, spelling}
+use Rattle.bound_cert.specs.Texts.{tree_lines, cert_text}
 use Rattle.bound_cert.specs.Trees.{Tree, leaf, split, IsCertificate}
 use Rattle.bound_cert.proofs.RootCases.{long_text}
 use Rattle.bound_cert.proofs.TreeTexts.{cert_printed}
 use Rattle.bound_cert.proofs.TreesAgain.{cert_again}
 use Rattle.score_sheet.specs.Sheets.{Scored}
 use Rattle.log_text.specs.HeadForms.{formed, is_text}
-use Rattle.log_text.specs.SheetForms.{score_of, package_of, count_of}
+use Rattle.log_text.specs.SheetForms.{read_score, package_of, read_count}
 use Rattle.log_text.specs.LogReading.{line_by, head_in, history_in, cash_in, block_by, cert_in, score_in, log_in}
 use Rattle.log_text.specs.LoggedGames.{LoggedGame, IsLoggedScore}
 use Rattle.log_text.proofs.SheetFormLaws.{count_body}
@@ -28,10 +28,10 @@ use Rattle.log_text.proofs.LogTaking.{log_is}
 use Rattle.log_text.proofs.Taking.{AllFrom}
 use Rattle.log_text.proofs.SheetGiving.{IsScore, log_given_by}
 use Rattle.log_reader.specs.declared.fault.LogFault.TheVariants.{Line}
-use Rattle.log_reader.specs.Faults.{refused}
+use Rattle.log_reader.specs.Faults.{or_log_fault}
 use Rattle.log_reader.specs.Logs.{log_of}
 use Rattle.reading_laws.specs.FirstBadLine.{IsFirstBadLine, with_ends}
-use Rattle.reading_laws.specs.Logs.{IsShort, IsLogText, IsRefusedLogAt, HasCertificates}
+use Rattle.reading_laws.specs.Logs.{HasShortText, IsLogText, IsRefusedLogAt, HasCertificates}
 use Rattle.reading_laws.proofs.Steady.{Within}
 use Rattle.reading_laws.proofs.Spots.{AllLack, Front, with_end, parts_lack, later_lack, spot, ends_append, same_front}
 use Rattle.reading_laws.proofs.Law.{left_of, is_first, is_refused}
@@ -49,23 +49,23 @@ short_of text tree e = by_length (ltb 67108864 (length text)) refl where
   by_length true h = absurd (no_tree e (grind (arith, nat_tests, h)))
   by_length false h = grind (arith, nat_tests, h)
 
-cert_short : (agent : ℕ) (left : Remaining) (x : Tree × Remaining) → cert_in agent left ≡ Ok x → IsShort x.0
+cert_short : (agent : ℕ) (left : Remaining) (x : Tree × Remaining) → cert_in agent left ≡ Ok x → HasShortText x.0
 unfolding cert_in
 cert_short agent left x e =
-    let a = bind_ok (due_of left) (λ line. at_line line.0.number (formed (count_of agent line.0.bytes)) >>= λ count. block_by line.0.number (block_of count line.1)) x e in
-    let b = bind_ok (at_line a.0.0.number (formed (count_of agent a.0.0.bytes))) (λ count. block_by a.0.0.number (block_of count a.0.1)) x a.2 in
+    let a = bind_ok (due_of left) (λ line. at_line line.0.number (formed (read_count agent line.0.bytes)) >>= λ count. block_by line.0.number (block_of count line.1)) x e in
+    let b = bind_ok (at_line a.0.0.number (formed (read_count agent a.0.0.bytes))) (λ count. block_by a.0.0.number (block_of count a.0.1)) x a.2 in
     let r = read_block 0 (lit≤ tt) a.0.0.number b.0 a.0.1 x (block_of b.0 a.0.1) refl b.2 in
     let printed = cert_printed r.block.0 x.0 r.tree in
-    subst (λ (t : List ℕ). length t ≤ 67108864) {x = r.block.0} {y = spelling x.0} printed.same (short_of r.block.0 x.0 r.tree)
+    subst (λ (t : List ℕ). length t ≤ 67108864) {x = r.block.0} {y = cert_text x.0} printed.same (short_of r.block.0 x.0 r.tree)
 
-score_short : (agent : ℕ) (left : Remaining) (x : Scored × Remaining) → score_in agent left ≡ Ok x → IsShort x.0.tree
+score_short : (agent : ℕ) (left : Remaining) (x : Scored × Remaining) → score_in agent left ≡ Ok x → HasShortText x.0.tree
 unfolding score_in
 score_short agent left x e =
-    let a = bind_ok (line_by (score_of agent) left) _ x e in
+    let a = bind_ok (line_by (read_score agent) left) _ x e in
     let b = bind_ok (repeat 8 0 (λ client. line_by (package_of agent client)) a.0.1) _ x a.2 in
     let c = bind_ok (cert_in agent b.0.1) _ x b.2 in
     let short = cert_short agent b.0.1 c.0 c.1 in
-    subst (λ (y : Scored × Remaining). IsShort y.0.tree) (ok_is {E = BadLine} (record { best = a.0.0.0; cash = a.0.0.1; short = a.0.0.2; score = a.0.0.3; allocation = b.0.0; tree = c.0.0 }, c.0.1) x c.2) short
+    subst (λ (y : Scored × Remaining). HasShortText y.0.tree) (ok_is {E = BadLine} (record { best = a.0.0.0; cash = a.0.0.1; short = a.0.0.2; score = a.0.0.3; allocation = b.0.0; tree = c.0.0 }, c.0.1) x c.2) short
 
 each_so : {A : Type 0} (step : ℕ → Remaining → Result (A × Remaining) BadLine) (Q : A → Type 0) → ((i : ℕ) (left : Remaining) (x : A × Remaining) → step i left ≡ Ok x → Q x.0) → (count from : ℕ) (left : Remaining) (x : List A × Remaining) → repeat count from step left ≡ Ok x → All Q x.0
 unfolding repeat
@@ -75,7 +75,7 @@ each_so {A} step Q so (suc count) from left x e =
     let b = bind_ok (repeat count (from + 1) step a.0.1) (λ others. Ok (a.0.0 ∷ others.0, others.1)) x a.2 in
     subst (λ (y : List A × Remaining). All Q y.0) (ok_is {E = BadLine} (a.0.0 ∷ b.0.0, b.0.1) x b.2) (All-cons Q a.0.0 b.0.0 (so from left a.0 a.1) (each_so step Q so count (from + 1) a.0.1 b.0 b.1))
 
-scores_short : (left : Remaining) (log : LoggedGame) → log_in left ≡ Ok log → All (λ scored. IsShort scored.tree) log.scores
+scores_short : (left : Remaining) (log : LoggedGame) → log_in left ≡ Ok log → All (λ scored. HasShortText scored.tree) log.scores
 unfolding log_in
 scores_short left log e =
     let a = bind_ok (head_in left) _ log e in
@@ -86,17 +86,17 @@ scores_short left log e =
     let g = bind_ok (line_by (is_text (codes "end")) f.0.1) _ log f.2 in
     let h = bind_ok (nothing_left g.0.1) _ log g.2 in
     let same = ok_is {E = BadLine} (record { head = a.0.0; histories = b.0.0; cash = c.0.0; scores = f.0.0 }) log h.2 in
-    subst (λ (l : LoggedGame). All (λ scored. IsShort scored.tree) l.scores) same (each_so score_in (λ scored. IsShort scored.tree) score_short 8 0 d.0.1 f.0 f.1)
+    subst (λ (l : LoggedGame). All (λ scored. HasShortText scored.tree) l.scores) same (each_so score_in (λ scored. HasShortText scored.tree) score_short 8 0 d.0.1 f.0 f.1)
 
 found : (text : List ℕ) (log : LoggedGame) → log_in (left_of false text) ≡ Ok log → IsLogText text
 found text log e = let is = log_is text log e in (log, is.range, scores_short (left_of false text) log e, is.same)
 
 -- ---- a log is read
 
-each_score : (from : ℕ) (scores : List Scored) → from + length scores ≤ 8 → All IsLoggedScore scores → All (λ scored. IsShort scored.tree) scores → AllFrom IsScore from scores
+each_score : (from : ℕ) (scores : List Scored) → from + length scores ≤ 8 → All IsLoggedScore scores → All (λ scored. HasShortText scored.tree) scores → AllFrom IsScore from scores
 each_score from [] few are short = tt
 each_score from (s ∷ scores) few are short =
-    (record { low = omega (arith, few); range = All-head IsLoggedScore s scores are; short = All-head (λ scored. IsShort scored.tree) s scores short }, each_score (from + 1) scores (omega (arith, few)) (All-tail IsLoggedScore s scores are) (All-tail (λ scored. IsShort scored.tree) s scores short))
+    (record { low = omega (arith, few); range = All-head IsLoggedScore s scores are; short = All-head (λ scored. HasShortText scored.tree) s scores short }, each_score (from + 1) scores (omega (arith, few)) (All-tail IsLoggedScore s scores are) (All-tail (λ scored. HasShortText scored.tree) s scores short))
 
 only : (text : List ℕ) → IsLogText text → (log : LoggedGame) × (log_in (left_of false text) ≡ Ok log)
 only text is =
@@ -133,7 +133,7 @@ some_line (leaf prices) = omega arith
 some_line (split client feature children) = omega arith
 
 -- so a certificate is read
-block_is_tree : (number count : ℕ) (after : Remaining) (tree : Tree) → IsCertificate tree → IsShort tree → (rest : Remaining) → block_of count after ≡ Some (spelling tree, rest) → block_by number (block_of count after) ≡ Ok (tree, rest)
+block_is_tree : (number count : ℕ) (after : Remaining) (tree : Tree) → IsCertificate tree → HasShortText tree → (rest : Remaining) → block_of count after ≡ Some (cert_text tree, rest) → block_by number (block_of count after) ≡ Ok (tree, rest)
 block_is_tree number count after tree is short rest e = let read = cert_again tree is short in rw (e, read) refl
 
 abbrev refuse : BadLine → Result (Tree × Remaining) BadLine
@@ -158,7 +158,7 @@ lines_after prior front line lines next after f same =
 record Counted (text : List ℕ) (agent count : ℕ) (prior : List (List ℕ)) (next : List ℕ) (after : List (List ℕ)) : Type 0 where
   tree : Tree
   fits : IsCertificate tree
-  short : IsShort tree
+  short : HasShortText tree
   count_is : length (tree_lines tree) ≡ count
   part : List ℕ
   rest : List (List ℕ)
@@ -176,7 +176,7 @@ block_there : (text : List ℕ) (agent count number : ℕ) (prior : List (List �
     → (x : Tree × Remaining) × ((line : ℕ) → block_by line (block_of count left) ≡ Ok x)
 block_there text agent count number prior next after c left lines =
     let block = block_at (tree_lines c.tree) number left c.part c.rest (some_line c.tree) (lines ∙ ap (λ (ps : List (List ℕ)). (lines_from false number ps).lines) c.split) in
-    let counted : block_of count left ≡ Some (spelling c.tree, block.0) = ap (λ (n : ℕ). block_of n left) (sym c.count_is) ∙ block.1 in
+    let counted : block_of count left ≡ Some (cert_text c.tree, block.0) = ap (λ (n : ℕ). block_of n left) (sym c.count_is) ∙ block.1 in
     ((c.tree, block.0), λ line. block_is_tree line count left c.tree c.fits c.short block.0 counted)
 
 none_within : (text : List ℕ) → HasCertificates text → (front : List NumberedLine) (bad : BadLine) → Within IsBadAt is_calm BadBlock front (left_of false text) bad → ⊥
@@ -192,7 +192,7 @@ none_within text has front bad w =
 
 -- ---- the law
 
-short_log : (text : List ℕ) → length text ≤ 67108864 → log_of text ≡ refused (log_in (left_of false text))
+short_log : (text : List ℕ) → length text ≤ 67108864 → log_of text ≡ or_log_fault (log_in (left_of false text))
 unfolding log_of
 short_log text short = let long : ltb 67108864 (length text) ≡ false = le-ltb _ _ short in rw long refl
 
@@ -202,7 +202,7 @@ record BadLineOf {A : Type 0} (r : Result A BadLine) (line : ℕ) : Type 0 where
   is : r ≡ Err bad
   at : bad.line ≡ line
 
-bad_line_of : {A : Type 0} (r : Result A BadLine) (line : ℕ) → refused r ≡ Err (Line line) → BadLineOf r line
+bad_line_of : {A : Type 0} (r : Result A BadLine) (line : ℕ) → or_log_fault r ≡ Err (Line line) → BadLineOf r line
 bad_line_of (Ok x) line e = absurd cc
 bad_line_of (Err bad) line e = record { bad = bad; is = refl; at = cc }
 
@@ -212,5 +212,5 @@ one_place bad m n a b = sym a ∙ b
 pub log_law : (text : List ℕ) (line : ℕ) → length text ≤ 67108864 → HasCertificates text → IsRefusedLogAt text line ↔ IsFirstBadLine IsLogText text line
 log_law text line short has = (
   λ r. let bad = bad_line_of (log_in (left_of false text)) line (sym (short_log text short) ∙ r) in is_first IsBadAt is_calm BadBlock false log_in IsLogText found only log_closes one_place text (none_within text has) line bad.bad bad.is bad.at,
-  λ is. let r = is_refused IsBadAt is_calm BadBlock false log_in IsLogText found only log_closes text (none_within text has) line is in short_log text short ∙ ap refused r.1 ∙ ap (λ (n : ℕ). Err (Line n)) r.2,
+  λ is. let r = is_refused IsBadAt is_calm BadBlock false log_in IsLogText found only log_closes text (none_within text has) line is in short_log text short ∙ ap or_log_fault r.1 ∙ ap (λ (n : ℕ). Err (Line n)) r.2,
 )

@@ -22,14 +22,14 @@ use Rattle.packages.specs.declared.travel_packages.Package.TheVariants as packag
 use Rattle.bound_cert.specs.declared.faults.CertFault.{CertFault}
 use Rattle.bound_cert.specs.declared.faults.CertFault.TheVariants as certs
 use Rattle.bound_cert.specs.Reading.{cert_of}
-use Rattle.bound_cert.specs.Texts.{spelling}
+use Rattle.bound_cert.specs.Texts.{cert_text}
 use Rattle.bound_cert.specs.Trees.{Tree, leaf}
 use Rattle.bound_cert.proofs.TreesAgain.{text_again}
 use Rattle.line_protocol.specs.Heads.{Play, Serve}
 use Rattle.log_text.specs.SheetText.{package_line}
-use Rattle.log_text.specs.HeadForms.{formed, is_text, link_of, end_of, missed_of}
-use Rattle.log_text.specs.EntryForms.{first_is, auction_of, trade_of, entry_of, cash_of, cash_entry_of}
-use Rattle.log_text.specs.SheetForms.{score_of, package_of, count_of}
+use Rattle.log_text.specs.HeadForms.{formed, is_text, read_link, read_end, read_missed}
+use Rattle.log_text.specs.EntryForms.{first_is, auction_of, trade_of, read_entry, read_cash_line, cash_entry_of}
+use Rattle.log_text.specs.SheetForms.{read_score, package_of, read_count}
 use Rattle.log_text.specs.LogReading.{line_by, as_long_as, is_served, served_in, head_by, head_in, entry_in, history_in, cash_in, cert_by, block_by, cert_in, score_in, log_in}
 use Rattle.log_text.proofs.EntryFormLaws.{auction_again, auction_body, entry_again, entry_body, cash_again, cash_body}
 use Rattle.log_text.proofs.CashFormLaws.{cash_entry_again, cash_entry_body}
@@ -96,15 +96,15 @@ then_anyhow step next s each = steady_then IsBadAt any_line BadBlock step next s
 title_calmly : Calmly (λ left. line_by (is_text (codes "taclog 1")) left)
 title_calmly = calm_line (is_text (codes "taclog 1")) (codes "taclog 1") tt (record { lacks = lacks_from 10 (codes "taclog 1") refl; kept = refl }) refl refl
 
-missed_read : missed_of (codes "missed 0") ≡ Some 0
-unfolding missed_of row numeral
+missed_read : read_missed (codes "missed 0") ≡ Some 0
+unfolding read_missed row numeral
 missed_read = refl
 
 served_calmly : Calmly served_in
 served_calmly =
-    then_calmly (as_long_as (codes "link") (λ place. line_by (link_of place)) 255 0) _ (run_goes_on is_calm BadBlock (codes "link") (λ line h. (quiet line h).0) link_of 255 0) (λ links.
-    then_calmly (as_long_as (codes "end") (λ _. line_by end_of) 67108864 0) _ (run_goes_on is_calm BadBlock (codes "end") (λ line h. (quiet line h).1) (λ _. end_of) 67108864 0) (λ ends.
-    then_calmly (λ left. line_by missed_of left) _ (calm_line missed_of (codes "missed 0") 0 (record { lacks = lacks_from 10 (codes "missed 0") refl; kept = refl }) refl missed_read) (λ missed.
+    then_calmly (as_long_as (codes "link") (λ place. line_by (read_link place)) 255 0) _ (run_goes_on is_calm BadBlock (codes "link") (λ line h. (quiet line h).0) read_link 255 0) (λ links.
+    then_calmly (as_long_as (codes "end") (λ _. line_by read_end) 67108864 0) _ (run_goes_on is_calm BadBlock (codes "end") (λ line h. (quiet line h).1) (λ _. read_end) 67108864 0) (λ ends.
+    then_calmly (λ left. line_by read_missed left) _ (calm_line read_missed (codes "missed 0") 0 (record { lacks = lacks_from 10 (codes "missed 0") refl; kept = refl }) refl missed_read) (λ missed.
     steady_done IsBadAt is_calm BadBlock (Serve links ends missed))))
 
 head_by_calmly : (served : Bool) → Calmly (head_by served)
@@ -122,11 +122,11 @@ head_calmly =
 zero_digit : decimal 0 ≡ 48 ∷ []
 zero_digit = decimal_digit 0 (lit< tt)
 
-entry_read : entry_of (codes "0 own = done") ≡ Some (0, calls.Own, replies.Done)
-entry_read = let text : codes "0 own = done" ≡ entry_body 0 calls.Own replies.Done = rw zero_digit refl in ap entry_of text ∙ entry_again 0 calls.Own replies.Done (lit≤ tt) tt tt
+entry_read : read_entry (codes "0 own = done") ≡ Some (0, calls.Own, replies.Done)
+entry_read = let text : codes "0 own = done" ≡ entry_body 0 calls.Own replies.Done = rw zero_digit refl in ap read_entry text ∙ entry_again 0 calls.Own replies.Done (lit≤ tt) tt tt
 
-cash_read : cash_of (codes "cash 0") ≡ Some 0
-cash_read = let text : codes "cash 0" ≡ cash_body 0 = rw zero_digit refl in ap cash_of text ∙ cash_again 0 (lit≤ tt)
+cash_read : read_cash_line (codes "cash 0") ≡ Some 0
+cash_read = let text : codes "cash 0" ≡ cash_body 0 = rw zero_digit refl in ap read_cash_line text ∙ cash_again 0 (lit≤ tt)
 
 abbrev no_dollars : CashEntry
 no_dollars = record { caller = 0; call = Read 0; reply = Cash (pos 0) }
@@ -137,7 +137,7 @@ reading_read = let text : codes "0 read = 0" ≡ cash_entry_body no_dollars = rw
 entry_calmly : (good : ℕ) → Calmly (entry_in good)
 unfolding entry_in
 entry_calmly good =
-    then_calmly (λ left. line_by entry_of left) _ (calm_line entry_of (codes "0 own = done") (0, calls.Own, replies.Done) (record { lacks = lacks_from 10 (codes "0 own = done") refl; kept = refl }) refl entry_read) (λ line.
+    then_calmly (λ left. line_by read_entry left) _ (calm_line read_entry (codes "0 own = done") (0, calls.Own, replies.Done) (record { lacks = lacks_from 10 (codes "0 own = done") refl; kept = refl }) refl entry_read) (λ line.
     then_calmly (as_long_as (codes "trade") (λ _. line_by (trade_of good)) 128 0) _ (run_goes_on is_calm BadBlock (codes "trade") (λ line h. (quiet line h).2) (λ _. trade_of good) 128 0) (λ trades.
     steady_done IsBadAt is_calm BadBlock (record { caller = line.0; call = line.1; reply = line.2; trades = trades })))
 
@@ -161,7 +161,7 @@ cash_calmly : Calmly cash_in
 unfolding cash_in
 cash_calmly =
     let reading = codes "0 read = 0" in
-    then_calmly (λ left. line_by cash_of left) (λ count left. repeat count 0 (λ _. line_by cash_entry_of) left) (calm_line cash_of (codes "cash 0") 0 (record { lacks = lacks_from 10 (codes "cash 0") refl; kept = refl }) refl cash_read)
+    then_calmly (λ left. line_by read_cash_line left) (λ count left. repeat count 0 (λ _. line_by cash_entry_of) left) (calm_line read_cash_line (codes "cash 0") 0 (record { lacks = lacks_from 10 (codes "cash 0") refl; kept = refl }) refl cash_read)
     (λ count. parts_go_on is_calm BadBlock (λ _. line_by cash_entry_of) count (λ i less. calm_line cash_entry_of reading no_dollars (record { lacks = lacks_from 10 reading refl; kept = refl }) refl reading_read) count 0 (omega arith))
 
 -- ---- certificates
@@ -172,7 +172,7 @@ zero_leaf = codes "leaf 0 0 0 0 0 0 0 0 0 0 0 0 0 0 0 0 0 0 0 0 0 0 0 0 0 0 0 0"
 abbrev zeros : List ℕ
 zeros = replicate 28 0
 
-zero_spelling : zero_leaf ++ 10 ∷ [] ≡ spelling (leaf zeros)
+zero_spelling : zero_leaf ++ 10 ∷ [] ≡ cert_text (leaf zeros)
 zero_spelling = rw zero_digit refl
 
 one_leaf : cert_of (zero_leaf ++ 10 ∷ []) ≡ Ok (leaf zeros)
@@ -192,7 +192,7 @@ module _ (agent : ℕ) (low : agent ≤ 7) where
   least_read (line ∷ node ∷ []) h other =
       let first : line.bytes ≡ count_body agent 1 = cc in
       let second : node.bytes ≡ zero_leaf = cc in
-      let said : count_of agent line.bytes ≡ Some 1 = ap (count_of agent) first ∙ count_again agent 1 low (lit≤ tt) in
+      let said : read_count agent line.bytes ≡ Some 1 = ap (read_count agent) first ∙ count_again agent 1 low (lit≤ tt) in
       let here : eqb node.number node.number ≡ true = eq-eqb node.number node.number refl in
       let cert : cert_of (node.bytes ++ 10 ∷ []) ≡ Ok (leaf zeros) = ap (λ (b : List ℕ). cert_of (b ++ 10 ∷ [])) second ∙ one_leaf in
       rw (said, here, cert) refl
@@ -210,12 +210,12 @@ module _ (agent : ℕ) (low : agent ≤ 7) where
   Ends_so left = Outcome IsBadAt any_line BadBlock (cert_in agent) left (cert_in agent left)
 
   -- a line that says no count
-  no_count : (line : NumberedLine) (other : Remaining) → count_of agent line.bytes ≡ None → cert_in agent (onto (line ∷ []) other) ≡ Err (record { line = line.number; reason = Spelling })
+  no_count : (line : NumberedLine) (other : Remaining) → read_count agent line.bytes ≡ None → cert_in agent (onto (line ∷ []) other) ≡ Err (record { line = line.number; reason = Spelling })
   unfolding cert_in
   no_count line other h = rw h refl
 
   -- a line that says one
-  counted : (line : NumberedLine) (count : ℕ) (other : Remaining) → count_of agent line.bytes ≡ Some count → cert_in agent (onto (line ∷ []) other) ≡ block_by line.number (block_of count other)
+  counted : (line : NumberedLine) (count : ℕ) (other : Remaining) → read_count agent line.bytes ≡ Some count → cert_in agent (onto (line ∷ []) other) ≡ block_by line.number (block_of count other)
   unfolding cert_in
   counted line count other h = rw h refl
 
@@ -247,7 +247,7 @@ module _ (agent : ℕ) (low : agent ≤ 7) where
   read_block number count after x None h k = absurd cc
   read_block number count after x (Some b) h k = by_cert number count after x b h (cert_of b.0) refl k
 
-  counted_outcome : (line : NumberedLine) (count : ℕ) (after : Remaining) → count_of agent line.bytes ≡ Some count → (r : Result (Tree × Remaining) BadLine) → block_by line.number (block_of count after) ≡ r → Outcome IsBadAt any_line BadBlock (cert_in agent) (onto (line ∷ []) after) r
+  counted_outcome : (line : NumberedLine) (count : ℕ) (after : Remaining) → read_count agent line.bytes ≡ Some count → (r : Result (Tree × Remaining) BadLine) → block_by line.number (block_of count after) ≡ r → Outcome IsBadAt any_line BadBlock (cert_in agent) (onto (line ∷ []) after) r
   counted_outcome line count after said (Err bad) e =
       record { front = []; more = least; goes = cert_start; place = inr (inr (record { lines = line ∷ after.lines; split = refl; refused = record { agent = agent; count = count; line = line; lines = after.lines; left_is = refl; said = (count_is agent line.bytes count said).0; refused = e } })) }
   counted_outcome line count after said (Ok x) e =
@@ -263,11 +263,11 @@ module _ (agent : ℕ) (low : agent ≤ 7) where
   cert_outcome : (last : ℕ) (ended : Bool) (lines : List NumberedLine) → Ends_so (record { lines = lines; last = last; ended = ended })
   unfolding cert_in
   cert_outcome last ended [] = record { front = []; more = least; goes = cert_start; place = inr (inl (record { whole = refl; at = refl })) }
-  cert_outcome last ended (line ∷ lines) = by_count (count_of agent line.bytes) refl where
+  cert_outcome last ended (line ∷ lines) = by_count (read_count agent line.bytes) refl where
     after : Remaining
     after = record { lines = lines; last = last; ended = ended }
 
-    by_count : (said : Option ℕ) → count_of agent line.bytes ≡ said → Ends_so (onto (line ∷ []) after)
+    by_count : (said : Option ℕ) → read_count agent line.bytes ≡ said → Ends_so (onto (line ∷ []) after)
     by_count None h =
         subst (Outcome IsBadAt any_line BadBlock (cert_in agent) (onto (line ∷ []) after)) (sym (no_count line after h))
         (record { front = []; more = least; goes = cert_start; place = inl (record { line = line; lines = lines; split = refl; at = refl; again = λ other. no_count line other h }) })
@@ -284,7 +284,7 @@ module _ (agent : ℕ) (low : agent ≤ 7) where
   score_goes_on : Anyhow (score_in agent)
   unfolding score_in
   score_goes_on =
-      then_anyhow (λ left. line_by (score_of agent) left) _ (any_form (score_of agent) (score_body agent 0 (pos 0) 0 (pos 0)) (0, pos 0, 0, pos 0) (record { lacks = score_lacks agent 0 (pos 0) 0 (pos 0) low (lit≤ tt) (lit< tt) (lit≤ tt) (lit< tt); kept = refl }) (score_again agent 0 (pos 0) 0 (pos 0) low (lit≤ tt) (lit< tt) (lit≤ tt) (lit< tt))) (λ score.
+      then_anyhow (λ left. line_by (read_score agent) left) _ (any_form (read_score agent) (score_body agent 0 (pos 0) 0 (pos 0)) (0, pos 0, 0, pos 0) (record { lacks = score_lacks agent 0 (pos 0) 0 (pos 0) low (lit≤ tt) (lit< tt) (lit≤ tt) (lit< tt); kept = refl }) (score_again agent 0 (pos 0) 0 (pos 0) low (lit≤ tt) (lit< tt) (lit≤ tt) (lit< tt))) (λ score.
       then_anyhow (repeat 8 0 (λ client. line_by (package_of agent client))) _ (parts_go_on any_line BadBlock (λ client. line_by (package_of agent client)) 8 package_goes_on 8 0 (lit≤ tt)) (λ packages.
       then_anyhow (cert_in agent) _ cert_goes_on (λ tree.
       steady_done IsBadAt any_line BadBlock (record { best = score.0; cash = score.1; short = score.2; score = score.3; allocation = packages; tree = tree }))))

@@ -2,12 +2,12 @@
 use Rattle.std.specs.Prelude.{◌≡◌, ℕ, List, Err}
 use Rattle.bound_cert.specs.declared.faults.CertFault.TheVariants.{Line}
 use Rattle.bound_cert.specs.Reading.{cert_of}
-use Rattle.bound_cert.specs.Texts.{spelling}
+use Rattle.bound_cert.specs.Texts.{cert_text}
 use Rattle.bound_cert.specs.Trees.{Tree, IsCertificate}
 
 -- the text of some certificate
 abbrev pub IsCertificateText : List ℕ → Type 0
-IsCertificateText text = (tree : Tree) × IsCertificate tree × (text ≡ spelling tree)
+IsCertificateText text = (tree : Tree) × IsCertificate tree × (text ≡ cert_text tree)
 
 -- a text is refused at this line, for some reason
 abbrev pub IsRefusedAt : List ℕ → ℕ → Type 0

@@ -8,14 +8,14 @@ with_ends [] = []
 with_ends (rest ∷ []) = rest ∷ []
 with_ends (line ∷ next ∷ parts) = (line ++ 10 ∷ []) ∷ with_ends (next ∷ parts)
 
-abbrev pub lines_of : List ℕ → List (List ℕ)
-lines_of text = with_ends (parts_of 10 text)
+abbrev pub lines_with_ends : List ℕ → List (List ℕ)
+lines_with_ends text = with_ends (parts_of 10 text)
 
 -- the first lines, this many, are those of a text of the kind
-abbrev pub Begins : (List ℕ → Type 0) → List ℕ → ℕ → Type 0
-Begins IsText text count = (other : List ℕ) × IsText other × (take count (lines_of other) ≡ take count (lines_of text))
+abbrev pub BeginsText : (List ℕ → Type 0) → List ℕ → ℕ → Type 0
+BeginsText IsText text count = (other : List ℕ) × IsText other × (take count (lines_with_ends other) ≡ take count (lines_with_ends text))
 
 -- the lines before this one begin a text of the kind, and with this one they begin none
 pub record IsFirstBadLine (IsText : List ℕ → Type 0) (text : List ℕ) (line : ℕ) : Type 0 where
-  pub before : Begins IsText text (line - 1)
-  pub bad : Begins IsText text line → ⊥
+  pub before : BeginsText IsText text (line - 1)
+  pub bad : BeginsText IsText text line → ⊥

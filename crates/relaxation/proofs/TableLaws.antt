@@ -10,7 +10,7 @@ use Rattle.packages.specs.declared.travel_packages.Package.{Package}
 use Rattle.packages.specs.Packages.{utility_of}
 use Rattle.packages.specs.Listing.{packages}
 use Rattle.packages.proofs.Decoded.{length-packages}
-use Rattle.relaxation.specs.Tables.{dollars_at, AreWorths, IsPut}
+use Rattle.relaxation.specs.Tables.{dollars_at, HasWorths, IsPut}
 
 same_package : (n : ℕ) (p q : Package) → slice_get packages n ≡ Some p → slice_get packages n ≡ Some q → p ≡ q
 same_package n p q hp hq = cc
@@ -110,5 +110,5 @@ worths_more account is_account j old new choice found put before = λ k n wants 
     ]
 
 -- the table of all packages
-pub worths_all : (clients : List Preferences) (table : List ℤ) (j : ℕ) → 393 ≤ j → IsWorthSoFar clients j table → AreWorths clients table
+pub worths_all : (clients : List Preferences) (table : List ℤ) (j : ℕ) → 393 ≤ j → IsWorthSoFar clients j table → HasWorths clients table
 worths_all clients table j all worths = λ k n wants p client_at at. worths k n wants p (omega (arith, slice_get_within packages n p at, length-packages)) client_at at

@@ -1,7 +1,7 @@
 // The branching priorities of features, and the one that is fixed in a dive.
 ghost use Rattle.std.specs.Prelude.{◌≡◌, ◌<◌, false, IfSome, IsTrue};
 ghost use Rattle.packages.specs.Features.{values_of};
-ghost use Rattle.relaxation.specs.Tables.{IsDecided};
+ghost use Rattle.relaxation.specs.Tables.{IsNarrowedSomewhere};
 
 use crate::relaxing::Relaxation;
 use crate::tableau::TOLERANCE;
@@ -39,7 +39,7 @@ impl Relaxation {
     /// left as far as that tells whether it is worth more than a total in dollars. Where it is worth no more already, or there is no such
     /// feature, it says no and changes nothing.
     pub fn decide(&mut self, total: u32) -> bool
-        ensures decided { IsTrue result → IsDecided self.old.worths.dollars self.new.worths.dollars }
+        ensures decided { IsTrue result → IsNarrowedSomewhere self.old.worths.dollars self.new.worths.dollars }
         ensures undecided { result ≡ false → self.new ≡ self.old }
     {
         if !self.is_worth_more(total) {

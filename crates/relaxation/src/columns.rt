@@ -4,12 +4,13 @@ ghost use Rattle.packages.specs.Packages.{IsPackage};
 
 use packages::{Package, package};
 use tac_base::Good;
+use tac_base::limits::{AGENTS, GOODS};
 
 /// The first rows of the linear program: one for each good, of which no more is used than there is.
-pub(crate) const GOODS: usize = 28;
+pub(crate) const GOOD_ROWS: usize = GOODS as usize;
 
 /// All rows: those of the goods, and then one for each of 8 clients, whose shares of packages add up to one.
-pub(crate) const ROWS: usize = GOODS + 8;
+pub(crate) const ROWS: usize = GOOD_ROWS + AGENTS as usize;
 
 /// A good, by the number of its row.
 #[derive(Clone, Copy)]
@@ -62,7 +63,7 @@ impl Column {
         match self {
             Column::Slack(row) => 2 * row.good,
             Column::Surplus(row) => 2 * row.good + 1,
-            Column::Share(share) => 2 * GOODS + 393 * share.client + share.number,
+            Column::Share(share) => 2 * GOOD_ROWS + 393 * share.client + share.number,
         }
     }
 }

@@ -3,10 +3,10 @@ ghost use Rattle.std.specs.Prelude.{◌<◌};
 ghost use Rattle.relaxation.specs.declared.columns.TheConstants.{ROWS};
 
 use crate::charges::charges;
-use crate::columns::{ClientPackage, Column, Entering, GOODS, GoodRow, ROWS};
+use crate::columns::{ClientPackage, Column, Entering, GOOD_ROWS, GoodRow, ROWS};
 use crate::rounding::best_margin;
 use crate::tableau::{AMOUNT, Row, TOLERANCE, Tableau, WIDTH};
-use crate::worths::Worths;
+use crate::worth_table::WorthTable;
 
 /// Dual steps stop at this margin below a total, in dollars, so that the prices mostly bound what is left by the total too when they are
 /// cut to whole dollars.
@@ -34,7 +34,7 @@ struct Direction {
 impl Tableau {
     /// Pivots out excluded packages by at most so many dual simplex steps, as long as more may be left than a total. The prices bound what is
     /// left after each step, but for errors of rounding.
-    pub(crate) fn repair(&mut self, worths: &Worths, total: f64, steps: u32) {
+    pub(crate) fn repair(&mut self, worths: &WorthTable, total: f64, steps: u32) {
         let mut charges = charges(&worths.features, &self.prices);
         for _ in 0..steps {
             let Some(infeasible) = self.infeasible(worths) else {
@@ -48,7 +48,7 @@ impl Tableau {
     }
 
     /// The row whose basic variable is furthest from an amount that it may keep, if there is one.
-    pub(crate) fn infeasible(&self, worths: &Worths) -> Option<Infeasible> {
+    pub(crate) fn infeasible(&self, worths: &WorthTable) -> Option<Infeasible> {
         let mut found = None;
         let mut most = TOLERANCE;
         for row in 0..ROWS {
@@ -65,7 +65,7 @@ impl Tableau {
     }
 
     /// Whether the basic variable of a row is the share of an excluded package.
-    fn is_excluded(&self, worths: &Worths, row: usize) -> bool
+    fn is_excluded(&self, worths: &WorthTable, row: usize) -> bool
         requires { row < ROWS }
     {
         match &self.basis[row] {
@@ -79,7 +79,7 @@ impl Tableau {
     /// with the prices.
     fn dual_step(
         &mut self,
-        worths: &Worths,
+        worths: &WorthTable,
         infeasible: &Infeasible,
         dollars: f64,
         charges: &mut [f64; 393],
@@ -106,7 +106,7 @@ impl Tableau {
     /// The direction of the prices as the basic variable of an infeasible row is pivoted out, where packages have these charges.
     fn direction(
         &self,
-        worths: &Worths,
+        worths: &WorthTable,
         infeasible: &Infeasible,
         before: &[f64; 393],
     ) -> Direction {
@@ -121,12 +121,17 @@ impl Tableau {
 
     /// The ratio test of the dual simplex: the nonbasic column whose reduced cost comes to 0 first as the prices move, if one does before they
     /// have moved so far.
-    fn dual_entering(&self, worths: &Worths, direction: &Direction, most: f64) -> Option<Entering> {
+    fn dual_entering(
+        &self,
+        worths: &WorthTable,
+        direction: &Direction,
+        most: f64,
+    ) -> Option<Entering> {
         let (mut found, far) = entering_slack(&self.prices, direction, most);
         let charges = charges_after(direction, far);
         let mut least = far;
         for client in 0..8 {
-            let gained = self.prices[GOODS + client] - far * direction.row[GOODS + client];
+            let gained = self.prices[GOOD_ROWS + client] - far * direction.row[GOOD_ROWS + client];
             if best_margin(worths.row(client), &charges) > gained + TOLERANCE {
                 let (entering, far) = self.entering_share(worths, direction, client, least);
                 if far < least {
@@ -141,7 +146,7 @@ impl Tableau {
     /// The share of a client, 0..7, whose reduced cost comes to 0 first as the prices move so far at most, and how far that is.
     fn entering_share(
         &self,
-        worths: &Worths,
+        worths: &WorthTable,
         direction: &Direction,
         client: usize,
         most: f64,
@@ -149,8 +154,8 @@ impl Tableau {
         requires { client < 8 }
     {
         let worths = worths.row(client);
-        let gained = self.prices[GOODS + client];
-        let taken = direction.row[GOODS + client];
+        let gained = self.prices[GOOD_ROWS + client];
+        let taken = direction.row[GOOD_ROWS + client];
         let mut first = 0;
         let mut reduced_cost = 0.0;
         let mut least = most;
@@ -189,7 +194,7 @@ fn charges_after(direction: &Direction, far: f64) -> [f64; 393] {
 fn entering_slack(prices: &Row, direction: &Direction, most: f64) -> (Option<Entering>, f64) {
     let mut found = None;
     let mut least = most;
-    for good in 0..GOODS {
+    for good in 0..GOOD_ROWS {
         let entry = direction.row[good];
         if entry > TOLERANCE && prices[good] < least * entry {
             least = prices[good] / entry;

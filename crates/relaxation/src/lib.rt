@@ -13,8 +13,8 @@ mod rounding;
 mod shares;
 mod splits;
 mod tableau;
-mod worths;
+mod worth_table;
 
 pub use relaxing::Relaxation;
 pub use splits::{Split, SplitRule};
-pub use worths::Worths;
+pub use worth_table::WorthTable;

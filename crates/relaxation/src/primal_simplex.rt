@@ -2,9 +2,9 @@
 ghost use Rattle.std.specs.Prelude.{◌≡◌, ◌<◌, length};
 
 use crate::charges::charges;
-use crate::columns::{ClientPackage, Column, Entering, GOODS, GoodRow};
+use crate::columns::{ClientPackage, Column, Entering, GOOD_ROWS, GoodRow};
 use crate::tableau::{Row, TOLERANCE, Tableau};
-use crate::worths::Worths;
+use crate::worth_table::WorthTable;
 use tac_base::limits::DUAL_PRICE;
 
 /// At most so many columns enter.
@@ -34,7 +34,7 @@ impl Tableau {
     /// Finds the shares that are worth most together, as far as a bounded number of steps leads. Slack at the lower limit of a price and
     /// surplus at the upper one keep the price between them. After many steps that gain nothing the first column that gains enters, so that
     /// the simplex cannot cycle.
-    pub(crate) fn solve(&mut self, worths: &Worths, limits: &Limits) {
+    pub(crate) fn solve(&mut self, worths: &WorthTable, limits: &Limits) {
         let mut turn = 0;
         let mut idle = 0;
         for _step in 0..MOST_STEPS {
@@ -63,8 +63,8 @@ impl Tableau {
     }
 
     /// The first column with a reduced cost above 0: of a good whose price is beyond its limits, or of a client's package.
-    fn first_entering(&self, worths: &Worths, limits: &Limits) -> Option<Entering> {
-        for good in 0..GOODS {
+    fn first_entering(&self, worths: &WorthTable, limits: &Limits) -> Option<Entering> {
+        for good in 0..GOOD_ROWS {
             let entering = beyond(&self.prices, limits, good);
             if entering.reduced_cost > TOLERANCE {
                 return Some(entering);
@@ -72,7 +72,7 @@ impl Tableau {
         }
         let charges = charges(&worths.features, &self.prices);
         for client in 0..8 {
-            let gained = self.prices[GOODS + client];
+            let gained = self.prices[GOOD_ROWS + client];
             let worths = worths.row(client);
             for number in 0..393 {
                 let reduced_cost = f64::from(worths[number]) - charges[number] - gained;
@@ -89,7 +89,7 @@ impl Tableau {
 
     /// A column with a reduced cost above 0: of the good whose price is furthest beyond its limits, or of the best package of the next client
     /// from a turn on that has a better one.
-    fn entering(&self, worths: &Worths, limits: &Limits, turn: usize) -> Option<Entering>
+    fn entering(&self, worths: &WorthTable, limits: &Limits, turn: usize) -> Option<Entering>
         requires { turn < 8 }
     {
         let good = furthest_beyond(&self.prices, limits);
@@ -108,10 +108,15 @@ impl Tableau {
     }
 
     /// The package of a client, 0..7, with the greatest reduced cost, if that is above 0.
-    fn entering_of(&self, worths: &Worths, client: usize, charges: &[f64; 393]) -> Option<Entering>
+    fn entering_of(
+        &self,
+        worths: &WorthTable,
+        client: usize,
+        charges: &[f64; 393],
+    ) -> Option<Entering>
         requires { client < 8 }
     {
-        let gained = self.prices[GOODS + client];
+        let gained = self.prices[GOOD_ROWS + client];
         let (number, most) = best_package(worths.row(client), charges);
         if most - gained > TOLERANCE {
             Some(Entering {
@@ -158,7 +163,7 @@ fn beyond(prices: &Row, limits: &Limits, good: usize) -> Entering
 /// The slack or the surplus of the good whose price is furthest beyond its limits, or least within them.
 fn furthest_beyond(prices: &Row, limits: &Limits) -> Entering {
     let mut most = beyond(prices, limits, 0);
-    for good in 1..GOODS {
+    for good in 1..GOOD_ROWS {
         let other = beyond(prices, limits, good);
         if other.reduced_cost > most.reduced_cost {
             most = other;

@@ -1,11 +1,11 @@
 // The relaxation: the most that fractions of packages can be worth.
 ghost use Rattle.std.specs.Prelude.{◌≡◌, ◌<◌};
 ghost use Rattle.packages.specs.Features.{feature_of};
-ghost use Rattle.relaxation.specs.Tables.{AreWorths, IsNarrowed};
+ghost use Rattle.relaxation.specs.Tables.{HasWorths, IsNarrowed};
 
 use crate::primal_simplex::Limits;
 use crate::tableau::{TOLERANCE, Tableau};
-use crate::worths::Worths;
+use crate::worth_table::WorthTable;
 use game_text::Account;
 use packages::stock;
 
@@ -15,7 +15,7 @@ const MOST_REPAIRS: u32 = 100;
 /// What the clients have left where each may have fractions of packages that add up to one, and prices for that.
 #[derive(Clone, Copy)]
 pub struct Relaxation {
-    pub worths: Worths,
+    pub worths: WorthTable,
     pub(crate) stock: [f64; 28],
     pub(crate) tableau: Tableau,
 }
@@ -23,11 +23,11 @@ pub struct Relaxation {
 impl Relaxation {
     /// Every client has every package left; solved.
     pub fn new(account: &Account) -> Relaxation
-        ensures { AreWorths account.now.clients result.worths.dollars }
+        ensures { HasWorths account.now.clients result.worths.dollars }
     {
         let stock = amounts(account);
         let mut relaxation = Relaxation {
-            worths: Worths::new(account),
+            worths: WorthTable::new(account),
             stock,
             tableau: Tableau::new(&stock),
         };

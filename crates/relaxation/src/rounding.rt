@@ -6,7 +6,7 @@ use crate::charges::charges;
 use crate::primal_simplex::Limits;
 use crate::relaxing::Relaxation;
 use crate::tableau::{Row, TOLERANCE, Tableau, WIDTH};
-use crate::worths::Worths;
+use crate::worth_table::WorthTable;
 use packages::Prices;
 use std::num::saturating_f64_to_u16;
 use tac_base::limits::DUAL_PRICE;
@@ -170,7 +170,7 @@ impl Tableau {
 
     /// The same with whole prices that are worth no more than so much, if they are found: one price after the other is kept at the whole
     /// dollar above it or, if that is worth too much, below it.
-    fn with_whole_prices(&self, worths: &Worths, most: f64) -> Option<Tableau> {
+    fn with_whole_prices(&self, worths: &WorthTable, most: f64) -> Option<Tableau> {
         let mut limits = Limits::none();
         let mut found = *self;
         for _ in 0..MOST_KEPT {

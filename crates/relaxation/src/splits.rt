@@ -4,7 +4,7 @@ ghost use Rattle.relaxation.specs.Splits.{fixed_at, IsFull};
 
 use crate::branching::{first_place, greatest};
 use crate::charges::charges;
-use crate::columns::GOODS;
+use crate::columns::GOOD_ROWS;
 use crate::relaxing::Relaxation;
 use crate::rounding::row_of;
 use crate::tableau::{Row, TOLERANCE};
@@ -256,7 +256,7 @@ impl Relaxation {
     {
         let mut count: u8 = 0;
         for margin in at {
-            if *margin > self.tableau.prices[GOODS + client] - TOLERANCE {
+            if *margin > self.tableau.prices[GOOD_ROWS + client] - TOLERANCE {
                 count += 1;
             }
         }

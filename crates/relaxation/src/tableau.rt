@@ -2,7 +2,7 @@
 ghost use Rattle.std.specs.Prelude.{◌<◌, IfSome};
 ghost use Rattle.packages.specs.Packages.{IsPackage};
 
-use crate::columns::{ClientPackage, Column, Entering, GOODS, GoodRow, ROWS, row_of_good};
+use crate::columns::{ClientPackage, Column, Entering, GOOD_ROWS, GoodRow, ROWS, row_of_good};
 use packages::Package;
 use tac_base::Good;
 use tac_base::limits::DUAL_PRICE;
@@ -41,16 +41,16 @@ impl Tableau {
         let mut rows = [[0.0; WIDTH]; ROWS];
         let mut prices = [0.0; WIDTH];
         let mut basis = [Column::Slack(GoodRow { good: 0 }); ROWS];
-        for good in 0..GOODS {
+        for good in 0..GOOD_ROWS {
             rows[good][good] = 1.0;
             rows[good][AMOUNT] = stock[good].min(9.0);
             prices[good] = first_price(stock[good]);
             basis[good] = Column::Slack(GoodRow { good });
         }
         for client in 0..8 {
-            rows[GOODS + client][GOODS + client] = 1.0;
-            rows[GOODS + client][AMOUNT] = 1.0;
-            basis[GOODS + client] = Column::Share(ClientPackage { client, number: 0 });
+            rows[GOOD_ROWS + client][GOOD_ROWS + client] = 1.0;
+            rows[GOOD_ROWS + client][AMOUNT] = 1.0;
+            basis[GOOD_ROWS + client] = Column::Share(ClientPackage { client, number: 0 });
         }
         Tableau {
             rows,
@@ -142,7 +142,7 @@ fn share_entry(row: &Row, client: usize, package: &Package) -> f64
     requires client { client < 8 }
     requires lawful { IsPackage «package».now }
 {
-    let mut sum = row[GOODS + client];
+    let mut sum = row[GOOD_ROWS + client];
     if let Package::Trip {
         hotel,
         arrive,

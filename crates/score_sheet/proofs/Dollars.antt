@@ -16,7 +16,7 @@ use Rattle.tac_base.specs.declared.calls.Entry.{Entry as StoredEntry}
 use Rattle.auction_core.specs.Auctions.{AuctionHistory}
 use Rattle.auction_core.specs.ClosedGame.{all_goods}
 use Rattle.auction_core.specs.Stored.{IsShown}
-use Rattle.score_sheet.specs.Settlement.{cash_of}
+use Rattle.score_sheet.specs.Settlement.{cash_gained}
 
 abbrev cost_of : Trade → ℕ
 cost_of t = t.units * t.price
@@ -78,7 +78,7 @@ sum_within sum gain total a b c is h k e = (omega (arith, ints, is, h.0, k.0, e)
 
 -- one auction more
 pub cash_more : (auctions : List AuctionHistory) (i : ℕ) (auction : AuctionHistory) (agent : ℕ) → i < length auctions → auction ≡ get_or auctions i auction →
-    cash_of (take (i + 1) auctions) agent ≡ cash_of (take i auctions) agent +ℤ dollars (all_trades (reverse auction.history)) agent
+    cash_gained (take (i + 1) auctions) agent ≡ cash_gained (take i auctions) agent +ℤ dollars (all_trades (reverse auction.history)) agent
 cash_more auctions i auction agent inside is =
     let gain : AuctionHistory → ℤ = λ a. dollars (all_trades (reverse a.history)) agent in
     ap (fold ◌+ℤ◌ (pos 0)) (map_more gain auctions i auction inside ∙ ap (λ (a : AuctionHistory). map gain (take i auctions) ++ gain a ∷ []) (sym is))

@@ -1,3 +1,3 @@
 mod Filling
-mod Dollars
+pub mod Dollars
 mod AllDue

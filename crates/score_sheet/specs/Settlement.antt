@@ -14,9 +14,9 @@ abbrev pub holdings_of : List AuctionHistory → ℕ → List ℤ
 holdings_of auctions agent = map (λ auction. holding auction.setup (reverse auction.history) agent) auctions
 
 -- what an agent gains in the trades of all auctions
-abbrev pub cash_of : List AuctionHistory → ℕ → ℤ
-cash_of auctions agent = fold ◌+ℤ◌ (pos 0) (map (λ auction. dollars (all_trades (reverse auction.history)) agent) auctions)
+abbrev pub cash_gained : List AuctionHistory → ℕ → ℤ
+cash_gained auctions agent = fold ◌+ℤ◌ (pos 0) (map (λ auction. dollars (all_trades (reverse auction.history)) agent) auctions)
 
 -- the settlement of a game whose calls are over
 abbrev pub settlement_of : List AuctionHistory → Settlement
-settlement_of auctions = record { holdings = map (holdings_of auctions) agents; cash = map (cash_of auctions) agents }
+settlement_of auctions = record { holdings = map (holdings_of auctions) agents; cash = map (cash_gained auctions) agents }

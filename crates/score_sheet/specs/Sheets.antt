@@ -18,8 +18,8 @@ pub record Scored : Type 0 where
   pub tree : Tree
 
 -- an agent's account: its clients of the game, and its holdings
-abbrev pub account_of : GameFile → Settlement → ℕ → AccountFile
-account_of game settlement agent = record { clients = slice_index_or game.clients agent []; holdings = slice_index_or settlement.holdings agent [] }
+abbrev pub agents_account : GameFile → Settlement → ℕ → AccountFile
+agents_account game settlement agent = record { clients = slice_index_or game.clients agent []; holdings = slice_index_or settlement.holdings agent [] }
 
 -- the score of an agent with this account and this cash
 pub record IsScored (account : AccountFile) (gained : ℤ) (scored : Scored) : Type 0 where
@@ -29,10 +29,10 @@ pub record IsScored (account : AccountFile) (gained : ℤ) (scored : Scored) : T
   pub solution : IsSolution account scored.best scored.allocation scored.tree
 
 -- the score that is due to an agent
-abbrev pub IsDue : GameFile → Settlement → ℕ → Scored → Type 0
-IsDue game settlement agent scored = IsScored (account_of game settlement agent) (slice_index_or settlement.cash agent (pos 0)) scored
+abbrev pub IsDueScore : GameFile → Settlement → ℕ → Scored → Type 0
+IsDueScore game settlement agent scored = IsScored (agents_account game settlement agent) (slice_index_or settlement.cash agent (pos 0)) scored
 
 -- the scores of the eight agents, in their order
 pub record IsSheet (game : GameFile) (settlement : Settlement) (sheet : List Scored) : Type 0 where
   pub count : length sheet ≡ 8
-  pub due : (agent : ℕ) (scored : Scored) → slice_get sheet agent ≡ Some scored → IsDue game settlement agent scored
+  pub due : (agent : ℕ) (scored : Scored) → slice_get sheet agent ≡ Some scored → IsDueScore game settlement agent scored

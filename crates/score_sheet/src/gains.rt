@@ -2,9 +2,10 @@
 ghost use Rattle.std.specs.Prelude.{◌≡◌, ◌+◌, ◌*◌, ◌<◌, ◌≤◌, [], ◌∷◌, pos, Some, length, map, reverse, slice_get};
 ghost use Rattle.auction_rules.specs.Effects.{all_trades, dollars};
 ghost use Rattle.trade_ledger.specs.CashKeeping.{IsWithin};
-ghost use Rattle.score_sheet.specs.Settlement.{cash_of};
+ghost use Rattle.score_sheet.specs.Settlement.{cash_gained};
 
-use auction_core::{Auction, Closed};
+use auction_core::Auction;
+use tac_base::limits::GOODS;
 use tac_base::{Entry, Party, Trade};
 
 /// What a trade moves from its buyer to its seller.
@@ -75,12 +76,13 @@ fn gain_of_auction(auction: &Auction, party: Party) -> i64
 }
 
 /// What all auctions of a game give a party.
-pub(crate) fn gain_of_game(closed: &Closed, party: Party) -> i64
-    ensures value { result ≡ cash_of closed.now.auctions party }
+pub(crate) fn gain_of_game(auctions: &[Auction], party: Party) -> i64
+    requires { length auctions.now ≡ GOODS }
+    ensures value { result ≡ cash_gained auctions.now party }
     ensures bound { IsWithin 1000000000000000 result }
 {
     let mut sum = 0;
-    for auction in &closed.auctions {
+    for auction in auctions {
         sum += gain_of_auction(auction, party);
     }
     sum

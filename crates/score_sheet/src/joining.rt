@@ -1,6 +1,6 @@
 // The scores of all agents, computed concurrently.
 ghost use Rattle.std.specs.Prelude.{◌≡◌, ℕ, ◌<◌, Ok, IfOk, map, vec_len, slice_index_or};
-ghost use Rattle.score_sheet.specs.Sheets.{IsDue, IsSheet};
+ghost use Rattle.score_sheet.specs.Sheets.{IsDueScore, IsSheet};
 
 use crate::scores::{AgentScore, Sheet, score_agent};
 use crate::settling::Accounts;
@@ -17,7 +17,7 @@ fn score_all<R: Threads + Sync>(
     accounts: &Accounts,
 ) -> Result<Vec<Result<AgentScore, Memory>>, AllocError>
     ensures count { IfOk result (λ found. vec_len found ≡ 8) }
-    ensures due { IfOk result (λ found. (agent : ℕ) (d : _) → agent < 8 → IfOk (slice_index_or found.items agent d) (IsDue game.now accounts.now agent)) }
+    ensures due { IfOk result (λ found. (agent : ℕ) (d : _) → agent < 8 → IfOk (slice_index_or found.items agent d) (IsDueScore game.now accounts.now agent)) }
 {
     map_indices(
         rt,
@@ -25,7 +25,7 @@ fn score_all<R: Threads + Sync>(
         8,
         &|agent: usize| -> Result<AgentScore, Memory>
             requires { agent < 8 }
-            ensures { IfOk result (IsDue game.entry.now accounts.entry.now agent) }
+            ensures { IfOk result (IsDueScore game.entry.now accounts.entry.now agent) }
         { score_agent(alloc, game, accounts, agent) },
     )
 }

@@ -8,4 +8,4 @@ mod settling;
 
 pub use joining::sheet;
 pub use scores::{AgentScore, Sheet, short};
-pub use settling::{Accounts, settle};
+pub use settling::{Accounts, settle, settle_auctions};

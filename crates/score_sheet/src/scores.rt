@@ -6,7 +6,7 @@ ghost use Rattle.game_text.specs.Accounts.{IsHolding};
 ghost use Rattle.trade_ledger.specs.CashKeeping.{IsWithin};
 ghost use Rattle.score_sheet.specs.Score as rules;
 ghost use Rattle.score_sheet.specs.SettledRanges.{AreHoldings};
-ghost use Rattle.score_sheet.specs.Sheets.{account_of, IsDue};
+ghost use Rattle.score_sheet.specs.Sheets.{agents_account, IsDueScore};
 
 use crate::settling::Accounts;
 use allocator::{Solved, solve};
@@ -111,7 +111,7 @@ pub fn short(holdings: &[i32]) -> u32
 /// The account of an agent, 0..7.
 fn account(game: &Game, accounts: &Accounts, agent: usize) -> Account
     requires { agent < 8 }
-    ensures { result ≡ account_of game.now accounts.now agent }
+    ensures { result ≡ agents_account game.now accounts.now agent }
 {
     Account {
         clients: game.clients[agent],
@@ -145,7 +145,7 @@ pub(crate) fn score_agent(
     agent: usize,
 ) -> Result<AgentScore, Memory>
     requires { agent < 8 }
-    ensures { IfOk result (IsDue game.now accounts.now agent) }
+    ensures { IfOk result (IsDueScore game.now accounts.now agent) }
 {
     let account = account(game, accounts, agent);
     let solved = solve(alloc, &account)?;

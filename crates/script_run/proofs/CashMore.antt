@@ -12,7 +12,7 @@ use Rattle.trade_ledger.specs.declared.cash_calls.CashCall.{CashCall}
 use Rattle.trade_ledger.specs.declared.cash_calls.CashCall.TheVariants.{Post}
 use Rattle.trade_ledger.specs.declared.cash_calls.CashReply.TheVariants.{Done}
 use Rattle.trade_ledger.specs.declared.cash_calls.CashEntry.{CashEntry}
-use Rattle.trade_ledger.specs.CashHistory.{IsLegalCash, reply_of}
+use Rattle.trade_ledger.specs.CashHistory.{IsLegalCash, cash_reply_of}
 
 get_last : (cash : List CashEntry) (e : CashEntry) → slice_get (cash ++ e ∷ []) (length cash) ≡ Some e
 get_last [] e = refl
@@ -20,11 +20,11 @@ get_last (x ∷ cash) e = get_last cash e
 
 -- the last entry of a legal history answers what is due
 pub cash_more : (cash cash' : List CashEntry) (caller : ℕ) (call : CashCall) (e : CashEntry) → IsLegalCash cash' → cash' ≡ cash ++ e ∷ [] →
-    e.caller ≡ caller → e.call ≡ call → cash' ≡ cash ++ record { caller = caller; call = call; reply = reply_of cash call } ∷ []
+    e.caller ≡ caller → e.call ≡ call → cash' ≡ cash ++ record { caller = caller; call = call; reply = cash_reply_of cash call } ∷ []
 cash_more cash cash' caller call e legal more by asked =
     let here : slice_get cash' (length cash) ≡ Some e = ap (λ (l : List CashEntry). slice_get l (length cash)) more ∙ get_last cash e in
     let before : take (length cash) cash' ≡ cash = ap (take (length cash)) more ∙ take-append_seam cash (e ∷ []) in
-    let due : e.reply ≡ reply_of cash call = (legal (length cash) e here).1 ∙ (λ i. reply_of (before i) (asked i)) in
+    let due : e.reply ≡ cash_reply_of cash call = (legal (length cash) e here).1 ∙ (λ i. cash_reply_of (before i) (asked i)) in
     more ∙ (λ i. cash ++ record { caller = by i; call = asked i; reply = due i } ∷ [])
 
 -- an entry without trades has no post

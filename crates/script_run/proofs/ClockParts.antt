@@ -17,7 +17,7 @@ use Rattle.turn_lock.specs.Part.{part}
 use Rattle.turn_lock.proofs.Parts.{part_mine, part_other}
 use Rattle.auction_core.specs.Setups.{setup_of}
 use Rattle.auction_core.proofs.Counting.{by}
-use Rattle.clock_events.specs.Laws.{IsFor, IsDue}
+use Rattle.clock_events.specs.Laws.{IsFor, IsDueCall}
 use Rattle.clock_events.specs.MadeCalls.{calls_until}
 use Rattle.clock_events.proofs.MadeCalls.{calls_of_good}
 use Rattle.clock_events.proofs.TickCalls.{tick_done}
@@ -105,8 +105,8 @@ due_low tick good (Update at draw) is = omega (arith, is.2)
 due_low tick good Publish is = omega (arith, is.1)
 due_low tick good Close is = is
 
-pub tick_low : (game : GameFile) (tick : ℕ) → All (IsDue tick) (calls_at game tick) → AllByRecursion IsOfGood (calls_at game tick)
-tick_low game tick due = recursion_from_All IsOfGood (calls_at game tick) (All-weaker (IsDue tick) IsOfGood (λ call is. due_low tick call.0 call.1 is) (calls_at game tick) due)
+pub tick_low : (game : GameFile) (tick : ℕ) → All (IsDueCall tick) (calls_at game tick) → AllByRecursion IsOfGood (calls_at game tick)
+tick_low game tick due = recursion_from_All IsOfGood (calls_at game tick) (All-weaker (IsDueCall tick) IsOfGood (λ call is. due_low tick call.0 call.1 is) (calls_at game tick) due)
 
 -- the calls of a good at one tick more
 pub until_next : (game : GameFile) (n good : ℕ) → n < 54 → calls_until game n good ++ calls_of_good (calls_at game (n + 1)) good ≡ calls_until game (n + 1) good

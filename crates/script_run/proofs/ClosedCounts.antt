@@ -10,9 +10,9 @@ use Rattle.auction_rules.specs.History.{Entry}
 use Rattle.auction_rules.specs.Effects.{all_trades}
 use Rattle.auction_core.specs.Auctions.{AuctionHistory}
 use Rattle.auction_core.specs.ClosedGame.{ClosedGame}
-use Rattle.script_run.specs.declared.play_count.PlayCount.{PlayCount}
+use Rattle.script_run.specs.declared.game.play_count.PlayCount.{PlayCount}
 use Rattle.script_run.specs.GameStates.{GameState}
-use Rattle.script_run.specs.OneThreadRun.{auction_with, closed_of, count_of}
+use Rattle.script_run.specs.OneThreadRun.{auction_with, closed_of, count_in}
 
 sum_reversed : {X : Type 0} (f : X → ℕ) (xs : List X) → sum_by f (reverse xs) ≡ sum_by f xs
 sum_reversed f [] = refl
@@ -41,7 +41,7 @@ count_from game count same good (past ∷ pasts) =
 abbrev pub counted : ClosedGame → PlayCount
 counted closed = record { entries = sum_by (λ (a : AuctionHistory). length a.history) closed.auctions; trades = sum_by (λ (a : AuctionHistory). length (all_trades a.history)) closed.auctions }
 
-pub count_closed : (game : GameFile) (state : GameState) → counted (closed_of game state) ≡ count_of state
+pub count_closed : (game : GameFile) (state : GameState) → counted (closed_of game state) ≡ count_in state
 count_closed game state = λ i. record {
   entries = count_from game length length-reverse 0 state.pasts i;
   trades = count_from game (λ (past : List Entry). length (all_trades past)) trades_reversed 0 state.pasts i;

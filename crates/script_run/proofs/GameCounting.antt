@@ -8,17 +8,17 @@ use mathlib.Core.Logic.{dite}
 use native.Mathlib.Decide.{ℕ_discrete}
 use Rattle.line_protocol.specs.declared.asking.Request.{Request}
 use Rattle.line_protocol.specs.declared.asking.RequestFault.{RequestFault}
-use Rattle.script_run.specs.declared.game_lines.GameLine.{GameLine}
-use Rattle.script_run.specs.declared.game_lines.GameLine.TheVariants.{Asks}
-use Rattle.script_run.specs.declared.game_counts.GameCounts.{GameCounts}
-use Rattle.script_run.specs.GameScripts.{is_tick, is_of, is_quit, lines_of, has_quit, limited}
-use Rattle.script_run.specs.GameCounts.{Counts}
+use Rattle.script_run.specs.declared.game.lines.GameLine.{GameLine}
+use Rattle.script_run.specs.declared.game.lines.GameLine.TheVariants.{Asks}
+use Rattle.script_run.specs.declared.game.counts.GameCounts.{GameCounts}
+use Rattle.script_run.specs.GameScripts.{is_tick_line, is_line_of, is_quit, count_of_agent, has_quit, limited_game_line}
+use Rattle.script_run.specs.GameCounts.{AreGameCounts}
 use Rattle.script_run.proofs.Counted.{count_set}
 
 -- a line of an agent that may stand here
-pub limited_line : (lines : List GameLine) (agent : ℕ) (asked : Result Request RequestFault) → has_quit lines agent ≡ false → lines_of lines agent < 65536 →
-    limited lines (Asks agent asked) ≡ Ok (Asks agent asked)
-limited_line lines agent asked open' few = let test : nat_le 65536 (lines_of lines agent) ≡ false = grind (arith, nat_tests) in rw (open', test) refl
+pub limited_line : (lines : List GameLine) (agent : ℕ) (asked : Result Request RequestFault) → has_quit lines agent ≡ false → count_of_agent lines agent < 65536 →
+    limited_game_line lines (Asks agent asked) ≡ Ok (Asks agent asked)
+limited_line lines agent asked open' few = let test : nat_le 65536 (count_of_agent lines agent) ≡ false = grind (arith, nat_tests) in rw (open', test) refl
 
 or_false : (b c : Bool) → c ≡ false → (b || c) ≡ b
 or_false true c is = refl
@@ -36,15 +36,15 @@ quit_set flags lines agent other asked inside open' mine theirs = dite (ℕ_disc
     ∙ (theirs ∙ ap (λ (b : Bool). (b && is_quit asked) || has_quit lines other) (sym (ne_eqb agent other ne))))
 
 -- the counts with a line more of an agent
-pub counted_line : (lines : List GameLine) (counts : GameCounts) (agent : ℕ) (asked : Result Request RequestFault) → Counts lines counts → agent ≤ 7 →
+pub counted_line : (lines : List GameLine) (counts : GameCounts) (agent : ℕ) (asked : Result Request RequestFault) → AreGameCounts lines counts → agent ≤ 7 →
     agent < length counts.of_agent → agent < length counts.has_quit → get_or counts.has_quit agent false ≡ false →
-    Counts (Asks agent asked ∷ lines) (record {
+    AreGameCounts (Asks agent asked ∷ lines) (record {
       ticks = counts.ticks;
       of_agent = set counts.of_agent agent (get_or counts.of_agent agent 0 + 1);
       has_quit = set counts.has_quit agent (is_quit asked);
     })
 counted_line lines counts agent asked is low inside inside' open' = record {
-  ticks = let more = sum_by-cons (λ (l : GameLine). cond (is_tick l) 1 0) (Asks agent asked) lines in let old = is.ticks in omega (arith, more, old);
-  each = λ other le. let one = count_set counts.of_agent agent other inside in let more = sum_by-cons (λ (l : GameLine). cond (is_of other l) 1 0) (Asks agent asked) lines in let old = is.each other le in omega (arith, one, more, old);
+  ticks = let more = sum_by-cons (λ (l : GameLine). cond (is_tick_line l) 1 0) (Asks agent asked) lines in let old = is.ticks in omega (arith, more, old);
+  each = λ other le. let one = count_set counts.of_agent agent other inside in let more = sum_by-cons (λ (l : GameLine). cond (is_line_of other l) 1 0) (Asks agent asked) lines in let old = is.each other le in omega (arith, one, more, old);
   ended = λ other le. quit_set counts.has_quit lines agent other asked inside' open' (is.ended agent low) (is.ended other le);
 }

@@ -15,16 +15,16 @@ use Rattle.turn_lock.specs.Part.{part}
 use Rattle.auction_core.specs.Auctions.{AuctionHistory}
 use Rattle.auction_core.specs.Setups.{setup_of}
 use Rattle.auction_core.proofs.Counting.{by, length-part, called_snoc}
-use Rattle.clock_events.specs.Laws.{IsDue}
+use Rattle.clock_events.specs.Laws.{IsDueCall}
 use Rattle.clock_events.specs.MadeCalls.{calls_until}
 use Rattle.trade_ledger.specs.Posts.{Matched}
 use Rattle.game_log.specs.LogText.{histories_of}
-use Rattle.script_run.specs.declared.game_lines.GameLine.{GameLine}
+use Rattle.script_run.specs.declared.game.lines.GameLine.{GameLine}
 use Rattle.script_run.specs.GameStates.{GameState, past_at}
 use Rattle.script_run.specs.OneThreadRun.{auction_with, closed_of, whole_game}
 use Rattle.script_run.specs.GameOuts.{closed_game}
 use Rattle.script_run.specs.GameScripts.{game_script}
-use Rattle.script_run.specs.LawfulGames.{history_at, calls_by, IsLawfulGame}
+use Rattle.script_run.specs.LawfulGames.{closed_history, calls_by, IsLawfulGame}
 use Rattle.script_run.proofs.Counted.{entries_of-reverse}
 use Rattle.script_run.proofs.LawfulSteps.{IsOnTime, time_whole}
 use Rattle.script_run.proofs.LineRanges.{script_low}
@@ -50,12 +50,12 @@ called_reversed (e ∷ past) all = subst (AllByRecursion (λ (x : Entry). x.call
 clock_count : (history : List Entry) → entries_of history clock ≡ length (calls_by clock history)
 clock_count history = sym (length-part history clock) ∙ sym (length-map (part by history clock) (λ (p : ℕ × Entry). p.1.call))
 
-module _ (game : GameFile) (fit : (tick : ℕ) → 1 ≤ tick → tick ≤ 54 → All (IsDue tick) (calls_at game tick)) (most : (good : ℕ) → length (clock_calls game good) ≤ 54) (state : GameState)
+module _ (game : GameFile) (fit : (tick : ℕ) → 1 ≤ tick → tick ≤ 54 → All (IsDueCall tick) (calls_at game tick)) (most : (good : ℕ) → length (clock_calls game good) ≤ 54) (state : GameState)
     (time : IsOnTime game state) (all : state.ticks ≡ 54) where
   histories : histories_of (closed_of game state) ≡ map reverse state.pasts
   histories = histories_from game 0 state.pasts
 
-  there : (good : ℕ) → good < 28 → history_at (closed_of game state) good ≡ reverse (past_at state.pasts good)
+  there : (good : ℕ) → good < 28 → closed_history (closed_of game state) good ≡ reverse (past_at state.pasts good)
   there good low =
       let count = time.lawful.count in
       ap (λ (l : List (List Entry)). get_or l good []) histories ∙ get_or-map reverse state.pasts good [] [] (omega (arith, count, low))
@@ -87,7 +87,7 @@ module _ (game : GameFile) (fit : (tick : ℕ) → 1 ≤ tick → tick ≤ 54 �
   }
 
 -- whatever a script asks
-pub lawful_script : (game : GameFile) → ((tick : ℕ) → 1 ≤ tick → tick ≤ 54 → All (IsDue tick) (calls_at game tick)) → ((good : ℕ) → length (clock_calls game good) ≤ 54) →
+pub lawful_script : (game : GameFile) → ((tick : ℕ) → 1 ≤ tick → tick ≤ 54 → All (IsDueCall tick) (calls_at game tick)) → ((good : ℕ) → length (clock_calls game good) ≤ 54) →
     (script : List ℕ) (lines : List GameLine) → game_script script ≡ Ok lines → IsLawfulGame game (closed_game game lines)
 lawful_script game fit most script lines is =
     let whole = time_whole game fit lines (script_low script lines is) in

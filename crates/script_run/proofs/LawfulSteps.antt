@@ -24,7 +24,7 @@ use Rattle.trade_ledger.specs.CashHistory.{IsLegalCash}
 use Rattle.trade_ledger.specs.Posts.{posts_of, post_for, due_post}
 use Rattle.trade_ledger.proofs.CashSteps.{legal_snoc}
 use Rattle.auction_core.specs.Setups.{setup_of}
-use Rattle.clock_events.specs.Laws.{IsDue}
+use Rattle.clock_events.specs.Laws.{IsDueCall}
 use Rattle.clock_events.specs.MadeCalls.{calls_until}
 use Rattle.clock_events.proofs.MadeCalls.{calls_of_good}
 use Rattle.line_protocol.specs.declared.asking.Request.{Request}
@@ -32,11 +32,11 @@ use Rattle.line_protocol.specs.declared.asking.Request.TheVariants as requests
 use Rattle.line_protocol.specs.declared.asking.RequestFault.{RequestFault}
 use Rattle.line_protocol.specs.declared.saying.Said.{Said}
 use Rattle.line_protocol.specs.declared.saying.Said.TheVariants as said
-use Rattle.script_run.specs.declared.game_lines.GameLine.{GameLine}
-use Rattle.script_run.specs.declared.game_lines.GameLine.TheVariants.{Tick, Asks}
+use Rattle.script_run.specs.declared.game.lines.GameLine.{GameLine}
+use Rattle.script_run.specs.declared.game.lines.GameLine.TheVariants.{Tick, Asks}
 use Rattle.script_run.specs.GameStates.{GameState, opening, past_at, entry_at, called, reading_of, readings_of, call_turn, cash_turn, turn, clocked, ticked}
 use Rattle.script_run.specs.OneThreadRun.{played, ticked_often, whole_game}
-use Rattle.script_run.specs.LawfulGames.{IsAsked, IsLine}
+use Rattle.script_run.specs.LawfulGames.{IsAskedInRange, IsLine}
 use Rattle.script_run.proofs.ClockParts.{clock_made, agent_made, clocked_made, past_there, past_elsewhere, IsOfGood, tick_low, until_next}
 use Rattle.script_run.proofs.Counted.{one_if, one_if_other, one_if_le, with_entry}
 use Rattle.script_run.proofs.OwedPosts.{owed, owed_more, posts_more, posts_read}
@@ -138,7 +138,7 @@ time_reading game agent state is =
       made = is.made;
     })
 
-time_turn : (game : GameFile) (agent : ℕ) (asked : Result Request RequestFault) (state : GameState) → agent ≤ 7 → IsAsked asked → IsOnTime game state → IsOnTime game (turn game agent asked state).1
+time_turn : (game : GameFile) (agent : ℕ) (asked : Result Request RequestFault) (state : GameState) → agent ≤ 7 → IsAskedInRange asked → IsOnTime game state → IsOnTime game (turn game agent asked state).1
 time_turn game agent (Ok (requests.Bid good points)) state low range is = time_call game agent good (calls.Bid points) state low range.0 is
 time_turn game agent (Ok (requests.Withdraw good)) state low range is = time_call game agent good calls.Withdraw state low range is
 time_turn game agent (Ok (requests.Own good)) state low range is = time_call game agent good calls.Own state low range is
@@ -152,7 +152,7 @@ clocked_ticks : (game : GameFile) (due : List (ℕ × Call)) (state : GameState)
 clocked_ticks game [] state = refl
 clocked_ticks game ((good, call) ∷ due) state = clocked_ticks game due (called game clock good call state)
 
-module _ (game : GameFile) (fit : (tick : ℕ) → 1 ≤ tick → tick ≤ 54 → All (IsDue tick) (calls_at game tick)) where
+module _ (game : GameFile) (fit : (tick : ℕ) → 1 ≤ tick → tick ≤ 54 → All (IsDueCall tick) (calls_at game tick)) where
   -- the tick after others
   next_tick : (state : GameState) → state.ticks < 54 → IsOnTime game state →
       IsOnTime game (clocked game (calls_at game (state.ticks + 1)) (record { pasts = state.pasts; cash = state.cash; ticks = state.ticks + 1 }))

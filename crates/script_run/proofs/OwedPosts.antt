@@ -45,7 +45,7 @@ owed_is w good (e ∷ past) =
 
 -- ---- all goods
 
--- the same of the pasts of the goods that are numbered from a number
+-- what the pasts of the goods that are numbered from a number owe
 abbrev pub owed : (CashEntry → ℕ) → ℕ → List (List Entry) → ℕ
 owed w good [] = 0
 owed w good (past ∷ pasts) = owed_to w good past + owed w (good + 1) pasts

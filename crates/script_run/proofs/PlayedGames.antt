@@ -10,21 +10,21 @@ use Rattle.game_log.specs.SheetText.{sheet_part}
 use Rattle.game_log.specs.ScoredGames.{IsSheetOf}
 use Rattle.game_log.specs.SheetWritten.{WritesSheet}
 use Rattle.game_log.specs.ShownGames.{IsShowable}
-use Rattle.game_log.specs.Taken.{TookWhole}
+use Rattle.tac_io.specs.Taken.{TookWhole}
 use Rattle.line_protocol.specs.Heads.{Play}
 use Rattle.game_log.specs.declared.fault.LogWriteFault.TheVariants as log
 use Rattle.game_log.proofs.Writing.{then_some}
-use Rattle.script_run.specs.declared.game_lines.GameLine.{GameLine}
-use Rattle.script_run.specs.declared.game_run.GameRun.{GameRun}
+use Rattle.script_run.specs.declared.game.lines.GameLine.{GameLine}
+use Rattle.script_run.specs.declared.game.run.GameRun.{GameRun}
 use Rattle.script_run.specs.declared.fault.ScriptFault.{ScriptFault}
 use Rattle.script_run.specs.declared.fault.ScriptFault.TheVariants.{Line, TooLong, Failed, Memory}
-use Rattle.script_run.specs.declared.play_count.PlayCount.{PlayCount}
-use Rattle.script_run.specs.declared.playing.Played.{Played}
-use Rattle.script_run.specs.GameScripts.{judge}
-use Rattle.script_run.specs.GameRuns.{HasRun, Steps, PlaysLines}
+use Rattle.script_run.specs.declared.game.play_count.PlayCount.{PlayCount}
+use Rattle.script_run.specs.declared.game.playing.FinishedGame.{FinishedGame}
+use Rattle.script_run.specs.GameScripts.{judge_game_line}
+use Rattle.script_run.specs.GameRuns.{HasRunGame, PlaysGameLine, PlaysLines}
 use Rattle.script_run.specs.GameOuts.{closed_game, first_out, play_out, IsGoodScript}
 use Rattle.script_run.specs.PlayOuts.{IsPlayOut, IsFirstOut, PlaysScript}
-use Rattle.script_run.specs.OneThreadRun.{whole_game, count_of}
+use Rattle.script_run.specs.OneThreadRun.{whole_game, count_in}
 use Rattle.script_run.specs.PlayedGames.{HasPlayed, PlaysToEnd, WritesPlayed, first_text}
 use Rattle.script_run.specs.QuietRuns.{PlaysQuietly}
 use Rattle.script_run.proofs.ClosedCounts.{counted, count_closed}
@@ -33,14 +33,14 @@ use Rattle.script_run.proofs.ScriptReading.{HasRead, stops}
 -- some lines of a script were played
 pub record IsPlaying (game : GameFile) (script rest : List ℕ) (number : ℕ) (run : GameRun) : Type 0 where
   pub lines : List GameLine
-  pub ran : HasRun game lines run
-  pub read : HasRead judge lines script rest number
+  pub ran : HasRunGame game lines run
+  pub read : HasRead judge_game_line lines script rest number
 
 -- what a bad line makes of the whole script
 pub fails : (game : GameFile) (script rest line after : List ℕ) (number : ℕ) (run run' : GameRun) (fault : ScriptFault) (playing : IsPlaying game script rest number run) →
-    parts_of 10 rest ≡ line ∷ parts_of 10 after → Steps game playing.lines number line run' (Err fault) → PlaysLines game script (Err fault)
+    parts_of 10 rest ≡ line ∷ parts_of 10 after → PlaysGameLine game playing.lines number line run' (Err fault) → PlaysLines game script (Err fault)
 fails game script rest line after number run run' (Line at reason) playing e stepped =
-    stops judge playing.lines script rest line after number stepped.0 playing.read e stepped.3
+    stops judge_game_line playing.lines script rest line after number stepped.0 playing.read e stepped.3
     ∙ (λ i. Err (sym stepped.1 i, sym stepped.2 i))
 fails game script rest line after number run run' TooLong playing e stepped = stepped
 fails game script rest line after number run run' Failed playing e stepped = stepped
@@ -48,22 +48,22 @@ fails game script rest line after number run run' Memory playing e stepped = tt
 
 -- ---- the text of a game that was played
 
-pub first_due : (game : GameFile) (lines : List GameLine) (played : Played) → HasPlayed game lines played → first_text played ≡ first_out game lines
+pub first_due : (game : GameFile) (lines : List GameLine) (played : FinishedGame) → HasPlayed game lines played → first_text played ≡ first_out game lines
 first_due game lines played has = λ i. has.replies i ++ play_part Play (has.closed i)
 
-pub play_due : (game : GameFile) (lines : List GameLine) (played : Played) (sheet : List Scored) → HasPlayed game lines played → first_text played ++ sheet_part sheet ≡ play_out game lines sheet
+pub play_due : (game : GameFile) (lines : List GameLine) (played : FinishedGame) (sheet : List Scored) → HasPlayed game lines played → first_text played ++ sheet_part sheet ≡ play_out game lines sheet
 play_due game lines played sheet has = ap (λ (t : List ℕ). t ++ sheet_part sheet) (first_due game lines played has)
 
-pub sheet_due : (game : GameFile) (lines : List GameLine) (played : Played) (sheet : List Scored) → HasPlayed game lines played → IsSheetOf game played.closed sheet → IsSheetOf game (closed_game game lines) sheet
+pub sheet_due : (game : GameFile) (lines : List GameLine) (played : FinishedGame) (sheet : List Scored) → HasPlayed game lines played → IsSheetOf game played.closed sheet → IsSheetOf game (closed_game game lines) sheet
 sheet_due game lines played sheet has scores = subst (λ (c : ClosedGame). IsSheetOf game c sheet) has.closed scores
 
-pub count_due : (game : GameFile) (lines : List GameLine) (played : Played) → HasPlayed game lines played → counted played.closed ≡ count_of (whole_game game lines)
+pub count_due : (game : GameFile) (lines : List GameLine) (played : FinishedGame) → HasPlayed game lines played → counted played.closed ≡ count_in (whole_game game lines)
 count_due game lines played has = ap counted has.closed ∙ count_closed game (whole_game game lines)
 
-pub is_first_out : (game : GameFile) (script : List ℕ) (lines : List GameLine) (played : Played) → IsGoodScript script lines → HasPlayed game lines played → IsFirstOut game script (first_text played)
+pub is_first_out : (game : GameFile) (script : List ℕ) (lines : List GameLine) (played : FinishedGame) → IsGoodScript script lines → HasPlayed game lines played → IsFirstOut game script (first_text played)
 is_first_out game script lines played good has = record { lines = lines; good = good; due = first_due game lines played has }
 
-pub is_play_out : (game : GameFile) (script : List ℕ) (lines : List GameLine) (played : Played) (sheet : List Scored) → IsGoodScript script lines → HasPlayed game lines played →
+pub is_play_out : (game : GameFile) (script : List ℕ) (lines : List GameLine) (played : FinishedGame) (sheet : List Scored) → IsGoodScript script lines → HasPlayed game lines played →
     IsSheetOf game played.closed sheet → IsPlayOut game script (first_text played ++ sheet_part sheet)
 is_play_out game script lines played sheet good has scores = record {
   lines = lines;
@@ -75,13 +75,13 @@ is_play_out game script lines played sheet good has scores = record {
 }
 
 -- the sheet was not written whole, after the first part
-pub fails_after : (game : GameFile) (played : Played) (s0 s1 s2 : SinkState) → TookWhole s0 s1 (first_text played) → WritesSheet game played.closed s1 s2 (Err log.Failed) →
+pub fails_after : (game : GameFile) (played : FinishedGame) (s0 s1 s2 : SinkState) → TookWhole s0 s1 (first_text played) → WritesSheet game played.closed s1 s2 (Err log.Failed) →
     WritesPlayed game played s0 s2 (Err Failed)
 fails_after game played s0 s1 s2 first failed = inr (failed.0, failed.1, then_some (first_text played) (sheet_part failed.0) s0 s1 s2 first failed.2)
 
 -- ---- what was answered and written of a script
 
-pub plays_whole : (game : GameFile) (script : List ℕ) (played : Played) (count : PlayCount) (sink sink' : SinkState) →
+pub plays_whole : (game : GameFile) (script : List ℕ) (played : FinishedGame) (count : PlayCount) (sink sink' : SinkState) →
     PlaysToEnd game script (Ok played) → WritesPlayed game played sink sink' (Ok tt) → count ≡ counted played.closed → PlaysScript game script sink sink' (Ok count)
 plays_whole game script played count sink sink' ended wrote is = (
   first_text played ++ sheet_part wrote.0,
@@ -90,7 +90,7 @@ plays_whole game script played count sink sink' ended wrote is = (
   wrote.2,
 )
 
-pub plays_partly : (game : GameFile) (script : List ℕ) (played : Played) (fault : ScriptFault) (sink sink' : SinkState) →
+pub plays_partly : (game : GameFile) (script : List ℕ) (played : FinishedGame) (fault : ScriptFault) (sink sink' : SinkState) →
     PlaysToEnd game script (Ok played) → WritesPlayed game played sink sink' (Err fault) → PlaysScript game script sink sink' (Err fault)
 plays_partly game script played (Line line reason) sink sink' ended wrote = absurd wrote
 plays_partly game script played TooLong sink sink' ended wrote = absurd wrote
@@ -101,7 +101,7 @@ plays_partly game script played Memory sink sink' ended wrote = inr (first_text 
 
 -- ---- the same without writing
 
-pub sums_up : (game : GameFile) (script : List ℕ) (played : Played) (count : PlayCount) (sheet : List Scored) → PlaysToEnd game script (Ok played) → count ≡ counted played.closed →
+pub sums_up : (game : GameFile) (script : List ℕ) (played : FinishedGame) (count : PlayCount) (sheet : List Scored) → PlaysToEnd game script (Ok played) → count ≡ counted played.closed →
     IsSheetOf game played.closed sheet → PlaysQuietly game script (Ok (count, sheet))
 sums_up game script played count sheet ended is scores = record {
   lines = ended.0;

@@ -24,10 +24,10 @@ use Rattle.trade_ledger.specs.CashHistory.{cash_cap}
 use Rattle.auction_core.specs.Setups.{setup_of}
 use Rattle.auction_core.specs.Calls.{IsFit}
 use Rattle.game_text.specs.Schedule as schedule
-use Rattle.clock_events.specs.Laws.{calls_of, IsFor, IsDue}
-use Rattle.script_run.specs.declared.call_counts.CallCounts.{CallCounts}
-use Rattle.script_run.specs.declared.call_counts.GoodCounts.{GoodCounts}
-use Rattle.script_run.specs.CallCounts.{count_at, no_calls}
+use Rattle.clock_events.specs.Laws.{tick_calls_of, IsFor, IsDueCall}
+use Rattle.script_run.specs.declared.game.call_counts.CallCounts.{CallCounts}
+use Rattle.script_run.specs.declared.game.call_counts.GoodCounts.{GoodCounts}
+use Rattle.script_run.specs.CallCounts.{count_at, no_calls_counted}
 use Rattle.script_run.specs.GameStates.{GameState, opening, call_turn, clocked, past_at, entry_at, called, readings_of, reading_of}
 use Rattle.script_run.specs.OpenGames.{SeenGame}
 use Rattle.script_run.specs.Tables.{made, due, HasClockRoom, AreCounted}
@@ -121,10 +121,10 @@ counted_call game state counts counts' read agent good call is low there few mor
     }
 
 -- the answer to an agent with calls left
-pub told_call : (game : GameFile) (state state' : GameState) (agent good caller position : ℕ) (call : Call) (reply : Reply) → entries_of (past_at state.pasts good) agent < 1024 →
+pub answered_call : (game : GameFile) (state state' : GameState) (agent good caller position : ℕ) (call : Call) (reply : Reply) → entries_of (past_at state.pasts good) agent < 1024 →
     caller ≡ agent → position ≡ length (past_at state.pasts good) → reply ≡ (entry_at game state.pasts caller good call).reply → state' ≡ called game caller good call state →
     ◌≡◌ {A = Said × GameState} (At position reply, state') (call_turn game agent good call state)
-told_call game state state' agent good caller position call reply few mine there replied after =
+answered_call game state state' agent good caller position call reply few mine there replied after =
     let test : nat_le 1024 (entries_of (past_at state.pasts good) agent) ≡ false = grind (arith, nat_tests) in
     let at : reply ≡ (entry_at game state.pasts agent good call).reply = replied ∙ ap (λ (n : ℕ). (entry_at game state.pasts n good call).reply) mine in
     let next : state' ≡ called game agent good call state = after ∙ ap (λ (n : ℕ). called game n good call state) mine in
@@ -257,9 +257,9 @@ drop_past (y ∷ xs) zero is = absurd cc
 drop_past {A = A} (y ∷ xs) (suc n) is = ap (λ (k : ℕ). drop {A = A} k (y ∷ xs)) (add-one (suc n)) ∙ (ap (λ (k : ℕ). drop {A = A} k xs) (sym (add-one n)) ∙ drop_past xs n is)
 
 -- if the schedule gives no call, none is left
-pub none_left : (game told : GameFile) (tick n : ℕ) (got : Option (ℕ × Call)) → told ≡ game → got ≡ slice_get (schedule.calls_at told tick) n → got ≡ None →
+pub none_left : (game answered : GameFile) (tick n : ℕ) (got : Option (ℕ × Call)) → answered ≡ game → got ≡ slice_get (schedule.calls_at answered tick) n → got ≡ None →
     drop n (schedule.calls_at game tick) ≡ drop (n + 1) (schedule.calls_at game tick)
-none_left game told tick n got is asked none =
+none_left game answered tick n got is asked none =
     let here : slice_get (schedule.calls_at game tick) n ≡ None = ap (λ (g : GameFile). slice_get (schedule.calls_at g tick) n) (sym is) ∙ (sym asked ∙ none) in
     drop_end (schedule.calls_at game tick) n here ∙ sym (drop_past (schedule.calls_at game tick) n here)
 
@@ -272,9 +272,9 @@ fit_call tick good (Update at draw) is = omega (arith, is.0, is.1)
 fit_call tick good Publish is = tt
 fit_call tick good Close is = tt
 
-pub call_at : (calls : List (ℕ × Call)) (n tick : ℕ) (call : ℕ × Call) → All (IsDue tick) calls → slice_get calls n ≡ Some call → IsDue tick call
+pub call_at : (calls : List (ℕ × Call)) (n tick : ℕ) (call : ℕ × Call) → All (IsDueCall tick) calls → slice_get calls n ≡ Some call → IsDueCall tick call
 call_at calls n tick call all is =
-    subst (IsDue tick) (get_or_from_slice_get calls n call call is) (all n call (slice_get_within calls n call is))
+    subst (IsDueCall tick) (get_or_from_slice_get calls n call call is) (all n call (slice_get_within calls n call is))
 
 -- the call that stands next, and what it leaves
 pub record ClockStep (game : GameFile) (state : GameState) (counts : CallCounts) (read : List ℕ) (tick n good : ℕ) (call : Call) : Type 0 where
@@ -285,10 +285,10 @@ pub record ClockStep (game : GameFile) (state : GameState) (counts : CallCounts)
   pub next : HasClockRoom game (called game clock good call state) (drop (n + 1) (schedule.calls_at game tick))
   pub same : clocked game (drop (n + 1) (schedule.calls_at game tick)) (called game clock good call state) ≡ clocked game (drop n (schedule.calls_at game tick)) state
 
-pub clock_step : (game told : GameFile) (state : GameState) (counts : CallCounts) (read : List ℕ) (tick n good : ℕ) (call : Call) → told ≡ game → AreCounted game state counts read →
-    All (IsDue tick) (schedule.calls_at told tick) → length (schedule.schedule told) ≡ 480 → slice_get (schedule.calls_at told tick) n ≡ Some (good, call) → good ≤ 27 →
+pub clock_step : (game answered : GameFile) (state : GameState) (counts : CallCounts) (read : List ℕ) (tick n good : ℕ) (call : Call) → answered ≡ game → AreCounted game state counts read →
+    All (IsDueCall tick) (schedule.calls_at answered tick) → length (schedule.schedule answered) ≡ 480 → slice_get (schedule.calls_at answered tick) n ≡ Some (good, call) → good ≤ 27 →
     HasClockRoom game state (drop n (schedule.calls_at game tick)) → ClockStep game state counts read tick n good call
-clock_step game told state counts read tick n good call is counted due_all whole there low room =
+clock_step game answered state counts read tick n good call is counted due_all whole there low room =
     let here : slice_get (schedule.calls_at game tick) n ≡ Some (good, call) = subst (λ (g : GameFile). slice_get (schedule.calls_at g tick) n ≡ Some (good, call)) is there in
     let most : due game state.ticks ≤ 480 = due_most game state.ticks (subst (λ (g : GameFile). length (schedule.schedule g) ≡ 480) is whole) in
     let first : drop n (schedule.calls_at game tick) ≡ (good, call) ∷ drop (n + 1) (schedule.calls_at game tick) = drop_here (schedule.calls_at game tick) n (good, call) here in
@@ -296,7 +296,7 @@ clock_step game told state counts read tick n good call is counted due_all whole
     let rooms = clock_room game state counts read good call (drop (n + 1) (schedule.calls_at game tick)) counted room' most in
     let after = counted_clock game state counts read good call (drop (n + 1) (schedule.calls_at game tick)) counted low room' in
     record {
-      fit = fit_call tick good call (call_at (schedule.calls_at told tick) n tick (good, call) due_all there);
+      fit = fit_call tick good call (call_at (schedule.calls_at answered tick) n tick (good, call) due_all there);
       room = rooms.0;
       cash_room = rooms.1;
       counted = after.0;
@@ -325,7 +325,7 @@ drop_all (x ∷ xs) (suc n) le = drop_all xs n (omega arith)
 
 -- where a tick begins, the clock may make its calls
 pub tick_room : (game : GameFile) (state : GameState) (counts : CallCounts) (read : List ℕ) (tick : ℕ) → AreCounted game state counts read → state.ticks < 54 → tick ≡ state.ticks + 1 →
-    ((good : ℕ) → calls_of game tick good ≤ 1) → HasClockRoom game (begun_tick state tick) (schedule.calls_at game tick)
+    ((good : ℕ) → tick_calls_of game tick good ≤ 1) → HasClockRoom game (begun_tick state tick) (schedule.calls_at game tick)
 tick_room game state counts read tick is few next once = record {
   each = λ good. let old = is.clock_each good in let new = once good in omega arith;
   all = let old = is.clock_all in let more = due_more game state.ticks few ∙ ap (λ (t : ℕ). due game state.ticks + length (schedule.calls_at game t)) (sym next) in
@@ -357,8 +357,8 @@ same_everywhere P (suc n) (suc k) x d is default = same_everywhere P n k x d is 
 pub no_count : (n k : ℕ) → ◌≡◌ {A = ℕ} (get_or (replicate n 0) k 0) 0
 no_count n k = same_everywhere (λ (m : ℕ). ◌≡◌ {A = ℕ} m 0) n k 0 0 refl refl
 
-pub no_counts : (counts : GoodCounts) (n agent good : ℕ) → ((place : ℕ) → get_or counts.calls place 0 ≡ 0) → get_or (get_or (replicate n counts) agent no_calls).calls good 0 ≡ 0
-no_counts counts n agent good none = same_everywhere (λ (c : GoodCounts). get_or c.calls good 0 ≡ 0) n agent counts no_calls (none good) refl
+pub no_counts : (counts : GoodCounts) (n agent good : ℕ) → ((place : ℕ) → get_or counts.calls place 0 ≡ 0) → get_or (get_or (replicate n counts) agent no_calls_counted).calls good 0 ≡ 0
+no_counts counts n agent good none = same_everywhere (λ (c : GoodCounts). get_or c.calls good 0 ≡ 0) n agent counts no_calls_counted (none good) refl
 
 no_entries : (good who : ℕ) → entries_of (past_at opening.pasts good) who ≡ 0
 no_entries good who = same_everywhere (λ (past : List Entry). entries_of past who ≡ 0) 28 good [] [] refl refl

@@ -7,7 +7,7 @@ use Rattle.score_sheet.specs.Sheets.{Scored}
 use Rattle.game_log.specs.LogText.{play_part}
 use Rattle.game_log.specs.SheetText.{sheet_part}
 use Rattle.line_protocol.specs.Heads.{Play}
-use Rattle.script_run.specs.declared.game_lines.GameLine.{GameLine}
+use Rattle.script_run.specs.declared.game.lines.GameLine.{GameLine}
 use Rattle.script_run.specs.GameScripts.{game_script}
 use Rattle.script_run.specs.OneThreadRun.{replies, closed_of, whole_game}
 

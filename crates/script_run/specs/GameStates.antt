@@ -12,7 +12,7 @@ use Rattle.trade_ledger.specs.declared.cash_calls.CashCall.{CashCall}
 use Rattle.trade_ledger.specs.declared.cash_calls.CashCall.TheVariants as cash_calls
 use Rattle.trade_ledger.specs.declared.cash_calls.CashReply.TheVariants as cash_replies
 use Rattle.trade_ledger.specs.declared.cash_calls.CashEntry.{CashEntry}
-use Rattle.trade_ledger.specs.CashHistory.{total_of}
+use Rattle.trade_ledger.specs.CashHistory.{cash_total}
 use Rattle.trade_ledger.specs.Posts.{due_post}
 use Rattle.auction_core.specs.Setups.{setup_of}
 use Rattle.game_text.specs.Schedule.{calls_at}
@@ -54,7 +54,7 @@ called game caller good call state =
 
 -- an agent's reading of its own cash
 abbrev pub reading_of : List CashEntry → ℕ → CashEntry
-reading_of cash agent = record { caller = agent; call = cash_calls.Read agent; reply = cash_replies.Cash (total_of cash agent) }
+reading_of cash agent = record { caller = agent; call = cash_calls.Read agent; reply = cash_replies.Cash (cash_total cash agent) }
 
 abbrev pub reads : ℕ → CashCall → Bool
 reads agent (cash_calls.Post good position nets) = false
@@ -74,7 +74,7 @@ call_turn game agent good call state =
 abbrev pub cash_turn : ℕ → GameState → Said × GameState
 cash_turn agent state =
     if nat_le CASH_READINGS (readings_of state.cash agent) then (said.Spent, state)
-    else (said.Cash (length state.cash) (total_of state.cash agent), record { pasts = state.pasts; cash = state.cash ++ reading_of state.cash agent ∷ []; ticks = state.ticks })
+    else (said.Cash (length state.cash) (cash_total state.cash agent), record { pasts = state.pasts; cash = state.cash ++ reading_of state.cash agent ∷ []; ticks = state.ticks })
 
 -- what an agent is answered, and the game after it
 abbrev pub turn : GameFile → ℕ → Result Request RequestFault → GameState → Said × GameState

@@ -11,8 +11,8 @@ use Rattle.bid_strings.specs.BidForm.{points_of, judged}
 use Rattle.tac_base.specs.Goods.{clock}
 use Rattle.script_run.specs.declared.fault.ScriptReason.{ScriptReason}
 use Rattle.script_run.specs.declared.fault.ScriptReason.TheVariants.{Form, Points}
-use Rattle.script_run.specs.declared.hotel_lines.HotelLine.{HotelLine}
-use Rattle.script_run.specs.declared.hotel_lines.HotelLine.TheVariants.{Bid, Own, Publish, Close}
+use Rattle.script_run.specs.declared.hotel.lines.HotelLine.{HotelLine}
+use Rattle.script_run.specs.declared.hotel.lines.HotelLine.TheVariants.{Bid, Own, Publish, Close}
 
 -- a line of one word is the clock's
 abbrev pub clock_line : List ℕ → Result HotelLine ScriptReason
@@ -28,14 +28,14 @@ agent_of (digit ∷ []) = if nat_le 48 digit && nat_le digit 55 then Some (digit
 agent_of (digit ∷ other ∷ more) = None
 
 -- a bid of points that were read, or not
-abbrev pub bid_of : ℕ → Result (List Point) BidFault → Result HotelLine ScriptReason
-bid_of agent (Err fault) = Err Points
-bid_of agent (Ok points) = Ok (Bid agent points)
+abbrev pub hotel_bid : ℕ → Result (List Point) BidFault → Result HotelLine ScriptReason
+hotel_bid agent (Err fault) = Err Points
+hotel_bid agent (Ok points) = Ok (Bid agent points)
 
 -- a line of an agent, a word and points
-abbrev pub bid_line : Option ℕ → List ℕ → List ℕ → Result HotelLine ScriptReason
-bid_line None keyword points = Err Form
-bid_line (Some agent) keyword points = if bytes_eq keyword (codes "bid") then bid_of agent (judged (points_of points)) else Err Form
+abbrev pub hotel_bid_line : Option ℕ → List ℕ → List ℕ → Result HotelLine ScriptReason
+hotel_bid_line None keyword points = Err Form
+hotel_bid_line (Some agent) keyword points = if bytes_eq keyword (codes "bid") then hotel_bid agent (judged (points_of points)) else Err Form
 
 -- a line of an agent and a word
 abbrev pub own_line : Option ℕ → List ℕ → Result HotelLine ScriptReason
@@ -46,11 +46,11 @@ abbrev pub line_of_words : List (List ℕ) → Result HotelLine ScriptReason
 line_of_words [] = Err Form
 line_of_words (word ∷ []) = clock_line word
 line_of_words (agent ∷ keyword ∷ []) = own_line (agent_of agent) keyword
-line_of_words (agent ∷ keyword ∷ word ∷ words) = bid_line (agent_of agent) keyword (join_with_byte 32 (word ∷ words))
+line_of_words (agent ∷ keyword ∷ word ∷ words) = hotel_bid_line (agent_of agent) keyword (join_with_byte 32 (word ∷ words))
 
 -- what a line asks, or the reason why it is bad in itself
-unfoldable pub line_of : List ℕ → Result HotelLine ScriptReason
-line_of line = line_of_words (words_of line)
+unfoldable pub hotel_line_of : List ℕ → Result HotelLine ScriptReason
+hotel_line_of line = line_of_words (words_of line)
 
 -- the caller and the call of a line
 abbrev pub asked : HotelLine → ℕ × Call

@@ -15,26 +15,26 @@ use Rattle.line_protocol.specs.declared.asking.Request.{Request}
 use Rattle.line_protocol.specs.declared.asking.RequestFault.{RequestFault}
 use Rattle.line_protocol.specs.RequestForms.{IsRequest}
 use Rattle.game_log.specs.LogText.{histories_of}
-use Rattle.script_run.specs.declared.game_lines.GameLine.{GameLine}
-use Rattle.script_run.specs.declared.game_lines.GameLine.TheVariants.{Tick, Asks}
+use Rattle.script_run.specs.declared.game.lines.GameLine.{GameLine}
+use Rattle.script_run.specs.declared.game.lines.GameLine.TheVariants.{Tick, Asks}
 
 -- ---- the lines of a script
 
 -- a request is in range
-abbrev pub IsAsked : Result Request RequestFault → Type 0
-IsAsked (Ok request) = IsRequest request
-IsAsked (Err fault) = ⊤
+abbrev pub IsAskedInRange : Result Request RequestFault → Type 0
+IsAskedInRange (Ok request) = IsRequest request
+IsAskedInRange (Err fault) = ⊤
 
 -- an agent is one of eight
 abbrev pub IsLine : GameLine → Type 0
 IsLine Tick = ⊤
-IsLine (Asks agent asked) = (agent ≤ 7) × IsAsked asked
+IsLine (Asks agent asked) = (agent ≤ 7) × IsAskedInRange asked
 
 -- ---- the histories
 
 -- the history of a good
-abbrev pub history_at : ClosedGame → ℕ → List Entry
-history_at closed good = slice_index_or (histories_of closed) good []
+abbrev pub closed_history : ClosedGame → ℕ → List Entry
+closed_history closed good = slice_index_or (histories_of closed) good []
 
 -- the calls of a caller in a history, in order
 abbrev pub calls_by : ℕ → List Entry → List Call
@@ -44,7 +44,7 @@ calls_by caller history = map (λ p. p.1.call) (part (λ e. e.caller) history ca
 -- schedule, all 54 ticks. The cash history is legal, and has exactly one post for each entry with a trade.
 pub record IsLawfulGame (game : GameFile) (closed : ClosedGame) : Type 0 where
   pub setups : map (λ auction. auction.setup) closed.auctions ≡ map (λ good. setup_of good game) all_goods
-  pub legal : (good : ℕ) → good < 28 → Legal (setup_of good game) (history_at closed good)
-  pub scheduled : (good : ℕ) → good < 28 → calls_by clock (history_at closed good) ≡ clock_calls game good
+  pub legal : (good : ℕ) → good < 28 → Legal (setup_of good game) (closed_history closed good)
+  pub scheduled : (good : ℕ) → good < 28 → calls_by clock (closed_history closed good) ≡ clock_calls game good
   pub cash : IsLegalCash closed.cash
   pub matched : Matched (histories_of closed) closed.cash

@@ -10,14 +10,14 @@ use Rattle.auction_core.specs.Auctions.{AuctionHistory}
 use Rattle.auction_core.specs.ClosedGame.{ClosedGame}
 use Rattle.line_protocol.specs.declared.saying.Said.{Said}
 use Rattle.line_protocol.specs.Replies.{said_text}
-use Rattle.script_run.specs.declared.game_lines.GameLine.{GameLine}
-use Rattle.script_run.specs.declared.game_lines.GameLine.TheVariants.{Tick, Asks}
-use Rattle.script_run.specs.declared.play_count.PlayCount.{PlayCount}
+use Rattle.script_run.specs.declared.game.lines.GameLine.{GameLine}
+use Rattle.script_run.specs.declared.game.lines.GameLine.TheVariants.{Tick, Asks}
+use Rattle.script_run.specs.declared.game.play_count.PlayCount.{PlayCount}
 use Rattle.script_run.specs.GameStates.{GameState, opening, turn, ticked}
 
 -- the line that answers an agent
-abbrev pub told_line : ℕ → Said → List ℕ
-told_line agent said = decimal agent ++ codes " " ++ said_text said ++ codes "\n"
+abbrev pub line_to_agent : ℕ → Said → List ℕ
+line_to_agent agent said = decimal agent ++ codes " " ++ said_text said ++ codes "\n"
 
 -- the game after a line, and what is written of the line
 abbrev pub after_line : GameFile → GameLine → GameState → GameState
@@ -26,7 +26,7 @@ after_line game (Asks agent asked) state = (turn game agent asked state).1
 
 abbrev pub line_text : GameFile → GameLine → GameState → List ℕ
 line_text game Tick state = []
-line_text game (Asks agent asked) state = told_line agent (turn game agent asked state).0
+line_text game (Asks agent asked) state = line_to_agent agent (turn game agent asked state).0
 
 -- the game after lines, the last line first, and what was written of them
 abbrev pub played : GameFile → List GameLine → GameState
@@ -55,5 +55,5 @@ abbrev pub closed_of : GameFile → GameState → ClosedGame
 closed_of game state = record { auctions = map (auction_with game) (enumerate_from 0 state.pasts); cash = state.cash }
 
 -- how many entries and trades the auctions have
-abbrev pub count_of : GameState → PlayCount
-count_of state = record { entries = sum_by length state.pasts; trades = sum_by (λ past. length (all_trades past)) state.pasts }
+abbrev pub count_in : GameState → PlayCount
+count_in state = record { entries = sum_by length state.pasts; trades = sum_by (λ past. length (all_trades past)) state.pasts }

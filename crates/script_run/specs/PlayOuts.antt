@@ -6,14 +6,14 @@ use Rattle.tac_base.specs.declared.limits.TheConstants.{TEXT_BYTES}
 use Rattle.score_sheet.specs.Sheets.{Scored}
 use Rattle.game_log.specs.ScoredGames.{IsSheetOf}
 use Rattle.game_log.specs.ShownGames.{IsShowable}
-use Rattle.game_log.specs.Taken.{TookWhole, TookPart}
+use Rattle.tac_io.specs.Taken.{TookWhole, TookPart}
 use Rattle.line_protocol.specs.Heads.{Play}
-use Rattle.script_run.specs.declared.game_lines.GameLine.{GameLine}
+use Rattle.script_run.specs.declared.game.lines.GameLine.{GameLine}
 use Rattle.script_run.specs.declared.fault.ScriptFault.{ScriptFault}
 use Rattle.script_run.specs.declared.fault.ScriptFault.TheVariants.{Line, TooLong, Failed, Memory}
-use Rattle.script_run.specs.declared.play_count.PlayCount.{PlayCount}
+use Rattle.script_run.specs.declared.game.play_count.PlayCount.{PlayCount}
 use Rattle.script_run.specs.GameScripts.{game_script}
-use Rattle.script_run.specs.OneThreadRun.{whole_game, count_of}
+use Rattle.script_run.specs.OneThreadRun.{whole_game, count_in}
 use Rattle.script_run.specs.GameOuts.{closed_game, first_out, play_out, IsGoodScript}
 
 -- a script that is not too long, and its first bad line with the first reason
@@ -40,7 +40,7 @@ pub record IsFirstOut (game : GameFile) (script text : List ℕ) : Type 0 where
 pub record IsCount (game : GameFile) (script : List ℕ) (count : PlayCount) : Type 0 where
   pub lines : List GameLine
   pub good : IsGoodScript script lines
-  pub is : count ≡ count_of (whole_game game lines)
+  pub is : count ≡ count_in (whole_game game lines)
 
 -- What was answered and written of a game: its whole text; or nothing, since a line is bad, or the script too long; or, where a
 -- write failed, the first bytes of the text, but not all. If memory was refused, nothing was written, or all but the sheet.

@@ -8,24 +8,24 @@ use Rattle.game_log.specs.LogText.{play_part}
 use Rattle.game_log.specs.SheetText.{sheet_part}
 use Rattle.game_log.specs.ScoredGames.{IsSheetOf}
 use Rattle.game_log.specs.ShownGames.{IsShowable}
-use Rattle.game_log.specs.Taken.{TookWhole, TookPart}
+use Rattle.tac_io.specs.Taken.{TookWhole, TookPart}
 use Rattle.line_protocol.specs.Heads.{Play}
-use Rattle.script_run.specs.declared.game_lines.GameLine.{GameLine}
+use Rattle.script_run.specs.declared.game.lines.GameLine.{GameLine}
 use Rattle.script_run.specs.declared.fault.ScriptFault.{ScriptFault}
 use Rattle.script_run.specs.declared.fault.ScriptFault.TheVariants.{Line, TooLong, Failed, Memory}
-use Rattle.script_run.specs.declared.playing.Played.{Played}
+use Rattle.script_run.specs.declared.game.playing.FinishedGame.{FinishedGame}
 use Rattle.script_run.specs.OneThreadRun.{replies}
 use Rattle.script_run.specs.GameOuts.{closed_game, IsGoodScript}
 use Rattle.script_run.specs.PlayOuts.{IsBadScript}
 
 -- the game by these lines was played to its end, and a log can show it
-pub record HasPlayed (game : GameFile) (lines : List GameLine) (played : Played) : Type 0 where
+pub record HasPlayed (game : GameFile) (lines : List GameLine) (played : FinishedGame) : Type 0 where
   pub replies : played.replies.items ≡ replies game lines
   pub closed : played.closed ≡ closed_game game lines
   pub shown : IsShowable game Play played.closed
 
 -- the game of a script was played to its end, or the script is refused
-abbrev pub PlaysToEnd : GameFile → List ℕ → Result Played ScriptFault → Type 0
+abbrev pub PlaysToEnd : GameFile → List ℕ → Result FinishedGame ScriptFault → Type 0
 PlaysToEnd game script (Ok played) = (lines : List GameLine) × IsGoodScript script lines × HasPlayed game lines played
 PlaysToEnd game script (Err (Line line reason)) = IsBadScript script line reason
 PlaysToEnd game script (Err TooLong) = TEXT_BYTES < length script
@@ -33,11 +33,11 @@ PlaysToEnd game script (Err Failed) = ⊥
 PlaysToEnd game script (Err Memory) = ⊤
 
 -- what is written before the sheet
-abbrev pub first_text : Played → List ℕ
+abbrev pub first_text : FinishedGame → List ℕ
 first_text played = played.replies.items ++ play_part Play played.closed
 
 -- the whole text of the game was written with some sheet of it, or not all of it, or all but the sheet if memory was refused for it
-abbrev pub WritesPlayed : GameFile → Played → SinkState → SinkState → Result (Unit {0}) ScriptFault → Type 0
+abbrev pub WritesPlayed : GameFile → FinishedGame → SinkState → SinkState → Result (Unit {0}) ScriptFault → Type 0
 WritesPlayed game played sink sink' (Ok done) = (sheet : List Scored) × IsSheetOf game played.closed sheet × TookWhole sink sink' (first_text played ++ sheet_part sheet)
 WritesPlayed game played sink sink' (Err (Line line reason)) = ⊥
 WritesPlayed game played sink sink' (Err TooLong) = ⊥

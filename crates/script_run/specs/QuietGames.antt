@@ -3,14 +3,14 @@ use Rattle.std.specs.Prelude.{◌≡◌, ℕ, List}
 use Rattle.game_text.specs.Games.{GameFile}
 use Rattle.score_sheet.specs.Sheets.{Scored}
 use Rattle.game_log.specs.ScoredGames.{IsSheetOf}
-use Rattle.script_run.specs.declared.game_lines.GameLine.{GameLine}
-use Rattle.script_run.specs.declared.play_count.PlayCount.{PlayCount}
-use Rattle.script_run.specs.OneThreadRun.{whole_game, count_of}
+use Rattle.script_run.specs.declared.game.lines.GameLine.{GameLine}
+use Rattle.script_run.specs.declared.game.play_count.PlayCount.{PlayCount}
+use Rattle.script_run.specs.OneThreadRun.{whole_game, count_in}
 use Rattle.script_run.specs.GameOuts.{closed_game, IsGoodScript}
 
 -- the count and some sheet of the game by a script
 pub record IsSummary (game : GameFile) (script : List ℕ) (count : PlayCount) (sheet : List Scored) : Type 0 where
   pub lines : List GameLine
   pub good : IsGoodScript script lines
-  pub is : count ≡ count_of (whole_game game lines)
+  pub is : count ≡ count_in (whole_game game lines)
   pub scores : IsSheetOf game (closed_game game lines) sheet

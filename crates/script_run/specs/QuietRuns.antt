@@ -7,7 +7,7 @@ use Rattle.script_run.specs.declared.fault.QuietFault.{QuietFault}
 use Rattle.script_run.specs.declared.fault.QuietFault.TheVariants.{Line, TooLong, Memory}
 use Rattle.script_run.specs.declared.fault.ScriptFault.{ScriptFault}
 use Rattle.script_run.specs.declared.fault.ScriptFault.TheVariants as faults
-use Rattle.script_run.specs.declared.play_count.PlayCount.{PlayCount}
+use Rattle.script_run.specs.declared.game.play_count.PlayCount.{PlayCount}
 use Rattle.script_run.specs.PlayOuts.{IsBadScript}
 use Rattle.script_run.specs.QuietGames.{IsSummary}
 

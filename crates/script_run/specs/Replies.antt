@@ -5,5 +5,5 @@ use Rattle.line_protocol.specs.declared.saying.Said.TheVariants.{At}
 use Rattle.line_protocol.specs.Replies.{said_text}
 
 -- the line of the reply to the call at a position, as an agent is sent it
-abbrev pub reply_line : ℕ → Reply → List ℕ
-reply_line position reply = said_text (At position reply) ++ codes "\n"
+abbrev pub positioned_reply_line : ℕ → Reply → List ℕ
+positioned_reply_line position reply = said_text (At position reply) ++ codes "\n"

@@ -8,7 +8,7 @@ use Rattle.auction_rules.specs.History.{Entry}
 use Rattle.auction_rules.specs.Legal.{entries_of}
 use Rattle.turn_lock.specs.Part.{part}
 use Rattle.game_text.specs.Schedule as schedule
-use Rattle.script_run.specs.declared.call_counts.CallCounts.{CallCounts}
+use Rattle.script_run.specs.declared.game.call_counts.CallCounts.{CallCounts}
 use Rattle.script_run.specs.CallCounts.{count_at}
 use Rattle.script_run.specs.GameStates.{GameState, past_at, readings_of}
 

@@ -1,6 +1,6 @@
 // Why a script was not run.
 ghost use Rattle.std.specs.Prelude.{◌≡◌};
-ghost use Rattle.script_run.specs.ScriptLines.{number_of};
+ghost use Rattle.script_run.specs.ScriptLines.{script_reason_number};
 
 use thiserror::Error;
 
@@ -24,7 +24,7 @@ pub enum ScriptReason {
 impl ScriptReason {
     /// Its number, 1 to 5.
     pub fn number(self) -> u8
-        ensures { result ≡ number_of self }
+        ensures { result ≡ script_reason_number self }
     {
         match self {
             ScriptReason::Form => 1,

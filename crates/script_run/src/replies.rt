@@ -7,7 +7,7 @@ use tac_base::{Reply, Text};
 
 // The line of the reply to the call at a position.
 pub(crate) fn reply_line(position: u32, reply: Reply) -> Text
-    ensures { result ≡ replies.reply_line position reply }
+    ensures { result ≡ replies.positioned_reply_line position reply }
 {
     let mut out = Text::new();
     print_reply(&Said::At(position, reply), &mut out);

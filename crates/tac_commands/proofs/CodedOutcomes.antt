@@ -5,7 +5,7 @@ use Rattle.std.proofs.lemmas.Bool.{eqb-true}
 use Rattle.tac_io.specs.Counts.{Rose}
 use Rattle.tac_io.specs.States.{SinkState}
 use Rattle.tac_commands.specs.Outcomes.{Outcome, code_of}
-use Rattle.tac_commands.specs.Telling.{Tells}
+use Rattle.tac_commands.specs.Reporting.{Reports}
 
 -- it is 4 if the count of the sink rose, or the outcome's
 abbrev pub IsCoded : SinkState → SinkState → ℕ → Outcome → Type 0
@@ -16,17 +16,17 @@ coded_by : (b : Bool) (sink sink' : SinkState) (code : ℕ) (outcome : Outcome) 
 coded_by true sink sink' code outcome P Q e told = inl (eqb-true code 4 e, told.1)
 coded_by false sink sink' code outcome P Q e told = inr told.0
 
-pub coded : (outcome : Outcome) (sink sink' : SinkState) (code : ℕ) → Tells outcome sink sink' code → IsCoded sink sink' code outcome
+pub coded : (outcome : Outcome) (sink sink' : SinkState) (code : ℕ) → Reports outcome sink sink' code → IsCoded sink sink' code outcome
 coded outcome sink sink' code told = coded_by (code == 4) sink sink' code outcome _ _ refl told
 
 module _ (sink sink' : SinkState) (code : ℕ) (outcome : Outcome) where
   -- if the outcome has the code only from its cause, so has the program
-  pub told_only : (due : ℕ) (Cause : Type 0) → (due ≡ 4 → ⊥) → (code_of outcome ≡ due → Cause) → IsCoded sink sink' code outcome → code ≡ due → Cause
-  told_only due Cause not_four cause (inl four) is = absurd (not_four (sym is ∙ four.0))
-  told_only due Cause not_four cause (inr same) is = cause (sym same ∙ is)
+  pub explained_only : (due : ℕ) (Cause : Type 0) → (due ≡ 4 → ⊥) → (code_of outcome ≡ due → Cause) → IsCoded sink sink' code outcome → code ≡ due → Cause
+  explained_only due Cause not_four cause (inl four) is = absurd (not_four (sym is ∙ four.0))
+  explained_only due Cause not_four cause (inr same) is = cause (sym same ∙ is)
 
   -- if the outcome always has the code, or that of memory, the program ends with it, or a write failed
-  pub told_always : (due : ℕ) → (code_of outcome ≡ due) ⊎ (code_of outcome ≡ 7) → IsCoded sink sink' code outcome → (code ≡ due) ⊎ (code ≡ 4) ⊎ (code ≡ 7)
-  told_always due either (inl four) = inr (inl four.0)
-  told_always due (inl is_due) (inr same) = inl (same ∙ is_due)
-  told_always due (inr is_seven) (inr same) = inr (inr (same ∙ is_seven))
+  pub explained_always : (due : ℕ) → (code_of outcome ≡ due) ⊎ (code_of outcome ≡ 7) → IsCoded sink sink' code outcome → (code ≡ due) ⊎ (code ≡ 4) ⊎ (code ≡ 7)
+  explained_always due either (inl four) = inr (inl four.0)
+  explained_always due (inl is_due) (inr same) = inl (same ∙ is_due)
+  explained_always due (inr is_seven) (inr same) = inr (inr (same ∙ is_seven))

@@ -8,19 +8,19 @@ use Rattle.tac_commands.specs.Commands.{BatchCommand, Command, Batch, Serve, ser
 use Rattle.tac_commands.specs.Outcomes.{Outcome, Refused, code_of}
 use Rattle.tac_commands.specs.Outsides.{outside_of}
 use Rattle.tac_commands.specs.Allowed.{Allows, steps_of}
-use Rattle.tac_commands.specs.Telling.{Tells}
+use Rattle.tac_commands.specs.Reporting.{Reports}
 use Rattle.tac_commands.specs.Selected.{Selects}
-use Rattle.tac_commands.specs.Causes.{IsQuiet, UsageExactly, ReadFaultExactly, GameRefusedExactly, TextRefusedExactly, HasRefusedGame, HasRefusedText, IsReady, HasUnsoundLog, UnsoundExactly, IsGoodEnd, IsFaultless, IsComplete, LinkFaultExactly, ClockFaultExactly}
-use Rattle.tac_commands.proofs.CodedOutcomes.{IsCoded, coded, told_only, told_always}
+use Rattle.tac_commands.specs.Causes.{IsQuiet, UsageExactly, ReadFaultExactly, GameRefusedExactly, TextRefusedExactly, HasRefusedGame, HasRefusedText, HasGoodFiles, HasUnsoundLog, UnsoundExactly, IsGoodEnd, IsFaultless, IsComplete, LinkFaultExactly, ClockFaultExactly}
+use Rattle.tac_commands.proofs.CodedOutcomes.{IsCoded, coded, explained_only, explained_always}
 use Rattle.tac_commands.proofs.OwnCodes.{OwnCode, own_code, last_code}
 use Rattle.tac_commands.proofs.FileCauses as causes
 
 module _ (files files' : FilesState) (outcome : Outcome) where
   -- ---- what is known of the outcome
 
-  read_told : (command : Option Command) → Allows command files files' outcome → ((code_of outcome ≡ 3) × Rose files.faults files'.faults) ⊎ ((code_of outcome ≢ 3) × (files'.faults ≡ files.faults))
-  read_told None allowed = let is = ap code_of allowed.0 in inr (λ three. omega (arith, is, three), allowed.1.1)
-  read_told (Some command) allowed = causes.read_told files' outcome (OwnCode command) (last_code command) (steps_of command) (own_code command) files allowed
+  read_explained : (command : Option Command) → Allows command files files' outcome → ((code_of outcome ≡ 3) × Rose files.faults files'.faults) ⊎ ((code_of outcome ≢ 3) × (files'.faults ≡ files.faults))
+  read_explained None allowed = let is = ap code_of allowed.0 in inr (λ three. omega (arith, is, three), allowed.1.1)
+  read_explained (Some command) allowed = causes.read_explained files' outcome (OwnCode command) (last_code command) (steps_of command) (own_code command) files allowed
 
   game_only : (command : Option Command) → Allows command files files' outcome → code_of outcome ≡ 2 → IfSome files.content (λ _. HasRefusedGame files.content command)
   game_only None allowed is = let one = ap code_of allowed.0 in absurd (omega (arith, one, is))
@@ -61,7 +61,7 @@ module _ (files files' : FilesState) (outcome : Outcome) where
   own_ready (Serve service) code (inr (inr (inl six))) = inr (inr (inl six))
   own_ready (Serve service) code (inr (inr (inr seven))) = inr (inr (inr (inl seven)))
 
-  ready_code : (command : Option Command) → Allows command files files' outcome → IsReady files.content command → IsQuiet files.faults files'.faults → IsReadyCode command (code_of outcome)
+  ready_code : (command : Option Command) → Allows command files files' outcome → HasGoodFiles files.content command → IsQuiet files.faults files'.faults → IsReadyCode command (code_of outcome)
   ready_code None allowed ready quiet = absurd ready
   ready_code (Some command) allowed ready quiet =
       either (causes.ready files' outcome (OwnCode command) (last_code command) (steps_of command) (own_code command) files quiet ready allowed)
@@ -89,7 +89,7 @@ module _ (files files' : FilesState) (outcome : Outcome) where
   no_usage_code command (inl own) one = (last_code command (code_of outcome) own).no_usage one
   no_usage_code command (inr early) one = grind (arith, early, one)
 
-  module _ (sink sink' : SinkState) (code : ℕ) (told : Tells outcome sink sink' code) where
+  module _ (sink sink' : SinkState) (code : ℕ) (told : Reports outcome sink sink' code) where
     either : IsCoded sink sink' code outcome
     either = coded outcome sink sink' code told
 
@@ -107,26 +107,26 @@ module _ (files files' : FilesState) (outcome : Outcome) where
 
     pub game_refused : (command : Option Command) → Allows command files files' outcome → GameRefusedExactly command files files' code
     game_refused command allowed = record {
-      only = told_only sink sink' code outcome 2 (IfSome files.content (λ _. HasRefusedGame files.content command)) (λ e. absurd (omega (arith, e))) (game_only command allowed) either;
-      always = λ bad quiet. told_always sink sink' code outcome 2 (game_due command allowed bad quiet) either;
+      only = explained_only sink sink' code outcome 2 (IfSome files.content (λ _. HasRefusedGame files.content command)) (λ e. absurd (omega (arith, e))) (game_only command allowed) either;
+      always = λ bad quiet. explained_always sink sink' code outcome 2 (game_due command allowed bad quiet) either;
     }
 
     pub text_refused : (command : Option Command) → Allows command files files' outcome → TextRefusedExactly command files files' code
     text_refused command allowed = record {
-      only = told_only sink sink' code outcome 8 (IfSome files.content (λ _. HasRefusedText files.content command)) (λ e. absurd (omega (arith, e))) (text_only command allowed) either;
-      always = λ bad quiet. told_always sink sink' code outcome 8 (text_due command allowed bad quiet) either;
+      only = explained_only sink sink' code outcome 8 (IfSome files.content (λ _. HasRefusedText files.content command)) (λ e. absurd (omega (arith, e))) (text_only command allowed) either;
+      always = λ bad quiet. explained_always sink sink' code outcome 8 (text_due command allowed bad quiet) either;
     }
 
     pub unsound : (command : Option Command) → Allows command files files' outcome → UnsoundExactly command files files' code
     unsound command allowed = record {
-      only = told_only sink sink' code outcome 9 (IfSome files.content (λ _. HasUnsoundLog files.content command)) (λ e. absurd (omega (arith, e))) (unsound_only command allowed) either;
-      always = λ unsound quiet. told_always sink sink' code outcome 9 (unsound_due command allowed unsound quiet) either;
+      only = explained_only sink sink' code outcome 9 (IfSome files.content (λ _. HasUnsoundLog files.content command)) (λ e. absurd (omega (arith, e))) (unsound_only command allowed) either;
+      always = λ unsound quiet. explained_always sink sink' code outcome 9 (unsound_due command allowed unsound quiet) either;
     }
 
     pub read_fault : (command : Option Command) → Allows command files files' outcome → ReadFaultExactly files files' code
     read_fault command allowed = record {
-      only = told_only sink sink' code outcome 3 (Rose files.faults files'.faults) (λ e. absurd (omega (arith, e))) (λ is. only_three (read_told command allowed) is) either;
-      always = λ rose. three_or_four (read_told command allowed) either rose;
+      only = explained_only sink sink' code outcome 3 (Rose files.faults files'.faults) (λ e. absurd (omega (arith, e))) (λ is. only_three (read_explained command allowed) is) either;
+      always = λ rose. three_or_four (read_explained command allowed) either rose;
     }
       where
         only_three : ((code_of outcome ≡ 3) × Rose files.faults files'.faults) ⊎ ((code_of outcome ≢ 3) × (files'.faults ≡ files.faults)) → code_of outcome ≡ 3 → Rose files.faults files'.faults
@@ -165,14 +165,14 @@ module _ (files files' : FilesState) (outcome : Outcome) where
         only_unsound is (inr (inr (inr (inl seven)))) = absurd (omega (arith, is, seven))
         only_unsound is (inr (inr (inr (inr nine)))) = nine.1
 
-        told_due : code ≡ code_of outcome → (code_of outcome ≡ 9) ⊎ (code_of outcome ≡ 7) → (code ≡ 9) ⊎ (code ≡ 7)
-        told_due same (inl nine) = inl (same ∙ nine)
-        told_due same (inr seven) = inr (same ∙ seven)
+        explained_due : code ≡ code_of outcome → (code_of outcome ≡ 9) ⊎ (code_of outcome ≡ 7) → (code ≡ 9) ⊎ (code ≡ 7)
+        explained_due same (inl nine) = inl (same ∙ nine)
+        explained_due same (inr seven) = inr (same ∙ seven)
 
-        by_code : IsReady files.content command → IsFaultless (outside_of files sink links ticker) (outside_of files' sink' links' ticker') → IsCoded sink sink' code outcome → IsGoodEnd files.content command code
+        by_code : HasGoodFiles files.content command → IsFaultless (outside_of files sink links ticker) (outside_of files' sink' links' ticker') → IsCoded sink sink' code outcome → IsGoodEnd files.content command code
         by_code ready faultless (inl four) = absurd (causes.quiet_did_not_rise sink.faults sink'.faults faultless.out four.1)
         by_code ready faultless (inr same) = record {
           one_of = by_own faultless same (ready_code command allowed ready faultless.files);
           only = λ nine. only_unsound (sym same ∙ nine) (ready_code command allowed ready faultless.files);
-          always = λ unsound. told_due same (unsound_due command allowed unsound faultless.files);
+          always = λ unsound. explained_due same (unsound_due command allowed unsound faultless.files);
         }

@@ -13,7 +13,7 @@ use Rattle.tac_commands.specs.declared.file_kinds.FileKind.TheVariants.{Game, Ho
 use Rattle.tac_commands.specs.declared.refusals.Refusal.{Refusal}
 use Rattle.tac_commands.specs.declared.refusals.Refusal.TheVariants.{Memory}
 use Rattle.tac_commands.specs.FileKinds.{Value, read_as, refusal_of, refused_code}
-use Rattle.tac_commands.specs.Files.{Content, IsRead, IsNotRead, HasFault}
+use Rattle.tac_commands.specs.Files.{Content, IsFileRead, IsNotRead, HasFault}
 use Rattle.tac_commands.specs.Outcomes.{Outcome, Unsound, Refused, refusal_end, code_of}
 use Rattle.tac_commands.specs.Runs.{Runs, StopsAt, with_name}
 use Rattle.tac_commands.specs.Causes.{IsQuiet, Holds, HasBad, HasRefused, AreGood, HasUnsound}
@@ -72,30 +72,30 @@ pub quiet_did_not_rise : (before now : ℕ) → IsQuiet before now → Rose befo
 quiet_did_not_rise before now quiet rose = absurd (omega (arith, quiet.same, quiet.below, rose.rises))
 
 -- a file that was read is good, and one with a fault is bad
-good : (files : List ℕ → Option (List ℕ)) (file : NamedFile) (value : Value file.kind) → IsRead (Some files) file.kind file.name value → Holds (Some files) file value
-good files file value is = record { bytes = is.0; told = is.1; good = is.2 }
+good : (files : List ℕ → Option (List ℕ)) (file : NamedFile) (value : Value file.kind) → IsFileRead (Some files) file.kind file.name value → Holds (Some files) file value
+good files file value is = record { bytes = is.0; known = is.1; good = is.2 }
 
 bad : (files : List ℕ → Option (List ℕ)) (file : NamedFile) (fault : GameFault) → HasFault (Some files) file.kind file.name fault → HasBad (Some files) file
-bad files file fault is = record { bytes = is.0; told = is.1; fault = fault; bad = is.2 }
+bad files file fault is = record { bytes = is.0; known = is.1; fault = fault; bad = is.2 }
 
-read_not_bad : (content : Content) (file : NamedFile) (value : Value file.kind) → IsRead content file.kind file.name value → HasBad content file → ⊥
-read_not_bad None file value is bad = let told = bad.told in absurd (cc)
+read_not_bad : (content : Content) (file : NamedFile) (value : Value file.kind) → IsFileRead content file.kind file.name value → HasBad content file → ⊥
+read_not_bad None file value is bad = let known = bad.known in absurd (cc)
 read_not_bad (Some files) file value is bad =
     not_both (read_as file.kind bad.bytes) value bad.fault
-    (subst (λ (f : List ℕ). read_as file.kind f ≡ Ok value) (same_file (files file.name) is.0 bad.bytes is.1 bad.told) is.2) bad.bad
+    (subst (λ (f : List ℕ). read_as file.kind f ≡ Ok value) (same_file (files file.name) is.0 bad.bytes is.1 bad.known) is.2) bad.bad
 
 good_no_fault : (content : Content) (file : NamedFile) (value : Value file.kind) (fault : GameFault) → Holds content file value → HasFault content file.kind file.name fault → ⊥
-good_no_fault None file value fault good is = let told = good.told in absurd (cc)
+good_no_fault None file value fault good is = let known = good.known in absurd (cc)
 good_no_fault (Some files) file value fault good is =
     not_both (read_as file.kind good.bytes) value fault good.good
-    (subst (λ (f : List ℕ). read_as file.kind f ≡ Err fault) (same_file (files file.name) is.0 good.bytes is.1 good.told) is.2)
+    (subst (λ (f : List ℕ). read_as file.kind f ≡ Err fault) (same_file (files file.name) is.0 good.bytes is.1 good.known) is.2)
 
 -- what a file holds is what was read of it
-same_read : (content : Content) (file : NamedFile) (value read : Value file.kind) → Holds content file value → IsRead content file.kind file.name read → read ≡ value
-same_read None file value read good is = let told = good.told in absurd (cc)
+same_read : (content : Content) (file : NamedFile) (value read : Value file.kind) → Holds content file value → IsFileRead content file.kind file.name read → read ≡ value
+same_read None file value read good is = let known = good.known in absurd (cc)
 same_read (Some files) file value read good is =
     same_value (read_as file.kind good.bytes) read value
-    (subst (λ (f : List ℕ). read_as file.kind f ≡ Ok read) (same_file (files file.name) is.0 good.bytes is.1 good.told) is.2) good.good
+    (subst (λ (f : List ℕ). read_as file.kind f ≡ Ok read) (same_file (files file.name) is.0 good.bytes is.1 good.known) is.2) good.good
 
 -- ---- one audit
 
@@ -112,24 +112,24 @@ audit_stopped game log IsDue outcome stop = absurd stop
 
 module _ (files' : FilesState) (outcome : Outcome) where
   -- 3 is the code of a read that failed
-  abbrev pub IsTold : FilesState → Type 0
-  IsTold files = ((code_of outcome ≡ 3) × Rose files.faults files'.faults) ⊎ ((code_of outcome ≢ 3) × (files'.faults ≡ files.faults))
+  abbrev pub IsExplained : FilesState → Type 0
+  IsExplained files = ((code_of outcome ≡ 3) × Rose files.faults files'.faults) ⊎ ((code_of outcome ≢ 3) × (files'.faults ≡ files.faults))
 
-  told_at : (files : FilesState) (kind : FileKind) (name : List ℕ) → StopsSo files files' kind name (code_of outcome) → IsTold files
-  told_at files kind name (inl fault) = inl fault
-  told_at files kind name (inr (inl memory)) = let seven = memory.0 in inr (λ three. omega (arith, seven, three), memory.1)
-  told_at files kind name (inr (inr refused)) = let is = refused.0 in let either = kind_code kind in inr (λ three. grind (arith, is, either, three), refused.2)
+  explained_at : (files : FilesState) (kind : FileKind) (name : List ℕ) → StopsSo files files' kind name (code_of outcome) → IsExplained files
+  explained_at files kind name (inl fault) = inl fault
+  explained_at files kind name (inr (inl memory)) = let seven = memory.0 in inr (λ three. omega (arith, seven, three), memory.1)
+  explained_at files kind name (inr (inr refused)) = let is = refused.0 in let either = kind_code kind in inr (λ three. grind (arith, is, either, three), refused.2)
 
-  told_at_audit : (files : FilesState) (game : GameFile) (log : LoggedGame) → StoppedSo game log (code_of outcome) → files'.faults ≡ files.faults → IsTold files
-  told_at_audit files game log (inl unsound) same = let nine = unsound.0 in inr (λ three. omega (arith, nine, three), same)
-  told_at_audit files game log (inr seven) same = inr (λ three. omega (arith, seven, three), same)
+  explained_at_audit : (files : FilesState) (game : GameFile) (log : LoggedGame) → StoppedSo game log (code_of outcome) → files'.faults ≡ files.faults → IsExplained files
+  explained_at_audit files game log (inl unsound) same = let nine = unsound.0 in inr (λ three. omega (arith, nine, three), same)
+  explained_at_audit files game log (inr seven) same = inr (λ three. omega (arith, seven, three), same)
 
   -- a refused file's code
   abbrev pub IsRefusing : ℕ → Type 0
   IsRefusing code = (code ≡ 2) ⊎ (code ≡ 8)
 
-  here_refused : (told : Content) (code : ℕ) (file : NamedFile) (next : Value file.kind → Steps) (fault : GameFault) → refused_code file.kind ≡ code → HasFault told file.kind file.name fault →
-      IfSome told (λ _. HasRefused told code (Reads file next))
+  here_refused : (known : Content) (code : ℕ) (file : NamedFile) (next : Value file.kind → Steps) (fault : GameFault) → refused_code file.kind ≡ code → HasFault known file.kind file.name fault →
+      IfSome known (λ _. HasRefused known code (Reads file next))
   here_refused None code file next fault is has = tt
   here_refused (Some given) code file next fault is has = inl (is, bad given file fault has)
 
@@ -144,13 +144,13 @@ module _ (files' : FilesState) (outcome : Outcome) where
   audit_refuses_none code game log refusing is (inr seven) = grind (arith, refusing, is, seven)
 
   -- a later file is refused if this one was read
-  later_refused : (told : Content) (code : ℕ) (file : NamedFile) (next : Value file.kind → Steps) (value : Value file.kind) → IsRead told file.kind file.name value →
-      IfSome told (λ _. HasRefused told code (next value)) → IfSome told (λ _. HasRefused told code (Reads file next))
+  later_refused : (known : Content) (code : ℕ) (file : NamedFile) (next : Value file.kind → Steps) (value : Value file.kind) → IsFileRead known file.kind file.name value →
+      IfSome known (λ _. HasRefused known code (next value)) → IfSome known (λ _. HasRefused known code (Reads file next))
   later_refused None code file next value is refused = tt
   later_refused (Some given) code file next value is refused = inr (value, good given file value is, refused)
 
   -- the same after a log that is sound
-  behind_sound : (told : Content) (P Q : Type 0) → (P → Q) → IfSome told (λ _. P) → IfSome told (λ _. Q)
+  behind_sound : (known : Content) (P Q : Type 0) → (P → Q) → IfSome known (λ _. P) → IfSome known (λ _. Q)
   behind_sound None P Q f p = tt
   behind_sound (Some given) P Q f p = f p
 
@@ -212,24 +212,24 @@ module _ (files' : FilesState) (outcome : Outcome) where
   unsound_here game log is (inl unsound) = unsound.1
   unsound_here game log is (inr seven) = absurd (omega (arith, is, seven))
 
-  later_unsound : (told : Content) (file : NamedFile) (next : Value file.kind → Steps) (value : Value file.kind) → IsRead told file.kind file.name value →
-      IfSome told (λ _. HasUnsound told (next value)) → IfSome told (λ _. HasUnsound told (Reads file next))
+  later_unsound : (known : Content) (file : NamedFile) (next : Value file.kind → Steps) (value : Value file.kind) → IsFileRead known file.kind file.name value →
+      IfSome known (λ _. HasUnsound known (next value)) → IfSome known (λ _. HasUnsound known (Reads file next))
   later_unsound None file next value is unsound = tt
   later_unsound (Some given) file next value is unsound = (value, good given file value is, unsound)
 
-  here_unsound : (told : Content) (game : GameFile) (log : LoggedGame) (IsDue : List ℕ → Type 0) (next : Steps) → (IsSound game log → ⊥) → IfSome told (λ _. HasUnsound told (Audits game log IsDue next))
+  here_unsound : (known : Content) (game : GameFile) (log : LoggedGame) (IsDue : List ℕ → Type 0) (next : Steps) → (IsSound game log → ⊥) → IfSome known (λ _. HasUnsound known (Audits game log IsDue next))
   here_unsound None game log IsDue next not_sound = tt
   here_unsound (Some given) game log IsDue next not_sound = inl not_sound
 
   -- ---- by the codes of the last step
 
   module _ (Own : ℕ → Type 0) (last : (code : ℕ) → Own code → IsLastCode code) where
-    pub read_told : (steps : Steps) → EndsWithin Own steps → (files : FilesState) → Runs steps files files' outcome → IsTold files
-    read_told (Reads file next) own files (inl read) = read_told (next read.0) (own read.0) (with_name files file.name) read.2
-    read_told (Reads file next) own files (inr stop) = told_at files file.kind file.name (stopped files files' file.kind file.name stop.0 outcome stop.1 stop.2)
-    read_told (Audits game log IsDue next) own files (inl run) = read_told next own files run.1
-    read_told (Audits game log IsDue next) own files (inr stop) = told_at_audit files game log (audit_stopped game log IsDue outcome stop.0) stop.1.1
-    read_told (EndsWith allows) own files run = inr ((last (code_of outcome) (own outcome run.0)).no_fault, run.1.1)
+    pub read_explained : (steps : Steps) → EndsWithin Own steps → (files : FilesState) → Runs steps files files' outcome → IsExplained files
+    read_explained (Reads file next) own files (inl read) = read_explained (next read.0) (own read.0) (with_name files file.name) read.2
+    read_explained (Reads file next) own files (inr stop) = explained_at files file.kind file.name (stopped files files' file.kind file.name stop.0 outcome stop.1 stop.2)
+    read_explained (Audits game log IsDue next) own files (inl run) = read_explained next own files run.1
+    read_explained (Audits game log IsDue next) own files (inr stop) = explained_at_audit files game log (audit_stopped game log IsDue outcome stop.0) stop.1.1
+    read_explained (EndsWith allows) own files run = inr ((last (code_of outcome) (own outcome run.0)).no_fault, run.1.1)
 
     own_refuses_none : (code : ℕ) → IsRefusing code → Own (code_of outcome) → code_of outcome ≡ code → ⊥
     own_refuses_none code (inl two) own is = (last (code_of outcome) own).no_game (is ∙ two)
@@ -317,7 +317,7 @@ module _ (files' : FilesState) (outcome : Outcome) where
 
     -- ---- the files that were selected
 
-    module _ (code : ℕ) (told : (code ≡ 4) ⊎ (code ≡ code_of outcome)) where
+    module _ (code : ℕ) (known : (code ≡ 4) ⊎ (code ≡ code_of outcome)) where
       ends_at : (files : FilesState) (kind : FileKind) (name : List ℕ) → StopsSo files files' kind name (code_of outcome) → (code ≡ 4) ⊎ (code ≡ code_of outcome) → EndsAt kind code
       ends_at files kind name stop (inl four) = inr (inl four)
       ends_at files kind name (inl fault) (inr same) = inl (same ∙ fault.0)
@@ -336,14 +336,14 @@ module _ (files' : FilesState) (outcome : Outcome) where
       pub selects : (steps : Steps) → EndsWithin Own steps → (files : FilesState) → Runs steps files files' outcome → SelectsFiles steps files files' code
       selects (Reads file next) own files (inl read) = inr (read.0, read.1, selects (next read.0) (own read.0) (with_name files file.name) read.2)
       selects (Reads file next) own files (inr stop) =
-          inl (stop.3, ends_at files file.kind file.name (stopped files files' file.kind file.name stop.0 outcome stop.1 stop.2) told)
+          inl (stop.3, ends_at files file.kind file.name (stopped files files' file.kind file.name stop.0 outcome stop.1 stop.2) known)
       selects (Audits game log IsDue next) own files (inl run) = inr (run.0, selects next own files run.1)
-      selects (Audits game log IsDue next) own files (inr stop) = inl (stop.1.0, ends_at_audit game log (audit_stopped game log IsDue outcome stop.0) told)
+      selects (Audits game log IsDue next) own files (inr stop) = inl (stop.1.0, ends_at_audit game log (audit_stopped game log IsDue outcome stop.0) known)
       selects (EndsWith allows) own files run =
           let none = last (code_of outcome) (own outcome run.0) in (
             run.1.0,
-            not_code 2 none.no_game (omega arith) told,
-            not_code 3 none.no_fault (omega arith) told,
-            not_code 8 none.no_text (omega arith) told,
-            not_code 9 none.no_unsound (omega arith) told,
+            not_code 2 none.no_game (omega arith) known,
+            not_code 3 none.no_fault (omega arith) known,
+            not_code 8 none.no_text (omega arith) known,
+            not_code 9 none.no_unsound (omega arith) known,
           )

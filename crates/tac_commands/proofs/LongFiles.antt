@@ -9,8 +9,8 @@ use Rattle.game_text.specs.Accounts.{account_of}
 use Rattle.game_text.specs.Games.{game_of}
 use Rattle.log_reader.specs.declared.fault.LogFault.TheVariants as logs
 use Rattle.log_reader.specs.Logs.{log_of}
-use Rattle.script_run.specs.declared.hotel_lines.HotelLine.{HotelLine}
-use Rattle.script_run.specs.declared.game_lines.GameLine.{GameLine as ScriptLine}
+use Rattle.script_run.specs.declared.hotel.lines.HotelLine.{HotelLine}
+use Rattle.script_run.specs.declared.game.lines.GameLine.{GameLine as ScriptLine}
 use Rattle.script_run.specs.ScriptLines.{BadLine}
 use Rattle.script_run.specs.HotelScripts.{script_of}
 use Rattle.script_run.specs.GameScripts.{game_script}
@@ -49,9 +49,9 @@ some_long : (n : ℕ) → (bytes : List ℕ) × (n < length bytes)
 some_long n = longer n (replicate (suc n) 0) (length-replicate (suc n) 0)
 
 -- a file that was found too long, whether files are known or not
-pub told_long : (content : Content) (kind : FileKind) (name : List ℕ) → IsTooLong content name (most_bytes kind) → HasFault content kind name TooLong
-told_long None kind name long = let some = some_long (most_bytes kind) in (some.0, tt, long_file kind some.0 some.1)
-told_long (Some files) kind name long = (long.0, long.1, long_file kind long.0 long.2)
+pub has_long_fault : (content : Content) (kind : FileKind) (name : List ℕ) → IsTooLong content name (most_bytes kind) → HasFault content kind name TooLong
+has_long_fault None kind name long = let some = some_long (most_bytes kind) in (some.0, tt, long_file kind some.0 some.1)
+has_long_fault (Some files) kind name long = (long.0, long.1, long_file kind long.0 long.2)
 
 -- ---- scripts and logs
 

@@ -24,18 +24,19 @@ use Rattle.bid_strings.specs.Spelling.{left_word, right_word, point_words, spell
 use Rattle.bid_strings.proofs.Laws.{points_lack, lawful_points}
 use Rattle.log_text.proofs.Cuts.{lacks_append}
 use Rattle.line_protocol.specs.declared.asking.RequestFault.{RequestFault}
-use Rattle.line_protocol.specs.Requests.{◌>>=◌, good_of, with_points, request_of_words, request_of}
+use Rattle.text_forms.specs.Steps.{◌>>=◌}
+use Rattle.line_protocol.specs.Requests.{read_good, with_points, request_of_words, request_of}
 use Rattle.draw_maker.specs.Scripts.{bid_line}
 use Rattle.draw_maker.specs.BidScripts.{is_tick, IsBidLine, IsBidScript}
 use Rattle.script_run.specs.declared.fault.ScriptReason.{ScriptReason}
-use Rattle.script_run.specs.declared.game_lines.GameLine.{GameLine}
-use Rattle.script_run.specs.declared.game_lines.GameLine.TheVariants.{Tick, Asks}
+use Rattle.script_run.specs.declared.game.lines.GameLine.{GameLine}
+use Rattle.script_run.specs.declared.game.lines.GameLine.TheVariants.{Tick, Asks}
 use Rattle.script_run.specs.HotelLines.{agent_of}
-use Rattle.script_run.specs.GameLines.{asks_of, agent_line, line_of}
-use Rattle.script_run.specs.GameScripts.{is_tick as is_tick_line, is_of, is_quit, quits, ticks_of, lines_of, has_quit, judged, judge, game_script}
+use Rattle.script_run.specs.GameLines.{asks_of, request_line, game_line_of}
+use Rattle.script_run.specs.GameScripts.{is_tick_line, is_line_of, is_quit, quits, ticks_of, count_of_agent, has_quit, judged_game_line, judge_game_line, game_script}
 use Rattle.script_run.specs.GameOuts.{IsGoodScript}
 use Rattle.script_run.specs.PlayOuts.{IsBadScript}
-use Rattle.script_run.specs.ScriptLines.{at_line, lines_from}
+use Rattle.script_run.specs.ScriptLines.{then_lines, script_lines_from}
 use Rattle.tac_base.specs.declared.limits.TheConstants.{TEXT_BYTES}
 use Rattle.script_run.proofs.ScriptReading.{line_first}
 use Rattle.tac_commands.proofs.Unambiguous.{not_both}
@@ -57,7 +58,7 @@ no_quit_by (Ok good) (Err fault) = refl
 no_quit_words : (words : List (List ℕ)) → is_quit (request_of_words (codes "bid" ∷ words)) ≡ false
 no_quit_words [] = refl
 no_quit_words (number ∷ []) = refl
-no_quit_words (number ∷ word ∷ words) = no_quit_by (good_of (numeral 5 number)) (judged_points (points_of (join_with_byte 32 (word ∷ words))))
+no_quit_words (number ∷ word ∷ words) = no_quit_by (read_good (numeral 5 number)) (judged_points (points_of (join_with_byte 32 (word ∷ words))))
 
 no_quit : (good : ℕ) (point : Point) → is_quit (request_of (request good point)) ≡ false
 unfolding request_of
@@ -71,7 +72,7 @@ agent_is agent few =
     let same : 48 + agent - 48 ≡ agent = omega arith in
     rw test (ap Some same)
 
-asks : (agent : ℕ) (asked : List ℕ) → agent ≤ 7 → length asked ≤ 512 → agent_line ((48 + agent) ∷ 32 ∷ asked) ≡ Ok (Asks agent (request_of asked))
+asks : (agent : ℕ) (asked : List ℕ) → agent ≤ 7 → length asked ≤ 512 → request_line ((48 + agent) ∷ 32 ∷ asked) ≡ Ok (Asks agent (request_of asked))
 asks agent asked few short =
     let test : nat_lt 512 (length asked) ≡ false = grind (arith, nat_tests) in
     ap (λ (a : Option ℕ). asks_of a asked) (agent_is agent few) ∙ rw test refl
@@ -79,13 +80,13 @@ asks agent asked few short =
 no_tick : (agent : ℕ) (asked : List ℕ) → agent ≤ 7 → bytes_eq ((48 + agent) ∷ 32 ∷ asked) (codes "tick") ≡ false
 no_tick agent asked few = grind (arith, nat_tests)
 
-bid_asks : (agent good : ℕ) (point : Point) → agent ≤ 7 → length (request good point) ≤ 512 → line_of (bid_line agent good point) ≡ Ok (Asks agent (request_of (request good point)))
-unfolding line_of
+bid_asks : (agent good : ℕ) (point : Point) → agent ≤ 7 → length (request good point) ≤ 512 → game_line_of (bid_line agent good point) ≡ Ok (Asks agent (request_of (request good point)))
+unfolding game_line_of
 bid_asks agent good point few short =
-    ap line_of (line_spelled agent good point few) ∙ rw (no_tick agent (request good point) few) (asks agent (request good point) few short)
+    ap game_line_of (line_spelled agent good point few) ∙ rw (no_tick agent (request good point) few) (asks agent (request good point) few short)
 
-tick_asks : line_of (codes "tick") ≡ Ok Tick
-unfolding line_of
+tick_asks : game_line_of (codes "tick") ≡ Ok Tick
+unfolding game_line_of
 tick_asks = refl
 
 -- ---- its bytes
@@ -170,7 +171,7 @@ has_quit_more line before agent here there = rw (here, there) refl
 
 -- what the next line asks, which may stand here
 record IsNext (before : List GameLine) (line : List ℕ) (asked : GameLine) : Type 0 where
-  good : judge before line ≡ Ok asked
+  good : judge_game_line before line ≡ Ok asked
   quiet : (agent : ℕ) → quits agent asked ≡ false
   ticks : ticks_of (asked ∷ before) ≡ ticks_of before + cond (is_tick line) 1 0
 
@@ -180,7 +181,7 @@ next_tick before line is ticks =
     let test : nat_le 54 (ticks_of before) ≡ false = grind (arith, nat_tests) in
     let more = sum_by-cons (λ (l : GameLine). cond (is_tick_line l) 1 0) Tick before in
     record {
-      good = ap (judge before) is ∙ ap (judged before) tick_asks ∙ rw test refl;
+      good = ap (judge_game_line before) is ∙ ap (judged_game_line before) tick_asks ∙ rw test refl;
       quiet = λ agent. refl;
       ticks = omega (arith, one, more);
     }
@@ -189,15 +190,15 @@ next_bid : (before : List GameLine) (line : List ℕ) → IsBidLine line → ((a
 next_bid before line bid quiet few =
     let asked = Asks bid.agent (request_of (request bid.good bid.point)) in
     let short = request_short bid.good bid.point bid.one_of_goods bid.lawful in
-    let read : line_of line ≡ Ok asked = ap line_of bid.spelled ∙ bid_asks bid.agent bid.good bid.point bid.one_of_agents (omega (arith, short)) in
-    let all = count_by-le-length (is_of bid.agent) before in
-    let test : nat_le 65536 (lines_of before bid.agent) ≡ false = grind (arith, nat_tests) in
+    let read : game_line_of line ≡ Ok asked = ap game_line_of bid.spelled ∙ bid_asks bid.agent bid.good bid.point bid.one_of_agents (omega (arith, short)) in
+    let all = count_by-le-length (is_line_of bid.agent) before in
+    let test : nat_le 65536 (count_of_agent before bid.agent) ≡ false = grind (arith, nat_tests) in
     let no : is_tick line ≡ false = ap is_tick (bid.spelled ∙ line_spelled bid.agent bid.good bid.point bid.one_of_agents) ∙ no_tick bid.agent (request bid.good bid.point) bid.one_of_agents in
     let none = ap {B = ℕ} (λ (b : Bool). cond b 1 0) no in
     let more = sum_by-cons (λ (l : GameLine). cond (is_tick_line l) 1 0) asked before in (
       asked,
       record {
-        good = ap (judged before) read ∙ rw (quiet bid.agent, test) refl;
+        good = ap (judged_game_line before) read ∙ rw (quiet bid.agent, test) refl;
         quiet = λ agent. quits_not agent bid.agent bid.good bid.point;
         ticks = omega (arith, none, more);
       },
@@ -211,7 +212,7 @@ some_left : (rest : List (List ℕ)) → length (rest ++ [] ∷ []) ≢ 0
 some_left rest e = let len = length-append rest ([] ∷ []) in omega (arith, len, e)
 
 reads : (rest : List (List ℕ)) (before : List GameLine) → AllByRecursion IsEither rest → ((agent : ℕ) → has_quit before agent ≡ false) → ticks_of before + count_by is_tick rest ≤ 54 →
-    length before + length rest ≤ 65000 → (lines : List GameLine) × (lines_from judge before (rest ++ [] ∷ []) ≡ Ok lines)
+    length before + length rest ≤ 65000 → (lines : List GameLine) × (script_lines_from judge_game_line before (rest ++ [] ∷ []) ≡ Ok lines)
 reads [] before all quiet ticks few = (before, refl)
 reads (line ∷ rest) before all quiet ticks few =
     let counted = sum_by-cons (λ (l : List ℕ). cond (is_tick l) 1 0) line rest in
@@ -219,8 +220,8 @@ reads (line ∷ rest) before all quiet ticks few =
     let same = one.1.ticks in
     let others = reads rest (one.0 ∷ before) all.1 (λ agent. has_quit_more one.0 before agent (one.1.quiet agent) (quiet agent)) (omega (arith, ticks, counted, same)) (omega (arith, few)) in (
       others.0,
-      line_first judge before line (rest ++ [] ∷ []) (some_left rest)
-          ∙ (ap (λ (r : Result GameLine ScriptReason). at_line (length before + 1) r (λ l. lines_from judge (l ∷ before) (rest ++ [] ∷ []))) one.1.good
+      line_first judge_game_line before line (rest ++ [] ∷ []) (some_left rest)
+          ∙ (ap (λ (r : Result GameLine ScriptReason). then_lines (length before + 1) r (λ l. script_lines_from judge_game_line (l ∷ before) (rest ++ [] ∷ []))) one.1.good
           ∙ others.1),
     )
 
@@ -249,7 +250,7 @@ made_is_good count text few script =
       read.0,
       record {
         within = omega (arith, len, short, both, ticks, bids, few);
-        good = ap game_script script.in_lines ∙ (ap (lines_from judge []) (text_cut script.lines all) ∙ read.1);
+        good = ap game_script script.in_lines ∙ (ap (script_lines_from judge_game_line []) (text_cut script.lines all) ∙ read.1);
       },
     )
 

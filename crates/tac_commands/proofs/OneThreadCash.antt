@@ -25,22 +25,22 @@ use Rattle.auction_rules.specs.TicketMatch.{arriving, pairs, trades_of_pairs}
 use Rattle.trade_ledger.specs.declared.cash_calls.CashCall.TheVariants.{Post}
 use Rattle.trade_ledger.specs.declared.cash_calls.CashReply.TheVariants.{Done}
 use Rattle.trade_ledger.specs.declared.cash_calls.CashEntry.{CashEntry}
-use Rattle.trade_ledger.specs.CashHistory.{total_of}
+use Rattle.trade_ledger.specs.CashHistory.{cash_total}
 use Rattle.trade_ledger.specs.Posts.{post_for, due_post}
-use Rattle.trade_ledger.proofs.CashSteps.{total_of-snoc}
+use Rattle.trade_ledger.proofs.CashSteps.{cash_total-snoc}
 use Rattle.trade_ledger.proofs.Matching.{dollars-append}
 use Rattle.trade_ledger.proofs.Trading.{get_or-nine}
 use Rattle.auction_core.specs.Setups.{setup_of, rules_by}
 use Rattle.auction_core.specs.Auctions.{AuctionHistory}
-use Rattle.score_sheet.specs.Settlement.{cash_of}
+use Rattle.score_sheet.specs.Settlement.{cash_gained}
 use Rattle.line_protocol.specs.declared.asking.Request.{Request}
 use Rattle.line_protocol.specs.declared.asking.Request.TheVariants as requests
 use Rattle.line_protocol.specs.declared.asking.RequestFault.{RequestFault}
 use Rattle.line_protocol.specs.declared.saying.Said.{Said}
 use Rattle.line_protocol.specs.declared.saying.Said.TheVariants as said
 use Rattle.game_text.specs.Schedule.{calls_at}
-use Rattle.script_run.specs.declared.game_lines.GameLine.{GameLine}
-use Rattle.script_run.specs.declared.game_lines.GameLine.TheVariants.{Tick, Asks}
+use Rattle.script_run.specs.declared.game.lines.GameLine.{GameLine}
+use Rattle.script_run.specs.declared.game.lines.GameLine.TheVariants.{Tick, Asks}
 use Rattle.script_run.specs.GameStates.{GameState, past_at, entry_at, called, reading_of, readings_of, call_turn, cash_turn, turn, clocked, ticked}
 use Rattle.script_run.specs.OneThreadRun.{auction_with, played, ticked_often, whole_game}
 use Rattle.script_run.specs.GameOuts.{closed_game}
@@ -98,21 +98,21 @@ no_trades game good caller call far = by_refusal (refusal (setup_of good game).r
 
 -- ---- what a post gives a party
 
-post_adds : (cash : List CashEntry) (good position : ℕ) (e : Entry) (party : ℕ) → party ≤ 8 → total_of (cash ++ due_post good position e) party ≡ total_of cash party +ℤ dollars e.trades party
+post_adds : (cash : List CashEntry) (good position : ℕ) (e : Entry) (party : ℕ) → party ≤ 8 → cash_total (cash ++ due_post good position e) party ≡ cash_total cash party +ℤ dollars e.trades party
 post_adds cash good position e party low = by_trades e.trades
   where
-    by_trades : (trades : List Trade) → total_of (cash ++ post_for trades (record { caller = e.caller; call = Post good position (record { dollars = nets trades }); reply = Done })) party ≡ total_of cash party +ℤ dollars trades party
-    by_trades [] = ap (λ (l : List CashEntry). total_of l party) (append-nil cash) ∙ omega (arith, ints)
+    by_trades : (trades : List Trade) → cash_total (cash ++ post_for trades (record { caller = e.caller; call = Post good position (record { dollars = nets trades }); reply = Done })) party ≡ cash_total cash party +ℤ dollars trades party
+    by_trades [] = ap (λ (l : List CashEntry). cash_total l party) (append-nil cash) ∙ omega (arith, ints)
     by_trades (t ∷ trades) =
-        total_of-snoc cash (record { caller = e.caller; call = Post good position (record { dollars = nets (t ∷ trades) }); reply = Done }) party
-        ∙ ap (λ (z : ℤ). total_of cash party +ℤ z) (get_or-nine (dollars (t ∷ trades)) party low)
+        cash_total-snoc cash (record { caller = e.caller; call = Post good position (record { dollars = nets (t ∷ trades) }); reply = Done }) party
+        ∙ ap (λ (z : ℤ). cash_total cash party +ℤ z) (get_or-nine (dollars (t ∷ trades)) party low)
 
 -- ---- the game, step by step
 
 -- the total of each party is what it gained
 record IsEven (state : GameState) : Type 0 where
   pub count : length state.pasts ≡ 28
-  pub totals : (party : ℕ) → party ≤ 8 → total_of state.cash party ≡ gained state.pasts party
+  pub totals : (party : ℕ) → party ≤ 8 → cash_total state.cash party ≡ gained state.pasts party
 
 -- what a call makes of the gain; a good past the last has no past, and no trade
 gained_called : (game : GameFile) (caller good : ℕ) (call : Call) (pasts : List (List Entry)) (party : ℕ) → length pasts ≡ 28 →
@@ -155,10 +155,10 @@ even_call game agent good call state even =
 even_reading : (agent : ℕ) (state : GameState) → IsEven state → IsEven (cash_turn agent state).1
 even_reading agent state even =
     either_turn (nat_le 1024 (readings_of state.cash agent)) (said.Spent, state)
-    (said.Cash (length state.cash) (total_of state.cash agent), record { pasts = state.pasts; cash = state.cash ++ reading_of state.cash agent ∷ []; ticks = state.ticks }) even
-    (record { count = even.count; totals = λ party low. total_of-snoc state.cash (reading_of state.cash agent) party ∙ same party low })
+    (said.Cash (length state.cash) (cash_total state.cash agent), record { pasts = state.pasts; cash = state.cash ++ reading_of state.cash agent ∷ []; ticks = state.ticks }) even
+    (record { count = even.count; totals = λ party low. cash_total-snoc state.cash (reading_of state.cash agent) party ∙ same party low })
   where
-    same : (party : ℕ) → party ≤ 8 → total_of state.cash party +ℤ pos 0 ≡ gained state.pasts party
+    same : (party : ℕ) → party ≤ 8 → cash_total state.cash party +ℤ pos 0 ≡ gained state.pasts party
     same party low = omega (arith, ints, even.totals party low)
 
 even_turn : (game : GameFile) (agent : ℕ) (asked : Result Request RequestFault) (state : GameState) → IsEven state → IsEven (turn game agent asked state).1
@@ -202,7 +202,7 @@ pub cash_of_script : (game : GameFile) (lines : List GameLine) → IsCashOfPosts
 cash_of_script game lines =
     λ i. each 0 (omega arith) i ∷ each 1 (omega arith) i ∷ each 2 (omega arith) i ∷ each 3 (omega arith) i ∷ each 4 (omega arith) i ∷ each 5 (omega arith) i ∷ each 6 (omega arith) i ∷ each 7 (omega arith) i ∷ []
   where
-    each : (party : ℕ) → party ≤ 8 → cash_of (closed_game game lines).auctions party ≡ total_of (closed_game game lines).cash party
+    each : (party : ℕ) → party ≤ 8 → cash_gained (closed_game game lines).auctions party ≡ cash_total (closed_game game lines).cash party
     each party low =
         let even = even_often game (54 - (played game lines).ticks) (played game lines) (even_played game lines) in
         let whole = cash_from game 0 (pos 0) (whole_game game lines).pasts party in

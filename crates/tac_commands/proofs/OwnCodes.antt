@@ -4,7 +4,7 @@ use Rattle.std.specs.Prelude.{◌⊎◌}
 use Rattle.game_text.specs.Games.{GameFile}
 use Rattle.log_text.specs.LoggedGames.{LoggedGame}
 use Rattle.tac_commands.specs.declared.refusals.Refusal.TheVariants.{LinkFault, Memory}
-use Rattle.tac_commands.specs.Allowed.{Writes, WritesInParts, IsServiceEnd, table_steps, batch_steps, steps_of}
+use Rattle.tac_commands.specs.Allowed.{WritesDue, WritesInParts, IsServiceEnd, table_steps, batch_steps, steps_of}
 use Rattle.tac_commands.specs.Commands.{BatchCommand, Hotel, Show, Upgrade, Make, Solve, Worth, Play, Trial, Audit, Table, Command, Batch, Serve}
 use Rattle.tac_commands.specs.FileKinds.{Value}
 use Rattle.tac_commands.specs.Outcomes.{Outcome, Done, Lapsed, Cut, Refused, code_of}
@@ -20,7 +20,7 @@ EndsWithin Own (EndsWith allows) = (outcome : Outcome) → allows outcome → Ow
 abbrev pub IsWritten : ℕ → Type 0
 IsWritten code = (code ≡ 0) ⊎ (code ≡ 7)
 
-writes : (IsDue : List ℕ → Type 0) (outcome : Outcome) → Writes IsDue outcome → IsWritten (code_of outcome)
+writes : (IsDue : List ℕ → Type 0) (outcome : Outcome) → WritesDue IsDue outcome → IsWritten (code_of outcome)
 writes IsDue (Done text) allowed = inl refl
 writes IsDue (Refused Memory) allowed = inr refl
 writes IsDue outcome allowed = absurd allowed

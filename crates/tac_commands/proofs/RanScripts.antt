@@ -3,16 +3,16 @@ use Rattle.std.proofs.Common.{◌≡◌, ℕ, List, [], ◌∷◌, refl, inl, in
 use Rattle.std.specs.Prelude.{◌⊎◌, Result, Ok, Err}
 use Rattle.tac_io.specs.Reading.{IsFile}
 use Rattle.tac_io.specs.States.{FilesState, SinkState}
-use Rattle.tac_io.specs.Told.{and_then_told}
+use Rattle.tac_io.specs.Known.{known_then}
 use Rattle.game_text.specs.declared.fault.GameFault.TheVariants as faults
 use Rattle.game_text.specs.Games.{GameFile}
 use Rattle.script_run.specs.declared.fault.ScriptFault.{ScriptFault}
 use Rattle.script_run.specs.declared.fault.ScriptFault.TheVariants.{Line, TooLong, Failed, Memory}
 use Rattle.line_protocol.specs.Heads.{Play}
-use Rattle.script_run.specs.declared.play_count.PlayCount.{PlayCount}
-use Rattle.game_log.specs.Taken.{TookWhole, TookPart}
-use Rattle.script_run.specs.HotelOuts.{IsOut, RunsScript}
-use Rattle.script_run.specs.declared.game_lines.GameLine.{GameLine}
+use Rattle.script_run.specs.declared.game.play_count.PlayCount.{PlayCount}
+use Rattle.tac_io.specs.Taken.{TookWhole, TookPart}
+use Rattle.script_run.specs.HotelOuts.{IsHotelOut, RunsScript}
+use Rattle.script_run.specs.declared.game.lines.GameLine.{GameLine}
 use Rattle.script_run.specs.GameOuts.{closed_game}
 use Rattle.script_run.specs.PlayOuts.{IsFirstOut, IsPlayOut, PlaysScript}
 use Rattle.script_run.specs.GameScripts.{game_script}
@@ -25,16 +25,16 @@ use Rattle.tac_commands.specs.Allowed.{batch_steps, play_steps}
 use Rattle.tac_commands.specs.Commands.{Hotel}
 use Rattle.tac_commands.specs.Outcomes.{Done, Cut}
 use Rattle.tac_commands.specs.Runs.{Runs}
-use Rattle.tac_commands.specs.SoundTexts.{told_of, EndsInSoundLog}
+use Rattle.tac_commands.specs.SoundTexts.{log_of_game, EndsInSoundLog}
 use Rattle.tac_commands.specs.Ends.{EndsBatch, EndsSteps, script_end}
 use Rattle.tac_commands.proofs.LongFiles.{long_file, good_hotel, bad_hotel, good_script, bad_script}
 use Rattle.tac_commands.proofs.OneThreadCash.{cash_of_script}
 use Rattle.tac_commands.proofs.SoundLogs.{played_soundly}
 
-module _ (files files' : FilesState) (name bytes : List ℕ) (sink sink' : SinkState) (is : IsFile files.content name bytes) (selected : files'.names ≡ and_then_told files.names (name ∷ []))
+module _ (files files' : FilesState) (name bytes : List ℕ) (sink sink' : SinkState) (is : IsFile files.content name bytes) (selected : files'.names ≡ known_then files.names (name ∷ []))
     (quiet : files'.faults ≡ files.faults) where
   -- the script of a hotel was run with this text
-  hotel_run : (text : List ℕ) → IsOut bytes text → Runs (batch_steps (Hotel name)) files files' (Done text)
+  hotel_run : (text : List ℕ) → IsHotelOut bytes text → Runs (batch_steps (Hotel name)) files files' (Done text)
   hotel_run text out = inl (out.lines, (bytes, is, good_hotel bytes out.lines out.within out.good), (out.due, (selected, quiet)))
 
   pub hotel_ran : (result : Result (Unit {0}) ScriptFault) → RunsScript bytes sink sink' result → EndsBatch (Hotel name) files files' sink sink' (script_end result)
@@ -52,7 +52,7 @@ module _ (files files' : FilesState) (name bytes : List ℕ) (sink sink' : SinkS
     play_run text out =
         inl (out.lines, (bytes, is, good_script bytes out.lines out.good.within out.good.good), (((out.sheet, out.scores, out.due, ends out), cash_of_script game out.lines), (selected, quiet)))
       where
-        ends : (played : IsPlayOut game bytes text) → EndsInSoundLog game (told_of Play (closed_game game played.lines) played.sheet) (replies game played.lines) text
+        ends : (played : IsPlayOut game bytes text) → EndsInSoundLog game (log_of_game Play (closed_game game played.lines) played.sheet) (replies game played.lines) text
         ends played = played_soundly game played.lines played.sheet text (law bytes played.lines played.good.good) played.scores played.shown played.due
 
     first_run : (text : List ℕ) → IsFirstOut game bytes text → Runs (play_steps game name) files files' (Cut text)

@@ -15,7 +15,7 @@ use Rattle.trade_ledger.specs.declared.cash_calls.CashCall.TheVariants.{Post, Re
 use Rattle.trade_ledger.specs.declared.cash_calls.CashReply.{CashReply}
 use Rattle.trade_ledger.specs.declared.cash_calls.CashReply.TheVariants.{Done, Cash}
 use Rattle.trade_ledger.specs.declared.cash_calls.CashEntry.{CashEntry}
-use Rattle.trade_ledger.specs.CashHistory.{IsFit, reply_by}
+use Rattle.trade_ledger.specs.CashHistory.{IsFitCash, reply_by}
 use Rattle.trade_ledger.specs.CashKeeping.{IsWithin, IsLoggableCash}
 use Rattle.trade_ledger.specs.Posts.{is_post}
 use Rattle.auction_core.specs.Auctions.{AuctionHistory}
@@ -27,12 +27,12 @@ use Rattle.line_protocol.specs.declared.admission.Cause.{Cause}
 use Rattle.line_protocol.specs.Heads.{Head, Play, Serve}
 use Rattle.log_text.specs.LogText.{histories_of}
 use Rattle.log_text.specs.LoggedGames.{LoggedGame, IsLoggedEnd, IsLoggedHead, IsLoggedHistory, AreHistories, IsLoggedCash, IsLoggedCashEntry}
-use Rattle.log_reader.specs.SoundLog.{seated_agents, seatings, IsSoundHead}
+use Rattle.log_reader.specs.SoundLog.{logged_seats, seatings, IsSoundHead}
 use Rattle.game_log.specs.LogRanges.{IsRanged}
 use Rattle.game_log.specs.ShownGames.{HasSeats, IsShowable}
 use Rattle.game_log.specs.ScoredGames.{IsSheetOf}
 use Rattle.script_run.specs.LawfulGames.{IsLawfulGame}
-use Rattle.tac_commands.specs.SoundTexts.{told_of}
+use Rattle.tac_commands.specs.SoundTexts.{log_of_game}
 use Rattle.tac_commands.proofs.PostRanges.{post_ranged}
 
 -- ---- the head
@@ -48,10 +48,10 @@ agents_low = (omega arith, (omega arith, (omega arith, (omega arith, (omega arit
 abbrev has_seat : List Verdict → ℕ → Bool
 has_seat verdicts agent = nat_lt 0 (seatings verdicts agent)
 
-seated_low : (verdicts : List Verdict) → AllByRecursion (λ (agent : ℕ). agent ≤ 7) (seated_agents verdicts)
-seated_low verdicts = recursion_from_All (λ (agent : ℕ). agent ≤ 7) (seated_agents verdicts) (All-filter (has_seat verdicts) (λ (agent : ℕ). agent ≤ 7) agents (All-from_recursion (λ (agent : ℕ). agent ≤ 7) agents agents_low))
+seated_low : (verdicts : List Verdict) → AllByRecursion (λ (agent : ℕ). agent ≤ 7) (logged_seats verdicts)
+seated_low verdicts = recursion_from_All (λ (agent : ℕ). agent ≤ 7) (logged_seats verdicts) (All-filter (has_seat verdicts) (λ (agent : ℕ). agent ≤ 7) agents (All-from_recursion (λ (agent : ℕ). agent ≤ 7) agents agents_low))
 
-few_seated : (verdicts : List Verdict) → length (seated_agents verdicts) ≤ 8
+few_seated : (verdicts : List Verdict) → length (logged_seats verdicts) ≤ 8
 few_seated verdicts = let count = length-filter (has_seat verdicts) agents in let few = count_by-le-length (has_seat verdicts) agents in omega (arith, count, few)
 
 head_ranged : (log : LoggedGame) (head : Head) → HasSeats head → IsSoundHead log head → IsLoggedHead head
@@ -59,7 +59,7 @@ head_ranged log Play seats sound = tt
 head_ranged log (Serve links ends missed) seats sound = record {
   few_links = let few = sound.few_links in omega (arith, few);
   links_are = seats;
-  few_ends = let count : length ends ≡ length (seated_agents links) = sym (length-map ends (λ (end : ℕ × Cause). end.0)) ∙ ap length sound.each_end in let few = few_seated links in omega (arith, count, few);
+  few_ends = let count : length ends ≡ length (logged_seats links) = sym (length-map ends (λ (end : ℕ × Cause). end.0)) ∙ ap length sound.each_end in let few = few_seated links in omega (arith, count, few);
   ends_are = All-from_recursion IsLoggedEnd ends (ends_low ends (subst (AllByRecursion (λ (agent : ℕ). agent ≤ 7)) (sym sound.each_end) (seated_low links)));
   few_missed = let few = sound.few_missed in omega (arith, few);
 }
@@ -78,10 +78,10 @@ histories_from game n (a ∷ auctions) is all =
 dollars_small : (dollars : ℤ) → IsWithin 600000000000000 dollars → unsigned_abs dollars < 10 ^ 18
 dollars_small dollars is = omega (arith, ints, is.0, is.1)
 
-entry_ranged : (e : CashEntry) (totals : ℕ → ℤ) → IsLoggableCash e → IsFit e.caller e.call → e.reply ≡ reply_by totals e.call → (is_post e.call ≡ true → IsLoggedCashEntry e) → IsLoggedCashEntry e
+entry_ranged : (e : CashEntry) (totals : ℕ → ℤ) → IsLoggableCash e → IsFitCash e.caller e.call → e.reply ≡ reply_by totals e.call → (is_post e.call ≡ true → IsLoggedCashEntry e) → IsLoggedCashEntry e
 entry_ranged e totals is fit replied posted = by_call e.caller e.call e.reply is fit replied posted
   where
-    by_call : (caller : ℕ) (call : CashCall) (reply : CashReply) → IsLoggableCash (record { caller = caller; call = call; reply = reply }) → IsFit caller call → reply ≡ reply_by totals call → (is_post call ≡ true → IsLoggedCash caller call reply) →
+    by_call : (caller : ℕ) (call : CashCall) (reply : CashReply) → IsLoggableCash (record { caller = caller; call = call; reply = reply }) → IsFitCash caller call → reply ≡ reply_by totals call → (is_post call ≡ true → IsLoggedCash caller call reply) →
         IsLoggedCash caller call reply
     by_call caller (Post good position nets) reply is' fit' replied' posted' = posted' refl
     by_call caller (Read agent) Done is' fit' replied' posted' = absurd cc
@@ -90,10 +90,10 @@ entry_ranged e totals is fit replied posted = by_call e.caller e.call e.reply is
 
 -- ---- the log
 
-pub ranged_log : (game : GameFile) (head : Head) (closed : ClosedGame) (sheet : List Scored) → IsShowable game head closed → IsLawfulGame game closed → IsSheetOf game closed sheet → IsSoundHead (told_of head closed sheet) head →
-    IsRanged (told_of head closed sheet)
+pub ranged_log : (game : GameFile) (head : Head) (closed : ClosedGame) (sheet : List Scored) → IsShowable game head closed → IsLawfulGame game closed → IsSheetOf game closed sheet → IsSoundHead (log_of_game head closed sheet) head →
+    IsRanged (log_of_game head closed sheet)
 ranged_log game head closed sheet shown lawful scores sound = record {
-  head = head_ranged (told_of head closed sheet) head shown.seats sound;
+  head = head_ranged (log_of_game head closed sheet) head shown.seats sound;
   goods = goods;
   histories = histories;
   few_cash = shown.few_cash;

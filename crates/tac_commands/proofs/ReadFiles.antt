@@ -2,12 +2,12 @@
 use Rattle.std.proofs.Common.{◌≡◌, ℕ, List, [], ◌∷◌, refl, ap, ◌∙◌, subst, inl, inr}
 use Rattle.tac_io.specs.Counts.{Rose}
 use Rattle.tac_io.specs.States.{FilesState, SinkState}
-use Rattle.tac_io.specs.Told.{and_then_told}
+use Rattle.tac_io.specs.Known.{known_then}
 use Rattle.tac_commands.specs.declared.ends.End.{End}
 use Rattle.tac_commands.specs.declared.file_kinds.FileKind.{FileKind}
 use Rattle.tac_commands.specs.declared.refusals.Refusal.{Refusal}
 use Rattle.tac_commands.specs.FileKinds.{Value}
-use Rattle.tac_commands.specs.Files.{Content, IsRead, IsNotRead, HasFault}
+use Rattle.tac_commands.specs.Files.{Content, IsFileRead, IsNotRead, HasFault}
 use Rattle.tac_commands.specs.Outcomes.{Outcome}
 use Rattle.tac_commands.specs.Runs.{Runs, with_name}
 use Rattle.tac_commands.specs.Steps.{NamedFile, Steps, Reads, Audits, EndsWith}
@@ -27,21 +27,21 @@ module _ (last : FilesState) (outcome : Outcome) where
       Runs steps files' last outcome → Runs steps files last outcome
   runs_from (Reads file next) files files' same selected quiet (inl read) = inl (
     read.0,
-    subst (λ (c : Content). IsRead c file.kind file.name read.0) same read.1,
-    runs_from (next read.0) (with_name files file.name) (with_name files' file.name) same (ap (λ names. and_then_told names (file.name ∷ [])) selected) quiet read.2,
+    subst (λ (c : Content). IsFileRead c file.kind file.name read.0) same read.1,
+    runs_from (next read.0) (with_name files file.name) (with_name files' file.name) same (ap (λ names. known_then names (file.name ∷ [])) selected) quiet read.2,
   )
   runs_from (Reads file next) files files' same selected quiet (inr stop) = inr (
     stop.0,
     stop.1,
     still_not_read files files' file.kind file.name stop.0 same quiet stop.2,
-    stop.3 ∙ ap (λ names. and_then_told names (file.name ∷ [])) selected,
+    stop.3 ∙ ap (λ names. known_then names (file.name ∷ [])) selected,
   )
   runs_from (Audits game log IsDue next) files files' same selected quiet (inl run) = inl (run.0, runs_from next files files' same selected quiet run.1)
   runs_from (Audits game log IsDue next) files files' same selected quiet (inr stop) = inr (stop.0, (stop.1.0 ∙ selected, stop.1.1 ∙ quiet))
   runs_from (EndsWith allows) files files' same selected quiet run = (run.0, (run.1.0 ∙ selected, run.1.1 ∙ quiet))
 
-module _ (files between : FilesState) (file : NamedFile) (next : Value file.kind → Steps) (value : Value file.kind) (is : IsRead files.content file.kind file.name value)
-    (same : between.content ≡ files.content) (selected : between.names ≡ and_then_told files.names (file.name ∷ [])) (quiet : between.faults ≡ files.faults) where
+module _ (files between : FilesState) (file : NamedFile) (next : Value file.kind → Steps) (value : Value file.kind) (is : IsFileRead files.content file.kind file.name value)
+    (same : between.content ≡ files.content) (selected : between.names ≡ known_then files.names (file.name ∷ [])) (quiet : between.faults ≡ files.faults) where
   -- a run that goes on from here is one from before the file was read
   pub runs_on : (files' : FilesState) (outcome : Outcome) → Runs (next value) between files' outcome → Runs (Reads file next) files files' outcome
   runs_on files' outcome run = inl (value, is, runs_from files' outcome (next value) (with_name files file.name) between same selected quiet run)

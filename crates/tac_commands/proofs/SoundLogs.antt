@@ -22,15 +22,15 @@ use Rattle.log_reader.specs.SoundLog.{auctions_in, IsSoundHead, IsSound}
 use Rattle.game_log.specs.ShownGames.{IsShowable}
 use Rattle.game_log.proofs.ShortLogs.{short_log}
 use Rattle.game_log.specs.ScoredGames.{IsSheetOf}
-use Rattle.script_run.specs.declared.game_lines.GameLine.{GameLine}
+use Rattle.script_run.specs.declared.game.lines.GameLine.{GameLine}
 use Rattle.script_run.specs.GameOuts.{closed_game, play_out}
 use Rattle.script_run.specs.LawfulGames.{IsLawfulGame}
 use Rattle.script_run.specs.OneThreadRun.{replies}
-use Rattle.tac_commands.specs.SoundTexts.{told_of, EndsInSoundLog}
+use Rattle.tac_commands.specs.SoundTexts.{log_of_game, EndsInSoundLog}
 use Rattle.tac_commands.proofs.RangedLogs.{ranged_log}
 
 -- its text is that of the two parts
-pub text_is : (head : Head) (closed : ClosedGame) (sheet : List Scored) → play_part head closed ++ sheet_part sheet ≡ logged_text (told_of head closed sheet)
+pub text_is : (head : Head) (closed : ClosedGame) (sheet : List Scored) → play_part head closed ++ sheet_part sheet ≡ logged_text (log_of_game head closed sheet)
 text_is head closed sheet = append_assoc (first_lines head) (histories_text (histories_of closed) closed.cash) (sheet_part sheet)
 
 -- the calls of a caller's part are those of its entries
@@ -55,14 +55,14 @@ auctions_from game n (a ∷ auctions) is =
     λ i. record { setup = sym first i; history = a.history } ∷ auctions_from game (n + 1) auctions others i
 
 auctions_again : (game : GameFile) (head : Head) (closed : ClosedGame) (sheet : List Scored) → map (λ (a : AuctionHistory). a.setup) closed.auctions ≡ map (λ (good : ℕ). setup_of good game) all_goods →
-    auctions_in game (told_of head closed sheet) ≡ closed.auctions
+    auctions_in game (log_of_game head closed sheet) ≡ closed.auctions
 auctions_again game head closed sheet is =
     let count : length closed.auctions ≡ 28 = sym (length-map closed.auctions (λ (a : AuctionHistory). a.setup)) ∙ ap length is in
     auctions_from game 0 closed.auctions (is ∙ ap (λ (n : ℕ). map (λ (good : ℕ). setup_of good game) (range_with_len 0 n)) (sym count))
 
 -- with a sheet of the game, and a head that goes with it
-pub sound_log : (game : GameFile) (head : Head) (closed : ClosedGame) (sheet : List Scored) → IsLawfulGame game closed → IsSheetOf game closed sheet → IsSoundHead (told_of head closed sheet) head →
-    IsSound game (told_of head closed sheet)
+pub sound_log : (game : GameFile) (head : Head) (closed : ClosedGame) (sheet : List Scored) → IsLawfulGame game closed → IsSheetOf game closed sheet → IsSoundHead (log_of_game head closed sheet) head →
+    IsSound game (log_of_game head closed sheet)
 sound_log game head closed sheet lawful scores sound = record {
   legal = lawful.legal;
   scheduled = λ good low. sym (calls_from clock 0 (get_or (histories_of closed) good [])) ∙ lawful.scheduled good low;
@@ -73,15 +73,15 @@ sound_log game head closed sheet lawful scores sound = record {
 }
 
 -- a text that ends in the log of a lawful game, with a sheet of it
-pub ends_soundly : (game : GameFile) (head : Head) (closed : ClosedGame) (sheet : List Scored) (before text : List ℕ) → IsLawfulGame game closed → IsSheetOf game closed sheet → IsSoundHead (told_of head closed sheet) head →
-    IsShowable game head closed → text ≡ before ++ logged_text (told_of head closed sheet) → EndsInSoundLog game (told_of head closed sheet) before text
+pub ends_soundly : (game : GameFile) (head : Head) (closed : ClosedGame) (sheet : List Scored) (before text : List ℕ) → IsLawfulGame game closed → IsSheetOf game closed sheet → IsSoundHead (log_of_game head closed sheet) head →
+    IsShowable game head closed → text ≡ before ++ logged_text (log_of_game head closed sheet) → EndsInSoundLog game (log_of_game head closed sheet) before text
 ends_soundly game head closed sheet before text lawful scores sound shown due =
     let ranged = ranged_log game head closed sheet shown lawful scores sound in
-    record { due = due; sound = sound_log game head closed sheet lawful scores sound; ranged = ranged; logged = short_log (told_of head closed sheet) ranged }
+    record { due = due; sound = sound_log game head closed sheet lawful scores sound; ranged = ranged; logged = short_log (log_of_game head closed sheet) ranged }
 
 -- the text of a game by the lines of a script ends in such a log
 pub played_soundly : (game : GameFile) (lines : List GameLine) (sheet : List Scored) (text : List ℕ) → IsLawfulGame game (closed_game game lines) → IsSheetOf game (closed_game game lines) sheet →
-    IsShowable game Play (closed_game game lines) → text ≡ play_out game lines sheet → EndsInSoundLog game (told_of Play (closed_game game lines) sheet) (replies game lines) text
+    IsShowable game Play (closed_game game lines) → text ≡ play_out game lines sheet → EndsInSoundLog game (log_of_game Play (closed_game game lines) sheet) (replies game lines) text
 played_soundly game lines sheet text lawful scores shown due =
     let closed : ClosedGame = closed_game game lines in
     ends_soundly game Play closed sheet (replies game lines) text lawful scores tt shown

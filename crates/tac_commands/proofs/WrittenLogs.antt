@@ -15,7 +15,7 @@ use Rattle.log_reader.specs.SoundLog.{IsSound}
 use Rattle.log_reader.proofs.LogTexts.{only_log}
 use Rattle.tac_commands.specs.declared.file_kinds.FileKind.TheVariants.{Log}
 use Rattle.tac_commands.specs.declared.refusals.Refusal.TheVariants.{Memory}
-use Rattle.tac_commands.specs.Allowed.{Writes, IsFlawText, audit_steps}
+use Rattle.tac_commands.specs.Allowed.{WritesDue, IsFlawText, audit_steps}
 use Rattle.tac_commands.specs.FileKinds.{read_as, logged_or_fault}
 use Rattle.tac_commands.specs.Outcomes.{Outcome, Done, Lapsed, Unsound, Cut, Refused}
 use Rattle.tac_commands.specs.Runs.{StopsAt, Runs}
@@ -52,7 +52,7 @@ one_log law game other_game log other before other_before text ends other_ends =
 abbrev SaysSound : Outcome → Type 0
 SaysSound outcome = (outcome ≡ Done (codes "sound\n")) ⊎ (outcome ≡ Refused Memory)
 
-written : (outcome : Outcome) → Writes (λ (text : List ℕ). text ≡ codes "sound\n") outcome → SaysSound outcome
+written : (outcome : Outcome) → WritesDue (λ (text : List ℕ). text ≡ codes "sound\n") outcome → SaysSound outcome
 written (Done text) due = inl (ap Done due)
 written (Lapsed text) due = absurd due
 written (Unsound text) due = absurd due

@@ -1,17 +1,17 @@
 -- What each command does with its files and makes of their values, and so which outcomes the words and the files allow.
 use Rattle.std.specs.Prelude.{◌≡◌, ℕ, ◌<◌, ⊤, codes, List, [], ◌∷◌, ◌++◌, length, Option, Some, None, ◌≤ℤ◌, ◌<ℤ◌, pos}
 use Rattle.tac_io.specs.States.{FilesState}
-use Rattle.game_text.specs.Games.{GameFile, spelling, upgraded}
+use Rattle.game_text.specs.Games.{GameFile, canonical_text, upgraded}
 use Rattle.game_text.specs.Accounts.{AccountFile}
 use Rattle.good_worth.specs.Worth.{IsUp, IsDown, held}
 use Rattle.good_worth.specs.Worths.{Valuation, AreWorths, up_at, down_at}
-use Rattle.good_worth.specs.WorthTexts.{spelling as worth_spelling}
+use Rattle.good_worth.specs.WorthTexts.{worth_text as worth_spelling}
 use Rattle.allocator.specs.Solutions.{IsSolvedText}
 use Rattle.draw_maker.specs.Games.{made_game}
 use Rattle.draw_maker.specs.Scripts.{made_script}
 use Rattle.score_sheet.specs.Sheets.{Scored}
-use Rattle.script_run.specs.declared.game_lines.GameLine.{GameLine as ScriptLine}
-use Rattle.script_run.specs.declared.play_count.PlayCount.{PlayCount}
+use Rattle.script_run.specs.declared.game.lines.GameLine.{GameLine as ScriptLine}
+use Rattle.script_run.specs.declared.game.play_count.PlayCount.{PlayCount}
 use Rattle.script_run.specs.HotelScripts.{hotel_out}
 use Rattle.game_log.specs.ScoredGames.{IsSheetOf}
 use Rattle.script_run.specs.GameOuts.{closed_game, first_out, play_out}
@@ -29,17 +29,17 @@ use Rattle.tac_commands.specs.Commands.{BatchCommand, Hotel, Show, Upgrade, Make
 use Rattle.tac_commands.specs.FlawTexts.{flaw_text, unsound_text}
 use Rattle.tac_commands.specs.Outcomes.{Outcome, Done, Lapsed, Unsound, Cut, Refused}
 use Rattle.tac_commands.specs.Runs.{AreUnasked, Runs}
-use Rattle.tac_commands.specs.SoundTexts.{told_of, EndsInSoundLog}
+use Rattle.tac_commands.specs.SoundTexts.{log_of_game, EndsInSoundLog}
 use Rattle.tac_commands.specs.Steps.{Steps, Reads, Audits, EndsWith, file}
 use Rattle.tac_commands.specs.Trials.{trial_text}
 
 -- the text that is due is written, or memory was refused
-abbrev pub Writes : (List ℕ → Type 0) → Outcome → Type 0
-Writes IsDue (Done text) = IsDue text
-Writes IsDue (Refused Memory) = ⊤
-Writes IsDue outcome = ⊥
+abbrev pub WritesDue : (List ℕ → Type 0) → Outcome → Type 0
+WritesDue IsDue (Done text) = IsDue text
+WritesDue IsDue (Refused Memory) = ⊤
+WritesDue IsDue outcome = ⊥
 
--- the same for a text whose first part is written alone if memory was refused for the rest
+-- the text that is due is written, or its first part alone if memory was refused for the rest, or memory was refused before
 abbrev pub WritesInParts : (List ℕ → Type 0) → (List ℕ → Type 0) → Outcome → Type 0
 WritesInParts IsDue IsFirst (Done text) = IsDue text
 WritesInParts IsDue IsFirst (Cut text) = IsFirst text
@@ -47,10 +47,10 @@ WritesInParts IsDue IsFirst (Refused Memory) = ⊤
 WritesInParts IsDue IsFirst outcome = ⊥
 
 -- the replies and the log of a game by the lines of a script, with some sheet of it; that log is sound, and in its ranges
-abbrev pub IsPlayed : GameFile → List ScriptLine → List ℕ → Type 0
-IsPlayed game lines text =
+abbrev pub IsPlayText : GameFile → List ScriptLine → List ℕ → Type 0
+IsPlayText game lines text =
     (sheet : List Scored) × IsSheetOf game (closed_game game lines) sheet × (text ≡ play_out game lines sheet)
-    × EndsInSoundLog game (told_of heads.Play (closed_game game lines) sheet) (replies game lines) text
+    × EndsInSoundLog game (log_of_game heads.Play (closed_game game lines) sheet) (replies game lines) text
 
 -- the summary of the made game by the made script, with some sheet of it
 abbrev pub IsTrial : ℕ → ℕ → List ℕ → Type 0
@@ -73,7 +73,7 @@ IsValued account text =
 
 -- a game by the lines of a script is written so, and the cash in its sheet is that of the posts
 abbrev pub PlayAllows : GameFile → List ScriptLine → Outcome → Type 0
-PlayAllows game lines outcome = WritesInParts (IsPlayed game lines) (λ text. text ≡ first_out game lines) outcome × IsCashOfPosts (closed_game game lines)
+PlayAllows game lines outcome = WritesInParts (IsPlayText game lines) (λ text. text ≡ first_out game lines) outcome × IsCashOfPosts (closed_game game lines)
 
 -- the text of the first flaw of a log
 pub record IsFlawText (game : GameFile) (log : LoggedGame) (text : List ℕ) : Type 0 where
@@ -87,12 +87,12 @@ play_steps game script = Reads (file GameScript script) (λ lines. EndsWith (Pla
 
 -- a log is judged by its game: it is sound, or its first flaw is reported
 abbrev pub audit_steps : GameFile → LoggedGame → Steps
-audit_steps game log = Audits game log (IsFlawText game log) (EndsWith (Writes (λ text. text ≡ codes "sound\n")))
+audit_steps game log = Audits game log (IsFlawText game log) (EndsWith (WritesDue (λ text. text ≡ codes "sound\n")))
 
 -- Pairs of a game and its log are read and audited in turn, after those of the games that were played before them, and then the standings of
 -- all are written. The first log that is not sound is reported by the number of pairs before it.
 abbrev pub table_steps : List (GameFile × LoggedGame) → List (List ℕ × List ℕ) → Steps
-table_steps played [] = EndsWith (Writes (IsPrinted played []))
+table_steps played [] = EndsWith (WritesDue (IsPrinted played []))
 table_steps played (pair ∷ pairs) =
     Reads (file Game pair.0) (λ game. Reads (file Log pair.1) (λ log.
     Audits game log (λ text. text ≡ unsound_text (length played)) (table_steps (played ++ (game, log) ∷ []) pairs)))
@@ -100,21 +100,21 @@ table_steps played (pair ∷ pairs) =
 -- What a command that needs no links does.
 abbrev pub batch_steps : BatchCommand → Steps
 -- the replies and trades of one hotel, run by a script
-batch_steps (Hotel script) = Reads (file HotelScript script) (λ lines. EndsWith (Writes (λ text. text ≡ hotel_out lines)))
+batch_steps (Hotel script) = Reads (file HotelScript script) (λ lines. EndsWith (WritesDue (λ text. text ≡ hotel_out lines)))
 -- the canonical text of a game
-batch_steps (Show name) = Reads (file Game name) (λ game. EndsWith (Writes (λ text. text ≡ spelling game)))
+batch_steps (Show name) = Reads (file Game name) (λ game. EndsWith (WritesDue (λ text. text ≡ canonical_text game)))
 -- the canonical text of the same game in version 2
-batch_steps (Upgrade name) = Reads (file Game name) (λ game. EndsWith (Writes (λ text. text ≡ spelling (upgraded game))))
+batch_steps (Upgrade name) = Reads (file Game name) (λ game. EndsWith (WritesDue (λ text. text ≡ canonical_text (upgraded game))))
 -- the canonical text of the made game
-batch_steps (Make seed) = EndsWith (Writes (λ text. text ≡ spelling (made_game seed)))
+batch_steps (Make seed) = EndsWith (WritesDue (λ text. text ≡ canonical_text (made_game seed)))
 -- a best allocation of an account, with a certificate
-batch_steps (Solve name) = Reads (file Account name) (λ account. EndsWith (Writes (IsSolvedText account)))
+batch_steps (Solve name) = Reads (file Account name) (λ account. EndsWith (WritesDue (IsSolvedText account)))
 -- what one unit more and one unit less of each good of an account change
-batch_steps (Worth name) = Reads (file Account name) (λ account. EndsWith (Writes (IsValued account)))
+batch_steps (Worth name) = Reads (file Account name) (λ account. EndsWith (WritesDue (IsValued account)))
 -- a game, played by a script
 batch_steps (Play name script) = Reads (file Game name) (λ game. play_steps game script)
 -- the summary of the made game by the made script
-batch_steps (Trial seed count) = EndsWith (Writes (IsTrial seed count))
+batch_steps (Trial seed count) = EndsWith (WritesDue (IsTrial seed count))
 -- whether the log of a game is sound
 batch_steps (Audit name log_name) = Reads (file Game name) (λ game. Reads (file Log log_name) (audit_steps game))
 -- the standings of the teams of several games whose logs are sound

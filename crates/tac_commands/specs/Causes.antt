@@ -33,20 +33,20 @@ pub record WriteFaultExactly (sink sink' : SinkState) (code : ℕ) : Type 0 wher
   pub always : sink.faults < sink'.faults → code ≡ 4
 
 -- the bytes of the file of that name, if they are known
-abbrev pub told_file : Content → List ℕ → Option (List ℕ)
-told_file None name = None
-told_file (Some files) name = files name
+abbrev pub known_file : Content → List ℕ → Option (List ℕ)
+known_file None name = None
+known_file (Some files) name = files name
 
 -- the file is there and good, and holds this value
 pub record Holds (content : Content) (file : NamedFile) (value : Value file.kind) : Type 0 where
   pub bytes : List ℕ
-  pub told : told_file content file.name ≡ Some bytes
+  pub known : known_file content file.name ≡ Some bytes
   pub good : read_as file.kind bytes ≡ Ok value
 
 -- the file is there and refused: it is too long, or has a bad line
 pub record HasBad (content : Content) (file : NamedFile) : Type 0 where
   pub bytes : List ℕ
-  pub told : told_file content file.name ≡ Some bytes
+  pub known : known_file content file.name ≡ Some bytes
   pub fault : GameFault
   pub bad : read_as file.kind bytes ≡ Err fault
 
@@ -91,9 +91,9 @@ pub record TextRefusedExactly (command : Option Command) (files files' : FilesSt
   pub always : HasRefusedText files.content command → IsQuiet files.faults files'.faults → (code ≡ 8) ⊎ (code ≡ 4) ⊎ (code ≡ 7)
 
 -- the words are a command, and the files that it reads, if it reads some, are there and good
-abbrev pub IsReady : Content → Option Command → Type 0
-IsReady content None = ⊥
-IsReady content (Some command) = AreGood content (steps_of command)
+abbrev pub HasGoodFiles : Content → Option Command → Type 0
+HasGoodFiles content None = ⊥
+HasGoodFiles content (Some command) = AreGood content (steps_of command)
 
 -- a log that the command audits is not sound
 abbrev pub HasUnsoundLog : Content → Option Command → Type 0
@@ -120,7 +120,7 @@ pub record IsFaultless {L : Type 0} (before after : Outside L) : Type 0 where
 
 -- the same, if the words are a command, its files are good and no call of the outside failed
 pub record IsComplete {L : Type 0} (command : Option Command) (before after : Outside L) (code : ℕ) : Type 0 where
-  pub good : IsReady before.files.content command → IsFaultless before after → IsGoodEnd before.files.content command code
+  pub good : HasGoodFiles before.files.content command → IsFaultless before after → IsGoodEnd before.files.content command code
 
 -- 5 comes exactly if the count of faults of the links rose
 pub record LinkFaultExactly {L : Type 0} (links links' : LinksState L) (code : ℕ) : Type 0 where

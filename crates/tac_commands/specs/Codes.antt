@@ -3,14 +3,14 @@ use Rattle.std.specs.Prelude.{ℕ}
 use Rattle.tac_commands.specs.declared.code.Code.{Code}
 use Rattle.tac_commands.specs.declared.code.Code.TheVariants.{Success, Usage, GameRefused, ReadFault, WriteFault, LinkFault, ClockFault, Memory, TextRefused, Unsound}
 
-abbrev pub number_of : Code → ℕ
-number_of Success = 0
-number_of Usage = 1
-number_of GameRefused = 2
-number_of ReadFault = 3
-number_of WriteFault = 4
-number_of LinkFault = 5
-number_of ClockFault = 6
-number_of Memory = 7
-number_of TextRefused = 8
-number_of Unsound = 9
+abbrev pub code_number : Code → ℕ
+code_number Success = 0
+code_number Usage = 1
+code_number GameRefused = 2
+code_number ReadFault = 3
+code_number WriteFault = 4
+code_number LinkFault = 5
+code_number ClockFault = 6
+code_number Memory = 7
+code_number TextRefused = 8
+code_number Unsound = 9

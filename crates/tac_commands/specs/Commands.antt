@@ -59,13 +59,13 @@ batch_by_count word (first ∷ second ∷ []) = batch_with_two word first second
 batch_by_count word words = None
 
 -- words in pairs; a single one at the end is dropped
-abbrev pub paired : List (List ℕ) → List (List ℕ × List ℕ)
-paired (game ∷ log ∷ words) = (game, log) ∷ paired words
-paired words = []
+abbrev pub in_pairs : List (List ℕ) → List (List ℕ × List ℕ)
+in_pairs (game ∷ log ∷ words) = (game, log) ∷ in_pairs words
+in_pairs words = []
 
 -- a table has a game and its log of each of 1 to 64 games
 abbrev pub table_of : List (List ℕ) → Option BatchCommand
-table_of words = if nat_lt 0 (length words) && nat_le (length words) FILE_NAMES && (length words % 2 == 0) then Some (Table (paired words)) else None
+table_of words = if nat_lt 0 (length words) && nat_le (length words) FILE_NAMES && (length words % 2 == 0) then Some (Table (in_pairs words)) else None
 
 abbrev pub batch_of : List (List ℕ) → Option BatchCommand
 batch_of [] = None
@@ -98,4 +98,4 @@ seen_batch (batch.Worth account) = Worth account.now
 seen_batch (batch.Play game script) = Play game.now script.now
 seen_batch (batch.Trial seed count) = Trial seed count
 seen_batch (batch.Audit game log) = Audit game.now log.now
-seen_batch (batch.Table names) = Table (paired (map (λ name. string_bytes name) names.now))
+seen_batch (batch.Table names) = Table (in_pairs (map (λ name. string_bytes name) names.now))

@@ -1,7 +1,7 @@
 -- What commands write and how they end, before and after they are finished.
 use Rattle.std.specs.Prelude.{◌≡◌, ℕ, ◌⊎◌, List, Result, Ok, Err}
 use Rattle.tac_io.specs.States.{FilesState, SinkState}
-use Rattle.game_log.specs.Taken.{TookWhole, TookPart}
+use Rattle.tac_io.specs.Taken.{TookWhole, TookPart}
 use Rattle.script_run.specs.declared.fault.ScriptFault.{ScriptFault}
 use Rattle.script_run.specs.declared.fault.ScriptFault.TheVariants as faults
 use Rattle.tac_commands.specs.declared.refusals.Refusal.TheVariants.{Memory, TextLine, TextTooLong}
@@ -12,7 +12,7 @@ use Rattle.tac_commands.specs.Commands.{BatchCommand}
 use Rattle.tac_commands.specs.Outcomes.{Outcome, Done, Unsound, Cut, Refused}
 use Rattle.tac_commands.specs.Runs.{Runs}
 use Rattle.tac_commands.specs.Steps.{Steps}
-use Rattle.tac_commands.specs.Telling.{Tells}
+use Rattle.tac_commands.specs.Reporting.{Reports}
 
 -- a command that allows these outcomes ended so, and left the sink so: its text was written, or one that reports an unsound log, or the
 -- first bytes of either, or nothing
@@ -38,11 +38,11 @@ EndsOrIsCut allows sink sink' end = Ends allows sink sink' end ⊎ ((text : List
 abbrev pub EndsSteps : Steps → FilesState → FilesState → SinkState → SinkState → End → Type 0
 EndsSteps steps files files' sink sink' end = EndsOrIsCut (Runs steps files files') sink sink' end
 
--- the same for a command that needs no links
+-- a command that needs no links ended so
 abbrev pub EndsBatch : BatchCommand → FilesState → FilesState → SinkState → SinkState → End → Type 0
 EndsBatch command files files' sink sink' end = EndsSteps (batch_steps command) files files' sink sink' end
 
--- the same for one that selects no more files, whatever the files are
+-- steps that select no more files ended so, whatever the files are
 abbrev pub EndsUnread : Steps → SinkState → SinkState → End → Type 0
 EndsUnread steps sink sink' end = (files : FilesState) → EndsSteps steps files files sink sink' end
 
@@ -67,4 +67,4 @@ abbrev pub Finishes : End → SinkState → SinkState → ℕ → Type 0
 Finishes ends.Done sink sink' code = (code ≡ 0) × (sink' ≡ sink)
 Finishes ends.Unsound sink sink' code = (code ≡ 9) × (sink' ≡ sink)
 Finishes ends.WriteFault sink sink' code = (code ≡ 4) × (sink' ≡ sink)
-Finishes (ends.Refused refusal) sink sink' code = Tells (Refused refusal) sink sink' code
+Finishes (ends.Refused refusal) sink sink' code = Reports (Refused refusal) sink sink' code

@@ -9,8 +9,8 @@ use Rattle.log_text.specs.LoggedGames.{LoggedGame}
 use Rattle.log_reader.specs.declared.fault.LogFault.{LogFault}
 use Rattle.log_reader.specs.declared.fault.LogFault.TheVariants as logs
 use Rattle.log_reader.specs.Logs.{log_of}
-use Rattle.script_run.specs.declared.hotel_lines.HotelLine.{HotelLine}
-use Rattle.script_run.specs.declared.game_lines.GameLine.{GameLine as ScriptLine}
+use Rattle.script_run.specs.declared.hotel.lines.HotelLine.{HotelLine}
+use Rattle.script_run.specs.declared.game.lines.GameLine.{GameLine as ScriptLine}
 use Rattle.script_run.specs.ScriptLines.{BadLine}
 use Rattle.script_run.specs.HotelScripts.{script_of}
 use Rattle.script_run.specs.GameScripts.{game_script}
@@ -42,14 +42,14 @@ abbrev pub script_in : {A : Type 0} → List ℕ → Result A BadLine → Result
 script_in bytes read = if nat_lt TEXT_BYTES (length bytes) then Err TooLong else lines_or_fault read
 
 -- a log has one reason for a bad line; reading it by its definition takes no memory
-abbrev pub fault_of : LogFault → GameFault
-fault_of (logs.Line line) = Line line 1
-fault_of logs.TooLong = TooLong
-fault_of logs.Memory = TooLong
+abbrev pub log_as_game_fault : LogFault → GameFault
+log_as_game_fault (logs.Line line) = Line line 1
+log_as_game_fault logs.TooLong = TooLong
+log_as_game_fault logs.Memory = TooLong
 
 abbrev pub logged_or_fault : Result LoggedGame LogFault → Result LoggedGame GameFault
 logged_or_fault (Ok log) = Ok log
-logged_or_fault (Err fault) = Err (fault_of fault)
+logged_or_fault (Err fault) = Err (log_as_game_fault fault)
 
 -- what the bytes of such a file hold; or that they are too many, or the first bad line with the first reason
 abbrev pub read_as : (kind : FileKind) → List ℕ → Result (Value kind) GameFault

@@ -14,8 +14,8 @@ abbrev pub Content : Type 0
 Content = Option (List ℕ → Option (List ℕ))
 
 -- the file of that name is of the kind, and holds the value
-abbrev pub IsRead : Content → (kind : FileKind) → List ℕ → Value kind → Type 0
-IsRead content kind name value = (bytes : List ℕ) × IsFile content name bytes × (read_as kind bytes ≡ Ok value)
+abbrev pub IsFileRead : Content → (kind : FileKind) → List ℕ → Value kind → Type 0
+IsFileRead content kind name value = (bytes : List ℕ) × IsFile content name bytes × (read_as kind bytes ≡ Ok value)
 
 -- the file of that name has the fault
 abbrev pub HasFault : Content → FileKind → List ℕ → GameFault → Type 0

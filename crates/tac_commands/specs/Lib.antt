@@ -15,7 +15,7 @@ pub mod Trials
 pub mod SoundTexts
 pub mod Allowed
 pub mod TableRuns
-pub mod Telling
+pub mod Reporting
 pub mod Ends
 pub mod Causes
 pub mod Selected

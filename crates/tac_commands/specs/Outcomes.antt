@@ -4,7 +4,7 @@ use Rattle.tac_commands.specs.declared.refusals.Refusal.{Refusal}
 use Rattle.tac_commands.specs.declared.refusals.Refusal.TheVariants.{Usage, GameLine, GameTooLong, ReadFault, LinkFault, Memory, TextLine, TextTooLong}
 use Rattle.tac_commands.specs.NumberedLines.{numbered}
 
--- a command's text; the same for a game in which ticks lapsed; a text that reports an unsound log; a first part of a text if memory
+-- a command's text; that of a game in which ticks lapsed; a text that reports an unsound log; a first part of a text if memory
 -- was refused for the rest; or what is written in its place
 pub data Outcome : Type 0 where
   Done : (text : List ℕ) → Outcome
@@ -25,15 +25,15 @@ refusal_end (TextLine line reason) = (8, numbered (codes "text") line reason)
 refusal_end TextTooLong = (8, codes "text too long\n")
 
 -- the code that the process ends with, and the text that is due on the sink
-abbrev pub end_of : Outcome → ℕ × List ℕ
-end_of (Done text) = (0, text)
-end_of (Lapsed text) = (6, text)
-end_of (Unsound text) = (9, text)
-end_of (Cut text) = (7, text ++ (refusal_end Memory).1)
-end_of (Refused refusal) = refusal_end refusal
+abbrev pub exit_of : Outcome → ℕ × List ℕ
+exit_of (Done text) = (0, text)
+exit_of (Lapsed text) = (6, text)
+exit_of (Unsound text) = (9, text)
+exit_of (Cut text) = (7, text ++ (refusal_end Memory).1)
+exit_of (Refused refusal) = refusal_end refusal
 
 abbrev pub code_of : Outcome → ℕ
-code_of outcome = (end_of outcome).0
+code_of outcome = (exit_of outcome).0
 
-abbrev pub text_of : Outcome → List ℕ
-text_of outcome = (end_of outcome).1
+abbrev pub exit_text : Outcome → List ℕ
+exit_text outcome = (exit_of outcome).1

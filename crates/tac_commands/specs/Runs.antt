@@ -3,20 +3,20 @@
 -- its last step ends with an outcome that the values of the files allow.
 use Rattle.std.specs.Prelude.{◌≡◌, ℕ, ◌⊎◌, ⊤, List, [], ◌∷◌}
 use Rattle.tac_io.specs.States.{FilesState}
-use Rattle.tac_io.specs.Told.{and_then_told}
+use Rattle.tac_io.specs.Known.{known_then}
 use Rattle.game_text.specs.Games.{GameFile}
 use Rattle.log_text.specs.LoggedGames.{LoggedGame}
 use Rattle.log_reader.specs.SoundLog.{IsSound}
 use Rattle.tac_commands.specs.declared.refusals.Refusal.{Refusal}
 use Rattle.tac_commands.specs.declared.refusals.Refusal.TheVariants.{Memory}
 use Rattle.tac_commands.specs.FileKinds.{Value}
-use Rattle.tac_commands.specs.Files.{IsRead, IsNotRead}
+use Rattle.tac_commands.specs.Files.{IsFileRead, IsNotRead}
 use Rattle.tac_commands.specs.Outcomes.{Outcome, Unsound, Refused}
 use Rattle.tac_commands.specs.Steps.{Steps, Reads, Audits, EndsWith}
 
 -- The files once one more name was selected. A run says nothing of which file is selected, and of what is left of it.
 abbrev pub with_name : FilesState → List ℕ → FilesState
-with_name files name = record files { names = and_then_told files.names (name ∷ []) }
+with_name files name = record files { names = known_then files.names (name ∷ []) }
 
 -- no more names were selected, and no fault was counted
 abbrev pub AreUnasked : FilesState → FilesState → Type 0
@@ -30,8 +30,8 @@ StopsAt game log IsDue outcome = ⊥
 
 abbrev pub Runs : Steps → FilesState → FilesState → Outcome → Type 0
 Runs (Reads file next) files files' outcome =
-    ((value : Value file.kind) × IsRead files.content file.kind file.name value × Runs (next value) (with_name files file.name) files' outcome)
-    ⊎ ((refusal : Refusal) × (outcome ≡ Refused refusal) × IsNotRead files files' file.kind file.name refusal × (files'.names ≡ and_then_told files.names (file.name ∷ [])))
+    ((value : Value file.kind) × IsFileRead files.content file.kind file.name value × Runs (next value) (with_name files file.name) files' outcome)
+    ⊎ ((refusal : Refusal) × (outcome ≡ Refused refusal) × IsNotRead files files' file.kind file.name refusal × (files'.names ≡ known_then files.names (file.name ∷ [])))
 Runs (Audits game log IsDue next) files files' outcome =
     (IsSound game log × Runs next files files' outcome)
     ⊎ (StopsAt game log IsDue outcome × AreUnasked files files')

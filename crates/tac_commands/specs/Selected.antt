@@ -1,13 +1,13 @@
 -- Which files a command selects, by its code.
 use Rattle.std.specs.Prelude.{◌≡◌, ◌≢◌, ℕ, ◌⊎◌, [], ◌∷◌, Option, Some, None}
 use Rattle.tac_io.specs.States.{FilesState}
-use Rattle.tac_io.specs.Told.{and_then_told}
+use Rattle.tac_io.specs.Known.{known_then}
 use Rattle.log_reader.specs.SoundLog.{IsSound}
 use Rattle.tac_commands.specs.declared.file_kinds.FileKind.{FileKind}
 use Rattle.tac_commands.specs.Allowed.{steps_of}
 use Rattle.tac_commands.specs.Commands.{Command}
 use Rattle.tac_commands.specs.FileKinds.{Value, refused_code}
-use Rattle.tac_commands.specs.Files.{IsRead}
+use Rattle.tac_commands.specs.Files.{IsFileRead}
 use Rattle.tac_commands.specs.Runs.{with_name}
 use Rattle.tac_commands.specs.Steps.{Steps, Reads, Audits, EndsWith}
 
@@ -24,14 +24,14 @@ EndsAtAudit code = (code ≡ 4) ⊎ (code ≡ 7) ⊎ (code ≡ 9)
 -- a file or of an audit.
 abbrev pub SelectsFiles : Steps → FilesState → FilesState → ℕ → Type 0
 SelectsFiles (Reads file next) files files' code =
-    ((files'.names ≡ and_then_told files.names (file.name ∷ [])) × EndsAt file.kind code)
-    ⊎ ((value : Value file.kind) × IsRead files.content file.kind file.name value × SelectsFiles (next value) (with_name files file.name) files' code)
+    ((files'.names ≡ known_then files.names (file.name ∷ [])) × EndsAt file.kind code)
+    ⊎ ((value : Value file.kind) × IsFileRead files.content file.kind file.name value × SelectsFiles (next value) (with_name files file.name) files' code)
 SelectsFiles (Audits game log IsDue next) files files' code =
     ((files'.names ≡ files.names) × EndsAtAudit code)
     ⊎ (IsSound game log × SelectsFiles next files files' code)
 SelectsFiles (EndsWith allows) files files' code = (files'.names ≡ files.names) × (code ≢ 2) × (code ≢ 3) × (code ≢ 8) × (code ≢ 9)
 
--- the same for the files of the command; without a command none is selected
+-- a command selects the files of its steps so; without a command none is selected
 abbrev pub Selects : Option Command → FilesState → FilesState → ℕ → Type 0
 Selects None files files' code = files'.names ≡ files.names
 Selects (Some command) files files' code = SelectsFiles (steps_of command) files files' code

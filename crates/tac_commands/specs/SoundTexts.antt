@@ -11,8 +11,8 @@ use Rattle.log_reader.specs.SoundLog.{IsSound}
 use Rattle.game_log.specs.LogRanges.{IsRanged}
 
 -- what the log of a game holds: how it was played, its histories, its cash history, and a sheet of it
-abbrev pub told_of : Head → ClosedGame → List Scored → LoggedGame
-told_of head closed sheet = record { head = head; histories = histories_of closed; cash = closed.cash; scores = sheet }
+abbrev pub log_of_game : Head → ClosedGame → List Scored → LoggedGame
+log_of_game head closed sheet = record { head = head; histories = histories_of closed; cash = closed.cash; scores = sheet }
 
 -- What follows in the text is this log, and nothing else. It is sound by the game, and in the ranges of logs but for the lines of its
 -- certificates; in all of them if it has no more bytes than a log that is read.

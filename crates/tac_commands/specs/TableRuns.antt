@@ -4,12 +4,12 @@ use Rattle.tac_io.specs.States.{FilesState}
 use Rattle.game_text.specs.Games.{GameFile}
 use Rattle.log_text.specs.LoggedGames.{LoggedGame}
 use Rattle.log_reader.specs.SoundLog.{IsSound}
-use Rattle.tourney.specs.Tallies.{Kept, StandsFor}
+use Rattle.tourney.specs.Tallies.{Kept, AreStandingsOf}
 use Rattle.tac_commands.specs.declared.file_kinds.FileKind.TheVariants.{Game, Log}
 use Rattle.tac_commands.specs.declared.table_command.TableFault.{TableFault}
 use Rattle.tac_commands.specs.declared.table_command.TableFault.TheVariants as faults
 use Rattle.tac_commands.specs.Allowed.{table_steps}
-use Rattle.tac_commands.specs.Files.{Content, IsRead}
+use Rattle.tac_commands.specs.Files.{Content, IsFileRead}
 use Rattle.tac_commands.specs.FlawTexts.{unsound_text}
 use Rattle.tac_commands.specs.Outcomes.{Outcome, Unsound, Refused}
 use Rattle.tac_commands.specs.Runs.{Runs}
@@ -21,14 +21,14 @@ outcome_of (faults.Unsound pair) = Unsound (unsound_text pair)
 
 -- the standings have one more game
 abbrev pub HasAdded : Kept → Kept → GameFile → LoggedGame → Type 0
-HasAdded standings after game log = (played : List (GameFile × LoggedGame)) → StandsFor standings played → StandsFor after (played ++ (game, log) ∷ [])
+HasAdded standings after game log = (played : List (GameFile × LoggedGame)) → AreStandingsOf standings played → AreStandingsOf after (played ++ (game, log) ∷ [])
 
 -- a pair was read, its log is sound, and the standings have its game
 pub record IsAdded (content : Content) (game_name log_name : List ℕ) (standings after : Kept) : Type 0 where
   pub game : GameFile
   pub log : LoggedGame
-  pub is_game : IsRead content Game game_name game
-  pub is_log : IsRead content Log log_name log
+  pub is_game : IsFileRead content Game game_name game
+  pub is_log : IsFileRead content Log log_name log
   pub sound : IsSound game log
   pub added : HasAdded standings after game log
 
@@ -40,8 +40,8 @@ EndsAtPair files files' pair game_name log_name fault =
 
 -- The standings are those of this many games of the first pairs, and a table continues from here: the outcome of the remaining pairs is that
 -- of all.
-pub record GoesOn (all left : List (List ℕ × List ℕ)) (count : ℕ) (files files' : FilesState) (standings : Kept) : Type 0 where
+pub record TableGoesOn (all left : List (List ℕ × List ℕ)) (count : ℕ) (files files' : FilesState) (standings : Kept) : Type 0 where
   pub played : List (GameFile × LoggedGame)
   pub count_is : length played ≡ count
-  pub stands : StandsFor standings played
+  pub stands : AreStandingsOf standings played
   pub goes_on : (last : FilesState) (outcome : Outcome) → Runs (table_steps played left) files' last outcome → Runs (table_steps [] all) files last outcome

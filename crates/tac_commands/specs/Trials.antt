@@ -4,7 +4,7 @@ use Rattle.text_forms.specs.Lines.{text_of}
 use Rattle.text_forms.specs.Steps.{lines_of_parts, one_line}
 use Rattle.score_sheet.specs.Sheets.{Scored}
 use Rattle.game_log.specs.SheetText.{score_line}
-use Rattle.script_run.specs.declared.play_count.PlayCount.{PlayCount}
+use Rattle.script_run.specs.declared.game.play_count.PlayCount.{PlayCount}
 use Rattle.tac_commands.specs.NumberedLines.{counted}
 
 -- trial SEED COUNT

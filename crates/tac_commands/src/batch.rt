@@ -1,10 +1,10 @@
 // The commands that need no links.
 ghost use Rattle.std.specs.Prelude.{◌≡◌, ◌<◌, ◌≤◌, [], length, IfSome};
 ghost use Rattle.tac_base.specs.declared.limits.TheConstants.{FILE_NAMES, NAME_BYTES};
-ghost use Rattle.game_text.specs.Games.{spelling, upgraded};
+ghost use Rattle.game_text.specs.Games.{canonical_text, upgraded};
 ghost use Rattle.draw_maker.specs.Games.{made_game};
 ghost use Rattle.allocator.specs.Solutions.{IsSolvedText};
-ghost use Rattle.tac_commands.specs.Allowed.{Writes};
+ghost use Rattle.tac_commands.specs.Allowed.{WritesDue};
 ghost use Rattle.tac_commands.specs.Commands as commands;
 ghost use Rattle.tac_commands.specs.Commands.{seen_batch};
 ghost use Rattle.tac_commands.specs.Ends.{Ends, EndsBatch};
@@ -28,7 +28,7 @@ use tac_io::{Files, Sink, write_all};
 
 /// Writes the canonical text of a game.
 fn write_game<K: Sink>(alloc: Global, game: &Game, out: &mut K) -> End
-    ensures { Ends (Writes (λ text. text ≡ spelling game.now)) (K.state out.old) (K.state out.new) result }
+    ensures { Ends (WritesDue (λ text. text ≡ canonical_text game.now)) (K.state out.old) (K.state out.new) result }
 {
     let Ok(text) = print_game(alloc, game) else {
         return End::Refused(Refusal::Memory);
@@ -41,21 +41,21 @@ fn write_game<K: Sink>(alloc: Global, game: &Game, out: &mut K) -> End
 
 /// Writes the canonical text of the same game in version 2.
 fn write_upgraded<K: Sink>(alloc: Global, game: Game, out: &mut K) -> End
-    ensures { Ends (Writes (λ text. text ≡ spelling (upgraded game))) (K.state out.old) (K.state out.new) result }
+    ensures { Ends (WritesDue (λ text. text ≡ canonical_text (upgraded game))) (K.state out.old) (K.state out.new) result }
 {
     write_game(alloc, &game.upgraded(), out)
 }
 
 /// Writes the canonical text of the game made from a seed.
 fn make<K: Sink>(alloc: Global, seed: u64, out: &mut K) -> End
-    ensures { Ends (Writes (λ text. text ≡ spelling (made_game seed))) (K.state out.old) (K.state out.new) result }
+    ensures { Ends (WritesDue (λ text. text ≡ canonical_text (made_game seed))) (K.state out.old) (K.state out.new) result }
 {
     write_game(alloc, &make_game(seed), out)
 }
 
 /// Writes a best allocation of an account, with its certificate.
 fn write_solved<K: Sink>(alloc: Global, account: &Account, out: &mut K) -> End
-    ensures { Ends (Writes (IsSolvedText account.now)) (K.state out.old) (K.state out.new) result }
+    ensures { Ends (WritesDue (IsSolvedText account.now)) (K.state out.old) (K.state out.new) result }
 {
     let Ok(solved) = solve(alloc, account) else {
         return End::Refused(Refusal::Memory);

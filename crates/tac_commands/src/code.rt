@@ -30,7 +30,7 @@ pub enum Code {
 impl Code {
     /// The number that the process ends with.
     pub fn number(&self) -> u8
-        ensures { result ≡ codes.number_of self.now }
+        ensures { result ≡ codes.code_number self.now }
     {
         match self {
             Code::Success => 0,

@@ -1,6 +1,6 @@
 // How a command ended, and how it is finished.
 ghost use Rattle.std.specs.Prelude.{◌≡◌};
-ghost use Rattle.tac_commands.specs.Codes.{number_of};
+ghost use Rattle.tac_commands.specs.Codes.{code_number};
 ghost use Rattle.tac_commands.specs.Ends.{Finishes};
 
 use crate::code::Code;
@@ -22,7 +22,7 @@ pub enum End {
 
 /// Prints the refusal, if a command ended with one, and returns the code. After a failed write nothing is written.
 pub fn finish<K: Sink>(out: &mut K, end: End) -> Code
-    ensures { Finishes end (K.state out.old) (K.state out.new) (number_of result) }
+    ensures { Finishes end (K.state out.old) (K.state out.new) (code_number result) }
 {
     match end {
         End::Done => Code::Success,

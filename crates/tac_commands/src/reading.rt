@@ -2,11 +2,11 @@
 ghost use Rattle.std.specs.Prelude.{◌≡◌, ◌<◌, ◌≤◌, ◌⊎◌, [], ◌∷◌, length, Ok, Err, IfOk, IfErr, IfSome, OnOk};
 ghost use Rattle.tac_base.specs.declared.limits.TheConstants.{FILE_NAMES, NAME_BYTES};
 ghost use Rattle.tac_io.specs.Reading.{IsFile};
-ghost use Rattle.tac_io.specs.Told.{and_then_told};
+ghost use Rattle.tac_io.specs.Known.{known_then};
 ghost use Rattle.game_text.specs.declared.fault.GameFault.{GameFault};
 ghost use Rattle.tac_commands.specs.declared.refusals.Refusal.TheVariants.{Memory};
 ghost use Rattle.tac_commands.specs.FileKinds.{most_bytes, read_as, refusal_of};
-ghost use Rattle.tac_commands.specs.Files.{IsNotRead, IsRead};
+ghost use Rattle.tac_commands.specs.Files.{IsNotRead, IsFileRead};
 
 use crate::file_kinds::FileKind;
 use crate::refusals::Refusal;
@@ -27,7 +27,7 @@ pub(crate) fn read_bytes<F: Files>(
     ensures within { IfOk result (λ bytes. length bytes.items ≤ most_bytes kind) }
     ensures quiet { OnOk result ((F.state files.new).faults ≡ (F.state files.old).faults) }
     ensures unread { IfErr result (IsNotRead (F.state files.old) (F.state files.new) kind name.now) }
-    ensures names { (F.state files.new).names ≡ and_then_told (F.state files.old).names (name.now ∷ []) }
+    ensures names { (F.state files.new).names ≡ known_then (F.state files.old).names (name.now ∷ []) }
     ensures content { (F.state files.new).content ≡ (F.state files.old).content }
 {
     match read_file(alloc, files, name, kind.most_bytes()) {
@@ -127,10 +127,10 @@ pub fn read_value<T: FileValue, F: Files>(
     name: &str,
 ) -> Result<T, Refusal>
     requires { IfSome (F.state files.old).names (λ names. (length names < FILE_NAMES) × (length name.now ≤ NAME_BYTES)) }
-    ensures value { IfOk result (λ value. IsRead (F.state files.old).content T.kind name.now (T.seen value)) }
+    ensures value { IfOk result (λ value. IsFileRead (F.state files.old).content T.kind name.now (T.seen value)) }
     ensures quiet { OnOk result ((F.state files.new).faults ≡ (F.state files.old).faults) }
     ensures unread { IfErr result (IsNotRead (F.state files.old) (F.state files.new) T.kind name.now) }
-    ensures names { (F.state files.new).names ≡ and_then_told (F.state files.old).names (name.now ∷ []) }
+    ensures names { (F.state files.new).names ≡ known_then (F.state files.old).names (name.now ∷ []) }
     ensures content { (F.state files.new).content ≡ (F.state files.old).content }
 {
     match read_bytes(alloc, files, name, T::kind()) {

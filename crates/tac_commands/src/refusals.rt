@@ -1,6 +1,6 @@
 // What is written in place of a command's text.
 ghost use Rattle.std.specs.Prelude.{◌≡◌, ◌≢◌};
-ghost use Rattle.tac_commands.specs.Codes.{number_of};
+ghost use Rattle.tac_commands.specs.Codes.{code_number};
 ghost use Rattle.tac_commands.specs.Outcomes as outcomes;
 
 use crate::code::Code;
@@ -31,8 +31,8 @@ pub enum Refusal {
 impl Refusal {
     /// The exit code of the refusal.
     pub(crate) fn code(&self) -> Code
-        ensures value { number_of result ≡ (outcomes.refusal_end self.now).0 }
-        ensures no_write_fault { number_of result ≢ 4 }
+        ensures value { code_number result ≡ (outcomes.refusal_end self.now).0 }
+        ensures no_write_fault { code_number result ≢ 4 }
     {
         match self {
             Refusal::Usage => Code::Usage,

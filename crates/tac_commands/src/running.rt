@@ -2,10 +2,10 @@
 ghost use Rattle.std.specs.Prelude.{◌≡◌, ◌≤◌, [], map, string_bytes, string_len, None, All, IfSome};
 ghost use Rattle.tac_base.specs.declared.limits.TheConstants.{NAME_BYTES};
 ghost use Rattle.tac_commands.specs.Allowed.{Allows};
-ghost use Rattle.tac_commands.specs.Codes.{number_of};
+ghost use Rattle.tac_commands.specs.Codes.{code_number};
 ghost use Rattle.tac_commands.specs.Commands.{batch_of, service_or_batch};
 ghost use Rattle.tac_commands.specs.Outcomes.{Outcome};
-ghost use Rattle.tac_commands.specs.Telling.{Tells};
+ghost use Rattle.tac_commands.specs.Reporting.{Reports};
 
 use crate::batch::run_batch;
 use crate::code::Code;
@@ -28,7 +28,7 @@ pub fn run_words<R: Threads + Sync, F: Files, K: Sink>(
     requires names { IfSome (F.state files.old).names (λ names. names ≡ []) }
     requires short { All (λ word. string_len word ≤ NAME_BYTES) words.now }
     ensures { (outcome : Outcome) × Allows (service_or_batch None (batch_of (map (λ word. string_bytes word) words.now))) (F.state files.old) (F.state files.new) outcome
-        × Tells outcome (K.state out.old) (K.state out.new) (number_of result) }
+        × Reports outcome (K.state out.old) (K.state out.new) (code_number result) }
 {
     match batch_asked(words) {
         Some(command) => {

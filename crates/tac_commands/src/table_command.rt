@@ -1,20 +1,20 @@
 // The command that shows the standings of the teams of several games.
 ghost use Rattle.std.specs.Prelude.{◌≡◌, ◌+◌, ◌*◌, ◌/◌, ◌≤◌, ◌<◌, ℕ, List, [], ◌∷◌, length, map, string_bytes, string_len, All, IfErr, IfOk, IfSome, OnOk};
 ghost use Rattle.tac_base.specs.declared.limits.TheConstants.{FILE_NAMES, NAME_BYTES};
-ghost use Rattle.tac_io.specs.Told.{and_then_told};
+ghost use Rattle.tac_io.specs.Known.{known_then};
 ghost use Rattle.game_text.specs.Games.{GameFile};
 ghost use Rattle.log_text.specs.LoggedGames.{LoggedGame};
 ghost use Rattle.log_reader.specs.SoundLog.{IsSound};
 ghost use Rattle.tourney.specs.StandingsTexts.{IsPrinted};
-ghost use Rattle.tourney.specs.Tallies.{StandsFor};
-ghost use Rattle.tac_commands.specs.Allowed.{Writes, table_steps};
+ghost use Rattle.tourney.specs.Tallies.{AreStandingsOf};
+ghost use Rattle.tac_commands.specs.Allowed.{WritesDue, table_steps};
 ghost use Rattle.tac_commands.specs.Commands as commands;
-ghost use Rattle.tac_commands.specs.Commands.{paired};
+ghost use Rattle.tac_commands.specs.Commands.{in_pairs};
 ghost use Rattle.tac_commands.specs.Ends.{Ends, EndsBatch};
 ghost use Rattle.tac_commands.specs.FlawTexts as texts;
 ghost use Rattle.tac_commands.specs.Outcomes as outcomes;
 ghost use Rattle.tac_commands.specs.Runs.{Runs, StopsAt};
-ghost use Rattle.tac_commands.specs.TableRuns.{EndsAtPair, GoesOn, HasAdded, IsAdded, outcome_of};
+ghost use Rattle.tac_commands.specs.TableRuns.{EndsAtPair, TableGoesOn, HasAdded, IsAdded, outcome_of};
 
 use crate::ends::End;
 use crate::numbered_lines::counted;
@@ -73,7 +73,7 @@ fn add_pair<F: Files>(
     requires few { standings.games < 64 }
     ensures added { IfOk result (λ after. IsAdded (F.state files.old).content game.now log.now standings after) }
     ensures games { IfOk result (λ after. after.games ≡ standings.games + 1) }
-    ensures names { OnOk result ((F.state files.new).names ≡ and_then_told (and_then_told (F.state files.old).names (game.now ∷ [])) (log.now ∷ [])) }
+    ensures names { OnOk result ((F.state files.new).names ≡ known_then (known_then (F.state files.old).names (game.now ∷ [])) (log.now ∷ [])) }
     ensures quiet { OnOk result ((F.state files.new).faults ≡ (F.state files.old).faults) }
     ensures content { (F.state files.new).content ≡ (F.state files.old).content }
     ensures fault { IfErr result (EndsAtPair (F.state files.old) (F.state files.new) pair game.now log.now) }
@@ -98,8 +98,8 @@ fn add_pairs<F: Files>(
     requires none { IfSome (F.state files.old).names (λ selected. selected ≡ []) }
     requires short { All (λ name. string_len name ≤ NAME_BYTES) names.now }
     requires few { length names.now ≤ FILE_NAMES }
-    ensures all { IfOk result (GoesOn (paired (map (λ name. string_bytes name) names.now)) [] (length names.now / 2) (F.state files.old) (F.state files.new)) }
-    ensures fault { IfErr result (λ fault. Runs (table_steps [] (paired (map (λ name. string_bytes name) names.now)))
+    ensures all { IfOk result (TableGoesOn (in_pairs (map (λ name. string_bytes name) names.now)) [] (length names.now / 2) (F.state files.old) (F.state files.new)) }
+    ensures fault { IfErr result (λ fault. Runs (table_steps [] (in_pairs (map (λ name. string_bytes name) names.now)))
         (F.state files.old) (F.state files.new) (outcome_of fault)) }
 {
     let mut standings = Standings::begin(alloc);
@@ -113,8 +113,8 @@ fn add_pairs<F: Files>(
 
 /// Writes the standings.
 fn write_standings<K: Sink>(alloc: Global, standings: &Standings, out: &mut K) -> End
-    ensures { (played : List (GameFile × LoggedGame)) → StandsFor standings.now played
-        → Ends (Writes (IsPrinted played [])) (K.state out.old) (K.state out.new) result }
+    ensures { (played : List (GameFile × LoggedGame)) → AreStandingsOf standings.now played
+        → Ends (WritesDue (IsPrinted played [])) (K.state out.old) (K.state out.new) result }
 {
     let mut text = Vec::new(alloc);
     let Ok(()) = print_standings(standings, &mut text) else {
@@ -146,7 +146,7 @@ pub(crate) fn table_files<F: Files, K: Sink>(
     requires none { IfSome (F.state files.old).names (λ selected. selected ≡ []) }
     requires short { All (λ name. string_len name ≤ NAME_BYTES) names.now }
     requires few { length names.now ≤ FILE_NAMES }
-    ensures { EndsBatch (commands.Table (paired (map (λ name. string_bytes name) names.now))) (F.state files.old) (F.state files.new) (K.state out.old) (K.state out.new) result }
+    ensures { EndsBatch (commands.Table (in_pairs (map (λ name. string_bytes name) names.now))) (F.state files.old) (F.state files.new) (K.state out.old) (K.state out.new) result }
 {
     match add_pairs(alloc, names, files) {
         Ok(standings) => write_standings(alloc, &standings, out),

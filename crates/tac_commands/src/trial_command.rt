@@ -3,7 +3,7 @@ ghost use Rattle.std.specs.Prelude.{◌≡◌, ◌+◌, ◌≤◌, ◌++◌, IfO
 ghost use Rattle.tac_base.specs.declared.limits.TheConstants.{MADE_REQUESTS};
 ghost use Rattle.draw_maker.specs.BidScripts.{IsBidScript};
 ghost use Rattle.script_run.specs.QuietGames.{IsSummary};
-ghost use Rattle.tac_commands.specs.Allowed.{IsTrial, Writes};
+ghost use Rattle.tac_commands.specs.Allowed.{IsTrial, WritesDue};
 ghost use Rattle.tac_commands.specs.Ends.{Ends, WritesWhole};
 ghost use Rattle.tac_commands.specs.Trials as trials;
 
@@ -119,7 +119,7 @@ pub(crate) fn trial<R: Threads + Sync, K: Sink>(
     out: &mut K,
 ) -> End
     requires { count ≤ MADE_REQUESTS }
-    ensures { Ends (Writes (IsTrial seed count)) (K.state out.old) (K.state out.new) result }
+    ensures { Ends (WritesDue (IsTrial seed count)) (K.state out.old) (K.state out.new) result }
 {
     let Ok(script) = make_script(alloc, seed, count) else {
         return End::Refused(Refusal::Memory);

@@ -1,7 +1,7 @@
 // The command that shows what one unit more and one unit less of each good would change.
 ghost use Rattle.std.specs.Prelude.{◌≡◌, ◌<◌, ◌≤◌, length, IfOk, IfSome};
 ghost use Rattle.tac_base.specs.declared.limits.TheConstants.{FILE_NAMES, NAME_BYTES};
-ghost use Rattle.tac_commands.specs.Allowed.{IsValued, Writes};
+ghost use Rattle.tac_commands.specs.Allowed.{IsValued, WritesDue};
 ghost use Rattle.tac_commands.specs.Commands as commands;
 ghost use Rattle.tac_commands.specs.Ends.{Ends, EndsBatch};
 
@@ -29,7 +29,7 @@ fn worths_text(alloc: Global, account: &Account) -> Result<Vec<u8>, Memory>
 
 /// Writes the worths of an account.
 fn write_worths<K: Sink>(alloc: Global, account: &Account, out: &mut K) -> End
-    ensures { Ends (Writes (IsValued account.now)) (K.state out.old) (K.state out.new) result }
+    ensures { Ends (WritesDue (IsValued account.now)) (K.state out.old) (K.state out.new) result }
 {
     let Ok(text) = worths_text(alloc, account) else {
         return End::Refused(Refusal::Memory);

@@ -7,9 +7,9 @@ use Rattle.tac_io.specs.AllAnswers.{all_answers, ended_line}
 use Rattle.tac_io.specs.AnswersInTurn.{answers_left, IsFirst, IsInTurn}
 use Rattle.tac_io.specs.HeldBytes.{Held}
 use Rattle.tac_io.specs.LineAnswers.{Answers, IsNext}
-use Rattle.tac_io.specs.LineText.{has_end, Begins}
+use Rattle.tac_io.specs.LineText.{has_end, BeginsWithLine}
 use Rattle.tac_io.specs.States.{LinkState}
-use Rattle.tac_io.specs.Told.{before_told, IsAtEnd}
+use Rattle.tac_io.specs.Known.{then_known, IsAtEnd}
 use Rattle.tac_io.proofs.LineEnds.{neither}
 use Rattle.tac_io.specs.declared.line_got.LineGot.{LineGot}
 use Rattle.tac_io.specs.declared.line_got.LineGot.TheVariants.{Line, TooLong, End, Failed, Budget}
@@ -56,7 +56,7 @@ some_inj : (xs ys : List ℕ) → Some xs ≡ Some ys → xs ≡ ys
 some_inj xs ys h = cc
 
 -- after a line, what is to come are the answers of what is held and left then
-line_first : (held new : Held) (left left' more line : List ℕ) (count : ℕ) → left ≡ more ++ left' → count + length more ≤ 2 ^ 26 → Begins (held.unread ++ more) line new.unread
+line_first : (held new : Held) (left left' more line : List ℕ) (count : ℕ) → left ≡ more ++ left' → count + length more ≤ 2 ^ 26 → BeginsWithLine (held.unread ++ more) line new.unread
     → answers_left held left count ≡ ended_line line ∷ answers_left new left' (count + length more)
 line_first held new left left' more line count gave le b =
     let size : length held.unread + length more ≡ length line + suc (length new.unread) =
@@ -72,12 +72,12 @@ next_is_first held new before after left left' count count' got had has answers 
     first got (subst (λ l. IsNext got (held.unread ++ answers.more) new (IsAtEnd l) count') has answers.next)
   where
     gave : left ≡ answers.more ++ left'
-    gave = some_inj left (answers.more ++ left') (sym had ∙ answers.gave.1 ∙ ap (before_told answers.more) has)
+    gave = some_inj left (answers.more ++ left') (sym had ∙ answers.gave.1 ∙ ap (then_known answers.more) has)
 
     within : count + length answers.more ≤ 2 ^ 26
     within = omega (arith, answers.counted, le)
 
-    behind : (line : List ℕ) → Begins (held.unread ++ answers.more) line new.unread → answers_left held left count ≡ ended_line line ∷ answers_left new left' count'
+    behind : (line : List ℕ) → BeginsWithLine (held.unread ++ answers.more) line new.unread → answers_left held left count ≡ ended_line line ∷ answers_left new left' count'
     behind line b = line_first held new left left' answers.more line count gave within b ∙ ap (λ n. ended_line line ∷ answers_left new left' n) (sym answers.counted)
 
     size : length (held.unread ++ answers.more) ≡ length held.unread + length answers.more

@@ -8,8 +8,8 @@ use Rattle.std.proofs.lemmas.Option.{slice_get_read, slice_get_past, slice_get-g
 use Rattle.std.proofs.lemmas.List.{drop_min, drop-drop}
 use Rattle.std.proofs.lemmas.List.Folds.{find_at}
 use Rattle.std.proofs.lemmas.List.Quantifiers.{position-Some}
-use Rattle.tac_io.specs.declared.mem_files.MemFile.{MemFile}
-use Rattle.tac_io.specs.FileList.{content_of, left_of, is_named}
+use Rattle.tac_io.specs.declared.memory.files.MemFile.{MemFile}
+use Rattle.tac_io.specs.FileList.{content_of, file_left, is_named}
 
 abbrev bytes_of : MemFile → List ℕ
 bytes_of file = file.bytes.items
@@ -23,7 +23,7 @@ none_is true k n past h = absurd (cc)
 none_is false k n past h = past refl
 
 -- a found file has its bytes at its place
-pub content_of-Some : (files : List MemFile) (name : List ℕ) (i : ℕ) → position (is_named name) files ≡ Some i → (i < length files) × (content_of files name ≡ Some (left_of files i 0))
+pub content_of-Some : (files : List MemFile) (name : List ℕ) (i : ℕ) → position (is_named name) files ≡ Some i → (i < length files) × (content_of files name ≡ Some (file_left files i 0))
 content_of-Some [] name i h = absurd (cc)
 content_of-Some (file ∷ files) name i h =
     let all : List MemFile = file ∷ files in
@@ -41,15 +41,15 @@ content_of-None files name h =
     ∙ slice_get_past files (position_or_len (is_named name) files) (none_is (nat_lt (position_or_len (is_named name) files) (length files)) _ _ (ltb-false _ _) h))
 
 -- what is left of a file that was read from the list
-left_of-read : (files : List MemFile) (i at : ℕ) (file : MemFile) → i < length files → file ≡ get_or files i file → left_of files i at ≡ drop at file.bytes.items
-left_of-read files i at file lt is =
+file_left-read : (files : List MemFile) (i at : ℕ) (file : MemFile) → i < length files → file ≡ get_or files i file → file_left files i at ≡ drop at file.bytes.items
+file_left-read files i at file lt is =
     ap (λ o. drop at (option_map_or bytes_of o [])) (slice_get_read files (length files) i file refl lt is)
 
 -- A read gives the front of what is left, and what is left then begins behind it.
-pub left_of-given : (files : List MemFile) (i at start count : ℕ) (file : MemFile) (left given : List ℕ) → i < length files → file ≡ get_or files i file → start ≡ min at (length file.bytes.items)
-    → left ≡ drop start file.bytes.items → left ≡ given ++ drop count left → left_of files i at ≡ given ++ left_of files i (start + count)
-left_of-given files i at start count file left given lt is cut from h =
-    left_of-read files i at file lt is
+pub file_left-given : (files : List MemFile) (i at start count : ℕ) (file : MemFile) (left given : List ℕ) → i < length files → file ≡ get_or files i file → start ≡ min at (length file.bytes.items)
+    → left ≡ drop start file.bytes.items → left ≡ given ++ drop count left → file_left files i at ≡ given ++ file_left files i (start + count)
+file_left-given files i at start count file left given lt is cut from h =
+    file_left-read files i at file lt is
     ∙ sym (drop_min at file.bytes.items) ∙ ap (λ n. drop n file.bytes.items) (sym cut) ∙ sym from ∙ h
     ∙ ap (λ rest. given ++ drop count rest) from
-    ∙ ap (λ rest. given ++ rest) (drop-drop count start file.bytes.items ∙ sym (left_of-read files i (start + count) file lt is))
+    ∙ ap (λ rest. given ++ rest) (drop-drop count start file.bytes.items ∙ sym (file_left-read files i (start + count) file lt is))

@@ -1,4 +1,4 @@
-pub mod Tellings
+pub mod KnownPieces
 pub mod WholeFiles
 pub mod FilesInMemory
 pub mod LineEnds

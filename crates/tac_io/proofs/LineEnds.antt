@@ -4,7 +4,7 @@ use Rattle.std.specs.Prelude.{◌||◌, ◌==◌}
 use Rattle.std.specs.List.{slice_range}
 use Rattle.std.proofs.lemmas.List.{take-take, take_more, drop-take, drop-drop}
 use Rattle.std.proofs.lemmas.Bool.Decides.{nat_tests}
-use Rattle.tac_io.specs.LineText.{has_end, Begins}
+use Rattle.tac_io.specs.LineText.{has_end, BeginsWithLine}
 
 pub has_end-append : (xs ys : List ℕ) → has_end (xs ++ ys) ≡ (has_end xs || has_end ys)
 has_end-append [] ys = refl
@@ -50,11 +50,11 @@ length-slice_range xs from to le = omega (arith, length-take (to - from) (drop f
 
 -- The first line of a part of xs, and the rest, are parts of xs.
 pub cut_part : (xs : List ℕ) (from to i : ℕ) (unread : List ℕ) → unread ≡ slice_range xs from to → from ≤ to → to ≤ length xs → i < length unread
-    → Begins unread (take i unread) (drop (i + 1) unread)
-    → Begins unread (slice_range xs from (from + i)) (slice_range xs (from + i + 1) to) × (i ≡ length (slice_range xs from (from + i)))
+    → BeginsWithLine unread (take i unread) (drop (i + 1) unread)
+    → BeginsWithLine unread (slice_range xs from (from + i)) (slice_range xs (from + i + 1) to) × (i ≡ length (slice_range xs from (from + i)))
 cut_part xs from to i unread is order within lt b =
     let whole_len : length unread ≡ to - from = ap length is ∙ length-slice_range xs from to within in
     let front : take i unread ≡ slice_range xs from (from + i) = ap (take i) is ∙ front_part xs from to i (omega arith) in
     let back : drop (i + 1) unread ≡ slice_range xs (from + i + 1) to = ap (drop (i + 1)) is ∙ rest_part xs from to i (omega arith) in
     let size : length (slice_range xs from (from + i)) ≡ from + i - from = length-slice_range xs from (from + i) (omega arith) in
-    (subst (λ rest. Begins unread (slice_range xs from (from + i)) rest) back (subst (λ line. Begins unread line (drop (i + 1) unread)) front b), omega arith)
+    (subst (λ rest. BeginsWithLine unread (slice_range xs from (from + i)) rest) back (subst (λ line. BeginsWithLine unread line (drop (i + 1) unread)) front b), omega arith)

@@ -3,14 +3,14 @@ use Rattle.std.proofs.Common.{◌≡◌, ℕ, ◌+◌, ◌<◌, List, [], ◌∷
 use Rattle.std.specs.Prelude.{◌^◌, MatchBool}
 use Rattle.std.proofs.lemmas.List.{nil_from_length}
 use Rattle.tac_io.specs.HeldBytes.{Gives, Held}
-use Rattle.tac_io.specs.LineText.{has_end, Begins}
+use Rattle.tac_io.specs.LineText.{has_end, BeginsWithLine}
 use Rattle.tac_io.specs.LineAnswers.{Answers, IsDecided, IsKind, IsNext}
 use Rattle.tac_io.specs.declared.line_got.LineGot.{LineGot}
 use Rattle.tac_io.specs.declared.line_got.LineGot.TheVariants.{Line, TooLong, End, Failed, Budget}
 use Rattle.tac_io.specs.LinkCalls.{GaveBytes}
 use Rattle.tac_io.specs.States.{LinkState}
-use Rattle.tac_io.specs.Told.{and_then_told, before_told, IsAtEnd}
-use Rattle.tac_io.proofs.Tellings.{and_then_told-nothing, before_told-nothing, gave_twice}
+use Rattle.tac_io.specs.Known.{known_then, then_known, IsAtEnd}
+use Rattle.tac_io.proofs.KnownPieces.{known_then-nothing, then_known-nothing, gave_twice}
 use Rattle.tac_io.proofs.LineEnds.{no_end-append, no_end-front}
 
 -- `more` was taken, and of all the bytes no line end is in those that were skipped.
@@ -27,7 +27,7 @@ pub record IsGoing (unread₀ : List ℕ) (count₀ : ℕ) (before : LinkState) 
 pub nothing_given : (old new : List ℕ) (now now' : LinkState) (n : ℕ) → Gives old new now now' n → n ≡ 0 → (now'.taken ≡ now.taken) × (now'.left ≡ now.left)
 nothing_given old new now now' n gives z =
     let e : gives.more ≡ [] = nil_from_length gives.more (gives.count ∙ z) in
-    (gives.gave.0 ∙ ap (and_then_told now.taken) e ∙ and_then_told-nothing now.taken, sym (gives.gave.1 ∙ ap (λ more. before_told more now'.left) e ∙ before_told-nothing now'.left))
+    (gives.gave.0 ∙ ap (known_then now.taken) e ∙ known_then-nothing now.taken, sym (gives.gave.1 ∙ ap (λ more. then_known more now'.left) e ∙ then_known-nothing now'.left))
 
 module _ (unread₀ : List ℕ) (count₀ : ℕ) (before : LinkState) where
   -- no line end is in all the bytes
@@ -42,7 +42,7 @@ module _ (unread₀ : List ℕ) (count₀ : ℕ) (before : LinkState) where
   going_undecided long unread count now going none below (inr all) = absurd (omega (arith, all, below, going.counted))
 
   -- a line stands after what was skipped
-  pub going_line : (long : Bool) (unread : List ℕ) (count : ℕ) (now : LinkState) (line rest : List ℕ) (going : IsGoing unread₀ count₀ before long unread count now) → Begins unread line rest → Begins (unread₀ ++ going.more) (going.skipped ++ line) rest
+  pub going_line : (long : Bool) (unread : List ℕ) (count : ℕ) (now : LinkState) (line rest : List ℕ) (going : IsGoing unread₀ count₀ before long unread count now) → BeginsWithLine unread line rest → BeginsWithLine (unread₀ ++ going.more) (going.skipped ++ line) rest
   going_line long unread count now line rest going b = record {
     whole = going.whole ∙ ap (λ l. going.skipped ++ l) b.whole ∙ sym (append_assoc going.skipped line (10 ∷ rest));
     first = no_end-append going.skipped line going.plain b.first;
@@ -88,7 +88,7 @@ module _ (unread₀ : List ℕ) (count₀ : ℕ) (before : LinkState) where
   }
 
   pub answers_line : (held new : Held) (long : Bool) (count : ℕ) (now : LinkState) (n : ℕ) (got : LineGot) (unread : List ℕ) → held.unread ≡ unread₀ → IsGoing unread₀ count₀ before long unread count now
-      → Begins unread new.line new.unread → n ≡ length new.line → IsKind got long n → Answers held new before now count₀ count got
+      → BeginsWithLine unread new.line new.unread → n ≡ length new.line → IsKind got long n → Answers held new before now count₀ count got
   answers_line held new long count now n got unread first going b len kind = record {
     more = going.more;
     gave = going.gave;
@@ -96,7 +96,7 @@ module _ (unread₀ : List ℕ) (count₀ : ℕ) (before : LinkState) where
     next = subst (λ bytes. IsNext got (bytes ++ going.more) new (IsAtEnd now.left) count) (sym first) (next_is got kind);
   }
     where
-      b' : Begins (unread₀ ++ going.more) (going.skipped ++ new.line) new.unread
+      b' : BeginsWithLine (unread₀ ++ going.more) (going.skipped ++ new.line) new.unread
       b' = going_line long unread count now new.line new.unread going b
 
       size : length (going.skipped ++ new.line) ≡ length going.skipped + length new.line
@@ -109,7 +109,7 @@ module _ (unread₀ : List ℕ) (count₀ : ℕ) (before : LinkState) where
       short_is e = subst (λ b. MatchBool b (512 < length going.skipped) (going.skipped ≡ [])) e going.is_long
 
       next_is : (got : LineGot) → IsKind got long n → IsNext got (unread₀ ++ going.more) new (IsAtEnd now.left) count
-      next_is Line k = (subst (λ l. Begins (unread₀ ++ going.more) (l ++ new.line) new.unread) (short_is k.0) b', omega (arith, k.1, len))
+      next_is Line k = (subst (λ l. BeginsWithLine (unread₀ ++ going.more) (l ++ new.line) new.unread) (short_is k.0) b', omega (arith, k.1, len))
       next_is TooLong k = (going.skipped ++ new.line, b', elim k [ inl e ↦ omega (arith, long_is e, size) | inr lt ↦ omega (arith, lt, len, size) ])
       next_is End k = absurd k
       next_is Failed k = absurd k
@@ -128,7 +128,7 @@ module _ (unread₀ : List ℕ) (count₀ : ℕ) (before : LinkState) where
   going_same long unread count now now' going e f = record {
     more = going.more;
     skipped = going.skipped;
-    gave = (e ∙ going.gave.0, going.gave.1 ∙ ap (before_told going.more) (sym f));
+    gave = (e ∙ going.gave.0, going.gave.1 ∙ ap (then_known going.more) (sym f));
     counted = going.counted;
     whole = going.whole;
     plain = going.plain;

@@ -11,7 +11,7 @@ use Rattle.tac_io.specs.AllAnswers.{all_answers}
 abbrev pub answers_left : Held → List ℕ → ℕ → List (LineGot × List ℕ)
 answers_left held left count = all_answers [] (LINK_BYTES - count + length held.unread) (held.unread ++ left)
 
--- The first of all answers is this one, with its line, and then come the others. A fault is told by no byte.
+-- The first of all answers is this one, with its line, and then come the others. No byte shows a fault.
 abbrev pub IsFirst : LineGot → List ℕ → List (LineGot × List ℕ) → List (LineGot × List ℕ) → Type 0
 IsFirst Line line all others = all ≡ (Line, line) ∷ others
 IsFirst TooLong line all others = all ≡ (TooLong, []) ∷ others
@@ -19,7 +19,7 @@ IsFirst End line all others = all ≡ (End, []) ∷ []
 IsFirst Failed line all others = ⊤
 IsFirst Budget line all others = all ≡ (Budget, []) ∷ []
 
--- Where it is told what is left, the answer is the first of those to come, and then the others come.
+-- Where it is known what is left, the answer is the first of those to come, and then the others come.
 abbrev pub IsInTurn : Held → Held → LinkState → LinkState → ℕ → ℕ → LineGot → Type 0
-IsInTurn old new before after count count' got =
-    IfSome before.left (λ bytes. IfSome after.left (λ rest. IsFirst got new.line (answers_left old bytes count) (answers_left new rest count')))
+IsInTurn held held' before after count count' got =
+    IfSome before.left (λ bytes. IfSome after.left (λ rest. IsFirst got held'.line (answers_left held bytes count) (answers_left held' rest count')))

@@ -8,24 +8,24 @@ pub record Calls : Type 0 where
   pub faults : ℕ
 
 -- no call was made yet
-abbrev pub no_calls : List ℕ → Calls
-no_calls failing = record { failing = failing; made = 0; faults = 0 }
+abbrev pub no_calls_yet : List ℕ → Calls
+no_calls_yet failing = record { failing = failing; made = 0; faults = 0 }
 
-abbrev pub one_more : ℕ → ℕ
-one_more count = min (count + 1) (2 ^ 64 - 1)
+abbrev pub one_call_more : ℕ → ℕ
+one_call_more count = min (count + 1) (2 ^ 64 - 1)
 
 -- the next call is to fail
 abbrev pub IsNextToFail : Calls → Type 0
-IsNextToFail calls = Contains calls.failing (one_more calls.made)
+IsNextToFail calls = Contains calls.failing (one_call_more calls.made)
 
 -- the count of faults, after a call that answered this
 abbrev pub count_after : {T E : Type 0} → ℕ → Result T E → ℕ
-count_after faults result = if is_err result then one_more faults else faults
+count_after faults result = if is_err result then one_call_more faults else faults
 
 -- one more call was made, and answered this
 abbrev pub after_call : {T E : Type 0} → Calls → Result T E → Calls
 after_call calls result = record {
   failing = calls.failing;
-  made = one_more calls.made;
+  made = one_call_more calls.made;
   faults = count_after calls.faults result;
 }

@@ -6,7 +6,7 @@ use Rattle.std.specs.String.{string_capacity}
 use Rattle.std.specs.declared.option.Option.{Option}
 use Rattle.std.specs.Str.{bytes_eq}
 use Rattle.tac_base.specs.declared.limits.TheConstants.{NAME_BYTES}
-use Rattle.tac_io.specs.declared.mem_files.MemFile.{MemFile}
+use Rattle.tac_io.specs.declared.memory.files.MemFile.{MemFile}
 
 abbrev pub is_named : List ℕ → MemFile → Bool
 is_named name file = bytes_eq (string_bytes file.name) name
@@ -16,13 +16,13 @@ abbrev pub content_of : List MemFile → List ℕ → Option (List ℕ)
 content_of files name = option_map (λ (file : MemFile). file.bytes.items) (find (is_named name) files)
 
 -- what is left of the i-th file from a place on
-abbrev pub left_of : List MemFile → ℕ → ℕ → List ℕ
-left_of files i at = drop at (option_map_or (λ (file : MemFile). file.bytes.items) (slice_get files i) [])
+abbrev pub file_left : List MemFile → ℕ → ℕ → List ℕ
+file_left files i at = drop at (option_map_or (λ (file : MemFile). file.bytes.items) (slice_get files i) [])
 
 -- what is left of the selected file, if one is selected
 abbrev pub selected_left : List MemFile → Option ℕ → ℕ → List ℕ
 selected_left files None at = []
-selected_left files (Some i) at = left_of files i at
+selected_left files (Some i) at = file_left files i at
 
 -- an empty text with room for a name
 abbrev pub IsSpare : String Global → Type 0

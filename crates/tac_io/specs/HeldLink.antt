@@ -2,12 +2,12 @@
 use Rattle.std.specs.Prelude.{◌≡◌, ℕ, Some, max, min}
 use Rattle.std.specs.Option.{option_map}
 use Rattle.std.specs.declared.option.Option.{Option}
-use Rattle.tac_io.specs.Calls.{one_more}
+use Rattle.tac_io.specs.Calls.{one_call_more}
 use Rattle.tac_io.specs.LineText.{line_length}
 use Rattle.tac_io.specs.MemLink.{link_left, link_reads, link_share}
-use Rattle.tac_io.specs.declared.held_link.HeldLink.{HeldLink}
-use Rattle.tac_io.specs.declared.held_link.Hold.{Hold}
-use Rattle.tac_io.specs.declared.mem_link.MemLink.{MemLink}
+use Rattle.tac_io.specs.declared.memory.held_link.HeldLink.{HeldLink}
+use Rattle.tac_io.specs.declared.memory.held_link.Hold.{Hold}
+use Rattle.tac_io.specs.declared.memory.link.MemLink.{MemLink}
 
 -- the link whose bytes it gives
 abbrev pub held_link : HeldLink → MemLink
@@ -19,7 +19,7 @@ held_hold s = s.hold
 
 -- the next read is the one that is held up
 abbrev pub IsNextHeld : HeldLink → Type 0
-IsNextHeld s = option_map (λ (hold : Hold). hold.read) (held_hold s) ≡ Some (one_more (link_reads (held_link s)).made)
+IsNextHeld s = option_map (λ (hold : Hold). hold.read) (held_hold s) ≡ Some (one_call_more (link_reads (held_link s)).made)
 
 -- how many bytes the next read gives to a buffer of this length: those that its link gives to a buffer no longer than the line
 abbrev pub held_share : HeldLink → ℕ → ℕ

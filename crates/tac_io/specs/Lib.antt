@@ -1,6 +1,8 @@
 pub mod Counts
-pub mod Told
+pub mod Known
 pub mod States
+pub mod Taken
+pub mod Written
 pub mod LinkCalls
 pub mod Reading
 pub mod Calls

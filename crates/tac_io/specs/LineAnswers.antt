@@ -4,28 +4,28 @@ use Rattle.std.specs.declared.option.Option.{Option}
 use Rattle.tac_base.specs.declared.limits.TheConstants.{LINE_BYTES, LINK_BYTES}
 use Rattle.tac_io.specs.Counts.{Rose}
 use Rattle.tac_io.specs.HeldBytes.{Held}
-use Rattle.tac_io.specs.LineText.{has_end, Begins}
+use Rattle.tac_io.specs.LineText.{has_end, BeginsWithLine}
 use Rattle.tac_io.specs.LinkCalls.{GaveBytes}
 use Rattle.tac_io.specs.States.{LinkState}
-use Rattle.tac_io.specs.Told.{IsAtEnd}
+use Rattle.tac_io.specs.Known.{IsAtEnd}
 use Rattle.tac_io.specs.declared.line_got.LineGot.{LineGot}
 use Rattle.tac_io.specs.declared.line_got.LineGot.TheVariants.{Line, TooLong, End, Failed, Budget}
 
 -- What comes next in these bytes. `held` is what stands after it, `at_end` whether the link is at its end, and `count` how many of
 -- the link's bytes were taken. No two of the answers fit the same bytes, but for a fault and the end.
 abbrev pub IsNext : LineGot → List ℕ → Held → Type 0 → ℕ → Type 0
-IsNext Line bytes held at_end count = Begins bytes held.line held.unread × (length held.line ≤ LINE_BYTES)
-IsNext TooLong bytes held at_end count = (line : List ℕ) × Begins bytes line held.unread × (LINE_BYTES < length line)
+IsNext Line bytes held at_end count = BeginsWithLine bytes held.line held.unread × (length held.line ≤ LINE_BYTES)
+IsNext TooLong bytes held at_end count = (line : List ℕ) × BeginsWithLine bytes line held.unread × (LINE_BYTES < length line)
 IsNext End bytes held at_end count = (has_end bytes ≡ false) × (count < LINK_BYTES) × at_end
 IsNext Failed bytes held at_end count = (has_end bytes ≡ false) × (count < LINK_BYTES)
 IsNext Budget bytes held at_end count = (has_end bytes ≡ false) × (count ≡ LINK_BYTES)
 
 -- What comes next in the bytes that were held and, after them, those that the call took, `more`.
-pub record Answers (old new : Held) (before after : LinkState) (count count' : ℕ) (got : LineGot) : Type 0 where
+pub record Answers (held held' : Held) (before after : LinkState) (count count' : ℕ) (got : LineGot) : Type 0 where
   pub more : List ℕ
   pub gave : GaveBytes more before after
   pub counted : count' ≡ count + length more
-  pub next : IsNext got (old.unread ++ more) new (IsAtEnd after.left) count'
+  pub next : IsNext got (held.unread ++ more) held' (IsAtEnd after.left) count'
 
 -- `Failed` comes exactly where the count of faults rose.
 abbrev pub HasLineCause : ℕ → ℕ → LineGot → Type 0

@@ -8,7 +8,7 @@ has_end [] = false
 has_end (byte ∷ bytes) = (byte == 10) || has_end bytes
 
 -- The bytes begin with this line and its end, and then comes the rest.
-pub record Begins (bytes line rest : List ℕ) : Type 0 where
+pub record BeginsWithLine (bytes line rest : List ℕ) : Type 0 where
   pub whole : bytes ≡ line ++ 10 ∷ rest
   pub first : has_end line ≡ false
 

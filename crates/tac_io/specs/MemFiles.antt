@@ -3,7 +3,7 @@ use Rattle.std.specs.Prelude.{ℕ, List, Bool, map, min, max, length, string_byt
 use Rattle.std.specs.declared.option.Option.{Option}
 use Rattle.tac_io.specs.Calls.{Calls}
 use Rattle.tac_io.specs.FileList.{content_of, selected_left}
-use Rattle.tac_io.specs.declared.mem_files.MemFiles.{MemFiles}
+use Rattle.tac_io.specs.declared.memory.files.MemFiles.{MemFiles}
 
 -- the bytes of the file of each name
 abbrev pub files_content : MemFiles → List ℕ → Option (List ℕ)

@@ -3,7 +3,7 @@ use Rattle.std.specs.Prelude.{◌≡◌, ◌+◌, ◌<◌, ◌⊎◌, ◌↔◌,
 use Rattle.tac_io.specs.Calls.{Calls, IsNextToFail, after_call}
 use Rattle.tac_io.specs.Counts.{HasCause}
 use Rattle.tac_io.specs.States.{LinkState}
-use Rattle.tac_io.specs.declared.mem_link.MemLink.{MemLink}
+use Rattle.tac_io.specs.declared.memory.link.MemLink.{MemLink}
 
 -- the bytes that were read from it
 abbrev pub link_taken : MemLink → List ℕ
@@ -33,7 +33,7 @@ link_reads s = s.reads
 abbrev pub link_writes : MemLink → Calls
 link_writes s = s.writes
 
--- what it tells
+-- what is known of it
 abbrev pub link_state : MemLink → LinkState
 link_state s = record {
   taken = Some (link_taken s);
@@ -49,28 +49,28 @@ link_share s room = min room (min (max 1 (link_most s)) (length (link_left s)))
 
 -- A read gave the next bytes, none only at the end. One that failed gave none. It was counted, and nothing else changed.
 abbrev pub ReadsNext : {E : Type 0} → MemLink → MemLink → Result ℕ E → List ℕ → Type 0
-ReadsNext old new result into =
-    IfOk result (λ n. (link_left old ≡ take n into ++ link_left new) × (link_taken new ≡ link_taken old ++ take n into))
-    × IfOk result (λ n. n ≡ 0 → link_left old ≡ [])
-    × OnErr result ((link_left new ≡ link_left old) × (link_taken new ≡ link_taken old))
-    × (link_most new ≡ link_most old)
-    × (link_sent new ≡ link_sent old)
-    × (link_room new ≡ link_room old)
-    × (link_reads new ≡ after_call (link_reads old) result)
-    × (link_writes new ≡ link_writes old)
-    × HasCause (link_reads old).faults (link_reads new).faults result
+ReadsNext before after result into =
+    IfOk result (λ n. (link_left before ≡ take n into ++ link_left after) × (link_taken after ≡ link_taken before ++ take n into))
+    × IfOk result (λ n. n ≡ 0 → link_left before ≡ [])
+    × OnErr result ((link_left after ≡ link_left before) × (link_taken after ≡ link_taken before))
+    × (link_most after ≡ link_most before)
+    × (link_sent after ≡ link_sent before)
+    × (link_room after ≡ link_room before)
+    × (link_reads after ≡ after_call (link_reads before) result)
+    × (link_writes after ≡ link_writes before)
+    × HasCause (link_reads before).faults (link_reads after).faults result
 
 -- A write took the first bytes of the piece, as many as there was room for. It failed where it was to fail, or no room was left, and then
 -- took none. It was counted, and nothing else changed.
 abbrev pub WritesNext : {E : Type 0} → MemLink → MemLink → Result ℕ E → List ℕ → Type 0
-WritesNext old new result piece =
-    (IsErr result ↔ (IsNextToFail (link_writes old) ⊎ (link_room old ≡ 0)))
-    × IfOk result (λ n. (0 < n) × (n ≡ min (length piece) (link_room old)))
-    × IfOk result (λ n. (link_sent new ≡ link_sent old ++ take n piece) × (link_room new + n ≡ link_room old))
-    × OnErr result ((link_sent new ≡ link_sent old) × (link_room new ≡ link_room old))
-    × (link_taken new ≡ link_taken old)
-    × (link_left new ≡ link_left old)
-    × (link_most new ≡ link_most old)
-    × (link_reads new ≡ link_reads old)
-    × (link_writes new ≡ after_call (link_writes old) result)
-    × HasCause (link_writes old).faults (link_writes new).faults result
+WritesNext before after result piece =
+    (IsErr result ↔ (IsNextToFail (link_writes before) ⊎ (link_room before ≡ 0)))
+    × IfOk result (λ n. (0 < n) × (n ≡ min (length piece) (link_room before)))
+    × IfOk result (λ n. (link_sent after ≡ link_sent before ++ take n piece) × (link_room after + n ≡ link_room before))
+    × OnErr result ((link_sent after ≡ link_sent before) × (link_room after ≡ link_room before))
+    × (link_taken after ≡ link_taken before)
+    × (link_left after ≡ link_left before)
+    × (link_most after ≡ link_most before)
+    × (link_reads after ≡ link_reads before)
+    × (link_writes after ≡ after_call (link_writes before) result)
+    × HasCause (link_writes before).faults (link_writes after).faults result

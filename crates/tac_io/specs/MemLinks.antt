@@ -1,7 +1,7 @@
 -- Links in memory, as their clauses show them.
 use Rattle.std.specs.Prelude.{ℕ, List, Bool, option_to_list}
 use Rattle.tac_io.specs.Calls.{Calls}
-use Rattle.tac_io.specs.declared.mem_links.MemLinks.{MemLinks}
+use Rattle.tac_io.specs.declared.memory.links.MemLinks.{MemLinks}
 
 -- whether they listen
 abbrev pub links_listens : {L : Type 0} → MemLinks L → Bool

@@ -1,7 +1,7 @@
 -- A sink in memory, as its clauses show it.
 use Rattle.std.specs.Prelude.{ℕ, List, min}
 use Rattle.tac_io.specs.Calls.{Calls}
-use Rattle.tac_io.specs.declared.mem_sink.MemSink.{MemSink}
+use Rattle.tac_io.specs.declared.memory.sink.MemSink.{MemSink}
 
 -- the bytes that it took
 abbrev pub sink_bytes : MemSink → List ℕ

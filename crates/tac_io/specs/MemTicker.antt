@@ -2,7 +2,7 @@
 use Rattle.std.specs.Prelude.{ℕ, List, Bool}
 use Rattle.std.specs.declared.option.Option.{Option}
 use Rattle.tac_io.specs.Calls.{Calls}
-use Rattle.tac_io.specs.declared.mem_ticker.MemTicker.{MemTicker}
+use Rattle.tac_io.specs.declared.memory.ticker.MemTicker.{MemTicker}
 
 -- the pace, if one was set
 abbrev pub ticker_pace : MemTicker → Option ℕ

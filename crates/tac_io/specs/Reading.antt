@@ -5,11 +5,11 @@ use Rattle.tac_io.specs.Counts.{Rose}
 use Rattle.tac_io.specs.declared.reading.FileFault.{FileFault}
 use Rattle.tac_io.specs.declared.reading.FileFault.TheVariants.{Failed, TooLong, Memory}
 
--- these are the bytes of the file of that name, where files are told
+-- these are the bytes of the file of that name, where files are known
 abbrev pub IsFile : Option (List ℕ → Option (List ℕ)) → List ℕ → List ℕ → Type 0
 IsFile content name bytes = IfSome content (λ files. files name ≡ Some bytes)
 
--- the file of that name has more than limit bytes, where files are told
+-- the file of that name has more than limit bytes, where files are known
 abbrev pub IsTooLong : Option (List ℕ → Option (List ℕ)) → List ℕ → ℕ → Type 0
 IsTooLong content name limit = IfSome content (λ files. (bytes : List ℕ) × (files name ≡ Some bytes) × (limit < length bytes))
 

@@ -1,7 +1,7 @@
--- What is told of the objects of the outside.
+-- What is known of the objects of the outside.
 use Rattle.std.specs.Prelude.{ℕ, List, Bool, Option}
 
--- Of a link: the bytes that were taken of it, those that it still has to give and those that it was sent, where they are told; and its
+-- Of a link: the bytes that were taken of it, those that it still has to give and those that it was sent, where they are known; and its
 -- counts of faults of reads and of writes.
 pub record LinkState : Type 0 where
   pub taken : Option (List ℕ)
@@ -10,13 +10,13 @@ pub record LinkState : Type 0 where
   pub reads : ℕ
   pub writes : ℕ
 
--- Of a sink: the bytes that it took, where they are told, and its count of faults.
+-- Of a sink: the bytes that it took, where they are known, and its count of faults.
 pub record SinkState : Type 0 where
   pub taken : Option (List ℕ)
   pub faults : ℕ
 
--- Of files: the bytes of the file of each name, and the names that were selected, in order, where they are told; whether one is selected,
--- and what is left to read of it, where it is told; and the count of faults.
+-- Of files: the bytes of the file of each name, and the names that were selected, in order, where they are known; whether one is selected,
+-- and what is left to read of it, where it is known; and the count of faults.
 pub record FilesState : Type 0 where
   pub content : Option (List ℕ → Option (List ℕ))
   pub names : Option (List (List ℕ))
@@ -25,7 +25,7 @@ pub record FilesState : Type 0 where
   pub faults : ℕ
 
 -- Of the links: whether they listen; the ports that they were asked to listen at, and the links that they still have to give, in order,
--- where they are told; and the count of faults.
+-- where they are known; and the count of faults.
 pub record LinksState (L : Type 0) : Type 0 where
   pub listens : Bool
   pub ports : Option (List ℕ)
@@ -33,7 +33,7 @@ pub record LinksState (L : Type 0) : Type 0 where
   pub faults : ℕ
 
 -- Of a ticker: the pace, if one was set, in milliseconds from a tick to the next, and the ticks that were waited for, in order, each with
--- whether it lapsed, where they are told; and the count of faults.
+-- whether it lapsed, where they are known; and the count of faults.
 pub record TickerState : Type 0 where
   pub paced : Option (Option ℕ)
   pub waited : Option (List (ℕ × Bool))

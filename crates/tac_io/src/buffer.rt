@@ -2,9 +2,9 @@
 ghost use Rattle.std.specs.Prelude.{◌≡◌, [], ◌+◌, ◌<◌, ◌≤◌, IfSome, IfNone, IfOk, length, take, drop, false, MatchResult};
 ghost use Rattle.tac_io.specs.Counts.{HasCause};
 ghost use Rattle.tac_io.specs.HeldBytes.{Fills};
-ghost use Rattle.tac_io.specs.LineText.{has_end, Begins};
+ghost use Rattle.tac_io.specs.LineText.{has_end, BeginsWithLine};
 ghost use Rattle.tac_io.specs.LinkCalls.{SendsNothing};
-ghost use Rattle.tac_io.specs.Told.{and_then_told, before_told, IsAtEnd};
+ghost use Rattle.tac_io.specs.Known.{known_then, then_known, IsAtEnd};
 
 use crate::{Failed, Link};
 use std::marker::Model;
@@ -34,7 +34,7 @@ impl Model for Buffer {
 
 // Where the first line end is.
 fn end_of_line(bytes: &[u8]) -> Option<usize>
-    ensures found { IfSome result (λ i. (i < length bytes.now) × Begins bytes.now (take i bytes.now) (drop (i + 1) bytes.now)) }
+    ensures found { IfSome result (λ i. (i < length bytes.now) × BeginsWithLine bytes.now (take i bytes.now) (drop (i + 1) bytes.now)) }
     ensures none { IfNone result (has_end bytes.now ≡ false) }
 {
     for (i, byte) in bytes.iter().enumerate() {
@@ -53,10 +53,10 @@ fn read_at<L: Link>(link: &mut L, bytes: &mut [u8], at: usize, most: usize) -> R
     ensures count { IfOk result (λ n. (n ≤ most) × (at + n ≤ length bytes.old)) }
     ensures len { length bytes.new ≡ length bytes.old }
     ensures taken { MatchResult result
-        (λ n. (L.state link.new).taken ≡ and_then_told (L.state link.old).taken (take n (drop at bytes.new)))
+        (λ n. (L.state link.new).taken ≡ known_then (L.state link.old).taken (take n (drop at bytes.new)))
         (λ _. (L.state link.new).taken ≡ (L.state link.old).taken) }
     ensures left { MatchResult result
-        (λ n. ((L.state link.old).left ≡ before_told (take n (drop at bytes.new)) (L.state link.new).left)
+        (λ n. ((L.state link.old).left ≡ then_known (take n (drop at bytes.new)) (L.state link.new).left)
         × (n ≡ 0 → IsAtEnd (L.state link.old).left))
         (λ _. (L.state link.new).left ≡ (L.state link.old).left) }
     ensures cause { HasCause (L.state link.old).reads (L.state link.new).reads result }
@@ -103,7 +103,7 @@ impl Buffer {
 
     // Takes the first line, and answers its length.
     pub(crate) fn cut_line(&mut self) -> Option<usize>
-        ensures cut { IfSome result (λ n. Begins self.old.unread self.new.line self.new.unread × (n ≡ length self.new.line)) }
+        ensures cut { IfSome result (λ n. BeginsWithLine self.old.unread self.new.line self.new.unread × (n ≡ length self.new.line)) }
         ensures none { IfNone result ((has_end self.old.unread ≡ false) × (self.new ≡ self.old)) }
     {
         let length = end_of_line(self.unread())?;

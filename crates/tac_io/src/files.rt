@@ -3,14 +3,14 @@ ghost use Rattle.std.specs.Prelude.{◌≡◌, ◌∷◌, [], ◌<◌, ◌≤◌
 ghost use Rattle.tac_base.specs.declared.limits.TheConstants.{FILE_NAMES, NAME_BYTES};
 ghost use Rattle.tac_io.specs.Counts.{HasCause};
 ghost use Rattle.tac_io.specs.States.{FilesState};
-ghost use Rattle.tac_io.specs.Told.{Reads, and_then_told};
+ghost use Rattle.tac_io.specs.Known.{Reads, known_then};
 
 use crate::Failed;
 
 /// Files that are selected by name and then read from their beginning.
 pub trait Files {
     /// The bytes of the file of each name, and the names that `select` was called with, where they
-    /// are told; whether a file is selected, and what is left to read of it, where it is told; and
+    /// are known; whether a file is selected, and what is left to read of it, where it is known; and
     /// the count of faults, which never falls and stays at its last value.
     ghost state: { Self → FilesState };
 
@@ -25,7 +25,7 @@ pub trait Files {
         ensures found { OnOk result (IfSome (state self.old).content (λ files.
             IsSome (files name.now) × ((state self.new).left ≡ files name.now))) }
         ensures kept { OnErr result ((state self.new).left ≡ (state self.old).left) }
-        ensures names { (state self.new).names ≡ and_then_told (state self.old).names (name.now ∷ []) }
+        ensures names { (state self.new).names ≡ known_then (state self.old).names (name.now ∷ []) }
         ensures content { (state self.new).content ≡ (state self.old).content }
         ensures cause { HasCause (state self.old).faults (state self.new).faults result };
 

@@ -3,14 +3,14 @@ ghost use Rattle.std.specs.Prelude.{◌≡◌, ◌<◌, length, take, MatchResul
 ghost use Rattle.tac_io.specs.Counts.{HasCause};
 ghost use Rattle.tac_io.specs.LinkCalls.{ReadsNothing, SendsNothing};
 ghost use Rattle.tac_io.specs.States.{LinkState};
-ghost use Rattle.tac_io.specs.Told.{Reads, Takes, and_then_told};
+ghost use Rattle.tac_io.specs.Known.{Reads, Takes, known_then};
 
 use crate::Failed;
 
 /// A connection to an agent, with a count of faults for its reads and one for its writes.
 pub trait Link {
     /// The bytes that were read from it, those that it still has to give and those that it was
-    /// sent, where they are told; and the counts of faults of reads and of writes, which never fall
+    /// sent, where they are known; and the counts of faults of reads and of writes, which never fall
     /// and stay at their last value.
     ghost state: { Self → LinkState };
 
@@ -20,7 +20,7 @@ pub trait Link {
         requires { 0 < length into.old }
         ensures bytes { Reads (state self.old).left (state self.new).left result into.new }
         ensures taken { MatchResult result
-            (λ n. (state self.new).taken ≡ and_then_told (state self.old).taken (take n into.new))
+            (λ n. (state self.new).taken ≡ known_then (state self.old).taken (take n into.new))
             (λ _. (state self.new).taken ≡ (state self.old).taken) }
         ensures cause { HasCause (state self.old).reads (state self.new).reads result }
         ensures sent { SendsNothing (state self.old) (state self.new) };

@@ -2,7 +2,7 @@
 ghost use Rattle.std.specs.Prelude.{◌≡◌, ◌∷◌, [], IsTrue, IfSome, MatchOption, MatchResult};
 ghost use Rattle.tac_io.specs.Counts.{HasCause};
 ghost use Rattle.tac_io.specs.States.{LinksState};
-ghost use Rattle.tac_io.specs.Told.{IsAtEnd, and_then_told, before_told};
+ghost use Rattle.tac_io.specs.Known.{IsAtEnd, known_then, then_known};
 
 use crate::{Failed, Link};
 
@@ -12,7 +12,7 @@ pub trait Links {
     type Link: Link + Send + Drop;
 
     /// Whether it listens; the ports that `listen` was called with, and the links that it still has
-    /// to give, where they are told; and the count of faults, which never falls and stays at its
+    /// to give, where they are known; and the count of faults, which never falls and stays at its
     /// last value.
     ghost state: { Self → LinksState Self.Link };
 
@@ -22,7 +22,7 @@ pub trait Links {
         ensures listens { MatchResult result
             (λ _. IsTrue (state self.new).listens)
             (λ _. (state self.new).listens ≡ (state self.old).listens) }
-        ensures ports { (state self.new).ports ≡ and_then_told (state self.old).ports (port ∷ []) }
+        ensures ports { (state self.new).ports ≡ known_then (state self.old).ports (port ∷ []) }
         ensures pending { (state self.new).pending ≡ (state self.old).pending }
         ensures cause { HasCause (state self.old).faults (state self.new).faults result };
 
@@ -32,7 +32,7 @@ pub trait Links {
         requires { IsTrue (state self.old).listens }
         ensures given { MatchResult result (λ given. MatchOption given
             (((state self.new).pending ≡ (state self.old).pending) × IsAtEnd (state self.old).pending)
-            (λ link. (state self.old).pending ≡ before_told (link ∷ []) (state self.new).pending))
+            (λ link. (state self.old).pending ≡ then_known (link ∷ []) (state self.new).pending))
             (λ _. (state self.new).pending ≡ (state self.old).pending) }
         ensures listens { IsTrue (state self.new).listens }
         ensures ports { (state self.new).ports ≡ (state self.old).ports }

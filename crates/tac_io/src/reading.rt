@@ -3,7 +3,7 @@ ghost use Rattle.std.specs.Prelude.{◌≡◌, ◌<◌, ◌≤◌, ◌+◌, [], 
 ghost use Rattle.tac_base.specs.declared.limits.TheConstants.{FILE_NAMES, NAME_BYTES};
 ghost use Rattle.tac_io.specs.Counts.{HasCause};
 ghost use Rattle.tac_io.specs.Reading.{HasFileCause, IsFile, IsTooLong};
-ghost use Rattle.tac_io.specs.Told.{IsAtEnd, and_then_told, before_told};
+ghost use Rattle.tac_io.specs.Known.{IsAtEnd, known_then, then_known};
 
 use crate::{Failed, Files};
 use std::alloc::{AllocError, Global};
@@ -63,7 +63,7 @@ pub fn read_file<F: Files>(
     ensures whole { IfOk result (λ bytes. IsFile (F.state files.old).content name.now bytes.items) }
     ensures within { IfOk result (λ bytes. length bytes.items ≤ limit) }
     ensures long { IsErrOf result FileFault.TooLong → IsTooLong (F.state files.old).content name.now limit }
-    ensures names { (F.state files.new).names ≡ and_then_told (F.state files.old).names (name.now ∷ []) }
+    ensures names { (F.state files.new).names ≡ known_then (F.state files.old).names (name.now ∷ []) }
     ensures content { (F.state files.new).content ≡ (F.state files.old).content }
     ensures cause { HasFileCause (F.state files.old).faults (F.state files.new).faults result }
 {
@@ -71,7 +71,7 @@ pub fn read_file<F: Files>(
     let mut bytes = Vec::new(alloc);
     let mut filled = 0;
     loop {
-        make_room(&mut bytes, filled, limit)?;
+        grow_to_read(&mut bytes, filled, limit)?;
         let count = read_at(files, &mut bytes, filled)?;
         if count == 0 {
             bytes.truncate(filled);
@@ -86,7 +86,7 @@ pub fn read_file<F: Files>(
 
 // Makes the buffer longer where it is filled, by as much as is filled, and by one byte past the
 // limit at most: a file that fills that byte is too long.
-fn make_room(bytes: &mut Vec<u8>, filled: usize, limit: usize) -> Result<(), AllocError>
+fn grow_to_read(bytes: &mut Vec<u8>, filled: usize, limit: usize) -> Result<(), AllocError>
     requires within { filled ≤ vec_len bytes.old }
     requires limited { vec_len bytes.old ≤ limit + 1 }
     requires going { filled ≤ limit }
@@ -110,7 +110,7 @@ fn read_at<F: Files>(files: &mut F, bytes: &mut [u8], at: usize) -> Result<usize
     ensures front { take at bytes.new ≡ take at bytes.old }
     ensures given { MatchResult result
         (λ n. (at + n ≤ length bytes.new)
-        × ((F.state files.old).left ≡ before_told (take n (drop at bytes.new)) (F.state files.new).left)
+        × ((F.state files.old).left ≡ then_known (take n (drop at bytes.new)) (F.state files.new).left)
         × (n ≡ 0 → IsAtEnd (F.state files.old).left))
         (λ _. (F.state files.new).left ≡ (F.state files.old).left) }
     ensures selected { IsTrue (F.state files.new).selected }

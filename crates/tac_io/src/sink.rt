@@ -2,13 +2,13 @@
 ghost use Rattle.std.specs.Prelude.{◌≡◌, ◌<◌, length};
 ghost use Rattle.tac_io.specs.Counts.{HasCause};
 ghost use Rattle.tac_io.specs.States.{SinkState};
-ghost use Rattle.tac_io.specs.Told.{Takes};
+ghost use Rattle.tac_io.specs.Known.{Takes};
 
 use crate::Failed;
 
 /// What bytes are written to.
 pub trait Sink {
-    /// The bytes that it took, where they are told, and the count of faults, which never falls and
+    /// The bytes that it took, where they are known, and the count of faults, which never falls and
     /// stays at its last value.
     ghost state: { Self → SinkState };
 

@@ -5,7 +5,7 @@ ghost use Rattle.std.specs.declared.option.Option.TheVariants.{Some};
 ghost use Rattle.tac_base.specs.declared.limits.TheConstants.{TICKS};
 ghost use Rattle.tac_io.specs.Counts.{HasCause};
 ghost use Rattle.tac_io.specs.States.{TickerState};
-ghost use Rattle.tac_io.specs.Told.{and_then_told};
+ghost use Rattle.tac_io.specs.Known.{known_then};
 
 use std::rt::Clock;
 use std::sync::Wait;
@@ -26,7 +26,7 @@ pub trait Ticker {
     ghost lapse_tick: { Self.Lapse → ℕ };
 
     /// The pace, if one was set, and the ticks that were waited for, each with whether it lapsed,
-    /// where they are told; and the count of faults, which never falls and stays at its last value.
+    /// where they are known; and the count of faults, which never falls and stays at its last value.
     ghost state: { Self → TickerState };
 
     /// Sets the pace, in milliseconds from a tick to the next.
@@ -42,7 +42,7 @@ pub trait Ticker {
             (λ due. due_tick due ≡ tick)
             (λ lapse. lapse_tick lapse ≡ tick) }
         ensures waited { (state self.new).waited
-            ≡ and_then_told (state self.old).waited ((tick, is_err result) ∷ []) }
+            ≡ known_then (state self.old).waited ((tick, is_err result) ∷ []) }
         ensures paced { (state self.new).paced ≡ (state self.old).paced }
         ensures cause { HasCause (state self.old).faults (state self.new).faults result };
 

@@ -1,7 +1,5 @@
 // Whole texts to a sink.
-ghost use Rattle.std.specs.Prelude.{◌≡◌, OnOk, OnErr};
-ghost use Rattle.tac_io.specs.Counts.{HasCause};
-ghost use Rattle.tac_io.specs.Told.{TakesSome, and_then_told};
+ghost use Rattle.tac_io.specs.Written.{WritesPiece};
 
 use crate::{Failed, Sink};
 
@@ -9,9 +7,7 @@ use crate::{Failed, Sink};
 /// `Failed` comes exactly where the sink counted a fault in this call. Then some of the first
 /// bytes were written, or none, but not all.
 pub fn write_all<K: Sink>(sink: &mut K, bytes: &[u8]) -> Result<(), Failed>
-    ensures whole { OnOk result ((K.state sink.new).taken ≡ and_then_told (K.state sink.old).taken bytes.now) }
-    ensures failed { OnErr result (TakesSome (K.state sink.old).taken (K.state sink.new).taken bytes.now) }
-    ensures cause { HasCause (K.state sink.old).faults (K.state sink.new).faults result }
+    ensures { WritesPiece bytes.now (K.state sink.old) (K.state sink.new) result }
 {
     let mut done = 0;
     while done < bytes.len() {

@@ -3,15 +3,15 @@ use Rattle.std.proofs.Common.{◌≡◌, ℕ, ◌<◌, Bool, true, false, List, 
 use Rattle.std.specs.Prelude.{◌==◌, MatchBool, nat_lt}
 use Rattle.std.proofs.lemmas.Bool.Decides.{nat_tests}
 use Rattle.tac_io.specs.States.{SinkState}
-use Rattle.game_log.specs.Taken.{TookWhole, TookPart}
+use Rattle.tac_io.specs.Taken.{TookWhole, TookPart}
 use Rattle.game_text.specs.Games.{GameFile}
 use Rattle.line_protocol.specs.Heads.{head_of}
 use Rattle.tacd.specs.declared.answer.Played.{Played}
 use Rattle.tac_commands.specs.declared.code.Code.{Code}
 use Rattle.tac_commands.specs.declared.code.Code.TheVariants.{Success}
-use Rattle.tac_commands.specs.Codes.{number_of}
+use Rattle.tac_commands.specs.Codes.{code_number}
 use Rattle.tac_commands.specs.Outcomes.{Outcome, Done, Lapsed, Unsound, Cut, Refused}
-use Rattle.tac_commands.specs.Telling.{Tells}
+use Rattle.tac_commands.specs.Reporting.{Reports}
 use Rattle.tacd.specs.Service.{IsLogOf, LogAllows, PlayedAllows, lapsed_code, missed_of}
 
 abbrev missed : Played → ℕ
@@ -19,7 +19,7 @@ missed played = missed_of (head_of played.head)
 
 -- the game's log was not written whole: whether ticks lapsed or not
 cut_off : (game : GameFile) (played : Played) (text : List ℕ) (sink sink' : SinkState) (code count : ℕ) → IsLogOf game played text → missed played ≡ count →
-    (code == 4) ≡ true → TookPart sink sink' text → (o : Outcome) × PlayedAllows game played o × Tells o sink sink' code
+    (code == 4) ≡ true → TookPart sink sink' text → (o : Outcome) × PlayedAllows game played o × Reports o sink sink' code
 cut_off game played text sink sink' code zero log is four told =
     (Done text, (log, is), subst (λ b. MatchBool b (TookPart sink sink' text) ((code ≡ 0) × TookWhole sink sink' text)) (sym four) told)
 cut_off game played text sink sink' code (suc n) log is four told =
@@ -27,14 +27,14 @@ cut_off game played text sink sink' code (suc n) log is four told =
 
 kept_by : (b : Bool) (game : GameFile) (played : Played) (text : List ℕ) (sink sink' : SinkState) (code : ℕ) → IsLogOf game played text → (code ≡ 0 → missed played ≡ 0) →
     (code == 4) ≡ b → MatchBool b (TookPart sink sink' text) ((code ≡ 0) × TookWhole sink sink' text) →
-    (o : Outcome) × PlayedAllows game played o × Tells o sink sink' code
+    (o : Outcome) × PlayedAllows game played o × Reports o sink sink' code
 kept_by true game played text sink sink' code log none four told = cut_off game played text sink sink' code (missed played) log refl four told
 kept_by false game played text sink sink' code log none four told =
     (Done text, (log, none told.0), subst (λ b. MatchBool b (TookPart sink sink' text) ((code ≡ 0) × TookWhole sink sink' text)) (sym four) told)
 
 -- the code stays if it is not 0, or no tick lapsed
-kept : (game : GameFile) (played : Played) (sink sink' : SinkState) (code : ℕ) (outcome : Outcome) → LogAllows game played outcome → Tells outcome sink sink' code →
-    (code ≡ 0 → missed played ≡ 0) → (o : Outcome) × PlayedAllows game played o × Tells o sink sink' code
+kept : (game : GameFile) (played : Played) (sink sink' : SinkState) (code : ℕ) (outcome : Outcome) → LogAllows game played outcome → Reports outcome sink sink' code →
+    (code ≡ 0 → missed played ≡ 0) → (o : Outcome) × PlayedAllows game played o × Reports o sink sink' code
 kept game played sink sink' code (Done text) log told none = kept_by (code == 4) game played text sink sink' code log none refl told
 kept game played sink sink' code (Lapsed text) log told none = absurd log
 kept game played sink sink' code (Unsound text) log told none = absurd log
@@ -42,19 +42,19 @@ kept game played sink sink' code (Cut text) first told none = (Cut text, first, 
 kept game played sink sink' code (Refused refusal) log told none = absurd log
 
 -- code 6 replaces 0 if a tick lapsed
-lapsed : (game : GameFile) (played : Played) (sink sink' : SinkState) (outcome : Outcome) → LogAllows game played outcome → Tells outcome sink sink' 0 →
-    0 < missed played → (o : Outcome) × PlayedAllows game played o × Tells o sink sink' 6
+lapsed : (game : GameFile) (played : Played) (sink sink' : SinkState) (outcome : Outcome) → LogAllows game played outcome → Reports outcome sink sink' 0 →
+    0 < missed played → (o : Outcome) × PlayedAllows game played o × Reports o sink sink' 6
 lapsed game played sink sink' (Done text) log told some = (Lapsed text, (log, some), (refl, told.1))
 lapsed game played sink sink' (Lapsed text) log told some = absurd log
 lapsed game played sink sink' (Unsound text) log told some = absurd log
 lapsed game played sink sink' (Cut text) first told some = let is = told.0 in absurd (omega (arith, is))
 lapsed game played sink sink' (Refused refusal) log told some = absurd log
 
--- the same for the code that is returned
+-- the code that is returned is 6 in place of 0 if a tick lapsed
 pub by_code : (game : GameFile) (played : Played) (sink sink' : SinkState) (count : ℕ) (code : Code) (outcome : Outcome) → LogAllows game played outcome →
-    Tells outcome sink sink' (number_of code) → missed played ≡ count → (o : Outcome) × PlayedAllows game played o × Tells o sink sink' (number_of (lapsed_code code count))
+    Reports outcome sink sink' (code_number code) → missed played ≡ count → (o : Outcome) × PlayedAllows game played o × Reports o sink sink' (code_number (lapsed_code code count))
 by_code game played sink sink' zero Success outcome log told is = kept game played sink sink' 0 outcome log told (λ none. is)
 by_code game played sink sink' (suc n) Success outcome log told is =
     let test : nat_lt 0 (suc n) ≡ true = grind (arith, nat_tests) in
     rw test (lapsed game played sink sink' outcome log told (omega (arith, is)))
-by_code game played sink sink' count code outcome log told is = kept game played sink sink' (number_of code) outcome log told (λ none. absurd (omega (arith, none)))
+by_code game played sink sink' count code outcome log told is = kept game played sink sink' (code_number code) outcome log told (λ none. absurd (omega (arith, none)))

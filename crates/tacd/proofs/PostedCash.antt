@@ -9,12 +9,12 @@ use Rattle.tac_base.specs.declared.calls.Trade.{Trade}
 use Rattle.game_text.specs.Games.{GameFile}
 use Rattle.auction_rules.specs.History.{Entry}
 use Rattle.auction_rules.specs.Effects.{all_trades, dollars}
-use Rattle.trade_ledger.specs.CashHistory.{total_of}
+use Rattle.trade_ledger.specs.CashHistory.{cash_total}
 use Rattle.trade_ledger.specs.Posts.{trades_of_all}
 use Rattle.trade_ledger.proofs.Matching.{dollars-append}
 use Rattle.auction_core.specs.Auctions.{AuctionHistory}
 use Rattle.auction_core.specs.ClosedGame.{ClosedGame}
-use Rattle.score_sheet.specs.Settlement.{cash_of}
+use Rattle.score_sheet.specs.Settlement.{cash_gained}
 use Rattle.line_protocol.specs.declared.asking.Request.{Request}
 use Rattle.line_protocol.specs.declared.asking.RequestFault.{RequestFault}
 use Rattle.line_protocol.specs.declared.saying.Said.{Said}
@@ -59,13 +59,13 @@ summed gained (auction ∷ auctions) party =
     )
 
 -- the cash of a party is the gain of all trades
-cash_is : (auctions : List AuctionHistory) (party : ℕ) → cash_of auctions party ≡ dollars (trades_of_all (map (λ (a : AuctionHistory). a.history) auctions)) party
+cash_is : (auctions : List AuctionHistory) (party : ℕ) → cash_gained auctions party ≡ dollars (trades_of_all (map (λ (a : AuctionHistory). a.history) auctions)) party
 cash_is auctions party = omega (arith, ints, summed (pos 0) auctions party)
 
 -- in a legal game the cash of each agent is the sum of its nets over all posts
 pub cash_of_posts : (game : GameFile) (closed : ClosedGame) → IsLegalGame game closed → IsCashOfPosts closed
 cash_of_posts game closed legal =
-    let each : (party : ℕ) → party ≤ 8 → cash_of closed.auctions party ≡ total_of closed.cash party = λ party low. cash_is closed.auctions party ∙ sym (legal.totals party low) in
+    let each : (party : ℕ) → party ≤ 8 → cash_gained closed.auctions party ≡ cash_total closed.cash party = λ party low. cash_is closed.auctions party ∙ sym (legal.totals party low) in
     λ i. each 0 (omega arith) i ∷ each 1 (omega arith) i ∷ each 2 (omega arith) i ∷ each 3 (omega arith) i ∷ each 4 (omega arith) i ∷ each 5 (omega arith) i ∷ each 6 (omega arith) i ∷ each 7 (omega arith) i ∷ []
 
 -- ---- the game of a service

@@ -3,7 +3,7 @@ use Rattle.std.proofs.Common.{◌≡◌, ◌≢◌, ℕ, ◌<◌, List, [], ◌�
 use Rattle.std.specs.Prelude.{◌⊎◌, Result}
 use Rattle.std.specs.Global.{Vec}
 use Rattle.tac_io.specs.Counts.{Rose}
-use Rattle.tac_io.specs.Told.{and_then_told}
+use Rattle.tac_io.specs.Known.{known_then}
 use Rattle.game_text.specs.Games.{GameFile}
 use Rattle.line_protocol.specs.declared.asking.Request.{Request}
 use Rattle.line_protocol.specs.declared.asking.RequestFault.{RequestFault}
@@ -20,31 +20,31 @@ use Rattle.tac_commands.specs.Allowed.{Allows, IsServiceEnd}
 use Rattle.tac_commands.specs.Causes.{LinkFaultExactly, ClockFaultExactly}
 use Rattle.tac_commands.specs.Outsides.{Outside}
 use Rattle.tacd.specs.Service.{Serves, ServesGame, ServeAllows, answers_by, missed_of, texts_by}
-use Rattle.tac_commands.proofs.CodedOutcomes.{IsCoded, coded, told_only}
+use Rattle.tac_commands.proofs.CodedOutcomes.{IsCoded, coded, explained_only}
 use Rattle.tac_commands.proofs.FileCauses.{no_link_refusal}
 
 -- ---- what the codes say of the counts
 
 -- the code is that of a fault that was counted, or the count is as before
-abbrev IsTold : ℕ → ℕ → ℕ → ℕ → Type 0
-IsTold due before now code = ((code ≡ due) × Rose before now) ⊎ ((code ≢ due) × (now ≡ before))
+abbrev IsExplained : ℕ → ℕ → ℕ → ℕ → Type 0
+IsExplained due before now code = ((code ≡ due) × Rose before now) ⊎ ((code ≢ due) × (now ≡ before))
 
 -- 6 is the code of an outcome where a tick lapsed and memory sufficed
 abbrev IsTimed : ℕ → ℕ → ℕ → Type 0
 IsTimed before now code = ((code ≡ 6) × Rose before now) ⊎ ((code ≢ 6) × (now ≡ before)) ⊎ (code ≡ 7)
 
-link_exactly : {L : Type 0} (links links' : LinksState L) (sink sink' : SinkState) (code : ℕ) (outcome : Outcome) → IsTold 5 links.faults links'.faults (code_of outcome) →
+link_exactly : {L : Type 0} (links links' : LinksState L) (sink sink' : SinkState) (code : ℕ) (outcome : Outcome) → IsExplained 5 links.faults links'.faults (code_of outcome) →
     IsCoded sink sink' code outcome → LinkFaultExactly links links' code
 link_exactly links links' sink sink' code outcome told either = record {
-  only = told_only sink sink' code outcome 5 (Rose links.faults links'.faults) (λ e. absurd (omega (arith, e))) (λ is. only_five told is) either;
+  only = explained_only sink sink' code outcome 5 (Rose links.faults links'.faults) (λ e. absurd (omega (arith, e))) (λ is. only_five told is) either;
   always = λ rose. five_or_four told either rose;
 }
   where
-    only_five : IsTold 5 links.faults links'.faults (code_of outcome) → code_of outcome ≡ 5 → Rose links.faults links'.faults
+    only_five : IsExplained 5 links.faults links'.faults (code_of outcome) → code_of outcome ≡ 5 → Rose links.faults links'.faults
     only_five (inl fault) is = fault.1
     only_five (inr same) is = absurd (same.0 is)
 
-    five_or_four : IsTold 5 links.faults links'.faults (code_of outcome) → IsCoded sink sink' code outcome → links.faults < links'.faults → (code ≡ 5) ⊎ (code ≡ 4)
+    five_or_four : IsExplained 5 links.faults links'.faults (code_of outcome) → IsCoded sink sink' code outcome → links.faults < links'.faults → (code ≡ 5) ⊎ (code ≡ 4)
     five_or_four cause (inl four) rose = inr four.0
     five_or_four (inl fault) (inr same) rose = inl (same ∙ fault.0)
     five_or_four (inr quiet) (inr same) rose = absurd (omega (arith, quiet.1, rose))
@@ -52,7 +52,7 @@ link_exactly links links' sink sink' code outcome told either = record {
 clock_exactly : (ticker ticker' : TickerState) (sink sink' : SinkState) (code : ℕ) (outcome : Outcome) → IsTimed ticker.faults ticker'.faults (code_of outcome) → IsCoded sink sink' code outcome →
     ClockFaultExactly ticker ticker' code
 clock_exactly ticker ticker' sink sink' code outcome told either = record {
-  only = told_only sink sink' code outcome 6 (Rose ticker.faults ticker'.faults) (λ e. absurd (omega (arith, e))) (λ is. only_six told is) either;
+  only = explained_only sink sink' code outcome 6 (Rose ticker.faults ticker'.faults) (λ e. absurd (omega (arith, e))) (λ is. only_six told is) either;
   always = λ rose. some_code told either rose;
 }
   where
@@ -84,7 +84,7 @@ module _ {L : Type 0} (state : L → LinkState) (may_answer : List ℕ → Resul
   ended_so None (Refused Memory) plays = tt
   ended_so None outcome plays = absurd plays
 
-  link_game : (played : Option Played) (outcome : Outcome) → AreServed played outcome → IsTold 5 links.faults links'.faults (code_of outcome)
+  link_game : (played : Option Played) (outcome : Outcome) → AreServed played outcome → IsExplained 5 links.faults links'.faults (code_of outcome)
   link_game (Some played) (Done text') plays = inr (omega arith, plays.0.no_fault)
   link_game (Some played) (Lapsed text') plays = inr (omega arith, plays.0.no_fault)
   link_game (Some played) (Cut text') plays = inr (omega arith, plays.0.no_fault)
@@ -115,7 +115,7 @@ no_clock_fault ticker sink sink' code outcome not either = clock_exactly ticker 
 
 module _ {L : Type 0} (state : L → LinkState) (service : Service) (before after : Outside L) where
   -- what the service leaves is among what the words and the files allow
-  pub allowed : (played : Option Played) (ended : Vec L) (outcome : Outcome) → after.files.names ≡ and_then_told before.files.names (service.game ∷ []) →
+  pub allowed : (played : Option Played) (ended : Vec L) (outcome : Outcome) → after.files.names ≡ known_then before.files.names (service.game ∷ []) →
       ServeAllows state service before after played ended outcome → Allows (Some (Serve service)) before.files after.files outcome
   allowed played ended outcome selected (inl serves) = inl (
     serves.0,
@@ -129,20 +129,20 @@ module _ {L : Type 0} (state : L → LinkState) (service : Service) (before afte
 
   -- ---- the faults of the links and of the ticker
 
-  link_told : (played : Option Played) (ended : Vec L) (outcome : Outcome) → ServeAllows state service before after played ended outcome →
-      IsTold 5 before.links.faults after.links.faults (code_of outcome)
-  link_told played ended outcome (inl serves) =
+  link_explained : (played : Option Played) (ended : Vec L) (outcome : Outcome) → ServeAllows state service before after played ended outcome →
+      IsExplained 5 before.links.faults after.links.faults (code_of outcome)
+  link_explained played ended outcome (inl serves) =
       link_game state (answers_by service.form) (texts_by service.form) serves.0 service.port service.pace before.links after.links before.ticker after.ticker ended played outcome serves.2
-  link_told played ended outcome (inr refuses) = inr (
+  link_explained played ended outcome (inr refuses) = inr (
     (λ five. (no_link_refusal before.files after.files Game service.game refuses.0 refuses.2).0 (ap code_of (sym refuses.1) ∙ five)),
     ap (λ l. l.faults) refuses.3,
   )
 
-  clock_told : (played : Option Played) (ended : Vec L) (outcome : Outcome) → ServeAllows state service before after played ended outcome →
+  clock_explained : (played : Option Played) (ended : Vec L) (outcome : Outcome) → ServeAllows state service before after played ended outcome →
       IsTimed before.ticker.faults after.ticker.faults (code_of outcome)
-  clock_told played ended outcome (inl serves) =
+  clock_explained played ended outcome (inl serves) =
       clock_game state (answers_by service.form) (texts_by service.form) serves.0 service.port service.pace before.links after.links before.ticker after.ticker ended played outcome serves.2
-  clock_told played ended outcome (inr refuses) = inr (inl (
+  clock_explained played ended outcome (inr refuses) = inr (inl (
     (λ six. (no_link_refusal before.files after.files Game service.game refuses.0 refuses.2).1 (ap code_of (sym refuses.1) ∙ six)),
     ap (λ t. t.faults) refuses.4,
   ))
@@ -150,9 +150,9 @@ module _ {L : Type 0} (state : L → LinkState) (service : Service) (before afte
   -- ---- the codes
 
   pub link_fault : (answer : Answer L) → Serves state service before after answer → LinkFaultExactly before.links after.links answer.code
-  link_fault answer (outcome, allows, tells) =
-      link_exactly before.links after.links before.out after.out answer.code outcome (link_told answer.played answer.ended outcome allows) (coded outcome before.out after.out answer.code tells)
+  link_fault answer (outcome, allows, reports) =
+      link_exactly before.links after.links before.out after.out answer.code outcome (link_explained answer.played answer.ended outcome allows) (coded outcome before.out after.out answer.code reports)
 
   pub clock_fault : (answer : Answer L) → Serves state service before after answer → ClockFaultExactly before.ticker after.ticker answer.code
-  clock_fault answer (outcome, allows, tells) =
-      clock_exactly before.ticker after.ticker before.out after.out answer.code outcome (clock_told answer.played answer.ended outcome allows) (coded outcome before.out after.out answer.code tells)
+  clock_fault answer (outcome, allows, reports) =
+      clock_exactly before.ticker after.ticker before.out after.out answer.code outcome (clock_explained answer.played answer.ended outcome allows) (coded outcome before.out after.out answer.code reports)

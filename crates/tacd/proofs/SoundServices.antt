@@ -37,17 +37,17 @@ use Rattle.game_log.specs.ScoredGames.{IsSheetOf}
 use Rattle.game_run.specs.Admission.{free_seats, seats_given, CameTo}
 use Rattle.game_run.specs.LinkRuns.{IsSeated}
 use Rattle.tac_io.specs.States.{LinkState, LinksState, TickerState}
-use Rattle.game_run.specs.Outcomes.{IsPlayed, IsEnd}
-use Rattle.game_run.specs.PlayedGame.{parts_of, IsAbsent, IsPlayedBy}
-use Rattle.game_run.proofs.SeatPlaces.{seat_was_free}
+use Rattle.game_run.specs.Outcomes.{IsPlayedOver, IsGameEnd}
+use Rattle.game_run.specs.PlayedGame.{caller_parts, IsAbsent, IsPlayedBy}
+use Rattle.game_run.proofs.KeptSeats.{seat_was_free}
 use Rattle.game_run.specs.declared.run.GameEnd.{GameEnd}
-use Rattle.script_run.specs.LawfulGames.{history_at, calls_by, IsLawfulGame}
+use Rattle.script_run.specs.LawfulGames.{closed_history, calls_by, IsLawfulGame}
 use Rattle.tac_commands.specs.Outcomes.{Outcome, Done, Lapsed, Unsound, Cut, Refused}
-use Rattle.tac_commands.specs.SoundTexts.{told_of, EndsInSoundLog}
+use Rattle.tac_commands.specs.SoundTexts.{log_of_game, EndsInSoundLog}
 use Rattle.tac_commands.proofs.SoundLogs.{text_is, ends_soundly}
 use Rattle.tacd.specs.declared.answer.Played.{Played}
 use Rattle.tacd.specs.Service.{IsLogOf, PlayedAllows}
-use Rattle.tacd.specs.SoundLogs.{IsSoundLogOf, TellsSoundly}
+use Rattle.tacd.specs.SoundLogs.{IsSoundLogOf, ReportsSoundly}
 use Rattle.tacd.proofs.SeatedOnce.{is_taken, taken_after, given_once, same_kept}
 
 -- ---- a caller without a part has no entry
@@ -83,20 +83,20 @@ module _ (game : GameFile) (verdicts : List Verdict) (ends : List (ℕ × Cause)
       ∙ (ap (λ (l : List Setup). get_or l good (setup_of good game)) played.legal_game.setups
       ∙ get_or-map-range_with_len (λ (g : ℕ). setup_of g game) 0 28 good good (setup_of good game) low (omega arith))
 
-  history_there : (good : ℕ) → good < 28 → history_at closed good ≡ (auction_at good).history
+  history_there : (good : ℕ) → good < 28 → closed_history closed good ≡ (auction_at good).history
   history_there good low = get_or-map (λ (a : AuctionHistory). a.history) closed.auctions good (none_at good) [] (inside good low)
 
-  part_there : (good caller : ℕ) → good < 28 → get_or (parts_of closed caller) good [] ≡ part (λ (e : Entry). e.caller) (history_at closed good) caller
+  part_there : (good caller : ℕ) → good < 28 → get_or (caller_parts closed caller) good [] ≡ part (λ (e : Entry). e.caller) (closed_history closed good) caller
   part_there good caller low =
       get_or-map (λ (a : AuctionHistory). part (λ (e : Entry). e.caller) a.history caller) closed.auctions good (none_at good) [] (inside good low)
       ∙ ap (λ (h : List Entry). part (λ (e : Entry). e.caller) h caller) (sym (history_there good low))
 
-  on_schedule : (good : ℕ) → good < 28 → calls_by clock (history_at closed good) ≡ clock_calls game good
+  on_schedule : (good : ℕ) → good < 28 → calls_by clock (closed_history closed good) ≡ clock_calls game good
   on_schedule good low =
       let calls = λ (p : List (ℕ × Entry)). map (λ (q : ℕ × Entry). q.1.call) p in
-      let wide : length (parts_of closed clock) ≡ 28 = length-map closed.auctions (λ (a : AuctionHistory). part (λ (e : Entry). e.caller) a.history clock) ∙ count in
+      let wide : length (caller_parts closed clock) ≡ 28 = length-map closed.auctions (λ (a : AuctionHistory). part (λ (e : Entry). e.caller) a.history clock) ∙ count in
       ap calls (sym (part_there good clock low))
-      ∙ (sym (get_or-map calls (parts_of closed clock) good [] [] (omega (arith, low, wide)))
+      ∙ (sym (get_or-map calls (caller_parts closed clock) good [] [] (omega (arith, low, wide)))
       ∙ (ap (λ (l : List (List Call)). get_or l good []) played.scheduled
       ∙ get_or-map-range_with_len (clock_calls game) 0 28 good good [] low (omega arith)))
 
@@ -112,9 +112,9 @@ module _ (game : GameFile) (verdicts : List Verdict) (ends : List (ℕ × Cause)
   }
 
   -- an agent without a seat has no entry
-  absent : (head : Head) (sheet : List Scored) (agent : ℕ) → IsAbsent closed agent → sound.IsAbsent (told_of head closed sheet) agent
+  absent : (head : Head) (sheet : List Scored) (agent : ℕ) → IsAbsent closed agent → sound.HasNoEntry (log_of_game head closed sheet) agent
   absent head sheet agent none = record {
-    calls = λ good low. none_of (λ (e : Entry). e.caller) agent 0 (history_at closed good)
+    calls = λ good low. none_of (λ (e : Entry). e.caller) agent 0 (closed_history closed good)
         (sym (part_there good agent low) ∙ (ap (λ (l : List (List (ℕ × Entry))). get_or l good []) none.calls ∙ get_or-replicate 28 good [] [] low));
     cash = none_of (λ (e : CashEntry). e.caller) agent 0 closed.cash none.cash;
   }
@@ -136,7 +136,7 @@ few_missed ticker ticker' missed all =
 
 module _ {L : Type 0} (state : L → LinkState) (may_answer : List ℕ → Result Request RequestFault → Type 0) (text : Said → List ℕ) (game : GameFile)
     (pending pending' : Option (List L)) (verdicts : List Verdict) (ends : List (ℕ × Cause)) (closed : ClosedGame) (links : List L)
-    (played : IsPlayed state may_answer text game pending pending' verdicts ends closed links) where
+    (played : IsPlayedOver state may_answer text game pending pending' verdicts ends closed links) where
   -- an agent's seat is taken if it was given
   seat_is : (agent : ℕ) → agent ≤ 7 → is_taken (seats_given game verdicts) agent ≡ nat_lt 0 (seatings verdicts agent)
   seat_is agent low =
@@ -149,12 +149,12 @@ module _ {L : Type 0} (state : L → LinkState) (may_answer : List ℕ → Resul
       agent (omega (arith, low)) played.admitted in
       omega (arith, given)
 
-  each_end : map (λ (end : ℕ × Cause). end.0) ends ≡ sound.seated_agents verdicts
+  each_end : map (λ (end : ℕ × Cause). end.0) ends ≡ sound.logged_seats verdicts
   each_end = played.played.each_end
       ∙ same_kept (is_taken (seats_given game verdicts)) (λ agent. nat_lt 0 (seatings verdicts agent)) agents
       (seat_is 0 (omega arith), (seat_is 1 (omega arith), (seat_is 2 (omega arith), (seat_is 3 (omega arith), (seat_is 4 (omega arith), (seat_is 5 (omega arith), (seat_is 6 (omega arith), (seat_is 7 (omega arith), tt))))))))
 
-  pub service : (missed : ℕ) (sheet : List Scored) → missed ≤ 54 → IsService (told_of (Serve verdicts ends missed) closed sheet) verdicts ends missed
+  pub service : (missed : ℕ) (sheet : List Scored) → missed ≤ 54 → IsService (log_of_game (Serve verdicts ends missed) closed sheet) verdicts ends missed
   service missed sheet few = record {
     few_links = few_links verdicts pending' 64 (λ lt. (played.all.no_more 64 lt).0) refl;
     seats_differ = once;
@@ -166,17 +166,17 @@ module _ {L : Type 0} (state : L → LinkState) (may_answer : List ℕ → Resul
 
 -- a game that was played over links, with a sheet of it
 served_soundly : {L : Type 0} (state : L → LinkState) (may_answer : List ℕ → Result Request RequestFault → Type 0) (text : Said → List ℕ) (game : GameFile) (port : ℕ)
-    (links links' : LinksState L) (ticker ticker' : TickerState) (end : GameEnd L) (sheet : List Scored) (told : List ℕ) → IsEnd state may_answer text game port links links' ticker ticker' end →
-    IsShowable game (head_of end.head) end.closed → IsSheetOf game end.closed sheet → told ≡ logged_text (told_of (head_of end.head) end.closed sheet) → EndsInSoundLog game (told_of (head_of end.head) end.closed sheet) [] told
+    (links links' : LinksState L) (ticker ticker' : TickerState) (end : GameEnd L) (sheet : List Scored) (told : List ℕ) → IsGameEnd state may_answer text game port links links' ticker ticker' end →
+    IsShowable game (head_of end.head) end.closed → IsSheetOf game end.closed sheet → told ≡ logged_text (log_of_game (head_of end.head) end.closed sheet) → EndsInSoundLog game (log_of_game (head_of end.head) end.closed sheet) [] told
 served_soundly state may_answer text game port links links' ticker ticker' end sheet told is shown scores due =
     ends_soundly game (head_of end.head) end.closed sheet [] told (lawful game is.verdicts is.ends end.closed is.played.played) scores
-    (subst (λ (h : Head). IsSoundHead (told_of h end.closed sheet) h) (sym is.head)
+    (subst (λ (h : Head). IsSoundHead (log_of_game h end.closed sheet) h) (sym is.head)
     (service state may_answer text game links.pending links'.pending is.verdicts is.ends end.closed end.links.items is.played is.missed sheet (few_missed ticker ticker' is.missed is.waits)))
     shown due
 
 module _ {L : Type 0} (state : L → LinkState) (may_answer : List ℕ → Result Request RequestFault → Type 0) (text : Said → List ℕ) (game : GameFile) (port : ℕ)
     (links links' : LinksState L) (ticker ticker' : TickerState) (played : Played) (ended : Vec L)
-    (is : IsEnd state may_answer text game port links links' ticker ticker' (record { closed = played.closed; head = played.head; links = ended }))
+    (is : IsGameEnd state may_answer text game port links links' ticker ticker' (record { closed = played.closed; head = played.head; links = ended }))
     (shown : IsShowable game (head_of played.head) played.closed) where
   log_soundly : (told : List ℕ) → IsLogOf game played told → IsSoundLogOf game played told
   log_soundly told log = (
@@ -186,9 +186,9 @@ module _ {L : Type 0} (state : L → LinkState) (may_answer : List ℕ → Resul
   )
 
   -- the log of that game that is written is sound
-  pub tells_soundly : (outcome : Outcome) → PlayedAllows game played outcome → TellsSoundly game played outcome
-  tells_soundly (Done told) allows = log_soundly told allows.0
-  tells_soundly (Lapsed told) allows = log_soundly told allows.0
-  tells_soundly (Unsound told) allows = tt
-  tells_soundly (Cut told) allows = tt
-  tells_soundly (Refused refusal) allows = tt
+  pub reports_soundly : (outcome : Outcome) → PlayedAllows game played outcome → ReportsSoundly game played outcome
+  reports_soundly (Done told) allows = log_soundly told allows.0
+  reports_soundly (Lapsed told) allows = log_soundly told allows.0
+  reports_soundly (Unsound told) allows = tt
+  reports_soundly (Cut told) allows = tt
+  reports_soundly (Refused refusal) allows = tt

@@ -6,7 +6,7 @@ use Rattle.game_log.specs.SheetText.{sheet_part}
 use Rattle.game_log.specs.declared.fault.LogWriteFault.TheVariants as log
 use Rattle.game_log.proofs.Writing.{then_whole, then_some}
 use Rattle.game_log.specs.SheetWritten.{WritesSheet}
-use Rattle.game_log.specs.Taken.{TookWhole}
+use Rattle.tac_io.specs.Taken.{TookWhole}
 use Rattle.tacd.specs.declared.answer.Played.{Played}
 use Rattle.tac_commands.specs.declared.ends.End.TheVariants as ends
 use Rattle.tac_commands.specs.Ends.{EndsOrIsCut}

@@ -20,7 +20,7 @@ use Rattle.line_protocol.specs.Heads.{Head, Play, Serve, head_of}
 use Rattle.game_log.specs.LogText.{play_part}
 use Rattle.game_log.specs.SheetText.{log_text}
 use Rattle.game_log.specs.ScoredGames.{IsSheetOf}
-use Rattle.game_run.specs.Outcomes.{IsEnd, IsNotPlayed}
+use Rattle.game_run.specs.Outcomes.{IsGameEnd, IsNotPlayed}
 use Rattle.tacd.specs.declared.answer.Answer.{Answer}
 use Rattle.tacd.specs.declared.answer.Played.{Played}
 use Rattle.tac_commands.specs.declared.code.Code.{Code}
@@ -33,8 +33,8 @@ use Rattle.tac_commands.specs.FileKinds.{game_refusal}
 use Rattle.tac_commands.specs.Outcomes.{Outcome, Done, Lapsed, Unsound, Cut, Refused}
 use Rattle.tac_commands.specs.Outsides.{Outside}
 use Rattle.tac_commands.specs.Services.{Service}
-use Rattle.tac_commands.specs.Telling.{Tells}
-use Rattle.tacd.specs.SoundLogs.{TellsSoundly}
+use Rattle.tac_commands.specs.Reporting.{Reports}
+use Rattle.tacd.specs.SoundLogs.{ReportsSoundly}
 
 -- ---- the game file
 
@@ -112,8 +112,8 @@ module _ {L : Type 0} (state : L → LinkState) where
   abbrev pub ServesGame : (List ℕ → Result Request RequestFault → Type 0) → (Said → List ℕ) → GameFile → ℕ → ℕ → LinksState L → LinksState L
       → TickerState → TickerState → Option Played → Vec L → Outcome → Type 0
   ServesGame may_answer text game port pace links links' ticker ticker' (Some played) ended outcome =
-      IsEnd state may_answer text game port links links' (at_pace pace ticker) ticker' (record { closed = played.closed; head = played.head; links = ended })
-      × PlayedAllows game played outcome × TellsSoundly game played outcome
+      IsGameEnd state may_answer text game port links links' (at_pace pace ticker) ticker' (record { closed = played.closed; head = played.head; links = ended })
+      × PlayedAllows game played outcome × ReportsSoundly game played outcome
   ServesGame may_answer text game port pace links links' ticker ticker' None ended (Refused LinkFault) =
       IsNotPlayed state game port links links' ended.items × (ticker' ≡ at_pace pace ticker)
   ServesGame may_answer text game port pace links links' ticker ticker' None ended (Refused Memory) =
@@ -132,4 +132,4 @@ module _ {L : Type 0} (state : L → LinkState) where
   -- the service of that game left the outside so, wrote what is due, and answered so
   abbrev pub Serves : Service → Outside L → Outside L → Answer L → Type 0
   Serves service before after answer =
-      (outcome : Outcome) × ServeAllows service before after answer.played answer.ended outcome × Tells outcome before.out after.out answer.code
+      (outcome : Outcome) × ServeAllows service before after answer.played answer.ended outcome × Reports outcome before.out after.out answer.code

@@ -1,6 +1,6 @@
 // What a command leaves.
 ghost use Rattle.std.specs.Prelude.{◌≡◌, [], None};
-ghost use Rattle.tac_commands.specs.Codes.{number_of};
+ghost use Rattle.tac_commands.specs.Codes.{code_number};
 
 use auction_core::Closed;
 use game_log::LogHead;
@@ -25,7 +25,7 @@ pub struct Answer<L> {
 
 /// The code alone.
 pub(crate) fn coded<L>(alloc: Global, code: Code) -> Answer<L>
-    ensures code { result.code ≡ number_of code }
+    ensures code { result.code ≡ code_number code }
     ensures ended { result.ended.items ≡ [] }
     ensures played { result.played ≡ None }
 {

@@ -1,17 +1,17 @@
 // The command that serves a game over links.
 ghost use Rattle.std.specs.Prelude.{◌≡◌, ◌<◌, ◌≤◌, ◌∷◌, [], length, IfSome};
 ghost use Rattle.tac_base.specs.declared.limits.TheConstants.{FILE_NAMES, NAME_BYTES};
-ghost use Rattle.tac_io.specs.Told.{and_then_told};
-ghost use Rattle.tac_commands.specs.Codes.{number_of};
+ghost use Rattle.tac_io.specs.Known.{known_then};
+ghost use Rattle.tac_commands.specs.Codes.{code_number};
 ghost use Rattle.tac_commands.specs.Commands.{seen_service};
 ghost use Rattle.tac_commands.specs.Ends.{EndsOrIsCut};
-ghost use Rattle.tac_commands.specs.Telling.{Tells};
+ghost use Rattle.tac_commands.specs.Reporting.{Reports};
 ghost use Rattle.tac_commands.specs.Outcomes.{Outcome};
 ghost use Rattle.tacd.specs.Service as service;
 ghost use Rattle.tac_commands.specs.Outsides.{outside_of};
 ghost use Rattle.tacd.specs.Service.{LogAllows, first_part, PlayedAllows, Serves, ServesGame, missed_of};
 ghost use Rattle.line_protocol.specs.Heads.{head_of};
-ghost use Rattle.game_log.specs.Written.{Writes};
+ghost use Rattle.tac_io.specs.Written.{WritesPiece};
 
 use crate::answer::{Answer, Played, coded};
 use agent_gate::{Dialect, LineDialect};
@@ -29,7 +29,7 @@ use tac_io::{Failed, Files, Links, Sink, Ticker};
 
 /// Writes the first part of the log of a game that was played.
 fn write_first<K: Sink>(out: &mut K, played: &Played) -> Result<(), Failed>
-    ensures { Writes (first_part played.now) (K.state out.old) (K.state out.new) result }
+    ensures { WritesPiece (first_part played.now) (K.state out.old) (K.state out.new) result }
 {
     write_play_part(out, &played.head, &played.closed)
 }
@@ -82,7 +82,7 @@ fn finish_played<R: Threads + Sync, K: Sink>(
     played: &Played,
     out: &mut K,
 ) -> Code
-    ensures { (outcome : Outcome) × PlayedAllows game.now played.now outcome × Tells outcome (K.state out.old) (K.state out.new) (number_of result) }
+    ensures { (outcome : Outcome) × PlayedAllows game.now played.now outcome × Reports outcome (K.state out.old) (K.state out.new) (code_number result) }
 {
     let end = write_log(rt, alloc, game, played, out);
     let code = finish(out, end);
@@ -113,7 +113,7 @@ fn serve_game<
         × ServesGame N.Link.state (D.may_answer dialect.now) (D.text dialect.now)
         game.now port pace (N.state links.old) (N.state links.new)
         (T.state ticker.old) (T.state ticker.new) result.played result.ended outcome
-        × Tells outcome (K.state out.old) (K.state out.new) result.code }
+        × Reports outcome (K.state out.old) (K.state out.new) result.code }
 {
     ticker.pace(pace);
     match run_game(rt, alloc, game, port, dialect, links, ticker) {
@@ -170,7 +170,7 @@ pub(crate) fn serve<
     ensures outcome { Serves N.Link.state (seen_service service.entry)
         (outside_of (F.state files.old) (K.state out.old) (N.state links.old) (T.state ticker.old))
         (outside_of (F.state files.new) (K.state out.new) (N.state links.new) (T.state ticker.new)) result }
-    ensures names { (F.state files.new).names ≡ and_then_told (F.state files.old).names (service.entry.game.now ∷ []) }
+    ensures names { (F.state files.new).names ≡ known_then (F.state files.old).names (service.entry.game.now ∷ []) }
 {
     match read_value::<Game, F>(alloc, files, service.game) {
         Ok(game) => match service.form {

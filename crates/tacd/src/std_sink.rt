@@ -2,7 +2,7 @@
 ghost use Rattle.std.specs.Prelude.{◌≡◌, ◌<◌, None, length};
 ghost use Rattle.std.specs.Io.KnownBytes.{WriteAppends};
 ghost use Rattle.tac_io.specs.Counts.{HasCause};
-ghost use Rattle.tac_io.specs.Told.{Takes};
+ghost use Rattle.tac_io.specs.Known.{Takes};
 
 use std::io::Write;
 use tac_io::{Failed, Sink};

@@ -6,7 +6,7 @@ ghost use Rattle.tac_commands.specs.Cash.{IsCashOfPosts};
 ghost use Rattle.tac_commands.specs.Commands.{command_of};
 ghost use Rattle.tac_commands.specs.Services.{service_of};
 ghost use Rattle.tac_commands.specs.Allowed.{Allows};
-ghost use Rattle.tac_commands.specs.Telling.{Tells};
+ghost use Rattle.tac_commands.specs.Reporting.{Reports};
 ghost use Rattle.tac_commands.specs.Outcomes.{Outcome};
 ghost use Rattle.tac_commands.specs.Selected.{Selects};
 ghost use Rattle.tac_commands.specs.Outsides.{outside_of};
@@ -39,7 +39,7 @@ pub fn tac<R: Threads + Sync + Wait + Clock, F: Files, K: Sink, N: Links, T: Tic
     // The outcome is one that the words and the files allow, and the files that were selected are those that it implies.
     ensures outcome { (outcome : Outcome)
         × Allows (command_of (map (λ word. string_bytes word) words.now)) (F.state files.old) (F.state files.new) outcome
-        × Tells outcome (K.state out.old) (K.state out.new) result.code }
+        × Reports outcome (K.state out.old) (K.state out.new) result.code }
     // A game over links: the log shows what was played, and what each link asked and was sent.
     ensures service { IfSome (service_of (map (λ word. string_bytes word) words.now)) (λ service. Serves N.Link.state service
         (outside_of (F.state files.old) (K.state out.old) (N.state links.old) (T.state ticker.old))

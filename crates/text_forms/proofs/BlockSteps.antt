@@ -7,7 +7,7 @@ use Rattle.std.proofs.lemmas.Bool.{eq-eqb, eqb-true}
 use Rattle.std.proofs.lemmas.List.{length-append, append-nil}
 use Rattle.std.proofs.lemmas.List.Splits.{join_with_byte-slice_split}
 use Rattle.text_forms.specs.Words.{parts_of}
-use Rattle.text_forms.specs.Lines.{NumberedLine, Remaining, is_comment, lines_from, after_line, block_in}
+use Rattle.text_forms.specs.Lines.{NumberedLine, Remaining, is_comment, lines_from, with_line, block_in}
 use Rattle.text_forms.specs.Blocks.{block_at}
 use Rattle.text_forms.proofs.Stepping.{has_part, chosen, one_line}
 
@@ -19,7 +19,7 @@ behind_behind : (front more : List ℕ) (block : Option (List ℕ × Remaining))
 behind_behind front more None = refl
 behind_behind front more (Some b) = ap (λ (bytes : List ℕ). Some (bytes, b.1)) (sym (append_assoc front more b.0))
 
-with_end : (line : List ℕ) (block : Option (List ℕ × Remaining)) → option_map (after_line line) block ≡ behind (line ++ 10 ∷ []) block
+with_end : (line : List ℕ) (block : Option (List ℕ × Remaining)) → option_map (with_line line) block ≡ behind (line ++ 10 ∷ []) block
 with_end line None = refl
 with_end line (Some b) = ap (λ (bytes : List ℕ). Some (bytes, b.1)) (sym (append_assoc line (10 ∷ []) b.0))
 

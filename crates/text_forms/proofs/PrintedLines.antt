@@ -12,7 +12,7 @@ use Rattle.tac_base.proofs.NumeralLaws.{both_true}
 use Rattle.tac_base.proofs.Signed.{Lacks}
 use Rattle.text_forms.specs.declared.rows.Column.{Column}
 use Rattle.text_forms.specs.Words.{parts_of}
-use Rattle.text_forms.specs.Lines.{NumberedLine, Remaining, is_comment, lines_from, text_of, AreLeft}
+use Rattle.text_forms.specs.Lines.{NumberedLine, Remaining, is_comment, lines_from, text_of, AreLinesLeft}
 use Rattle.text_forms.specs.Steps.{lines_of_parts}
 use Rattle.text_forms.specs.Rows.{most_digits, is_in, all_in, row_text}
 use Rattle.text_forms.proofs.Joins.{parts_more}
@@ -140,7 +140,7 @@ as_numbered [] = refl
 as_numbered (line ∷ lines) = ap (λ (ls : List NumberedLine). line ∷ ls) (as_numbered lines)
 
 -- lines that are left are ahead, whatever their numbers
-pub left_ahead : (lines : List (List ℕ)) (left : Remaining) → AreLeft lines left → (m : ℕ) × (numbers : List ℕ) × (left ≡ ahead numbers lines (at_end m))
+pub left_ahead : (lines : List (List ℕ)) (left : Remaining) → AreLinesLeft lines left → (m : ℕ) × (numbers : List ℕ) × (left ≡ ahead numbers lines (at_end m))
 unfolding at_end remaining
 left_ahead lines left are =
     let numbers = map (λ line. line.number) left.lines in

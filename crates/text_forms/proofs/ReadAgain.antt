@@ -15,7 +15,7 @@ line_again form numbers line lines after x h = rw h refl
 unfoldable pub Again : {A : Type 0} → (ℕ → Remaining → Result (A × Remaining) BadLine) → (ℕ → A → List (List ℕ)) → (A → Type 0) → ℕ → Type 0
 Again {A} step lines P most = (i : ℕ) (x : A) → i < most → P x → (numbers : List ℕ) (more : List (List ℕ)) (after : Remaining) → (m : List ℕ) × (step i (ahead numbers (lines i x ++ more) after) ≡ Ok (x, ahead m more after))
 
--- the same of a line
+-- a step that reads one line reads what was printed of it
 pub line_part_again : {A : Type 0} (form : ℕ → List ℕ → Result A Reason) (text : ℕ → A → List ℕ) (P : A → Type 0) (most : ℕ) → ((i : ℕ) (x : A) → i < most → P x → form i (text i x) ≡ Ok x) → Again (λ i left. read_by (form i) left) (λ i x. text i x ∷ []) P most
 unfolding Again
 line_part_again form text P most again i x lt is numbers more after = (drop 1 numbers, line_again (form i) numbers (text i x) more after x (again i x lt is))

@@ -6,7 +6,7 @@ use Rattle.std.proofs.lemmas.List.Elements.{All-nil, All-cons}
 use Rattle.text_forms.specs.declared.lines.Reason.{Reason}
 use Rattle.text_forms.specs.declared.lines.Reason.TheVariants.{TextEnd}
 use Rattle.text_forms.specs.declared.lines.BadLine.{BadLine}
-use Rattle.text_forms.specs.Lines.{NumberedLine, Remaining, AreLeft, due_in, due_of, nothing_in, nothing_left, at_line}
+use Rattle.text_forms.specs.Lines.{NumberedLine, Remaining, AreLinesLeft, due_in, due_of, nothing_in, nothing_left, at_line}
 use Rattle.text_forms.specs.Steps.{◌>>=◌, read_by, repeat, lines_of_parts}
 
 -- these lines were taken, and those after them are left
@@ -53,7 +53,7 @@ read_took {A} form left x e =
 unfoldable pub Takes : {A : Type 0} → (ℕ → Remaining → Result (A × Remaining) BadLine) → (ℕ → A → List (List ℕ)) → (A → Type 0) → Type 0
 Takes {A} step lines P = (i : ℕ) (left : Remaining) (x : A × Remaining) → step i left ≡ Ok x → Took left (lines i x.0) x.1 × P x.0
 
--- the same of a line
+-- a step that reads one line took it
 pub line_takes : {A : Type 0} (form : ℕ → List ℕ → Result A Reason) (text : ℕ → A → List ℕ) (P : A → Type 0) → ((i : ℕ) (line : List ℕ) (x : A) → form i line ≡ Ok x → (line ≡ text i x) × P x) → Takes (λ i left. read_by (form i) left) (λ i x. text i x ∷ []) P
 unfolding Takes
 line_takes form text P is i left x e =
@@ -98,7 +98,7 @@ nothing_ok left [] is e = (ap (λ (ls : List NumberedLine). map (λ l. l.bytes) 
 nothing_ok left (line ∷ lines) is e = absurd cc
 
 -- lines that were taken until nothing was left are all lines
-pub took_all : (left after : Remaining) (lines : List (List ℕ)) (u : Unit {0}) → Took left lines after → nothing_left after ≡ Ok u → AreLeft lines left
+pub took_all : (left after : Remaining) (lines : List (List ℕ)) (u : Unit {0}) → Took left lines after → nothing_left after ≡ Ok u → AreLinesLeft lines left
 took_all left after lines u took e =
     let none = nothing_ok after after.lines refl e in
     record { same = took.parts ∙ ap (λ (t : List (List ℕ)). lines ++ t) none.0 ∙ append-nil lines; ended = sym took.same ∙ none.1 }

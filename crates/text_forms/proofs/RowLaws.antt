@@ -19,7 +19,7 @@ use Rattle.text_forms.specs.declared.rows.Column.{Column}
 use Rattle.text_forms.specs.declared.rows.Digits.{Digits}
 use Rattle.text_forms.specs.declared.rows.Digits.TheVariants.{Ten, Eighteen}
 use Rattle.text_forms.specs.Words.{words_of}
-use Rattle.text_forms.specs.Rows.{most_digits, number_of, followed_by, numbers_of, is_in, all_in, in_range, row_of_words, row, row_text}
+use Rattle.text_forms.specs.Rows.{most_digits, number_in_column, followed_by, numbers_of, is_in, all_in, in_range, row_of_words, row, row_text}
 use Rattle.text_forms.proofs.Joins.{joined_parts}
 use Rattle.text_forms.proofs.Columns.{in_column, passes}
 
@@ -43,7 +43,7 @@ number_by digits false word number few h =
     let small : o.0 < 10 ^ 18 = short_value digits word o.0 few o.1 in
     ap (λ (w : List ℕ). w) (numeral_is digits word o.0 o.1 (omega (arith, small))).0 ∙ ap signed_decimal (sym o.2)
 
-number_is : (column : Column) (word : List ℕ) (number : ℤ) → number_of column word ≡ Some number → word ≡ signed_decimal number
+number_is : (column : Column) (word : List ℕ) (number : ℤ) → number_in_column column word ≡ Some number → word ≡ signed_decimal number
 number_is column word number h = number_by (most_digits column.digits) column.signed word number (few_digits column.digits) h
 
 -- a number that is below a power of ten has its numeral
@@ -94,7 +94,7 @@ some_digit Eighteen = lit< tt
 number_small : (column : Column) (number : ℤ) → is_column column ≡ true → is_in column number ≡ true → unsigned_abs number < 2 ^ 64
 number_small column number c h = short_abs column.digits (unsigned_abs number) (number_tiny column number c h)
 
-number_again : (column : Column) (number : ℤ) → is_column column ≡ true → is_in column number ≡ true → number_of column (signed_decimal number) ≡ Some number
+number_again : (column : Column) (number : ℤ) → is_column column ≡ true → is_in column number ≡ true → number_in_column column (signed_decimal number) ≡ Some number
 number_again column number c h =
     let width = within_width column c in
     let i = in_column column number h in
@@ -113,7 +113,7 @@ numbers_are [] [] numbers len h = let e : [] ≡ numbers = cc in ap (map signed_
 numbers_are [] (word ∷ words) numbers len h = absurd (omega (arith, len))
 numbers_are (column ∷ columns) [] numbers len h = absurd cc
 numbers_are (column ∷ columns) (word ∷ words) numbers len h =
-    let f = followed_is (number_of column word) (numbers_of columns words) numbers h in
+    let f = followed_is (number_in_column column word) (numbers_of columns words) numbers h in
     let one = number_is column word f.0 f.2 in
     let more = numbers_are columns words f.1 (omega (arith, len)) f.3 in
     ap (λ (w : List ℕ). w ∷ words) one ∙ ap (λ (ws : List (List ℕ)). signed_decimal f.0 ∷ ws) more ∙ ap (map signed_decimal) (sym f.4)

@@ -3,7 +3,7 @@ use Rattle.std.proofs.Common.{◌≡◌, ℕ, ◌+◌, Bool, true, false, cond, 
 use Rattle.std.specs.Prelude.{◌==◌, ◌&&◌}
 use Rattle.std.specs.List.{onto_first}
 use Rattle.text_forms.specs.Words.{parts_of}
-use Rattle.text_forms.specs.Blocks.{IsKept}
+use Rattle.text_forms.specs.Blocks.{IsFirstKept}
 use Rattle.text_forms.specs.Lines.{Remaining, is_comment, before, lines_from, next_of}
 
 -- a list of parts is never empty
@@ -44,9 +44,9 @@ stops : (skips : Bool) (number : ℕ) (rest line after : List ℕ) (left : Remai
 stops skips number rest line after left cut test so_far = ap next_of (sym (one_line skips number rest line after false cut test) ∙ so_far)
 
 -- where the first line is kept, it is the next
-kept_line : (skips : Bool) (line : List ℕ) (others : List (List ℕ)) → HasPart others → IsKept skips (line ∷ others) → false ≡ skips && is_comment line
-kept_line skips line others h kept = subst (λ (ps : List (List ℕ)). IsKept skips (line ∷ ps)) h.2 kept
+kept_line : (skips : Bool) (line : List ℕ) (others : List (List ℕ)) → HasPart others → IsFirstKept skips (line ∷ others) → false ≡ skips && is_comment line
+kept_line skips line others h kept = subst (λ (ps : List (List ℕ)). IsFirstKept skips (line ∷ ps)) h.2 kept
 
-pub next_is : (skips : Bool) (number : ℕ) (rest line after : List ℕ) (left : Remaining) → parts_of 10 rest ≡ line ∷ parts_of 10 after → IsKept skips (parts_of 10 rest) → lines_from skips number (parts_of 10 rest) ≡ left
+pub next_is : (skips : Bool) (number : ℕ) (rest line after : List ℕ) (left : Remaining) → parts_of 10 rest ≡ line ∷ parts_of 10 after → IsFirstKept skips (parts_of 10 rest) → lines_from skips number (parts_of 10 rest) ≡ left
     → Ok (record { number = number; bytes = line }, lines_from skips (number + 1) (parts_of 10 after)) ≡ next_of left
-next_is skips number rest line after left cut kept same = stops skips number rest line after left cut (kept_line skips line (parts_of 10 after) (has_part 10 after) (subst (IsKept skips) cut kept)) same
+next_is skips number rest line after left cut kept same = stops skips number rest line after left cut (kept_line skips line (parts_of 10 after) (has_part 10 after) (subst (IsFirstKept skips) cut kept)) same

@@ -4,10 +4,10 @@ use Rattle.text_forms.specs.Words.{parts_of}
 use Rattle.text_forms.specs.Lines.{Remaining, is_comment, lines_from, block_in}
 
 -- the first line is not left out
-abbrev pub IsKept : Bool → List (List ℕ) → Type 0
-IsKept skips [] = Unit {0}
-IsKept skips (rest ∷ []) = Unit {0}
-IsKept skips (line ∷ next ∷ parts) = false ≡ (skips && is_comment line)
+abbrev pub IsFirstKept : Bool → List (List ℕ) → Type 0
+IsFirstKept skips [] = Unit {0}
+IsFirstKept skips (rest ∷ []) = Unit {0}
+IsFirstKept skips (line ∷ next ∷ parts) = false ≡ (skips && is_comment line)
 
 -- the next lines of a text whose first line has this number
 abbrev pub block_at : Bool → ℕ → ℕ → List ℕ → Option (List ℕ × Remaining)

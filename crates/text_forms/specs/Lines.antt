@@ -7,14 +7,14 @@ use Rattle.text_forms.specs.declared.lines.BadLine.{BadLine}
 use Rattle.text_forms.specs.declared.lines.Ending.{Ending}
 
 -- the number that a refusal shows for a reason
-abbrev pub number_of : Reason → ℕ
-number_of Keyword = 1
-number_of WordCount = 2
-number_of Spelling = 3
-number_of OutOfRange = 4
-number_of NotDue = 5
-number_of Repeated = 6
-number_of TextEnd = 7
+abbrev pub reason_number : Reason → ℕ
+reason_number Keyword = 1
+reason_number WordCount = 2
+reason_number Spelling = 3
+reason_number OutOfRange = 4
+reason_number NotDue = 5
+reason_number Repeated = 6
+reason_number TextEnd = 7
 
 -- a line with its number
 pub record NumberedLine : Type 0 where
@@ -71,14 +71,14 @@ abbrev pub nothing_left : Remaining → Result (Unit {0}) BadLine
 nothing_left left = nothing_in left left.lines
 
 -- the bytes of a line with its end before those of the lines after it
-abbrev pub after_line : List ℕ → List ℕ × Remaining → List ℕ × Remaining
-after_line line block = (line ++ 10 ∷ block.0, block.1)
+abbrev pub with_line : List ℕ → List ℕ × Remaining → List ℕ × Remaining
+with_line line block = (line ++ 10 ∷ block.0, block.1)
 
 -- the next lines, this many, if they are consecutive from a number: no line that is left out is among them
 abbrev pub block_in : ℕ → ℕ → Remaining → List NumberedLine → Option (List ℕ × Remaining)
 block_in number zero left lines = Some ([], record left { lines = lines })
 block_in number (suc count) left [] = None
-block_in number (suc count) left (line ∷ lines) = if line.number == number then option_map (after_line line.bytes) (block_in (number + 1) count left lines) else None
+block_in number (suc count) left (line ∷ lines) = if line.number == number then option_map (with_line line.bytes) (block_in (number + 1) count left lines) else None
 
 abbrev pub first_number : List NumberedLine → ℕ
 first_number [] = 0
@@ -98,6 +98,6 @@ abbrev pub text_of : List (List ℕ) → List ℕ
 text_of lines = flat_map (λ line. line ++ 10 ∷ []) lines
 
 -- these are the lines that are left, and the last of them has its line end
-pub record AreLeft (lines : List (List ℕ)) (left : Remaining) : Type 0 where
+pub record AreLinesLeft (lines : List (List ℕ)) (left : Remaining) : Type 0 where
   pub same : map (λ line. line.bytes) left.lines ≡ lines
   pub ended : left.ended ≡ true

@@ -22,8 +22,8 @@ abbrev pub within : ℕ → ℕ → Column
 within low high = record { signed = false; digits = Ten; low = pos low; high = pos high }
 
 -- the number of a word in a column: a numeral of at most this many digits, signed or not
-abbrev pub number_of : Column → List ℕ → Option ℤ
-number_of column word = if column.signed then signed_numeral (most_digits column.digits) word else option_map pos (numeral (most_digits column.digits) word)
+abbrev pub number_in_column : Column → List ℕ → Option ℤ
+number_in_column column word = if column.signed then signed_numeral (most_digits column.digits) word else option_map pos (numeral (most_digits column.digits) word)
 
 -- a number before others
 abbrev pub followed_by : Option ℤ → Option (List ℤ) → Option (List ℤ)
@@ -34,7 +34,7 @@ followed_by (Some number) others = option_map (λ numbers. number ∷ numbers) o
 abbrev pub numbers_of : List Column → List (List ℕ) → Option (List ℤ)
 numbers_of [] words = Some []
 numbers_of (column ∷ columns) [] = None
-numbers_of (column ∷ columns) (word ∷ words) = followed_by (number_of column word) (numbers_of columns words)
+numbers_of (column ∷ columns) (word ∷ words) = followed_by (number_in_column column word) (numbers_of columns words)
 
 -- whether a number is in the range of its column
 abbrev pub is_in : Column → ℤ → Bool

@@ -7,7 +7,7 @@ mod rows;
 mod steps;
 mod words;
 
-pub use lines::{BadLine, Ending, Lines, NumberedLine, Reason, at_line};
+pub use lines::{BadLine, Ending, NumberedLine, Reason, TextLines, at_line};
 pub use printing::{PrintedPart, print_parts};
 pub use rows::{Column, Digits, print_row, read_row};
 pub use steps::{Part, repeat};

@@ -1,5 +1,5 @@
 ghost use Rattle.std.specs.Prelude.{◌≡◌, ℕ, ◌+◌, ◌^◌, ◌<◌, ◌≤◌, ◌&&◌, length, true, false, Some, None, IfSome, MatchOption};
-ghost use Rattle.text_forms.specs.Blocks.{IsKept, block_at};
+ghost use Rattle.text_forms.specs.Blocks.{IsFirstKept, block_at};
 ghost use Rattle.text_forms.specs.Lines as lines;
 ghost use Rattle.text_forms.specs.Words.{parts_of};
 
@@ -36,7 +36,7 @@ pub enum Reason {
 impl Reason {
     /// The number that a refusal shows, 1 to 7.
     pub fn number(self) -> u8
-        ensures { result ≡ lines.number_of self }
+        ensures { result ≡ lines.reason_number self }
     {
         self as u8
     }
@@ -93,13 +93,13 @@ impl<'a> NumberedLine<'a> {
 
 /// The lines that are left of a text.
 #[derive(Debug, Drop)]
-pub struct Lines<'a> {
+pub struct TextLines<'a> {
     skips_comments: bool,
     number: u32,
     rest: &'a [u8],
 }
 
-impl<'a> Model for Lines<'a> {
+impl<'a> Model for TextLines<'a> {
     ghost use Rattle.std.specs.Prelude.{◌+◌, ◌^◌, ◌<◌, length};
     ghost use Rattle.text_forms.specs.Lines as lines;
     ghost use Rattle.text_forms.specs.Words.{parts_of};
@@ -111,13 +111,13 @@ impl<'a> Model for Lines<'a> {
     ghost invariant = { λ l. l.number + length l.rest.now < 2 ^ 32 };
 }
 
-impl<'a> Lines<'a> {
+impl<'a> TextLines<'a> {
     /// All lines of a text.
     pub fn new(text: &'a [u8]) -> Self
         requires { length text.now < 2 ^ 31 }
         ensures { result ≡ lines.lines_from false 1 (parts_of 10 text.now) }
     {
-        Lines {
+        TextLines {
             skips_comments: false,
             number: 1,
             rest: text,
@@ -129,7 +129,7 @@ impl<'a> Lines<'a> {
         requires { length text.now < 2 ^ 31 }
         ensures { result ≡ lines.lines_from true 1 (parts_of 10 text.now) }
     {
-        Lines {
+        TextLines {
             skips_comments: true,
             number: 1,
             rest: text,
@@ -137,7 +137,7 @@ impl<'a> Lines<'a> {
     }
 
     /// The next line and those after it, or where the text ends.
-    pub fn next(self) -> Result<(NumberedLine<'a>, Lines<'a>), Ending>
+    pub fn next(self) -> Result<(NumberedLine<'a>, TextLines<'a>), Ending>
         ensures { result ≡ lines.next_of self.entry }
     {
         let (number, rest) = past_comments(self.skips_comments, self.number, self.rest);
@@ -151,7 +151,7 @@ impl<'a> Lines<'a> {
                     number,
                     bytes: line,
                 },
-                Lines {
+                TextLines {
                     skips_comments: self.skips_comments,
                     number: number + 1,
                     rest: after,
@@ -161,10 +161,10 @@ impl<'a> Lines<'a> {
     }
 
     /// A copy of the lines, to look at the next line and go back.
-    pub fn again(&self) -> Lines<'a>
+    pub fn again(&self) -> TextLines<'a>
         ensures { result ≡ self.now }
     {
-        Lines {
+        TextLines {
             skips_comments: self.skips_comments,
             number: self.number,
             rest: self.rest,
@@ -173,7 +173,7 @@ impl<'a> Lines<'a> {
 
     /// The bytes of the next `count` lines with their line ends, and the lines after them. There are none if fewer
     /// whole lines are left, or if a line that is left out is among them.
-    pub fn block(self, count: u32) -> Option<(&'a [u8], Lines<'a>)>
+    pub fn block(self, count: u32) -> Option<(&'a [u8], TextLines<'a>)>
         ensures { MatchOption result (lines.block_of count self.entry ≡ None) (λ found. lines.block_of count self.entry ≡ Some (found.0.now, found.1)) }
     {
         let (number, text) = past_comments(self.skips_comments, self.number, self.rest);
@@ -181,7 +181,7 @@ impl<'a> Lines<'a> {
             None => None,
             Some((block, rest)) => Some((
                 block,
-                Lines {
+                TextLines {
                     skips_comments: self.skips_comments,
                     number: number + count,
                     rest,
@@ -191,7 +191,7 @@ impl<'a> Lines<'a> {
     }
 
     /// The next line and those after it; a text that ends here ends too early.
-    pub fn due(self) -> Result<(NumberedLine<'a>, Lines<'a>), BadLine>
+    pub fn due(self) -> Result<(NumberedLine<'a>, TextLines<'a>), BadLine>
         ensures { result ≡ lines.due_of self.entry }
     {
         match self.next() {
@@ -225,7 +225,7 @@ impl<'a> Lines<'a> {
 fn past_comments(skips_comments: bool, number: u32, text: &[u8]) -> (u32, &[u8])
     requires { number + length text.now < 2 ^ 32 }
     ensures same { lines.lines_from skips_comments result.0 (parts_of 10 result.1.now) ≡ lines.lines_from skips_comments number (parts_of 10 text.now) }
-    ensures kept { IsKept skips_comments (parts_of 10 result.1.now) }
+    ensures kept { IsFirstKept skips_comments (parts_of 10 result.1.now) }
     ensures small { result.0 + length result.1.now < 2 ^ 32 }
 {
     let mut number = number;

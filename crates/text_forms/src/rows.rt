@@ -55,7 +55,7 @@ impl Column {
 
 /// The number of a word in a column.
 fn number_of(column: &Column, word: &[u8]) -> Option<i64>
-    ensures { result ≡ rows.number_of column.now word.now }
+    ensures { result ≡ rows.number_in_column column.now word.now }
 {
     if column.signed {
         read_signed(word, column.digits.most())

@@ -1,7 +1,7 @@
 ghost use Rattle.std.specs.Prelude.{◌≡◌, ◌+◌, ◌≤◌, ◌<◌, length, Ok, Err, MatchResult};
 ghost use Rattle.text_forms.specs.Steps as steps;
 
-use crate::{BadLine, Lines};
+use crate::{BadLine, TextLines};
 
 /// A part of a text that comes several times, numbered from 0.
 pub trait Part {
@@ -14,7 +14,11 @@ pub trait Part {
     ghost gives: { Self → ℕ → Remaining → Result (Self.Value × Remaining) BadLine };
 
     /// Reads the part of this number, and gives the lines after it.
-    fn read<'a>(&self, number: u8, lines: Lines<'a>) -> Result<(Self::Value, Lines<'a>), BadLine>
+    fn read<'a>(
+        &self,
+        number: u8,
+        lines: TextLines<'a>,
+    ) -> Result<(Self::Value, TextLines<'a>), BadLine>
         ensures { result ≡ gives self.now number lines.entry };
 }
 
@@ -23,8 +27,8 @@ pub trait Part {
 pub fn repeat<'a, P: Part>(
     part: &P,
     values: &mut [P::Value],
-    lines: Lines<'a>,
-) -> Result<Lines<'a>, BadLine>
+    lines: TextLines<'a>,
+) -> Result<TextLines<'a>, BadLine>
     requires { length values.old < 256 }
     ensures { MatchResult result (λ left. steps.repeat (length values.old) 0 (P.gives part.now) lines.entry ≡ Ok (values.new, left)) (λ bad. steps.repeat (length values.old) 0 (P.gives part.now) lines.entry ≡ Err bad) }
 {

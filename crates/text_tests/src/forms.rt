@@ -1,9 +1,9 @@
 use std::test::Fail;
-use text_forms::{BadLine, Column, Digits, Lines, Reason, at_line, print_row, read_row};
+use text_forms::{BadLine, Column, Digits, Reason, TextLines, at_line, print_row, read_row};
 
 #[test]
 fn lines_are_given_with_their_numbers(rt: HostRuntime) -> Result<(), Fail> {
-    let (line, left) = Lines::without_comments(b"# a\n\nx\n#y").next()?;
+    let (line, left) = TextLines::without_comments(b"# a\n\nx\n#y").next()?;
     assert_eq!(rt; line.number(), 3);
     assert_eq!(rt; line.bytes(), b"x".as_slice());
     assert_eq!(rt;
@@ -13,7 +13,7 @@ fn lines_are_given_with_their_numbers(rt: HostRuntime) -> Result<(), Fail> {
             reason: Reason::TextEnd
         })
     );
-    let lines = Lines::new(b"# a\n\nb\nc\n");
+    let lines = TextLines::new(b"# a\n\nb\nc\n");
     let (line, left) = lines.again().next()?;
     assert_eq!(rt; line.bytes(), b"# a".as_slice());
     assert!(rt; left.again().block(4).is_none());

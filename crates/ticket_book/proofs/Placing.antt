@@ -13,7 +13,7 @@ use Rattle.auction_rules.specs.declared.units.BidUnit.{BidUnit}
 use Rattle.auction_rules.specs.Shown.{shown_unit, on_side}
 use Rattle.auction_rules.proofs.Shown.{permuted}
 use Rattle.auction_rules.proofs.Standing.{Each, each-append, each-filter, number_is}
-use Rattle.ticket_book.specs.Sides.{goes_first, AreSorted, SortedSides, both, HaveSame, AreSides}
+use Rattle.ticket_book.specs.Sides.{goes_first, IsSideSorted, SortedSides, both, HaveSame, AreSides}
 use Rattle.ticket_book.proofs.Sorting.{sorted_put}
 use Rattle.ticket_book.proofs.Weights.{same_filter, each_alike}
 use Rattle.ticket_book.proofs.Sided.{sides_of, sum_by-map, buy_put, sell_put, buying, selling}
@@ -95,7 +95,7 @@ all_at P units i u lt is all = at_place units i lt is (recursion_from_All P unit
 -- ---- one unit more
 
 pub sides_more : (old new : SortedSides) (u : BidUnit) → AreSides old.buys old.sells (both old) → u.agent ≤ 7 → u.price ≤ BID_PRICE → count_by (λ v. v.agent == u.agent) (both old) < 16 →
-    HaveSame (both new) (both old ++ u ∷ []) → AreSorted true new.buys → AreSorted false new.sells → AreSides new.buys new.sells (both new)
+    HaveSame (both new) (both old ++ u ∷ []) → IsSideSorted true new.buys → IsSideSorted false new.sells → AreSides new.buys new.sells (both new)
 sides_more old new u held agent price lt same buys sells = record {
   buys_sorted = buys;
   sells_sorted = sells;
@@ -135,15 +135,15 @@ module _ (buys sells : List ShownUnit) (u : BidUnit) (shown : ShownUnit) (is : s
   module _ (held : AreSides buys sells (both (sides_of buys sells))) (agent : u.agent ≤ 7) (price : u.price ≤ BID_PRICE) (lt : count_by (λ v. v.agent == u.agent) (both (sides_of buys sells)) < 16) where
     pub buy_kept : (new : List ShownUnit) → u.buys ≡ true → new ≡ insert buys (position_or_len (goes_first true shown) buys) shown → AreSides new sells (both (sides_of new sells))
     buy_kept new side placed =
-        sides_more (sides_of buys sells) (sides_of new sells) u held agent price lt (buy_placed new side placed) (subst (AreSorted true) (sym placed) (sorted_put true shown buys held.buys_sorted)) held.sells_sorted
+        sides_more (sides_of buys sells) (sides_of new sells) u held agent price lt (buy_placed new side placed) (subst (IsSideSorted true) (sym placed) (sorted_put true shown buys held.buys_sorted)) held.sells_sorted
 
     pub sell_kept : (new : List ShownUnit) → u.buys ≡ false → new ≡ insert sells (position_or_len (goes_first false shown) sells) shown → AreSides buys new (both (sides_of buys new))
     sell_kept new side placed =
-        sides_more (sides_of buys sells) (sides_of buys new) u held agent price lt (sell_placed new side placed) held.buys_sorted (subst (AreSorted false) (sym placed) (sorted_put false shown sells held.sells_sorted))
+        sides_more (sides_of buys sells) (sides_of buys new) u held agent price lt (sell_placed new side placed) held.buys_sorted (subst (IsSideSorted false) (sym placed) (sorted_put false shown sells held.sells_sorted))
 
 -- ---- fewer units
 
-pub sides_less : (test : BidUnit → Bool) (old new : SortedSides) → AreSides old.buys old.sells (both old) → both new ≡ filter test (both old) → AreSorted true new.buys → AreSorted false new.sells →
+pub sides_less : (test : BidUnit → Bool) (old new : SortedSides) → AreSides old.buys old.sells (both old) → both new ≡ filter test (both old) → IsSideSorted true new.buys → IsSideSorted false new.sells →
     AreSides new.buys new.sells (both new)
 sides_less test old new held are buys sells = record {
   buys_sorted = buys;

@@ -13,7 +13,7 @@ use Rattle.auction_rules.specs.Units.{same_unit, among}
 use Rattle.auction_rules.specs.TicketMatch.{faces, goes_before, best, not_taken}
 use Rattle.auction_rules.specs.Board.{lowest, highest_buy, lowest_sell}
 use Rattle.auction_rules.proofs.Lists.{filter-map, filter_same, filter_all, all_alike}
-use Rattle.ticket_book.specs.Sides.{goes_first, AreSorted, is_same, SortedSides, both, of_side, others}
+use Rattle.ticket_book.specs.Sides.{goes_first, IsSideSorted, is_same, SortedSides, both, of_side, others}
 use Rattle.ticket_book.proofs.Sorting.{not_self, sorted_filter}
 
 abbrev pub sides_of : List ShownUnit → List ShownUnit → SortedSides
@@ -58,7 +58,7 @@ none_before : (buys : Bool) (u : ShownUnit) (units : List ShownUnit) → AllByRe
 none_before buys u [] h = refl
 none_before buys u (v ∷ units) h = rw (h.0, none_before buys u units h.1) refl
 
-best_is_first : (buys : Bool) (units : List ShownUnit) → AreSorted buys units → best (map (on_side buys) units) ≡ maybe_on buys (first units)
+best_is_first : (buys : Bool) (units : List ShownUnit) → IsSideSorted buys units → best (map (on_side buys) units) ≡ maybe_on buys (first units)
 unfolding first
 best_is_first buys [] h = refl
 best_is_first buys (u ∷ units) h = rw (not_self buys u, none_before buys u units h.0) refl
@@ -89,7 +89,7 @@ faced false u sides is =
     ∙ rw (faced_own true u sides.buys is, faced_other false u sides.sells is) refl
 
 -- the best of them is the first of another agent
-front_is : (buys : Bool) (u : BidUnit) (sides : SortedSides) (front : Option ShownUnit) → u.buys ≡ not buys → AreSorted buys (of_side sides buys) →
+front_is : (buys : Bool) (u : BidUnit) (sides : SortedSides) (front : Option ShownUnit) → u.buys ≡ not buys → IsSideSorted buys (of_side sides buys) →
     front ≡ find (λ v. not (u.agent == v.agent)) (of_side sides buys) → maybe_on buys front ≡ best (filter (faces u) (both sides))
 front_is buys u sides front is sorted found =
     ap (maybe_on buys) (found ∙ found_first other (of_side sides buys))
@@ -103,7 +103,7 @@ twice : (b : Bool) → b ≡ not (not b)
 twice true = refl
 twice false = refl
 
-pub front_by : (u : BidUnit) (sides : SortedSides) (side : List ShownUnit) (number : ℕ) (front : Option ShownUnit) → side ≡ of_side sides (not u.buys) → number ≡ u.agent → AreSorted (not u.buys) (of_side sides (not u.buys)) →
+pub front_by : (u : BidUnit) (sides : SortedSides) (side : List ShownUnit) (number : ℕ) (front : Option ShownUnit) → side ≡ of_side sides (not u.buys) → number ≡ u.agent → IsSideSorted (not u.buys) (of_side sides (not u.buys)) →
     front ≡ find (λ v. not (number == v.agent)) side → maybe_on (not u.buys) front ≡ best (filter (faces u) (both sides))
 front_by u sides side number front side_is number_is sorted found =
     front_is (not u.buys) u sides front (twice u.buys) sorted
@@ -264,21 +264,21 @@ all_weaker : (P Q : ShownUnit → Type 0) (units : List ShownUnit) → ((u : Sho
 all_weaker P Q [] f h = tt
 all_weaker P Q (u ∷ units) f h = (f u h.0, all_weaker P Q units f h.1)
 
-pub highest_is : (buys sells : List ShownUnit) → AreSorted true buys → get_or (map (λ u. u.price) buys) 0 0 ≡ highest_buy (both (sides_of buys sells))
+pub highest_is : (buys sells : List ShownUnit) → IsSideSorted true buys → get_or (map (λ u. u.price) buys) 0 0 ≡ highest_buy (both (sides_of buys sells))
 highest_is buys sells sorted =
     first_price buys sorted ∙ ap (fold max 0) (sym (priced_alike true buys)) ∙ ap (λ (us : List BidUnit). fold max 0 (map (λ u. u.price) us)) (sym (buying (sides_of buys sells)))
   where
     from_none : (n : ℕ) → max 0 n ≡ n
     from_none n = omega arith
 
-    first_price : (units : List ShownUnit) → AreSorted true units → get_or (map (λ u. u.price) units) 0 0 ≡ fold max 0 (map (λ u. u.price) units)
+    first_price : (units : List ShownUnit) → IsSideSorted true units → get_or (map (λ u. u.price) units) 0 0 ≡ fold max 0 (map (λ u. u.price) units)
     first_price [] h = refl
     first_price (u ∷ units) h = sym (ap (λ n. fold max n (map (λ v. v.price) units)) (from_none u.price) ∙ greatest_first u.price units (all_weaker _ _ units (λ v k. no_higher u v k) h.0))
 
-pub lowest_is : (buys sells : List ShownUnit) → AreSorted false sells → get_or (map (λ u. u.price) sells) 0 0 ≡ lowest_sell (both (sides_of buys sells))
+pub lowest_is : (buys sells : List ShownUnit) → IsSideSorted false sells → get_or (map (λ u. u.price) sells) 0 0 ≡ lowest_sell (both (sides_of buys sells))
 lowest_is buys sells sorted =
     first_price sells sorted ∙ ap lowest (sym (priced_alike false sells)) ∙ ap (λ (us : List BidUnit). lowest (map (λ u. u.price) us)) (sym (selling (sides_of buys sells)))
   where
-    first_price : (units : List ShownUnit) → AreSorted false units → get_or (map (λ u. u.price) units) 0 0 ≡ lowest (map (λ u. u.price) units)
+    first_price : (units : List ShownUnit) → IsSideSorted false units → get_or (map (λ u. u.price) units) 0 0 ≡ lowest (map (λ u. u.price) units)
     first_price [] h = refl
     first_price (u ∷ units) h = sym (least_first u.price units (all_weaker _ _ units (λ v k. no_lower u v k) h.0))

@@ -6,7 +6,7 @@ use Rattle.std.proofs.lemmas.List.Sums.{prefix_len-le-length}
 use Rattle.std.proofs.lemmas.Bool.Decides.{nat_tests}
 use Rattle.tac_base.specs.declared.units.Unit.{Unit as ShownUnit}
 use Rattle.auction_rules.proofs.Lists.{all-filter}
-use Rattle.ticket_book.specs.Sides.{goes_first, AreSorted}
+use Rattle.ticket_book.specs.Sides.{goes_first, IsSideSorted}
 
 -- ---- which of two units goes before the other
 
@@ -37,26 +37,26 @@ all_put P (suc i) u (v ∷ units) here h = (h.0, all_put P i u units here h.1)
 one_more : (n : ℕ) → 1 + n ≡ suc n
 one_more n = omega arith
 
-pub sorted_put : (buys : Bool) (u : ShownUnit) (units : List ShownUnit) → AreSorted buys units → AreSorted buys (insert units (position_or_len (goes_first buys u) units) u)
+pub sorted_put : (buys : Bool) (u : ShownUnit) (units : List ShownUnit) → IsSideSorted buys units → IsSideSorted buys (insert units (position_or_len (goes_first buys u) units) u)
 sorted_put buys u [] h = (tt, tt)
 sorted_put buys u (v ∷ units) h = by_test (goes_first buys u v) refl (sorted_put buys u units h.1)
   where
     place : ℕ
     place = position_or_len (goes_first buys u) units
 
-    by_test : (b : Bool) → goes_first buys u v ≡ b → AreSorted buys (insert units place u) → AreSorted buys (insert (v ∷ units) (cond (not b) (1 + place) 0) u)
+    by_test : (b : Bool) → goes_first buys u v ≡ b → IsSideSorted buys (insert units place u) → IsSideSorted buys (insert (v ∷ units) (cond (not b) (1 + place) 0) u)
     by_test true is rest =
         ((not_back buys u v is, all_each (λ w. goes_first buys w v ≡ false) (λ w. goes_first buys w u ≡ false) units (λ w k. before_both buys u v w is k) h.0), h)
     by_test false is rest =
-        subst (λ n. AreSorted buys (insert (v ∷ units) n u)) (sym (one_more place)) (all_put (λ w. goes_first buys w v ≡ false) place u units is h.0, rest)
+        subst (λ n. IsSideSorted buys (insert (v ∷ units) n u)) (sym (one_more place)) (all_put (λ w. goes_first buys w v ≡ false) place u units is h.0, rest)
 
 -- ---- a part of a side
 
-pub sorted_filter : (buys : Bool) (test : ShownUnit → Bool) (units : List ShownUnit) → AreSorted buys units → AreSorted buys (filter test units)
+pub sorted_filter : (buys : Bool) (test : ShownUnit → Bool) (units : List ShownUnit) → IsSideSorted buys units → IsSideSorted buys (filter test units)
 sorted_filter buys test [] h = tt
 sorted_filter buys test (u ∷ units) h = by_test (test u) (sorted_filter buys test units h.1)
   where
-    by_test : (b : Bool) → AreSorted buys (filter test units) → AreSorted buys (cond b (u ∷ filter test units) (filter test units))
+    by_test : (b : Bool) → IsSideSorted buys (filter test units) → IsSideSorted buys (cond b (u ∷ filter test units) (filter test units))
     by_test true rest = (all-filter (λ v. goes_first buys v u ≡ false) test units h.0, rest)
     by_test false rest = rest
 

@@ -20,7 +20,7 @@ use Rattle.auction_rules.proofs.Lists.{all_passing}
 use Rattle.auction_rules.proofs.HotelUnits.{InOrder, bids_ordered}
 use Rattle.auction_rules.proofs.Standing.{Each, same_is, same_self, among-filter, number_is}
 use Rattle.auction_rules.proofs.Matching.{each_among}
-use Rattle.ticket_book.specs.Sides.{HaveSame, others, after_bid, goes_first, AreSorted, AreInOrder, SortedSides, both}
+use Rattle.ticket_book.specs.Sides.{HaveSame, others, after_bid, goes_first, IsSideSorted, IsSideInOrder, SortedSides, both}
 use Rattle.ticket_book.proofs.Weights.{same_filter, same_append, same_back, among_alike, each_alike}
 use Rattle.ticket_book.proofs.Sided.{sum_by-map}
 
@@ -159,7 +159,7 @@ all_later buys u (v ∷ units) none h =
     by_test true is le = absurd (omega (arith, yes_is_one (tied_shown buys u v) is, le))
     by_test false is le = later_or_tied buys u v h.0 is
 
-strict : (buys : Bool) (units : List ShownUnit) → ((u : ShownUnit) → count_by (tied_shown buys u) units ≤ 1) → AreSorted buys units → AreInOrder buys units
+strict : (buys : Bool) (units : List ShownUnit) → ((u : ShownUnit) → count_by (tied_shown buys u) units ≤ 1) → IsSideSorted buys units → IsSideInOrder buys units
 strict buys [] one h = tt
 strict buys (u ∷ units) one h = (
   all_later buys u units (omega (arith, one u, count-cons (tied_shown buys u) u units, yes_is_one (tied_shown buys u u) (itself buys u))) h.0,
@@ -182,10 +182,10 @@ module _ (past : List Entry) (sides : SortedSides) (same : HaveSame (both sides)
         sum_by-append (λ v. cond (tie u v) 1 0) (map (on_side true) sides.buys) (map (on_side false) sides.sells),
       )
 
-  pub buys_in_order : AreSorted true sides.buys → AreInOrder true sides.buys
+  pub buys_in_order : IsSideSorted true sides.buys → IsSideInOrder true sides.buys
   buys_in_order sorted = strict true sides.buys (λ u. omega (arith, few_in_all (on_side true u), few_tied true u sides.buys)) sorted
 
-  pub sells_in_order : AreSorted false sides.sells → AreInOrder false sides.sells
+  pub sells_in_order : IsSideSorted false sides.sells → IsSideInOrder false sides.sells
   sells_in_order sorted = strict false sides.sells (λ u. omega (arith, few_in_all (on_side false u), few_tied false u sides.sells)) sorted
 
 -- ---- the same units trade alike

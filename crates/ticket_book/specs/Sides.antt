@@ -13,14 +13,14 @@ abbrev pub goes_first : Bool → ShownUnit → ShownUnit → Bool
 goes_first buys u v = goes_before (on_side buys u) (on_side buys v)
 
 -- each unit of a side goes before those after it
-abbrev pub AreInOrder : Bool → List ShownUnit → Type 0
-AreInOrder buys [] = ⊤
-AreInOrder buys (u ∷ units) = AllByRecursion (λ v. goes_first buys u v ≡ true) units × AreInOrder buys units
+abbrev pub IsSideInOrder : Bool → List ShownUnit → Type 0
+IsSideInOrder buys [] = ⊤
+IsSideInOrder buys (u ∷ units) = AllByRecursion (λ v. goes_first buys u v ≡ true) units × IsSideInOrder buys units
 
 -- no unit of a side goes before one ahead of it
-abbrev pub AreSorted : Bool → List ShownUnit → Type 0
-AreSorted buys [] = ⊤
-AreSorted buys (u ∷ units) = AllByRecursion (λ v. goes_first buys v u ≡ false) units × AreSorted buys units
+abbrev pub IsSideSorted : Bool → List ShownUnit → Type 0
+IsSideSorted buys [] = ⊤
+IsSideSorted buys (u ∷ units) = AllByRecursion (λ v. goes_first buys v u ≡ false) units × IsSideSorted buys units
 
 -- whether two units of one side are one
 abbrev pub is_same : ShownUnit → ShownUnit → Bool
@@ -55,8 +55,8 @@ after_bid standing agent new =
 
 -- each side is in order, no unit costs more than 10000 dollars, and each is of an agent that has at most 16
 pub record AreSides (buys sells : List ShownUnit) (units : List BidUnit) : Type 0 where
-  pub buys_sorted : AreSorted true buys
-  pub sells_sorted : AreSorted false sells
+  pub buys_sorted : IsSideSorted true buys
+  pub sells_sorted : IsSideSorted false sells
   pub priced : AllByRecursion (λ u. u.price ≤ BID_PRICE) units
   pub owned : AllByRecursion (λ u. u.agent ≤ 7) units
   pub few : (agent : ℕ) → count_by (λ u. u.agent == agent) units ≤ BID_UNITS

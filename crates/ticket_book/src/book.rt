@@ -11,7 +11,7 @@ ghost use Rattle.auction_rules.specs.Board.{board};
 ghost use Rattle.auction_rules.specs.Refusals.{is_wrong_caller, is_wrong_place};
 ghost use Rattle.auction_rules.specs.Follows.{Follows};
 ghost use Rattle.auction_rules.specs.Traded.{Spends};
-ghost use Rattle.ticket_book.specs.Sides.{AreInOrder};
+ghost use Rattle.ticket_book.specs.Sides.{IsSideInOrder};
 ghost use Rattle.ticket_book.specs.Book.{StandsFor};
 
 use crate::refusals::crosses_itself;
@@ -166,7 +166,7 @@ impl Tickets {
     pub fn buys(&self) -> &[Unit]
         ensures units { (setup : Setup) (past : List Entry) → StandsFor self.now setup past →
             IsPermutation (map shown_unit (filter (λ u. u.buys) (stand setup.rules past))) result.now }
-        ensures order { (setup : Setup) (past : List Entry) → StandsFor self.now setup past → AreInOrder true result.now }
+        ensures order { (setup : Setup) (past : List Entry) → StandsFor self.now setup past → IsSideInOrder true result.now }
     {
         self.sides.side(true)
     }
@@ -176,7 +176,7 @@ impl Tickets {
     pub fn sells(&self) -> &[Unit]
         ensures units { (setup : Setup) (past : List Entry) → StandsFor self.now setup past →
             IsPermutation (map shown_unit (filter (λ u. not u.buys) (stand setup.rules past))) result.now }
-        ensures order { (setup : Setup) (past : List Entry) → StandsFor self.now setup past → AreInOrder false result.now }
+        ensures order { (setup : Setup) (past : List Entry) → StandsFor self.now setup past → IsSideInOrder false result.now }
     {
         self.sides.side(false)
     }

@@ -4,7 +4,7 @@ ghost use Rattle.std.specs.List.{list_any};
 ghost use Rattle.auction_rules.specs.Units.{among};
 ghost use Rattle.auction_rules.specs.TicketMatch.{not_taken};
 ghost use Rattle.auction_rules.specs.Board as boards;
-ghost use Rattle.ticket_book.specs.Sides.{AreSorted, HaveSame, both, of_side, others};
+ghost use Rattle.ticket_book.specs.Sides.{IsSideSorted, HaveSame, both, of_side, others};
 
 use crate::order::{first_price, has_units_of, is_on, put, take_out, take_out_of};
 use arrayvec::ArrayVec;
@@ -45,7 +45,7 @@ impl Sides {
     /// The units of a side.
     pub(crate) fn side(&self, buys: bool) -> &[Unit]
         ensures value { result.now ≡ of_side self.now buys }
-        ensures sorted { AreSorted buys (of_side self.now buys) }
+        ensures sorted { IsSideSorted buys (of_side self.now buys) }
         ensures priced { All (λ u. u.price ≤ BID_PRICE) (both self.now) }
     {
         if buys {

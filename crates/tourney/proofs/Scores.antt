@@ -18,7 +18,7 @@ use Rattle.auction_rules.specs.Effects.{all_trades, dollars}
 use Rattle.trade_ledger.specs.CashKeeping.{IsWithin}
 use Rattle.auction_core.specs.Auctions.{AuctionHistory}
 use Rattle.auction_core.specs.Setups.{setup_of}
-use Rattle.score_sheet.specs.Settlement.{cash_of}
+use Rattle.score_sheet.specs.Settlement.{cash_gained}
 use Rattle.score_sheet.specs.Sheets.{Scored}
 use Rattle.log_text.specs.LoggedGames.{LoggedGame, IsLogged, IsLoggedTrade, IsLoggedEntry, IsLoggedHistory, IsLoggedScore, AreHistories}
 use Rattle.log_reader.specs.SoundLog.{IsSound, auctions_in}
@@ -85,16 +85,16 @@ gains_small game party good (history ∷ histories) all sum m within =
     one : (m n : ℕ) → (m + 169082880000) + n * 169082880000 ≡ m + suc n * 169082880000
     one m n = omega arith
 
-cash_small : (game : GameFile) (log : LoggedGame) → IsLogged log → (agent : ℕ) → IsWithin 4734320640000 (cash_of (auctions_in game log) agent)
+cash_small : (game : GameFile) (log : LoggedGame) → IsLogged log → (agent : ℕ) → IsWithin 4734320640000 (cash_gained (auctions_in game log) agent)
 cash_small game log is agent =
-    subst (λ (n : ℕ). IsWithin n (cash_of (auctions_in game log) agent)) (ap (λ (n : ℕ). 0 + n * 169082880000) is.goods) (gains_small game agent 0 log.histories is.histories (pos 0) 0 (omega (arith, ints), omega (arith, ints)))
+    subst (λ (n : ℕ). IsWithin n (cash_gained (auctions_in game log) agent)) (ap (λ (n : ℕ). 0 + n * 169082880000) is.goods) (gains_small game agent 0 log.histories is.histories (pos 0) 0 (omega (arith, ints), omega (arith, ints)))
 
 -- the score of an agent
 pub score_small : (game : GameFile) (log : LoggedGame) → IsLogged log → IsSound game log → (agent : ℕ) (scored : Scored) → slice_get log.scores agent ≡ Some scored → IsLoggedScore scored → unsigned_abs scored.score ≤ most_score
 score_small game log is sound agent scored at ranged =
     let lt : agent < 8 = subst (λ (n : ℕ). agent < n) is.agents (slice_get_within log.scores agent scored at) in
     let due = sound.scores.due agent scored at in
-    let cash : IsWithin 4734320640000 scored.cash = subst (IsWithin 4734320640000) (sym due.cash) (All-map (IsWithin 4734320640000) (cash_of (auctions_in game log)) agents (λ k d inside. cash_small game log is _) agent (pos 0) lt) in
+    let cash : IsWithin 4734320640000 scored.cash = subst (IsWithin 4734320640000) (sym due.cash) (All-map (IsWithin 4734320640000) (cash_gained (auctions_in game log)) agents (λ k d inside. cash_small game log is _) agent (pos 0) lt) in
     subst (λ (z : ℤ). unsigned_abs z ≤ most_score) (sym due.score) (bound scored.best scored.cash scored.short ranged.best cash ranged.short)
   where
     bound : (best : ℕ) (cash : ℤ) (short : ℕ) → best ≤ 14000 → IsWithin 4734320640000 cash → short ≤ 4294967295 → unsigned_abs ((pos best +ℤ cash) -ℤ pos (200 * short)) ≤ 10000000000000

@@ -14,7 +14,7 @@ use Rattle.tourney.specs.declared.tallies.Tally.{Tally}
 use Rattle.tourney.specs.declared.rows.TeamRow.{TeamRow}
 use Rattle.tourney.specs.Standings.{results, teams, rank}
 use Rattle.tourney.specs.Rows.{IsRow, AreRows}
-use Rattle.tourney.specs.Tallies.{Kept, StandsFor, tally_of, tallies_of, is_over, rank_in, IsRowAt, AreRowsBelow}
+use Rattle.tourney.specs.Tallies.{Kept, AreStandingsOf, tally_of, tallies_of, is_over, rank_in, IsRowAt, AreRowsBelow}
 
 abbrev Entries : Type 0
 Entries = List (List ℕ × Tally)
@@ -88,14 +88,14 @@ row_is played es place row e is =
       rank = is.rank ∙ ranked;
     }
 
-pub rows_are : (kept : Kept) (played : List (GameFile × LoggedGame)) (rows : List TeamRow) → StandsFor kept played → AreRowsBelow kept.tallies (length kept.tallies) rows → AreRows played rows
+pub rows_are : (kept : Kept) (played : List (GameFile × LoggedGame)) (rows : List TeamRow) → AreStandingsOf kept played → AreRowsBelow kept.tallies (length kept.tallies) rows → AreRows played rows
 rows_are kept played rows stands are = record {
   count = are.count ∙ ap (λ (es : Entries). length es) stands.tallies ∙ length-map (teams played) (λ (word : List ℕ). (word, tally_of (results played) word));
   each = λ place row at. row_is played kept.tallies place row stands.tallies (are.each place row at);
 }
 
 -- the word at a place
-pub word_there : (kept : Kept) (played : List (GameFile × LoggedGame)) (place : ℕ) → StandsFor kept played → option_map (λ (e : List ℕ × Tally). e.0) (slice_get kept.tallies place) ≡ slice_get (teams played) place
+pub word_there : (kept : Kept) (played : List (GameFile × LoggedGame)) (place : ℕ) → AreStandingsOf kept played → option_map (λ (e : List ℕ × Tally). e.0) (slice_get kept.tallies place) ≡ slice_get (teams played) place
 word_there kept played place stands =
     sym (slice_get-map (λ (e : List ℕ × Tally). e.0) kept.tallies place) ∙ ap (λ (es : Entries). slice_get (word_first es) place) stands.tallies
     ∙ ap (λ (ws : List (List ℕ)). slice_get ws place) (words_are (tally_of (results played)) (teams played))

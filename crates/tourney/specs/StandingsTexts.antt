@@ -35,7 +35,7 @@ abbrev pub standings_text : List (GameFile × LoggedGame) → List TeamRow → L
 standings_text played rows = text_of (standings_lines played rows)
 
 -- the text after the standings of games were appended to another one
-pub record IsPrinted (played : List (GameFile × LoggedGame)) (old new : List ℕ) : Type 0 where
+pub record IsPrinted (played : List (GameFile × LoggedGame)) (before after : List ℕ) : Type 0 where
   pub rows : List TeamRow
   pub are : AreRows played rows
-  pub is : new ≡ old ++ standings_text played rows
+  pub is : after ≡ before ++ standings_text played rows

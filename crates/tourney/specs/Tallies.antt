@@ -26,7 +26,7 @@ abbrev pub tallies_of : List (List ℕ × ℤ) → List (List ℕ × Tally)
 tallies_of results = map (λ word. (word, tally_of results word)) (teams_in results)
 
 -- standings stand for games: they have the tally of each team, in the teams' order, and the number of games
-pub record StandsFor (kept : Kept) (played : List (GameFile × LoggedGame)) : Type 0 where
+pub record AreStandingsOf (kept : Kept) (played : List (GameFile × LoggedGame)) : Type 0 where
   pub tallies : kept.tallies ≡ tallies_of (results played)
   pub games : kept.games ≡ length played
 

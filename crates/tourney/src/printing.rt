@@ -7,7 +7,7 @@ ghost use Rattle.log_text.specs.LoggedGames.{LoggedGame};
 ghost use Rattle.tourney.specs.Standings as standing;
 ghost use Rattle.tourney.specs.StandingsTexts as texts;
 ghost use Rattle.tourney.specs.StandingsTexts.{IsPrinted};
-ghost use Rattle.tourney.specs.Tallies.{StandsFor};
+ghost use Rattle.tourney.specs.Tallies.{AreStandingsOf};
 
 use crate::{Standings, TeamRow};
 use std::alloc::AllocError;
@@ -56,7 +56,7 @@ fn print_team(word: &[u8], row: &TeamRow, out: &mut Vec<u8>) -> Result<(), Alloc
 
 /// The word of the team at a place, which is empty past the last one.
 fn word_at(standings: &Standings, team: u16) -> &[u8]
-    ensures { (played : List (GameFile × LoggedGame)) → StandsFor standings.now played → result.now ≡ slice_index_or (standing.teams played) team [] }
+    ensures { (played : List (GameFile × LoggedGame)) → AreStandingsOf standings.now played → result.now ≡ slice_index_or (standing.teams played) team [] }
 {
     match standings.word(team) {
         Some(word) => word,
@@ -66,7 +66,7 @@ fn word_at(standings: &Standings, team: u16) -> &[u8]
 
 /// Appends the lines of the teams of these rows. After an error the text may end within them.
 fn print_teams(standings: &Standings, rows: &[TeamRow], out: &mut Vec<u8>) -> Result<(), AllocError>
-    ensures { (played : List (GameFile × LoggedGame)) → StandsFor standings.now played → OnOk result (out.new.items ≡ out.old.items ++ text_of (texts.team_lines (standing.teams played) rows.now)) }
+    ensures { (played : List (GameFile × LoggedGame)) → AreStandingsOf standings.now played → OnOk result (out.new.items ≡ out.old.items ++ text_of (texts.team_lines (standing.teams played) rows.now)) }
 {
     for row in rows {
         print_team(word_at(standings, row.team), row, out)?;
@@ -77,7 +77,7 @@ fn print_teams(standings: &Standings, rows: &[TeamRow], out: &mut Vec<u8>) -> Re
 /// Appends the text of the standings: the line `table N`, a line `team WORD GAMES TOTAL NUM/DEN RANK` for each team in the
 /// order in which they first appear, and `end`. After `Memory` a part of it may follow what was there.
 pub fn print_standings(standings: &Standings, out: &mut Vec<u8>) -> Result<(), Memory>
-    ensures { (played : List (GameFile × LoggedGame)) → StandsFor standings.now played → OnOk result (IsPrinted played out.old.items out.new.items) }
+    ensures { (played : List (GameFile × LoggedGame)) → AreStandingsOf standings.now played → OnOk result (IsPrinted played out.old.items out.new.items) }
 {
     let rows = standings.rows()?;
     print_row(out, b"table", &[i64::from(standings.games())])?;

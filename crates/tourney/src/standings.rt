@@ -8,7 +8,7 @@ ghost use Rattle.log_reader.specs.SoundLog.{IsSound};
 ghost use Rattle.tourney.specs.Standings as standings;
 ghost use Rattle.tourney.specs.Rows as rows;
 ghost use Rattle.tourney.specs.Tallies as spec;
-ghost use Rattle.tourney.specs.Tallies.{StandsFor};
+ghost use Rattle.tourney.specs.Tallies.{AreStandingsOf};
 
 use crate::TeamRow;
 use crate::averages::{Average, lowest_terms};
@@ -76,7 +76,7 @@ fn add_agent(tallies: &mut Tallies, game: &Game, log: &Log, agent: Agent) -> Res
 impl Standings {
     /// The standings of no games. They take no memory.
     pub fn begin(alloc: Global) -> Standings
-        ensures stands { StandsFor result [] }
+        ensures stands { AreStandingsOf result [] }
         ensures games { result.games ≡ 0 }
     {
         Standings {
@@ -90,7 +90,7 @@ impl Standings {
     pub fn add(self, game: &Game, log: &Log) -> Result<Standings, Memory>
         requires sound { IsSound game.now log.now }
         requires few { self.games < 64 }
-        ensures stands { (played : List (GameFile × LoggedGame)) → StandsFor self played → IfOk result (λ after. StandsFor after (played ++ (game.now, log.now) ∷ [])) }
+        ensures stands { (played : List (GameFile × LoggedGame)) → AreStandingsOf self played → IfOk result (λ after. AreStandingsOf after (played ++ (game.now, log.now) ∷ [])) }
         ensures games { IfOk result (λ after. after.games ≡ self.games + 1) }
     {
         let Standings {
@@ -113,7 +113,7 @@ impl Standings {
 
     /// How many games there were, 0..64.
     pub fn games(&self) -> u8
-        ensures stands { (played : List (GameFile × LoggedGame)) → StandsFor self.now played → result ≡ length played }
+        ensures stands { (played : List (GameFile × LoggedGame)) → AreStandingsOf self.now played → result ≡ length played }
         ensures few { result ≤ 64 }
         ensures kept { result ≡ self.now.games }
     {
@@ -150,7 +150,7 @@ impl Standings {
 
     /// The row of each team, in the order in which the teams first appear. `Memory` leaves nothing.
     pub fn rows(&self) -> Result<Vec<TeamRow>, Memory>
-        ensures { (played : List (GameFile × LoggedGame)) → StandsFor self.now played → IfOk result (λ teams. rows.AreRows played teams.items) }
+        ensures { (played : List (GameFile × LoggedGame)) → AreStandingsOf self.now played → IfOk result (λ teams. rows.AreRows played teams.items) }
     {
         let mut rows = Vec::new(self.alloc);
         for place in 0..self.tallies.len() {
@@ -161,7 +161,7 @@ impl Standings {
 
     /// The word of the team at a place, which is none exactly past the last one.
     pub fn word(&self, team: u16) -> Option<&[u8]>
-        ensures { (played : List (GameFile × LoggedGame)) → StandsFor self.now played → option_copied result ≡ slice_get (standings.teams played) team }
+        ensures { (played : List (GameFile × LoggedGame)) → AreStandingsOf self.now played → option_copied result ≡ slice_get (standings.teams played) team }
     {
         match self.tallies.get_index(usize::from(team)) {
             Some((word, _)) => Some(word.as_slice()),

@@ -14,8 +14,8 @@ use Rattle.turn_lock.proofs.Places.{take_all, take_before}
 use Rattle.trade_ledger.specs.declared.cash_calls.CashCall.{CashCall}
 use Rattle.trade_ledger.specs.declared.cash_calls.CashCall.TheVariants.{Post, Read}
 use Rattle.trade_ledger.specs.declared.cash_calls.CashEntry.{CashEntry}
-use Rattle.trade_ledger.specs.CashHistory.{nets_of, posted_nets, total_of, gain_of, IsFit, reply_by, reply_of, IsLegalCash, cash_cap}
-use Rattle.trade_ledger.specs.CashKeeping.{IsWithin, IsReader, IsToldInRange, IsLoggableCash, IsSound}
+use Rattle.trade_ledger.specs.CashHistory.{nets_of, posted_nets, cash_total, gain_of, IsFitCash, reply_by, cash_reply_of, IsLegalCash, cash_cap}
+use Rattle.trade_ledger.specs.CashKeeping.{IsWithin, IsReader, IsShownCash, IsLoggableCash, IsCashSound}
 
 abbrev net : ℕ → Nets → ℤ
 net party nets = slice_index_or nets.dollars party (pos 0)
@@ -28,12 +28,12 @@ map_join : {A B : Type 0} (f : A → B) (xs ys : List A) → map f (xs ++ ys) �
 map_join f [] ys = refl
 map_join {B = B} f (x ∷ xs) ys = ap (λ (l : List B). f x ∷ l) (map_join f xs ys)
 
-pub total_of-snoc : (history : List CashEntry) (e : CashEntry) (party : ℕ) → total_of (history ++ e ∷ []) party ≡ total_of history party +ℤ gain_of e.call party
-total_of-snoc history e party =
+pub cash_total-snoc : (history : List CashEntry) (e : CashEntry) (party : ℕ) → cash_total (history ++ e ∷ []) party ≡ cash_total history party +ℤ gain_of e.call party
+cash_total-snoc history e party =
     ap (λ (l : List Nets). fold ◌+ℤ◌ (pos 0) (map (net party) l)) (filter_map-append (λ (x : CashEntry). nets_of x.call) history (e ∷ []))
     ∙ (ap (fold ◌+ℤ◌ (pos 0)) (map_join (net party) (posted_nets history) (posted_nets (e ∷ [])))
     ∙ (fold-append ◌+ℤ◌ (pos 0) (map (net party) (posted_nets history)) (map (net party) (posted_nets (e ∷ [])))
-    ∙ added (total_of history party) e.call party))
+    ∙ added (cash_total history party) e.call party))
 
 -- what stands in a history with one entry more
 get_snoc : (history : List CashEntry) (e x : CashEntry) (position : ℕ) (P : ℕ → CashEntry → Type 0)
@@ -44,9 +44,9 @@ get_snoc [] e x (suc k) P old new at = let never : None ≡ Some x = at in absur
 get_snoc (y ∷ history) e x zero P old new at = old 0 x at (omega arith)
 get_snoc (y ∷ history) e x (suc k) P old new at = get_snoc history e x k (λ j. P (suc j)) (λ j z h lt. old (suc j) z h (omega arith)) new at
 
-pub legal_snoc : (history : List CashEntry) (e : CashEntry) → IsLegalCash history → IsFit e.caller e.call → e.reply ≡ reply_of history e.call → IsLegalCash (history ++ e ∷ [])
+pub legal_snoc : (history : List CashEntry) (e : CashEntry) → IsLegalCash history → IsFitCash e.caller e.call → e.reply ≡ cash_reply_of history e.call → IsLegalCash (history ++ e ∷ [])
 legal_snoc history e legal fit reply position x =
-    let is_due : List CashEntry → CashEntry → Type 0 = λ before y. IsFit y.caller y.call × (y.reply ≡ reply_of before y.call) in
+    let is_due : List CashEntry → CashEntry → Type 0 = λ before y. IsFitCash y.caller y.call × (y.reply ≡ cash_reply_of before y.call) in
     get_snoc history e x position (λ k y. is_due (take k (history ++ e ∷ [])) y)
     (λ k y at inside. subst (λ (before : List CashEntry). is_due before y) (sym (take_before k history (e ∷ []) (omega arith))) (legal k y at))
     (subst (λ (before : List CashEntry). is_due before e) (sym (take_before (length history) history (e ∷ []) (omega arith) ∙ take_all history)) (fit, reply))
@@ -90,27 +90,27 @@ pub within_all : (n : ℕ) (a : ℤ) → n ≤ 238048 → IsWithin (n * 21474836
 within_all n a few is = (omega (arith, ints, is.0), omega (arith, ints, is.1))
 
 -- the book keeps its history with one entry more
-pub sound_snoc : (history : List CashEntry) (kept kept' : List ℤ) (capacity : ℕ) (e : CashEntry) → IsSound history kept capacity → e.caller ≤ clock → length (part by history e.caller) < cash_cap e.caller
-    → IsFit e.caller e.call → e.reply ≡ reply_by (λ party. slice_index_or kept party (pos 0)) e.call
+pub sound_snoc : (history : List CashEntry) (kept kept' : List ℤ) (capacity : ℕ) (e : CashEntry) → IsCashSound history kept capacity → e.caller ≤ clock → length (part by history e.caller) < cash_cap e.caller
+    → IsFitCash e.caller e.call → e.reply ≡ reply_by (λ party. slice_index_or kept party (pos 0)) e.call
     → ((party : ℕ) → party < 9 → slice_index_or kept' party (pos 0) ≡ slice_index_or kept party (pos 0) +ℤ gain_of e.call party)
-    → ((party : ℕ) → party < 9 → IsWithin 2147483648 (gain_of e.call party)) → IsReader e.call → IsSound (history ++ e ∷ []) kept' capacity
+    → ((party : ℕ) → party < 9 → IsWithin 2147483648 (gain_of e.call party)) → IsReader e.call → IsCashSound (history ++ e ∷ []) kept' capacity
 sound_snoc history kept kept' capacity e sound is room fit reply new small reader = record {
   legal = legal_snoc history e sound.legal fit (reply ∙ same_reply e.call fit);
   called = called_snoc history e sound.called is;
-  loggable = loggable_snoc history e sound.loggable (record { caller = is; reader = reader; told = subst IsToldInRange (sym reply) (told e.call reader) });
+  loggable = loggable_snoc history e sound.loggable (record { caller = is; reader = reader; told = subst IsShownCash (sym reply) (told e.call reader) });
   capped = capped_snoc history e sound.capped room;
-  totals = λ party lt. new party lt ∙ (ap (λ (z : ℤ). z +ℤ gain_of e.call party) (sound.totals party lt) ∙ sym (total_of-snoc history e party));
-  small = λ party lt. subst (λ (n : ℕ). IsWithin (n * 2147483648) (total_of (history ++ e ∷ []) party)) (sym (length-append history (e ∷ [])))
-      (within_more (length history) (total_of history party) (gain_of e.call party) (total_of (history ++ e ∷ []) party) (sound.small party lt) (small party lt) (total_of-snoc history e party));
+  totals = λ party lt. new party lt ∙ (ap (λ (z : ℤ). z +ℤ gain_of e.call party) (sound.totals party lt) ∙ sym (cash_total-snoc history e party));
+  small = λ party lt. subst (λ (n : ℕ). IsWithin (n * 2147483648) (cash_total (history ++ e ∷ []) party)) (sym (length-append history (e ∷ [])))
+      (within_more (length history) (cash_total history party) (gain_of e.call party) (cash_total (history ++ e ∷ []) party) (sound.small party lt) (small party lt) (cash_total-snoc history e party));
   room = sound.room;
 }
   where
-    same_reply : (call : CashCall) → IsFit e.caller call → reply_by (λ party. slice_index_or kept party (pos 0)) call ≡ reply_by (total_of history) call
+    same_reply : (call : CashCall) → IsFitCash e.caller call → reply_by (λ party. slice_index_or kept party (pos 0)) call ≡ reply_by (cash_total history) call
     same_reply (Post good position nets) fits = refl
     same_reply (Read agent) fits = ap (λ (z : ℤ). reply_by (λ _. z) (Read agent)) (sound.totals agent (omega arith))
 
-    told : (call : CashCall) → IsReader call → IsToldInRange (reply_by (λ party. slice_index_or kept party (pos 0)) call)
+    told : (call : CashCall) → IsReader call → IsShownCash (reply_by (λ party. slice_index_or kept party (pos 0)) call)
     told (Post good position nets) reads = tt
     told (Read agent) reads =
         subst (IsWithin 600000000000000) (sym (sound.totals agent (omega arith)))
-        (within_all (length history) (total_of history agent) (few_entries history sound.called sound.capped) (sound.small agent (omega arith)))
+        (within_all (length history) (cash_total history agent) (few_entries history sound.called sound.capped) (sound.small agent (omega arith)))

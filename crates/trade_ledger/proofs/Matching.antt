@@ -15,7 +15,7 @@ use Rattle.trade_ledger.specs.declared.cash_calls.CashCall.{CashCall}
 use Rattle.trade_ledger.specs.declared.cash_calls.CashCall.TheVariants.{Post, Read}
 use Rattle.trade_ledger.specs.declared.cash_calls.CashReply.TheVariants.{Done}
 use Rattle.trade_ledger.specs.declared.cash_calls.CashEntry.{CashEntry}
-use Rattle.trade_ledger.specs.CashHistory.{posted_nets, total_of}
+use Rattle.trade_ledger.specs.CashHistory.{posted_nets, cash_total}
 use Rattle.trade_ledger.specs.Posts.{HoldSame, is_post, posts_of, post_for, due_post, due_to, due_posts, Matched, trades_of_all}
 use Rattle.trade_ledger.proofs.Trading.{get_or-nine}
 
@@ -285,6 +285,6 @@ net_of_all party n (h ∷ histories) low =
     )
 
 -- in a matched cash history the total of a party is the sum of its dollars over the trades of all histories
-pub matched_totals : (histories : List (List Entry)) (cash : List CashEntry) (party : ℕ) → party ≤ 8 → Matched histories cash → total_of cash party ≡ dollars (trades_of_all histories) party
+pub matched_totals : (histories : List (List Entry)) (cash : List CashEntry) (party : ℕ) → party ≤ 8 → Matched histories cash → cash_total cash party ≡ dollars (trades_of_all histories) party
 matched_totals histories cash party low matched =
     omega (arith, ints, total_is (pos 0) party cash, matched (gains party), matched (losses party), net_of_all party 0 histories low)

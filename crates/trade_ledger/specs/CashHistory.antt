@@ -21,8 +21,8 @@ abbrev pub posted_nets : List CashEntry → List Nets
 posted_nets history = filter_map (λ e. nets_of e.call) history
 
 -- the sum of a party's nets in the posts of a history, in dollars
-abbrev pub total_of : List CashEntry → ℕ → ℤ
-total_of history party = fold ◌+ℤ◌ (pos 0) (map (λ nets. slice_index_or nets.dollars party (pos 0)) (posted_nets history))
+abbrev pub cash_total : List CashEntry → ℕ → ℤ
+cash_total history party = fold ◌+ℤ◌ (pos 0) (map (λ nets. slice_index_or nets.dollars party (pos 0)) (posted_nets history))
 
 -- what a call adds to a party's total
 abbrev pub gain_of : CashCall → ℕ → ℤ
@@ -30,9 +30,9 @@ gain_of (Post good position nets) party = slice_index_or nets.dollars party (pos
 gain_of (Read agent) party = pos 0
 
 -- which calls a caller may make: every post, and a reading of its own cash
-abbrev pub IsFit : ℕ → CashCall → Type 0
-IsFit caller (Post good position nets) = ⊤
-IsFit caller (Read agent) = agent ≡ caller
+abbrev pub IsFitCash : ℕ → CashCall → Type 0
+IsFitCash caller (Post good position nets) = ⊤
+IsFitCash caller (Read agent) = agent ≡ caller
 
 -- the reply to a call if the parties have these totals
 abbrev pub reply_by : (ℕ → ℤ) → CashCall → CashReply
@@ -40,13 +40,13 @@ reply_by totals (Post good position nets) = Done
 reply_by totals (Read agent) = Cash (totals agent)
 
 -- the reply that is due to a call after a history
-abbrev pub reply_of : List CashEntry → CashCall → CashReply
-reply_of before call = reply_by (total_of before) call
+abbrev pub cash_reply_of : List CashEntry → CashCall → CashReply
+cash_reply_of before call = reply_by (cash_total before) call
 
 -- each entry has a call that its caller may make, and the reply that is due after the entries before it
 abbrev pub IsLegalCash : List CashEntry → Type 0
 IsLegalCash history = (position : ℕ) (e : CashEntry) → slice_get history position ≡ Some e →
-    IsFit e.caller e.call × (e.reply ≡ reply_of (take position history) e.call)
+    IsFitCash e.caller e.call × (e.reply ≡ cash_reply_of (take position history) e.call)
 
 -- the most entries that a caller may have
 abbrev pub cash_cap : ℕ → ℕ

@@ -9,7 +9,7 @@ use Rattle.trade_ledger.specs.declared.cash_calls.CashCall.TheVariants.{Post, Re
 use Rattle.trade_ledger.specs.declared.cash_calls.CashReply.{CashReply}
 use Rattle.trade_ledger.specs.declared.cash_calls.CashReply.TheVariants.{Done, Cash}
 use Rattle.trade_ledger.specs.declared.cash_calls.CashEntry.{CashEntry}
-use Rattle.trade_ledger.specs.CashHistory.{IsLegalCash, total_of, cash_cap}
+use Rattle.trade_ledger.specs.CashHistory.{IsLegalCash, cash_total, cash_cap}
 
 -- at most this many dollars, gained or lost
 abbrev pub IsWithin : ℕ → ℤ → Type 0
@@ -21,23 +21,23 @@ IsReader (Read agent) = agent ≤ 7
 IsReader (Post good position nets) = ⊤
 
 -- the cash that is answered has at most 15 digits
-abbrev pub IsToldInRange : CashReply → Type 0
-IsToldInRange (Cash dollars) = IsWithin 600000000000000 dollars
-IsToldInRange Done = ⊤
+abbrev pub IsShownCash : CashReply → Type 0
+IsShownCash (Cash dollars) = IsWithin 600000000000000 dollars
+IsShownCash Done = ⊤
 
 -- an entry of one of the nine callers; it reads an agent's cash, in range, or posts
 pub record IsLoggableCash (e : CashEntry) : Type 0 where
   pub caller : e.caller ≤ clock
   pub reader : IsReader e.call
-  pub told : IsToldInRange e.reply
+  pub told : IsShownCash e.reply
 
 -- The history is legal, and each of the nine callers has at most its cap of entries. The book has the total of each party, to which
 -- each entry adds at most 2 ^ 31 dollars, and room for all entries that the caps allow.
-pub record IsSound (history : List CashEntry) (kept : List ℤ) (capacity : ℕ) : Type 0 where
+pub record IsCashSound (history : List CashEntry) (kept : List ℤ) (capacity : ℕ) : Type 0 where
   pub legal : IsLegalCash history
   pub called : AllByRecursion (λ e. e.caller ≤ clock) history
   pub loggable : AllByRecursion IsLoggableCash history
   pub capped : (caller : ℕ) → length (part (λ e. e.caller) history caller) ≤ cash_cap caller
-  pub totals : (party : ℕ) → party < 9 → slice_index_or kept party (pos 0) ≡ total_of history party
-  pub small : (party : ℕ) → party < 9 → IsWithin (length history * 2147483648) (total_of history party)
+  pub totals : (party : ℕ) → party < 9 → slice_index_or kept party (pos 0) ≡ cash_total history party
+  pub small : (party : ℕ) → party < 9 → IsWithin (length history * 2147483648) (cash_total history party)
   pub room : CASH_ENTRIES ≤ capacity

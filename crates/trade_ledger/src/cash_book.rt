@@ -20,13 +20,13 @@ pub struct CashBook {
 impl Model for CashBook {
     ghost use Rattle.std.specs.Prelude.{List, vec_capacity};
     ghost use Rattle.trade_ledger.specs.declared.cash_calls.CashEntry.{CashEntry};
-    ghost use Rattle.trade_ledger.specs.CashKeeping.{IsSound};
+    ghost use Rattle.trade_ledger.specs.CashKeeping.{IsCashSound};
 
     ghost Value = { List CashEntry };
 
     ghost view = { λ b. b.entries.items };
 
-    ghost invariant = { λ b. IsSound b.entries.items b.totals (vec_capacity b.entries) };
+    ghost invariant = { λ b. IsCashSound b.entries.items b.totals (vec_capacity b.entries) };
 }
 
 /// Adds the nets of a post to the totals of nine parties, in dollars.
@@ -63,7 +63,7 @@ impl CashBook {
     ghost use Rattle.std.specs.Prelude.{All, ◌≡◌, ◌≤◌, [], IfOk, slice_get, length};
     ghost use Rattle.std.specs.Option.{option_copied};
     ghost use Rattle.trade_ledger.specs.CashKeeping.{IsLoggableCash};
-    ghost use Rattle.trade_ledger.specs.CashHistory.{total_of};
+    ghost use Rattle.trade_ledger.specs.CashHistory.{cash_total};
 
     /// The empty book, with room for all entries of a game. After `Memory` nothing was made.
     pub fn begin(alloc: Global) -> Result<CashBook, Memory>
@@ -89,7 +89,7 @@ impl CashBook {
     /// The sum of the party's nets in all posts, in dollars: at most 600,000,000,000,000, gained or lost.
     #[tactic(auto, using(crate::proofs::CashSteps::few_entries, crate::proofs::CashSteps::within_all))]
     pub fn total(&self, party: Party) -> i64
-        ensures value { result ≡ total_of self.now party }
+        ensures value { result ≡ cash_total self.now party }
         ensures range { IsWithin 600000000000000 result }
     {
         self.totals[usize::from(party.get())]
@@ -97,7 +97,7 @@ impl CashBook {
 }
 
 impl Kept for CashBook {
-    ghost use Rattle.trade_ledger.specs.CashHistory.{IsLegalCash, IsFit, cash_cap, cash_board};
+    ghost use Rattle.trade_ledger.specs.CashHistory.{IsLegalCash, IsFitCash, cash_cap, cash_board};
 
     type Call = CashCall;
 
@@ -121,7 +121,7 @@ impl Kept for CashBook {
 
     ghost answer = { λ e. e.reply };
 
-    ghost fit = { IsFit };
+    ghost fit = { IsFitCash };
 
     ghost cap = { cash_cap };
 

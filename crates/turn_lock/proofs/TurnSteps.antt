@@ -14,7 +14,7 @@ use Rattle.turn_lock.specs.declared.view.Returned.{Returned}
 use Rattle.turn_lock.specs.Part.{part}
 use Rattle.turn_lock.specs.BoardWord.{IsSmall, packed, unpacked}
 use Rattle.turn_lock.specs.TurnRule.{own_at_first, spent, AreKnown, Knows, IsReturned, IsShelved, Turning}
-use Rattle.turn_lock.specs.Steps.{ticketed, holding, turned, noted, with_pass, next_pass, left_by, with_returned, drew, looked, published, peeked}
+use Rattle.turn_lock.specs.Steps.{ticketed, at_turn, turned, noted, with_pass, next_pass, returned_from, with_returned, drew, looked, PublishesBoard, peeked}
 use Rattle.turn_lock.proofs.Places.{sum_by-set, sum_by-le_length, le-sum_by, place_below, at_end, at_only, take_all, take_before}
 use Rattle.turn_lock.proofs.Parts.{part_mine, part_other, part_below}
 use Rattle.turn_lock.proofs.Words.{packed_count, unpacked-packed}
@@ -193,7 +193,7 @@ module _ {S G E : Type 0} (setup : S → G) (history : S → List E) (legal : G 
       let count : x % 16777216 ≡ length r.log = ap (λ (n : ℕ). n % 16777216) is ∙ (packed_count (board the_setup r.log) r.small ∙ r.counted) in
       let k = r.each id v at in let l = k.pass up in dite (ℕ_discrete (x % 16777216) v.ticket)
       (λ hit. ⊎_elim
-      (λ t. let y : S = t.0 in let w : V = holding v (setup y) (history y) in (
+      (λ t. let y : S = t.0 in let w : V = at_turn v (setup y) (history y) in (
         w,
         takes 0 y,
         ap (λ (hs : List (Option_ S)). get_elem? hs 0) t.1,
@@ -244,7 +244,7 @@ module _ {S G E : Type 0} (setup : S → G) (history : S → List E) (legal : G 
   publishes_at : (slots id : ℕ) (v : V) (x : S) (y : G) (h : List E) (e : E) (b : ℕ) → v.live ≡ 1 → v.held ≡ Some (y, h) → setup x ≡ y → history x ≡ h ++ e ∷ []
       → caller_of e ≡ v.caller → legal (setup x) (history x)
       → (board (setup x) (history x)).count ≡ length (history x) → IsSmall (board (setup x) (history x)) → b ≡ packed (board (setup x) (history x))
-      → Allows Rule slots id (v, (0, x) ∷ []) 1 (λ _. b) (λ _. published history caller_of (step slots 1 b 0 none) (v, (0, x) ∷ []) b)
+      → Allows Rule slots id (v, (0, x) ∷ []) 1 (λ _. b) (λ _. PublishesBoard history caller_of (step slots 1 b 0 none) (v, (0, x) ∷ []) b)
   publishes_at slots id v x y h e b up held same_setup longer mine_is lawful counted small word s r _ at _ =
       let k = r.each id v at in let l = k.pass up in let f = l.held y h held in
       let z_is : setup x ≡ the_setup = same_setup ∙ f.2 in
@@ -332,10 +332,10 @@ module _ {S G E : Type 0} (setup : S → G) (history : S → List E) (legal : G 
   pub publishes : (slots id : ℕ) (v : V) (c : List (ℕ × S)) (x₀ x : S) (e : E) (b : ℕ) (shown : Board) → c ≡ [] → v.live ≡ 1 → v.held ≡ Some (setup x₀, history x₀)
       → setup x ≡ setup x₀ → history x ≡ history x₀ ++ e ∷ [] → caller_of e ≡ v.caller
       → legal (setup x) (history x) → shown ≡ board (setup x) (history x) → shown.count ≡ length (history x) → (shown.count < 16777216) × (shown.bid ≤ 10001) × (shown.ask ≤ 10001) → b ≡ packed shown
-      → Allows Rule slots id (v, (0, x) ∷ c) 1 (λ _. b) (λ _. published history caller_of (step slots 1 b 0 none) (v, (0, x) ∷ c) b)
+      → Allows Rule slots id (v, (0, x) ∷ c) 1 (λ _. b) (λ _. PublishesBoard history caller_of (step slots 1 b 0 none) (v, (0, x) ∷ c) b)
   publishes slots id v c x₀ x e b shown none-else up held same longer mine lawful is counted small word =
       let fits : IsSmall shown = let p = small.0 in let q = small.1 in let t = small.2 in (omega arith, omega arith, omega arith) in
-      subst (λ (l : List (ℕ × S)). Allows Rule slots id (v, (0, x) ∷ l) 1 (λ _. b) (λ _. published history caller_of (step slots 1 b 0 none) (v, (0, x) ∷ l) b)) (sym none-else)
+      subst (λ (l : List (ℕ × S)). Allows Rule slots id (v, (0, x) ∷ l) 1 (λ _. b) (λ _. PublishesBoard history caller_of (step slots 1 b 0 none) (v, (0, x) ∷ l) b)) (sym none-else)
       (publishes_at slots id v x (setup x₀) (history x₀) e b up held same longer mine lawful (subst (λ (q : Board). q.count ≡ length (history x)) is counted) (subst IsSmall is fits) (word ∙ ap packed is))
 
   -- a pass that rests peeks
@@ -454,7 +454,7 @@ module _ {S G E : Type 0} (setup : S → G) (history : S → List E) (legal : G 
         seats = omega arith;
         few = let f = r.few in omega arith;
         lives = let t = r.lives in let a = sum_by-set live s.views 0 v n at in let b = sum_by-set live vs other w spent there' in
-            let c : length v.returned ≡ length r.own.returned = ap length back in let d = length-append v.returned (left_by w ∷ []) in omega arith;
+            let c : length v.returned ≡ length r.own.returned = ap length back in let d = length-append v.returned (returned_from w ∷ []) in omega arith;
         nobody_else = λ c far. r.nobody_else c (omega arith);
         each = λ i u e. ⊎_elim (λ (t : (i ≡ other) × (spent ≡ u)). subst (λ (p : V). Known r.log r.drawn i p) t.1 record { flags = (omega arith, omega arith); idle = λ _. refl; pass = λ bad. absurd (omega arith) })
             (⊎_elim (λ (t : (i ≡ 0) × (n ≡ u)). subst (λ (p : V). Known r.log r.drawn i p) t.1 record { flags = flags; idle = k.idle; pass = λ bad. absurd (omega arith) })
@@ -468,14 +468,14 @@ module _ {S G E : Type 0} (setup : S → G) (history : S → List E) (legal : G 
               mine = l.mine;
               notes = l.notes;
             })
-            (λ (t : (i ≡ length v.returned) × (left_by w ≡ b)). subst (λ (p : Returned E). IsReturned (board the_setup) caller_of r.log (set vs other spent) p) t.1 record {
+            (λ (t : (i ≡ length v.returned) × (returned_from w ≡ b)). subst (λ (p : Returned E). IsReturned (board the_setup) caller_of r.log (set vs other spent) p) t.1 record {
               made = let in_made = place_below s.views other w there in omega arith;
               spent = λ u g. ⊎_elim (λ (p : (w.caller + 1 ≡ other) × (spent ≡ u)). ap live (sym p.1))
                   (⊎_elim (λ (p : (w.caller + 1 ≡ 0) × (n ≡ u)). let no = p.0 in absurd (omega arith)) (λ (p : (w.caller + 1 ≢ other) × (get_elem? s.views (w.caller + 1) ≡ some u)). absurd (p.0 seat))) (either (w.caller + 1) u g);
               mine = lw.mine;
               notes = λ j note g. let o = lw.notes j note g in let le = o.0 in let sn = lw.seen in (omega arith, o.1);
             })
-            (at_end v.returned (left_by w) b i e);
+            (at_end v.returned (returned_from w) b i e);
         shelf = ⊎_elim
             (λ t. inl (
               t.0,
@@ -535,14 +535,14 @@ module _ {S G E : Type 0} (setup : S → G) (history : S → List E) (legal : G 
       r.shelf
 
   -- what a whole turn leaves the pass
-  pub whole_turn : (v : V) (t : ℕ) (m₁ m₂ m₃ : M) (x x' : S) (h : List E) (e : E) (n : ℕ) → m₁ ≡ (ticketed v t, []) → m₂ ≡ (holding m₁.0 (setup x) (history x), (0, x) ∷ [])
+  pub whole_turn : (v : V) (t : ℕ) (m₁ m₂ m₃ : M) (x x' : S) (h : List E) (e : E) (n : ℕ) → m₁ ≡ (ticketed v t, []) → m₂ ≡ (at_turn m₁.0 (setup x) (history x), (0, x) ∷ [])
       → m₂.1 ≡ (0, x') ∷ [] → h ≡ history x' ++ e ∷ [] → caller_of e ≡ v.caller
       → part caller_of (history x) m₁.0.caller ≡ m₁.0.mine → n ≡ length (history x') → m₃ ≡ (turned caller_of m₂.0 h, []) → m₃ ≡ (record v { waits = 0; ticket = t; seen = n + 1; mine = v.mine ++ (n, e) ∷ []; held = None }, [])
   whole_turn v t m₁ m₂ m₃ x x' h e n a b here longer mine same at d = let q : x ≡ x' = in_hand m₂.1 [] x x' (ap (λ (k : M). k.1) b) here in
       let one : part caller_of (history x) v.caller ≡ v.mine = subst (λ (k : M). part caller_of (history x) k.0.caller ≡ k.0.mine) a same in
       let all : part caller_of h v.caller ≡ v.mine ++ (n, e) ∷ [] = ap (λ (l : List E). part caller_of l v.caller) longer ∙ (part_mine caller_of (history x') e v.caller mine ∙ λ i. (ap (λ (y : S). part caller_of (history y) v.caller) (sym q) ∙ one) i ++ (sym at i, e) ∷ []) in
       let long : length h ≡ n + 1 = ap length longer ∙ (length-append (history x') (e ∷ []) ∙ ap (λ (k : ℕ). k + 1) (sym at)) in
-      let f : M → M = λ k. (turned caller_of k.0 h, []) in let g : M → M = λ k. (holding k.0 (setup x) (history x), (0, x) ∷ []) in
+      let f : M → M = λ k. (turned caller_of k.0 h, []) in let g : M → M = λ k. (at_turn k.0 (setup x) (history x), (0, x) ∷ []) in
       d ∙ (ap f (b ∙ ap g a) ∙ λ i. (record v { waits = 0; ticket = t; seen = long i; mine = all i; held = None }, []))
 
   pub splits_off_at : (id : ℕ) (v : V) → id ≡ 0 → v.passes < 9 → Splits Rule id v (with_pass v) (next_pass v)

@@ -22,8 +22,8 @@ module _ {S C R G E : Type 0} {K : Ghosts S C R G E} where
   caller_of p = p.caller
 
   -- how many turns it has left
-  abbrev pub left_of : Pass S C R G E K → ℕ
-  left_of p = p.left
+  abbrev pub turns_left : Pass S C R G E K → ℕ
+  turns_left p = p.left
 
   -- the length of the history that it has seen
   abbrev pub seen_by : Pass S C R G E K → ℕ

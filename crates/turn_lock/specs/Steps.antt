@@ -1,4 +1,4 @@
--- What each step on the table of a lock tells the seat that makes it.
+-- What the seat that makes a step on the table of a lock knows by it.
 use Rattle.std.specs.Prelude.{◌≡◌, ◌≢◌, ℕ, ◌+◌, ◌%◌, ◌≤◌, List, [], ◌∷◌, ◌++◌, length, Option, Some, None}
 use Rattle.atomic_table.specs.Table.{Me, Step}
 use Rattle.tac_base.specs.declared.calls.Board.{Board}
@@ -14,8 +14,8 @@ module _ {S G E : Type 0} where
   ticketed v ticket = record v { waits = 1; ticket = ticket }
 
   -- the view with the turn, at a setup and a history
-  abbrev pub holding : View S G E → G → List E → View S G E
-  holding v g h = record v { held = Some (g, h) }
+  abbrev pub at_turn : View S G E → G → List E → View S G E
+  at_turn v g h = record v { held = Some (g, h) }
 
   -- the view after its turn, which left this history
   abbrev pub turned : (E → ℕ) → View S G E → List E → View S G E
@@ -37,12 +37,12 @@ module _ {S G E : Type 0} where
   next_pass v = fresh_pass v.start v.passes
 
   -- what a pass leaves
-  abbrev pub left_by : View S G E → Returned E
-  left_by v = record { caller = v.caller; mine = v.mine; notes = v.notes }
+  abbrev pub returned_from : View S G E → Returned E
+  returned_from v = record { caller = v.caller; mine = v.mine; notes = v.notes }
 
   -- the lock's own view after a pass was taken back
   abbrev pub with_returned : View S G E → View S G E → View S G E
-  with_returned v pass = record v { returned = v.returned ++ left_by pass ∷ [] }
+  with_returned v pass = record v { returned = v.returned ++ returned_from pass ∷ [] }
 
 module _ {S G E : Type 0} where
   -- a ticket was drawn: the number that was found
@@ -53,7 +53,7 @@ module _ {S G E : Type 0} where
   -- those that it made
   pub record Took (setup : S → G) (history : S → List E) (caller_of : E → ℕ) (before after : Me S (View S G E)) : Type 0 where
     pub state : S
-    pub is : after ≡ (holding before.0 (setup state) (history state), (0, state) ∷ [])
+    pub is : after ≡ (at_turn before.0 (setup state) (history state), (0, state) ∷ [])
     pub kept : (start : S) → before.0.start ≡ Some start → setup state ≡ setup start
     pub count : length (history state) ≡ before.0.ticket
     pub mine : part caller_of (history state) before.0.caller ≡ before.0.mine
@@ -65,8 +65,8 @@ module _ {S G E : Type 0} where
       (found % 16777216 ≡ before.0.ticket → Took setup history caller_of before after) × (found % 16777216 ≢ before.0.ticket → after ≡ before)
 
   -- the state was given back, with its board
-  abbrev pub published : (S → List E) → (E → ℕ) → Step S → Me S (View S G E) → ℕ → Me S (View S G E) → Type 0
-  published history caller_of step before found after = (x : S) → before.1 ≡ (0, x) ∷ [] → after ≡ (turned caller_of before.0 (history x), [])
+  abbrev pub PublishesBoard : (S → List E) → (E → ℕ) → Step S → Me S (View S G E) → ℕ → Me S (View S G E) → Type 0
+  PublishesBoard history caller_of step before found after = (x : S) → before.1 ≡ (0, x) ∷ [] → after ≡ (turned caller_of before.0 (history x), [])
 
   -- the board was read, and its count is not below what was seen before
   abbrev pub peeked : Step S → Me S (View S G E) → ℕ → Me S (View S G E) → Type 0

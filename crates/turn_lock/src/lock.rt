@@ -1,7 +1,7 @@
 ghost use Rattle.std.specs.Prelude.{◌≡◌, ℕ, ◌+◌, ◌<◌, ◌≤◌, List, [], ◌∷◌, ◌++◌, length, None, Some};
 ghost use Rattle.turn_lock.specs.Part.{part};
 ghost use Rattle.turn_lock.specs.TurnRule.{own_view};
-ghost use Rattle.turn_lock.specs.Steps.{ticketed, holding, turned, with_pass, next_pass};
+ghost use Rattle.turn_lock.specs.Steps.{ticketed, at_turn, turned, with_pass, next_pass};
 
 use crate::board_word::{pack, unpack};
 use crate::kept::Kept;
@@ -52,7 +52,7 @@ impl<S: Kept> TurnLock<S> {
         requires waits { (seat.old.me.0.live ≡ 1) × (seat.old.me.0.waits ≡ 1) × (seat.old.me.0.ticket ≡ ticket)
             × (seat.old.me.0.held ≡ None) × (seat.old.me.1 ≡ []) }
         ensures own { (seat.new.table_id ≡ seat.old.table_id) × (seat.new.id ≡ seat.old.id) }
-        ensures took { (x : S) × (seat.new.me ≡ (holding seat.old.me.0 (S.setup x) (S.history x), (0, x) ∷ [])) × (length (S.history x) ≡ ticket)
+        ensures took { (x : S) × (seat.new.me ≡ (at_turn seat.old.me.0 (S.setup x) (S.history x), (0, x) ∷ [])) × (length (S.history x) ≡ ticket)
             × (part S.caller_of (S.history x) seat.old.me.0.caller ≡ seat.old.me.0.mine) × (seat.old.me.0.seen ≤ ticket)
             × ((start : S) → seat.old.me.0.start ≡ Some start → S.setup x ≡ S.setup start) }
     {
@@ -123,8 +123,8 @@ impl<S: Kept> TurnLock<S> {
     ghost use lib.ListN.{get_elem?};
     ghost use Rattle.turn_lock.specs.Part.{part};
     ghost use Rattle.turn_lock.specs.TurnRule.{AreKnown};
-    ghost use Rattle.turn_lock.specs.Turn.{GoesOn};
-    ghost use Rattle.turn_lock.specs.Passes.{lock_of, caller_of, left_of, made_by, noted_by, seen_by, returned_by, lock_id, start_of, passes_of, returned_to};
+    ghost use Rattle.turn_lock.specs.Turn.{ContinuesHistory};
+    ghost use Rattle.turn_lock.specs.Passes.{lock_of, caller_of, turns_left, made_by, noted_by, seen_by, returned_by, lock_id, start_of, passes_of, returned_to};
 
     /// A lock at a state with no history, and one pass for each of 1 to 9 limits: pass `i` is that of caller `i`, and may call as often
     /// as limit `i` says. After `Memory` the state is dropped.
@@ -139,7 +139,7 @@ impl<S: Kept> TurnLock<S> {
         ensures setup { IfOk result (λ r. start_of r.0 ≡ state) }
         ensures lock { IfOk result (λ r. (passes_of r.0 ≡ length limits.now) × (returned_to r.0 ≡ [])) }
         ensures passes { IfOk result (λ r. (vec_len r.1 ≡ length limits.now) × ((i : ℕ) (p : _) → get_elem? r.1.items i ≡ some p →
-            (lock_of p ≡ lock_id r.0) × (caller_of p ≡ i) × (left_of p ≡ slice_index limits.now i) × (made_by p ≡ []) × (noted_by p ≡ []) × (seen_by p ≡ 0))) }
+            (lock_of p ≡ lock_id r.0) × (caller_of p ≡ i) × (turns_left p ≡ slice_index limits.now i) × (made_by p ≡ []) × (noted_by p ≡ []) × (seen_by p ≡ 0))) }
     {
         let mut passes = Vec::with_capacity(alloc, limits.len())?;
         let mut slots = Vec::with_capacity(alloc, 1)?;
@@ -172,13 +172,13 @@ impl<S: Kept> TurnLock<S> {
         call: &S::Call,
     ) -> (u32, S::Reply)
         requires own { lock_of pass.old ≡ lock_id self.now }
-        requires left { 1 ≤ left_of pass.old }
+        requires left { 1 ≤ turns_left pass.old }
         requires fit { S.fit (caller_of pass.old) call.now }
         ensures own { (lock_of pass.new ≡ lock_of pass.old) × (caller_of pass.new ≡ caller_of pass.old)
-            × (left_of pass.new + 1 ≡ left_of pass.old) × (noted_by pass.new ≡ noted_by pass.old) }
+            × (turns_left pass.new + 1 ≡ turns_left pass.old) × (noted_by pass.new ≡ noted_by pass.old) }
         ensures entry { (e : S.Entry) × (S.caller_of e ≡ caller_of pass.old) × (S.call_of e ≡ call.now) × (S.answer e ≡ result.1)
             × (made_by pass.new ≡ made_by pass.old ++ (result.0, e) ∷ [])
-            × GoesOn S.legal S.caller_of (S.setup (start_of self.now)) (caller_of pass.old) (made_by pass.old) result.0 e }
+            × ContinuesHistory S.legal S.caller_of (S.setup (start_of self.now)) (caller_of pass.old) (made_by pass.old) result.0 e }
         ensures seen { (seen_by pass.old ≤ result.0) × (seen_by pass.new ≡ result.0 + 1) }
     {
         let ticket = self.draw(&mut pass.seat);
@@ -192,7 +192,7 @@ impl<S: Kept> TurnLock<S> {
     pub fn peek(&self, pass: &mut Pass<S>) -> Board
         requires own { lock_of pass.old ≡ lock_id self.now }
         ensures own { (lock_of pass.new ≡ lock_of pass.old) × (caller_of pass.new ≡ caller_of pass.old)
-            × (left_of pass.new ≡ left_of pass.old) × (made_by pass.new ≡ made_by pass.old) }
+            × (turns_left pass.new ≡ turns_left pass.old) × (made_by pass.new ≡ made_by pass.old) }
         ensures note { noted_by pass.new ≡ noted_by pass.old ++ (result.count, result) ∷ [] }
         ensures seen { (seen_by pass.old ≤ result.count) × (seen_by pass.new ≡ result.count) }
     {

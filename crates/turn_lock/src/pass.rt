@@ -18,11 +18,11 @@ pub struct Pass<S: Kept> {
 
 impl<S: Kept> Pass<S> {
     ghost use Rattle.std.specs.Prelude.{◌≡◌};
-    ghost use Rattle.turn_lock.specs.Passes.{caller_of, left_of};
+    ghost use Rattle.turn_lock.specs.Passes.{caller_of, turns_left};
 
     /// How many turns the pass has left: its limit less the calls that it made.
     pub fn left(&self) -> u32
-        ensures { result ≡ left_of self.now }
+        ensures { result ≡ turns_left self.now }
     {
         self.left
     }

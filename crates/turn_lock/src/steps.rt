@@ -1,6 +1,6 @@
-//! The steps on the table of a lock, and what each tells the seat that makes it.
+//! The steps on the table of a lock, and what the seat that makes it knows by it.
 ghost use Rattle.turn_lock.specs.TurnRule.{spent};
-ghost use Rattle.turn_lock.specs.Steps.{drew, looked, published, peeked, with_pass, next_pass, with_returned};
+ghost use Rattle.turn_lock.specs.Steps.{drew, looked, PublishesBoard, peeked, with_pass, next_pass, with_returned};
 
 use crate::kept::Kept;
 use crate::view::View;
@@ -29,7 +29,7 @@ pub(crate) struct Publish<S> {
 }
 
 impl<S: Kept> Play<S, View<S, S::Setup, S::Entry>> for Publish<S> {
-    ghost then = { published S.history S.caller_of };
+    ghost then = { PublishesBoard S.history S.caller_of };
 }
 
 /// Reads the board.

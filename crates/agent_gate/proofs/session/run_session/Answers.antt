@@ -3,8 +3,8 @@ use Rattle.std.proofs.lemmas.Result.{IfOk-at_ok}
 use Rattle.tac_io.specs.LineAnswers.{goes_on}
 use Rattle.tac_io.specs.Counts.{Rose}
 use Rattle.tac_io.specs.Lines.{link_of}
-use Rattle.tac_io.specs.Told.{and_then_told, TakesSome}
-use Rattle.tac_io.proofs.Tellings.{gave_nothing}
+use Rattle.tac_io.specs.Known.{known_then, TakesSome}
+use Rattle.tac_io.proofs.KnownPieces.{gave_nothing}
 use Rattle.floor.specs.Desks.{desk_caller}
 use Rattle.agent_gate.specs.Welcome.{welcome_text}
 use Rattle.agent_gate.proofs.DeskTurns.{made_none}
@@ -29,7 +29,7 @@ loop-answered-init g c =
     let agent : c.unwrap-agent.result ≡ desk_caller c.args.desk = IfOk-at_ok (λ made. made ≡ c.get.result) c.unwrap-agent.ensures c.new.ensures.value ∙ (c.get.ensures.value ∙ c.caller.ensures) in record {
       going = session.under_way_at_first _ _ _ _ _ _ _ _ _ _ c.welcome.ensures.place.0 c.welcome.ensures.place.1 (gave_nothing (g.L.Link.state (link_of c.args.lines)) (g.L.Link.state (link_of c.welcome.new.lines)) c.welcome.ensures.sends.2.0 c.welcome.ensures.sends.2.1)
           (made_none c.args.desk c.requires.no_calls.0 c.requires.no_calls.1)
-          (c.in-Ok.ensures.sends.0 ∙ ap (λ a. and_then_told (g.L.Link.state (link_of c.args.lines)).sent (welcome_text c.args.game.now a)) agent);
+          (c.in-Ok.ensures.sends.0 ∙ ap (λ a. known_then (g.L.Link.state (link_of c.args.lines)).sent (welcome_text c.args.game.now a)) agent);
       goes_on = ap goes_on c.welcome.ensures.place.2 ∙ c.requires.goes_on;
       quiet = c.welcome.ensures.sends.2.2;
       write_quiet = c.in-Ok.ensures.sends.1;

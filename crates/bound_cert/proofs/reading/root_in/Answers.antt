@@ -1,5 +1,5 @@
 use Rattle.std.proofs.Common.{sym}
-use Rattle.bound_cert.specs.Faults.{fault_of}
+use Rattle.bound_cert.specs.Faults.{cert_fault}
 use Rattle.bound_cert.specs.Reading.{tree_in, root_in}
 use Rattle.bound_cert.proofs.NodeCases.{refusal_is, handed_on, refused_through}
 use Rattle.bound_cert.proofs.RootCases.{no_root, more_lines, whole_root}
@@ -15,8 +15,8 @@ pub returns-in_err-finish : goal.returns-in_err-finish
 returns-in_err-finish c =
     let bad = c.in_err-finish.field-0.0 in
     let r = c.in_ok-root in
-    handed_on _ c.from_residual-in_err-finish.result (fault_of bad) (root_in c.args.lines) c.from_residual-in_err-finish.ensures.1
-    (refusal_is (fault_of bad) (root_in c.args.lines) (more_lines c.args.lines r.left _ bad r.ensures (sym c.in_err-finish.ensures)))
+    handed_on _ c.from_residual-in_err-finish.result (cert_fault bad) (root_in c.args.lines) c.from_residual-in_err-finish.ensures.1
+    (refusal_is (cert_fault bad) (root_in c.args.lines) (more_lines c.args.lines r.left _ bad r.ensures (sym c.in_err-finish.ensures)))
 
 pub returns : goal.returns
 returns c =

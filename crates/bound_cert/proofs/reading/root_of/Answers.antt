@@ -1,5 +1,5 @@
 use Rattle.std.proofs.Common.{sym, subst, arith}
-use Rattle.bound_cert.specs.Faults.{IsReading}
+use Rattle.bound_cert.specs.Faults.{IsCertReading}
 use Rattle.bound_cert.specs.Reading.{root_in}
 use Rattle.bound_cert.specs.Views.{tree_of}
 use Rattle.bound_cert.proofs.RootCases.{long_text, short_text, root_short, reading_short}
@@ -11,7 +11,7 @@ returns-then-text-clause-exact c = long_text c.args.text.now c.if-text.true
 pub returns-clause-exact : goal.returns-clause-exact
 returns-clause-exact c =
     let read = rw c.new.ensures at c.root_in.ensures in
-    subst (IsReading tree_of c.root_in.result) (sym (short_text c.args.text.now c.if-text.false)) read
+    subst (IsCertReading tree_of c.root_in.result) (sym (short_text c.args.text.now c.if-text.false)) read
 
 pub returns-clause-too_long : goal.returns-clause-too_long
 returns-clause-too_long c = (

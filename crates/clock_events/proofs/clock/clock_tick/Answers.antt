@@ -1,7 +1,7 @@
 use Rattle.std.proofs.Common.{rules, ◌≡◌, ◌≤◌, ◌-◌, ◌++◌, [], ◌∷◌, Some, take, slice_get, subst, sym, ap, ◌∙◌, arith, append_assoc}
 use Rattle.std.specs.List.{flat_map}
 use Rattle.std.proofs.lemmas.Option.{slice_get_within}
-use Rattle.floor.specs.Desks.{calls_of, entries_of}
+use Rattle.floor.specs.Desks.{desk_calls, desk_entries}
 use Rattle.game_text.specs.Schedule.{calls_at, ticks}
 use Rattle.clock_events.proofs.MadeCalls.{AreMade, made_after, made_count, made_length}
 use Rattle.clock_events.proofs.TickCalls.{all_taken, call_is_due, few_so_far, one_more, so_far, some_to_come, tick_done}
@@ -21,7 +21,7 @@ clock_call-requires-clause-left g c =
     let due = c.schedule_law.ensures.fit c.args.tick first last in
     let low = (call_is_due (calls_at c.args.game.now c.args.tick) c.args.tick c.loop-good.n c.in-Some.good c.in-Some.call due (sym c.schedule.ensures ∙ c.in-Some.is)).0 in
     let made = made_after (flat_map (calls_at c.args.game.now) (take (c.args.tick - 1) ticks)) (take c.loop-good.n (calls_at c.args.game.now c.args.tick)) c.args.desk.now c.loop-good.desk c.requires.before c.loop-good.invariant.calls in
-    let counted = made_length (so_far c.args.game.now c.args.tick c.loop-good.n first last) (entries_of c.loop-good.desk) made c.in-Some.good low in
+    let counted = made_length (so_far c.args.game.now c.args.tick c.loop-good.n first last) (desk_entries c.loop-good.desk) made c.in-Some.good low in
     let few = few_so_far c.args.game.now c.args.tick c.loop-good.n first last c.in-Some.good in
     let most = c.schedule_law.ensures.most c.in-Some.good in
     omega (arith, counted, few, most)
@@ -33,7 +33,7 @@ clock_call-requires-clause-all_left g c =
     let last : c.args.tick ≤ 54 = omega (arith, number) in
     let within = slice_get_within (calls_at c.args.game.now c.args.tick) c.loop-good.n (c.in-Some.good, c.in-Some.call) (sym c.schedule.ensures ∙ c.in-Some.is) in
     let made = made_after (flat_map (calls_at c.args.game.now) (take (c.args.tick - 1) ticks)) (take c.loop-good.n (calls_at c.args.game.now c.args.tick)) c.args.desk.now c.loop-good.desk c.requires.before c.loop-good.invariant.calls in
-    let counted = made_count (so_far c.args.game.now c.args.tick c.loop-good.n first last) (entries_of c.loop-good.desk) made c.loop-good.desk.kept.goods in
+    let counted = made_count (so_far c.args.game.now c.args.tick c.loop-good.n first last) (desk_entries c.loop-good.desk) made c.loop-good.desk.kept.goods in
     let some = some_to_come c.args.game.now c.args.tick c.loop-good.n first last within in
     let whole = c.schedule_law.ensures.whole in
     omega (arith, counted, some, whole)
@@ -56,20 +56,20 @@ loop-good-preserved g c =
     let calls = calls_at c.args.game.now c.args.tick in
     let at : slice_get calls c.loop-good.n ≡ Some (c.in-Some.good, c.in-Some.call) = sym c.schedule.ensures ∙ c.in-Some.is in
     let within = slice_get_within calls c.loop-good.n (c.in-Some.good, c.in-Some.call) at in
-    let told = c.clock_call.ensures.answered in
-    let before = calls_of c.args.desk.now in
+    let known = c.clock_call.ensures.answered in
+    let before = desk_calls c.args.desk.now in
     record {
       within = omega (arith, within);
-      calls = told.calls ∙ ap (λ l. l ++ (c.in-Some.good, c.in-Some.call) ∷ []) c.loop-good.invariant.calls
+      calls = known.calls ∙ ap (λ l. l ++ (c.in-Some.good, c.in-Some.call) ∷ []) c.loop-good.invariant.calls
           ∙ append_assoc before (take c.loop-good.n calls) ((c.in-Some.good, c.in-Some.call) ∷ []) ∙ ap (λ l. before ++ l) (one_more calls c.loop-good.n (c.in-Some.good, c.in-Some.call) at);
-      boards = told.boards ∙ c.loop-good.invariant.boards;
-      same = (told.same.0 ∙ c.loop-good.invariant.same.0, told.same.1 ∙ c.loop-good.invariant.same.1);
+      boards = known.boards ∙ c.loop-good.invariant.boards;
+      same = (known.same.0 ∙ c.loop-good.invariant.same.0, known.same.1 ∙ c.loop-good.invariant.same.1);
     }
 
 pub returns-clause-calls : goal.returns-clause-calls
 returns-clause-calls g c =
     let all = all_taken (calls_at c.args.game.now c.args.tick) c.loop-good.n (sym c.schedule.ensures ∙ c.in_default.is) in
-    c.loop-good.invariant.calls ∙ ap (λ l. calls_of c.args.desk.now ++ l) all
+    c.loop-good.invariant.calls ∙ ap (λ l. desk_calls c.args.desk.now ++ l) all
 
 pub returns-clause-made : goal.returns-clause-made
 returns-clause-made g c =
@@ -77,5 +77,5 @@ returns-clause-made g c =
     let first : 1 ≤ c.args.tick = omega (arith, number) in
     let last : c.args.tick ≤ 54 = omega (arith, number) in
     let before = flat_map (calls_at c.args.game.now) (take (c.args.tick - 1) ticks) in
-    subst (λ calls. AreMade calls (entries_of c.loop-good.desk)) (tick_done c.args.game.now c.args.tick first last)
+    subst (λ calls. AreMade calls (desk_entries c.loop-good.desk)) (tick_done c.args.game.now c.args.tick first last)
     (made_after before (calls_at c.args.game.now c.args.tick) c.args.desk.now c.loop-good.desk c.requires.before (returns-clause-calls g c))

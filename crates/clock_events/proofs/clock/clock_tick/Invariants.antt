@@ -1,13 +1,13 @@
 use Rattle.std.proofs.Common.{◌≡◌, ◌++◌, ◌-◌, ◌≤◌, length, take}
 use Rattle.floor.specs.Answers.{IsSameDesk}
-use Rattle.floor.specs.Desks.{boards_of, calls_of}
+use Rattle.floor.specs.Desks.{boards_of, desk_calls}
 use Rattle.game_text.specs.Schedule.{calls_at}
 use Rattle.clock_events.proofs.clock.clock_tick.Given as goal
 
 abbrev pub invariant-loop-good : goal.invariant-loop-good
 invariant-loop-good g l = record {
   within : l.n ≤ length (calls_at l.game l.tick);
-  calls : calls_of l.desk ≡ calls_of l.fn.desk ++ take l.n (calls_at l.game l.tick);
+  calls : desk_calls l.desk ≡ desk_calls l.fn.desk ++ take l.n (calls_at l.game l.tick);
   boards : boards_of l.desk ≡ boards_of l.fn.desk;
   same : IsSameDesk l.fn.desk l.desk;
 }

@@ -3,7 +3,7 @@ use Rattle.std.specs.List.{flat_map}
 use Rattle.floor.specs.Keeping.{calls_of_good}
 use Rattle.floor.proofs.CallLists.{none_listed}
 use Rattle.game_text.specs.Schedule.{calls_at, ticks}
-use Rattle.tac_io.specs.Told.{and_then_told}
+use Rattle.tac_io.specs.Known.{known_then}
 use Rattle.clock_events.proofs.TickCalls.{tick_done}
 use Rattle.clock_events.proofs.Waits.{WaitsFor, one_at_most, waits_for_all, waits_for_more, waits_for_none}
 use Rattle.clock_events.proofs.clock.run_clock.Goals as goal
@@ -25,7 +25,7 @@ loop-number-preserved g c =
     let first : 1 ≤ c.loop-number.number = omega arith in
     let last : c.loop-number.number ≤ 54 = omega arith in
     let waits = waits_for_more _ _ _ c.loop-number.number c.loop-number.missed c.wait_for-due.result.1 first last before.waits
-    (subst (λ t. (g.T.Ticker.state c.wait_for-due.new.ticker).waited ≡ and_then_told (g.T.Ticker.state c.loop-number.ticker).waited ((t, c.wait_for-due.result.1) ∷ [])) tick c.wait_for-due.ensures.waited)
+    (subst (λ t. (g.T.Ticker.state c.wait_for-due.new.ticker).waited ≡ known_then (g.T.Ticker.state c.loop-number.ticker).waited ((t, c.wait_for-due.result.1) ∷ [])) tick c.wait_for-due.ensures.waited)
     c.wait_for-due.ensures.paced c.wait_for-due.ensures.cause in
     let one = one_at_most c.wait_for-due.result.1 in
     let count = c.from-missed.ensures in

@@ -3,4 +3,4 @@ use Rattle.flight_auction.specs.Book as spec
 use Rattle.flight_auction.proofs.sales.points_of.Given as goal
 
 abbrev pub invariant-loop-one : goal.invariant-loop-one
-invariant-loop-one l = l.points.items ≡ spec.points_of l.number (take l.one-index l.standing)
+invariant-loop-one l = l.points.items ≡ spec.agents_points l.number (take l.one-index l.standing)

@@ -12,14 +12,14 @@ numbered verdicts i verdict lt is =
     let place : 0 + i ≡ i = omega arith in
     get_or-enumerate_from 0 verdicts i (i, verdict) lt ∙ ap {B = ℕ × Verdict} (λ (k : ℕ). (k, get_or verdicts i verdict)) place ∙ ap {B = ℕ × Verdict} (λ (v : Verdict). (i, v)) (sym is)
 
-pub returns-in_err-write_piece : goal.returns-in_err-write_piece
-returns-in_err-write_piece g c =
+pub returns-in_err-write_all : goal.returns-in_err-write_all
+returns-in_err-write_all g c =
     let verdicts = c.args.verdicts.now in
     let place = c.loop-place.place in
     let verdict = c.index-verdicts-place.result in
     failed_next link_line (enumerate_from 0 verdicts) place (place, verdict) _ _ _ _ c.from_residual.result
     (omega (arith, length-enumerate_from 0 verdicts)) (numbered verdicts place verdict (omega arith) c.index-verdicts-place.is)
-    (c.as_slice.ensures.value ∙ c.link_line.ensures) c.loop-place.invariant c.in_err-write_piece.ensures c.from_residual.ensures.0
+    (c.as_slice.ensures.value ∙ c.link_line.ensures) c.loop-place.invariant c.in_err-write_all.ensures c.from_residual.ensures.0
 
 pub loop-place-preserved : goal.loop-place-preserved
 loop-place-preserved g c =
@@ -28,7 +28,7 @@ loop-place-preserved g c =
     let verdict = c.index-verdicts-place.result in
     wrote_next link_line (enumerate_from 0 verdicts) place (place, verdict) _ _ _ _
     (omega (arith, length-enumerate_from 0 verdicts)) (numbered verdicts place verdict (omega arith) c.index-verdicts-place.is)
-    (c.as_slice.ensures.value ∙ c.link_line.ensures) c.loop-place.invariant c.in_ok-write_piece.ensures
+    (c.as_slice.ensures.value ∙ c.link_line.ensures) c.loop-place.invariant c.in_ok-write_all.ensures
 
 pub returns : goal.returns
 returns g c = wrote_all link_line (enumerate_from 0 c.args.verdicts.now) c.loop-place.place _ _ (omega (arith, length-enumerate_from 0 c.args.verdicts.now)) c.loop-place.invariant

@@ -6,7 +6,7 @@ use Rattle.trade_ledger.specs.declared.cash_calls.CashCall.TheVariants.{Post, Re
 use Rattle.trade_ledger.specs.declared.cash_calls.CashReply.{CashReply}
 use Rattle.trade_ledger.specs.declared.cash_calls.CashReply.TheVariants.{Done, Cash}
 use Rattle.trade_ledger.specs.declared.cash_calls.CashEntry.{CashEntry}
-use Rattle.trade_ledger.specs.CashHistory.{IsFit, IsLegalCash, reply_of}
+use Rattle.trade_ledger.specs.CashHistory.{IsFitCash, IsLegalCash, cash_reply_of}
 use Rattle.log_text.specs.Logged.{IsNumber, AreEntryNumbers, FitsCall, IsCashEntry, IsCash}
 use Rattle.game_log.proofs.Writing.{writes_both, fails_both, ok_weaker}
 use Rattle.log_text.proofs.Items.{both_all, all_from}
@@ -25,7 +25,7 @@ returns-in-Err-clause-text g c =
     fails_both _ (cash_line (length cash)) (flat_map cash_entry_line cash) _ _ line c.in-Err.ensures
 
 -- an entry of a legal history has a reply that goes with its call
-legal_fits : (caller : ℕ) (call : CashCall) (reply : CashReply) (before : List CashEntry) → IsFit caller call → reply ≡ reply_of before call → FitsCall caller call reply
+legal_fits : (caller : ℕ) (call : CashCall) (reply : CashReply) (before : List CashEntry) → IsFitCash caller call → reply ≡ cash_reply_of before call → FitsCall caller call reply
 legal_fits caller (Post good position nets) Done before fit is = tt
 legal_fits caller (Post good position nets) (Cash dollars) before fit is = absurd cc
 legal_fits caller (Read agent) Done before fit is = absurd cc

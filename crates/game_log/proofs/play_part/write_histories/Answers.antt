@@ -4,7 +4,7 @@ use Rattle.auction_core.specs.ClosedGame.{ClosedGame}
 use Rattle.log_text.proofs.InOrder.{kept_text, in_order}
 use Rattle.log_text.specs.LogText.{cash_text}
 use Rattle.log_text.specs.Logged.{IsAuction, IsCash, IsPlayed}
-use Rattle.game_log.specs.Written.{Writes}
+use Rattle.tac_io.specs.Written.{WritesPiece}
 use Rattle.game_log.proofs.Writing.{writes_both, fails_both, ok_weaker}
 use Rattle.log_text.proofs.Trades.{goods_of}
 use Rattle.game_log.proofs.play_part.write_histories.Goals as goal
@@ -15,7 +15,7 @@ returns-in-Ok-clause-text g c =
     let goods = sym (ap (λ (game : ClosedGame). goods_of game.auctions) c.closed.view_is) ∙ c.closed.invariant in
     let auctions = ap (flat_map kept_text) (c.as_slice.ensures.value ∙ ap (λ (game : ClosedGame). game.auctions) c.closed.view_is) in
     let sink = g.K.Sink.state in
-    subst (λ (t : List ℕ). Writes t (sink c.args.sink.now) (sink c.write_cash.new.sink) c.write_cash.result) (in_order game goods) (
+    subst (λ (t : List ℕ). WritesPiece t (sink c.args.sink.now) (sink c.write_cash.new.sink) c.write_cash.result) (in_order game goods) (
     writes_both _ _ (flat_map kept_text game.auctions) (cash_text game.cash) _ _ _ c.write_cash.result
     auctions (ap (λ (game : ClosedGame). cash_text game.cash) c.closed.view_is) c.in-Ok.ensures.text c.write_cash.ensures.text
     )
@@ -26,7 +26,7 @@ returns-in-Err-clause-text g c =
     let goods = sym (ap (λ (game : ClosedGame). goods_of game.auctions) c.closed.view_is) ∙ c.closed.invariant in
     let auctions = ap (flat_map kept_text) (c.as_slice.ensures.value ∙ ap (λ (game : ClosedGame). game.auctions) c.closed.view_is) in
     let sink = g.K.Sink.state in
-    subst (λ (t : List ℕ). Writes t (sink c.args.sink.now) (sink c.write_auctions.new.sink) (Err c.in-Err.failed)) (in_order game goods) (
+    subst (λ (t : List ℕ). WritesPiece t (sink c.args.sink.now) (sink c.write_auctions.new.sink) (Err c.in-Err.failed)) (in_order game goods) (
     fails_both _ (flat_map kept_text game.auctions) (cash_text game.cash) _ _ auctions c.in-Err.ensures.text
     )
 

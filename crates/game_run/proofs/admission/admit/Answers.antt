@@ -22,8 +22,8 @@ loop-seated-init g c =
       ports = c.listen.ensures.ports;
       quiet = c.in_ok-listen.ensures.cause;
       verdicts = c.requires.room.0;
-      spots = c.requires.room.1;
-      as_many = omega (arith, ap length c.requires.none.0, ap length c.requires.none.1, arrivals.verdicts.ok.0, arrivals.spots.ok.0);
+      holders = c.requires.room.1;
+      as_many = omega (arith, ap length c.requires.none.0, ap length c.requires.none.1, arrivals.verdicts.ok.0, arrivals.holders.ok.0);
       few = omega (arith, ap length c.requires.none.0, arrivals.verdicts.ok.0);
       wide = omega (arith, ap length c.requires.free, arrivals.lines.ok.0);
     }
@@ -42,8 +42,8 @@ loop-seated-preserved-then-take_in g c =
       ports = c.next.ensures.ports ∙ v.ports;
       quiet = c.in_ok-link.ensures.cause ∙ v.quiet;
       verdicts = c.take_in.ensures.verdicts.1 ∙ v.verdicts;
-      spots = c.take_in.ensures.spots.1 ∙ v.spots;
-      as_many = omega (arith, c.take_in.ensures.verdicts.0, c.take_in.ensures.spots.0, v.as_many);
+      holders = c.take_in.ensures.holders.1 ∙ v.holders;
+      as_many = omega (arith, c.take_in.ensures.verdicts.0, c.take_in.ensures.holders.0, v.as_many);
       few = omega (arith, c.take_in.ensures.verdicts.0, c.len.ensures, c.if-len.true);
       wide = c.take_in.ensures.seats;
     }
@@ -62,8 +62,8 @@ loop-seated-preserved g c =
       ports = c.next.ensures.ports ∙ v.ports;
       quiet = c.in_ok-link.ensures.cause ∙ v.quiet;
       verdicts = c.take_in.ensures.verdicts.1 ∙ v.verdicts;
-      spots = c.take_in.ensures.spots.1 ∙ v.spots;
-      as_many = omega (arith, c.take_in.ensures.verdicts.0, c.take_in.ensures.spots.0, v.as_many);
+      holders = c.take_in.ensures.holders.1 ∙ v.holders;
+      as_many = omega (arith, c.take_in.ensures.verdicts.0, c.take_in.ensures.holders.0, v.as_many);
       few = omega (arith, c.take_in.ensures.verdicts.0, c.len.ensures, c.if-len.true);
       wide = c.take_in.ensures.seats;
     }

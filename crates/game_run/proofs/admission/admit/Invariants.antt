@@ -1,5 +1,5 @@
 use Rattle.std.proofs.Common.{◌≡◌, ◌-◌, ◌≤◌, ◌∷◌, [], IsTrue, count_by, vec_len, vec_capacity}
-use Rattle.tac_io.specs.Told.{and_then_told}
+use Rattle.tac_io.specs.Known.{known_then}
 use Rattle.game_run.specs.Admission.{is_seated, seats_given}
 use Rattle.game_run.specs.Arriving.{AreTaken}
 use Rattle.game_run.proofs.admission.admit.Given as goal
@@ -11,11 +11,11 @@ invariant-loop-seated g l = record {
   gate : l.gate ≡ seats_given l.game l.arrivals.verdicts.items;
   seated : l.seated ≡ count_by is_seated l.arrivals.verdicts.items;
   listens : IsTrue (g.N.Links.state l.links).listens;
-  ports : (g.N.Links.state l.links).ports ≡ and_then_told (g.N.Links.state l.fn.links).ports (l.port ∷ []);
+  ports : (g.N.Links.state l.links).ports ≡ known_then (g.N.Links.state l.fn.links).ports (l.port ∷ []);
   quiet : (g.N.Links.state l.links).faults ≡ (g.N.Links.state l.fn.links).faults;
   verdicts : vec_capacity l.arrivals.verdicts ≡ 64;
-  spots : vec_capacity l.arrivals.spots ≡ 64;
-  as_many : vec_len l.arrivals.spots ≡ vec_len l.arrivals.verdicts;
+  holders : vec_capacity l.arrivals.holders ≡ 64;
+  as_many : vec_len l.arrivals.holders ≡ vec_len l.arrivals.verdicts;
   few : vec_len l.arrivals.verdicts ≤ 64;
   wide : vec_len l.arrivals.lines ≡ 8;
 }

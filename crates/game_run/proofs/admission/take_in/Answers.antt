@@ -1,6 +1,6 @@
 use Rattle.std.proofs.Common.{◌∙◌, ap, refl, Some, arith}
 use Rattle.std.specs.Prelude.{slice_set}
-use Rattle.game_run.specs.declared.arrivals.Greeting.TheVariants.{Seated, Apart}
+use Rattle.game_run.specs.declared.arrivals.Greeting.TheVariants.{Seated, Unseated}
 use Rattle.game_run.proofs.admission.take_in.Goals as goal
 
 pub returns-in-Seated-clause-taken : goal.returns-in-Seated-clause-taken
@@ -16,9 +16,9 @@ returns-in-Seated-clause-taken g c = record {
   );
 }
 
-pub returns-in-Apart-clause-taken : goal.returns-in-Apart-clause-taken
-returns-in-Apart-clause-taken g c = record {
-  greeting = Apart c.in-Apart.verdict c.in-Apart.link;
-  greets = c.in-Apart.ensures;
-  adds = (c.push_reserved-in-Apart.ensures.items, c.push_reserved-in-Apart-2.ensures.items, refl, refl);
+pub returns-in-Unseated-clause-taken : goal.returns-in-Unseated-clause-taken
+returns-in-Unseated-clause-taken g c = record {
+  greeting = Unseated c.in-Unseated.verdict c.in-Unseated.link;
+  greets = c.in-Unseated.ensures;
+  adds = (c.push_reserved-in-Unseated.ensures.items, c.push_reserved-in-Unseated-2.ensures.items, refl, refl);
 }

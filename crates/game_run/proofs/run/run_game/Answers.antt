@@ -14,7 +14,7 @@ returns-then-is_err-clause-not_played g c =
 pub in_order-requires-clause-filled : goal.in_order-requires-clause-filled
 in_order-requires-clause-filled g c =
     let kept = c.admit.ensures.taken.kept in
-    filled_after g.N.Link.Link.state (g.D.Dialect.may_answer c.args.dialect.now) (g.D.Dialect.text c.args.dialect.now) c.args.game.now c.play_out-closed.result.closed c.play_out-closed.result.ends.items c.admit.new.arrivals.lines.items c.play_out-closed.result.links.items c.admit.new.arrivals.spots.items
+    filled_after g.N.Link.Link.state (g.D.Dialect.may_answer c.args.dialect.now) (g.D.Dialect.text c.args.dialect.now) c.args.game.now c.play_out-closed.result.closed c.play_out-closed.result.ends.items c.admit.new.arrivals.lines.items c.play_out-closed.result.links.items c.admit.new.arrivals.holders.items
     kept.wide c.play_out-closed.ensures.through (all_filled g.N.Link.Link.state c.args.game.now _ c.admit.new.arrivals kept)
 
 pub returns-clause-played : goal.returns-clause-played

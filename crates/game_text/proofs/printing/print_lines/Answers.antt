@@ -10,7 +10,7 @@ use Rattle.game_text.specs.Flights.{flight_text}
 use Rattle.game_text.specs.ClosingOrders.{order_text}
 use Rattle.game_text.specs.Endowments.{endow_text}
 use Rattle.game_text.specs.AgentLines.{client_lines}
-use Rattle.game_text.specs.Games.{GameFile, nights_of, spelling}
+use Rattle.game_text.specs.Games.{GameFile, nights_of, canonical_text}
 use Rattle.game_text.proofs.PrintedGames.{in_parts, spelled}
 use Rattle.game_text.proofs.printing.print_lines.Goals as goal
 
@@ -29,4 +29,4 @@ returns-clause-text c =
     c.in_ok-print_parts-3.ensures
     c.in_ok-extend_from_slice.ensures.items
     in
-    subst (λ (g : GameFile). c.extend_from_slice.new.self.items ≡ old ++ spelling g) c.game.view_is (parts ∙ ap (λ (t : List ℕ). old ++ t) (sym (spelled game)))
+    subst (λ (g : GameFile). c.extend_from_slice.new.self.items ≡ old ++ canonical_text g) c.game.view_is (parts ∙ ap (λ (t : List ℕ). old ++ t) (sym (spelled game)))

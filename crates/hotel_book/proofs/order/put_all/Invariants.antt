@@ -3,13 +3,13 @@ use Rattle.std.specs.Prelude.{All, sum_by}
 use Rattle.tac_base.specs.declared.units.Unit.{Unit as ShownUnit}
 use Rattle.tac_base.specs.declared.limits.TheConstants.{BID_PRICE}
 use Rattle.auction_rules.specs.Shown.{shown_unit}
-use Rattle.hotel_book.specs.Ranked.{AreSorted}
+use Rattle.hotel_book.specs.Ranked.{AreSortedUnits}
 use Rattle.hotel_book.proofs.order.put_all.Given as goal
 
 abbrev pub invariant-loop-unit : goal.invariant-loop-unit
 invariant-loop-unit l = record {
   len : length l.units.items ≡ length l.fn.units.items + l.unit-index;
-  order : AreSorted l.units.items;
+  order : AreSortedUnits l.units.items;
   prices : All (λ u. u.price ≤ BID_PRICE) l.units.items;
   units : (weight : ShownUnit → ℕ) → sum_by weight l.units.items ≡ sum_by weight l.fn.units.items + sum_by (λ u. weight (shown_unit u)) (take l.unit-index l.unit-items);
 }

@@ -1,5 +1,5 @@
-use Rattle.json_dialect.proofs.Told.{told_apart}
+use Rattle.json_dialect.proofs.ReadBack.{meant_apart}
 use Rattle.json_dialect.proofs.printing.one_json_text.Goals as goal
 
 pub returns : goal.returns
-returns c = told_apart
+returns c = meant_apart

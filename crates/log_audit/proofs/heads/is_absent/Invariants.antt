@@ -1,8 +1,8 @@
 use Rattle.std.proofs.Common.{◌≡◌, ℕ, ◌<◌, false}
 use Rattle.std.specs.Prelude.{◌==◌}
 use Rattle.std.specs.List.{list_any}
-use Rattle.log_reader.specs.SoundLog.{history_at}
+use Rattle.log_reader.specs.SoundLog.{logged_history}
 use Rattle.log_audit.proofs.heads.is_absent.Given as goal
 
 abbrev pub invariant-loop-number : goal.invariant-loop-number
-invariant-loop-number l = (good : ℕ) → good < l.number → list_any (λ e. e.caller == l.agent) (history_at l.log good) ≡ false
+invariant-loop-number l = (good : ℕ) → good < l.number → list_any (λ e. e.caller == l.agent) (logged_history l.log good) ≡ false

@@ -1,7 +1,7 @@
 use Rattle.std.proofs.Common.{◌≡◌, List, length, take, get_or, slice_get, Some, refl, sym, ap, ◌∙◌, subst, arith, below_more}
 use Rattle.std.proofs.lemmas.Option.{slice_get_read, slice_get_within}
 use Rattle.trade_ledger.specs.declared.cash_calls.CashEntry.{CashEntry}
-use Rattle.log_reader.specs.SoundLog.{history_at}
+use Rattle.log_reader.specs.SoundLog.{logged_history}
 use Rattle.log_audit.specs.Flaws.{IsDuePost}
 use Rattle.log_audit.specs.Auditing.{AreNamed}
 use Rattle.log_audit.proofs.Positions.{take_at, same_at}
@@ -28,7 +28,7 @@ loop-position-preserved c =
     let at : slice_get cash n ≡ Some e = slice_get_read cash (length cash) n e refl (omega (arith, inside, ap (λ (l : List CashEntry). length l) c.cash-entry-items.ensures)) is in
     let answer = (c.is_due.ensures.answer (take n cash) v.named).0 c.if-not-is_due.false in
     record {
-      due = below_more _ _ v.due (λ x there. subst (λ (y : CashEntry). IsDuePost (history_at c.args.log.now) (take n cash) y.caller y.call) (same_at cash n e x at there) answer);
+      due = below_more _ _ v.due (λ x there. subst (λ (y : CashEntry). IsDuePost (logged_history c.args.log.now) (take n cash) y.caller y.call) (same_at cash n e x at there) answer);
       named = subst (λ (h : List CashEntry). AreNamed h c.is_due.new.places) (sym (take_at cash n e at)) (c.is_due.ensures.named (take n cash) v.named c.if-not-is_due.false);
     }
 

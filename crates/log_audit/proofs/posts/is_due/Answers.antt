@@ -1,5 +1,5 @@
 use Rattle.std.proofs.Common.{◌≡◌, [], ◌∷◌, ◌++◌, false, refl, sym, ◌∙◌, subst}
-use Rattle.log_reader.specs.SoundLog.{history_at}
+use Rattle.log_reader.specs.SoundLog.{logged_history}
 use Rattle.log_audit.specs.Flaws.{IsDuePost, is_posted}
 use Rattle.log_audit.specs.Auditing.{AreNamed}
 use Rattle.log_audit.proofs.Soundness.{place_within}
@@ -15,7 +15,7 @@ pub returns-then-not-is_earned-clause-answer : goal.returns-then-not-is_earned-c
 returns-then-not-is_earned-clause-answer c = λ before are. (
   (λ t. absurd cc),
   (λ due.
-      let due' = subst (IsDuePost (history_at c.args.log.now) before c.args.entry.now.caller) c.in-Post.is due in
+      let due' = subst (IsDuePost (logged_history c.args.log.now) before c.args.entry.now.caller) c.in-Post.is due in
       elim c.then-not-is_earned.branch [
         | then-not-is_earned-via-then-not-is_earned w ↦ (let yes = c.is_earned.ensures.1 due'.0 in let no = w.if-not-is_earned.true in absurd cc)
         | then-not-is_earned-via-else-not-is_earned+then-is_named w ↦
@@ -33,7 +33,7 @@ returns-else-is_named-clause-answer c = λ before are.
     let found = c.is_earned.ensures.0 c.if-not-is_earned.false in
     let place = place_within c.args.log.now c.head-head.ensures.logged c.in-Post.good c.in-Post.position found.0 found.1 in
     let free : is_posted before c.in-Post.good c.in-Post.position ≡ false = sym (are c.in-Post.good c.in-Post.position place.0 place.1) ∙ (sym c.is_named.ensures.value ∙ c.if-is_named.false) in
-    ((λ t. subst (IsDuePost (history_at c.args.log.now) before c.args.entry.now.caller) (sym c.in-Post.is) (found, free)), (λ due. refl))
+    ((λ t. subst (IsDuePost (logged_history c.args.log.now) before c.args.entry.now.caller) (sym c.in-Post.is) (found, free)), (λ due. refl))
 
 pub returns-else-is_named-clause-named : goal.returns-else-is_named-clause-named
 returns-else-is_named-clause-named c = λ before are t.

@@ -3,7 +3,7 @@ use Rattle.std.specs.Global.{Vec}
 use Rattle.std.proofs.lemmas.List.{length-map}
 use Rattle.std.proofs.lemmas.Option.{slice_get_read}
 use Rattle.tac_base.specs.declared.calls.Nets.{Nets}
-use Rattle.log_reader.specs.SoundLog.{history_at}
+use Rattle.log_reader.specs.SoundLog.{logged_history}
 use Rattle.log_audit.specs.Auditing.{nets_by}
 use Rattle.log_audit.proofs.Earned.{row_of, earned_within}
 use Rattle.log_audit.proofs.posts.nets_at.Goals as goal
@@ -16,7 +16,7 @@ index-requires c =
     let low = c.get.ensures.range in
     let items = row_of log earned good row c.requires.nets (earned_within log earned good c.head-head.ensures.logged.goods c.requires.nets (omega (arith, low, c.get.ensures.value))) is in
     let inside = c.requires.inside in
-    omega (arith, row.ok.0, ap (λ (l : List Nets). length l) items, length-map (history_at log good) nets_by, inside)
+    omega (arith, row.ok.0, ap (λ (l : List Nets). length l) items, length-map (logged_history log good) nets_by, inside)
 
 pub returns : goal.returns
 returns c =
@@ -27,5 +27,5 @@ returns c =
     let items = row_of log earned good row c.requires.nets (earned_within log earned good c.head-head.ensures.logged.goods c.requires.nets (omega (arith, low, c.get.ensures.value))) is in
     let inside = c.requires.inside in
     let found : Nets = c.index.result.now in
-    let at : slice_get row.items c.args.position ≡ Some found = slice_get_read row.items (length row.items) c.args.position found refl (omega (arith, ap (λ (l : List Nets). length l) items, length-map (history_at log good) nets_by, inside)) c.index.ensures in
+    let at : slice_get row.items c.args.position ≡ Some found = slice_get_read row.items (length row.items) c.args.position found refl (omega (arith, ap (λ (l : List Nets). length l) items, length-map (logged_history log good) nets_by, inside)) c.index.ensures in
     subst (λ (l : List Nets). slice_get l c.args.position ≡ Some found) items at

@@ -1,5 +1,5 @@
 use Rattle.std.proofs.Common.{ℕ, ◌<◌, ◌*◌, take}
-use Rattle.trade_ledger.specs.CashHistory.{total_of}
+use Rattle.trade_ledger.specs.CashHistory.{cash_total}
 use Rattle.trade_ledger.specs.CashKeeping.{IsWithin}
 use Rattle.log_audit.specs.Flaws.{HasTrueReading}
 use Rattle.log_audit.specs.Auditing.{AreTotals}
@@ -9,5 +9,5 @@ abbrev pub invariant-loop-position : goal.invariant-loop-position
 invariant-loop-position l = record {
   right : (k : ℕ) → k < l.position → HasTrueReading l.cash k;
   totals : AreTotals (take l.position l.cash) l.totals;
-  small : (party : ℕ) → party < 9 → IsWithin (l.position * 2147483648) (total_of (take l.position l.cash) party);
+  small : (party : ℕ) → party < 9 → IsWithin (l.position * 2147483648) (cash_total (take l.position l.cash) party);
 }

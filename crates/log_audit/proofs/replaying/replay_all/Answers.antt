@@ -9,7 +9,7 @@ use Rattle.tac_base.specs.declared.calls.Nets.{Nets}
 use Rattle.auction_rules.specs.History.{Entry}
 use Rattle.auction_core.specs.Auctions.{AuctionHistory}
 use Rattle.auction_core.specs.Setups.{setup_of}
-use Rattle.log_reader.specs.SoundLog.{history_at, auctions_in}
+use Rattle.log_reader.specs.SoundLog.{logged_history, auctions_in}
 use Rattle.log_audit.specs.Flaws.{HasFairEntry}
 use Rattle.log_audit.specs.Auditing.{nets_by}
 use Rattle.log_audit.specs.Replays.{IsReplay, IsReplayed, IsUnfair}
@@ -25,7 +25,7 @@ pub returns-in-Unfair : goal.returns-in-Unfair
 returns-in-Unfair c =
     let good = c.good_of-good.result in let log = c.args.log.now in let history : List Entry = c.history.result.now in let position = c.in-Unfair.position in
     let unfair : IsUnfair (setup_of good c.args.game.now) history position = subst (IsReplay (setup_of good c.args.game.now) history) c.in-Unfair.is c.in_ok-auction.ensures in
-    let here : history_at log good ≡ history = get_or_from_slice_get log.histories good history [] c.history.ensures.value in
+    let here : logged_history log good ≡ history = get_or_from_slice_get log.histories good history [] c.history.ensures.value in
     unfair_at c.args.game.now log c.loop-number.number good position c.good_of-good.ensures c.loop-number-test.true
     (subst (λ (h : List Entry). IsUnfair (setup_of good c.args.game.now) h position) (sym here) unfair) c.loop-number.invariant.fair
 
@@ -35,14 +35,14 @@ loop-number-preserved c =
     let replayed : IsReplayed (setup_of good game) history c.in-Fair.auction c.in-Fair.of_good.items = subst (IsReplay (setup_of good game) history) c.in-Fair.is c.in_ok-auction.ensures in
     let same : good ≡ n = c.good_of-good.ensures in
     let at : slice_get log.histories n ≡ Some history = subst (λ (k : ℕ). slice_get log.histories k ≡ Some history) same c.history.ensures.value in
-    let here : history_at log good ≡ history = get_or_from_slice_get log.histories good history [] c.history.ensures.value in
+    let here : logged_history log good ≡ history = get_or_from_slice_get log.histories good history [] c.history.ensures.value in
     let auction : AuctionHistory = c.in-Fair.auction in
     let auction_is : slice_get (auctions_in game log) n ≡ Some auction = auction_at game log n history at ∙ (λ i. Some (record { setup = setup_of (sym same i) game; history = history })) ∙ ap (λ (a : AuctionHistory). Some a) (sym replayed.auction_is) in
     let row_is : slice_get (map (map nets_by) log.histories) n ≡ Some c.in-Fair.of_good.items = slice_get-map (map nets_by) log.histories n ∙ (ap (option_map (map nets_by)) at ∙ ap (λ (r : List Nets). Some r) (sym replayed.nets_are)) in
     let pushed = c.push_reserved.ensures in let pushed' = c.push_reserved-in-Fair.ensures in
     let count = v.auctions_count in let count' = v.nets_count in let room = v.auction_room in let room' = v.nets_room in
-    let fair : (position : ℕ) → HasFairEntry (setup_of n game) (history_at log n) position =
-    λ position. (let P : ℕ × List Entry → Type 0 = λ q. HasFairEntry (setup_of q.0 game) q.1 position in subst P (λ i. (same i, (sym here ∙ ap (history_at log) same) i)) (replayed.fair position)) in
+    let fair : (position : ℕ) → HasFairEntry (setup_of n game) (logged_history log n) position =
+    λ position. (let P : ℕ × List Entry → Type 0 = λ q. HasFairEntry (setup_of q.0 game) q.1 position in subst P (λ i. (same i, (sym here ∙ ap (logged_history log) same) i)) (replayed.fair position)) in
     record {
       auctions_are = pushed.items ∙ (ap (λ (l : List AuctionHistory). l ++ auction ∷ []) v.auctions_are ∙ sym (take_at (auctions_in game log) n auction auction_is));
       nets_are = ap (map (λ (row : Vec Nets). row.items)) pushed'.items ∙ (map-append (λ (row : Vec Nets). row.items) c.loop-number.nets.items (c.in-Fair.of_good ∷ [])
@@ -51,7 +51,7 @@ loop-number-preserved c =
       nets_count = omega (arith, pushed'.len, count');
       auction_room = omega (arith, pushed.capacity, room);
       nets_room = omega (arith, pushed'.capacity, room');
-      fair = λ g position lt. below_more (λ (k : ℕ). (p : ℕ) → HasFairEntry (setup_of k game) (history_at log k) p) n (λ k below p. v.fair k p below) fair g lt position;
+      fair = λ g position lt. below_more (λ (k : ℕ). (p : ℕ) → HasFairEntry (setup_of k game) (logged_history log k) p) n (λ k below p. v.fair k p below) fair g lt position;
     }
 
 pub returns : goal.returns

@@ -1,6 +1,6 @@
 use Rattle.std.proofs.Common.{◌≡◌, ℕ, ◌<◌, ◌≤◌, map, take, vec_len, vec_capacity}
 use Rattle.auction_core.specs.Setups.{setup_of}
-use Rattle.log_reader.specs.SoundLog.{history_at, auctions_in}
+use Rattle.log_reader.specs.SoundLog.{logged_history, auctions_in}
 use Rattle.log_audit.specs.Flaws.{HasFairEntry}
 use Rattle.log_audit.specs.Auditing.{nets_by}
 use Rattle.log_audit.proofs.replaying.replay_all.Given as goal
@@ -13,5 +13,5 @@ invariant-loop-number l = record {
   nets_count : vec_len l.nets ≡ l.number;
   auction_room : 28 ≤ vec_capacity l.auctions;
   nets_room : 28 ≤ vec_capacity l.nets;
-  fair : (good position : ℕ) → good < l.number → HasFairEntry (setup_of good l.game) (history_at l.log good) position;
+  fair : (good position : ℕ) → good < l.number → HasFairEntry (setup_of good l.game) (logged_history l.log good) position;
 }

@@ -1,7 +1,7 @@
 use Rattle.std.proofs.Common.{ℕ, ◌<◌}
-use Rattle.log_reader.specs.SoundLog.{history_at}
+use Rattle.log_reader.specs.SoundLog.{logged_history}
 use Rattle.log_audit.specs.Flaws.{IsOnSchedule}
 use Rattle.log_audit.proofs.scheduling.off_schedule.Given as goal
 
 abbrev pub invariant-loop-number : goal.invariant-loop-number
-invariant-loop-number l = (good : ℕ) → good < l.number → IsOnSchedule l.game good (history_at l.log good)
+invariant-loop-number l = (good : ℕ) → good < l.number → IsOnSchedule l.game good (logged_history l.log good)

@@ -2,7 +2,7 @@ use Rattle.std.proofs.Common.{◌≡◌, Ok, Err, sym, ap, ◌∙◌}
 use Rattle.bound_cert.specs.Reading.{cert_of}
 use Rattle.bound_cert.specs.Views.{tree_of}
 use Rattle.log_text.specs.LogReading.{cert_by, cert_in}
-use Rattle.log_reader.specs.Faults.{refused}
+use Rattle.log_reader.specs.Faults.{or_log_fault}
 use Rattle.log_reader.proofs.CertCases.{no_line, no_count, counted, no_block, block_bad, block_read}
 use Rattle.log_reader.proofs.Refusals.{was_read, is_read, line_on, fault_on}
 use Rattle.log_reader.proofs.certs.cert_in.Goals as goal
@@ -23,7 +23,7 @@ pub returns-in-None : goal.returns-in-None
 returns-in-None c =
     let w = c.in_ok-line in
     let counts = counted c.args.agent c.number-number.result c.bytes.result.now w.line c.count_of.result (Ok c.in_ok-count.count) c.number-number.ensures c.bytes.ensures c.count_of.ensures c.in_ok-count.ensures in
-    rw c.number-number.ensures (ap refused (no_block c.args.agent c.args.lines w.line w.left c.in_ok-count.count (sym w.ensures.value) counts c.in-None.ensures))
+    rw c.number-number.ensures (ap or_log_fault (no_block c.args.agent c.args.lines w.line w.left c.in_ok-count.count (sym w.ensures.value) counts c.in-None.ensures))
 
 pub returns-in_err-cert-in-Some : goal.returns-in_err-cert-in-Some
 returns-in_err-cert-in-Some c =

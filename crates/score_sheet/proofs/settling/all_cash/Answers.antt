@@ -1,7 +1,7 @@
 use Rattle.std.proofs.Common.{◌≡◌, ℕ, ℤ, List, length-set, get_or, sym, ap, ◌∙◌, subst, arith, to_z, of_z, w64}
 use Rattle.tac_base.specs.Goods.{agents}
 use Rattle.trade_ledger.specs.CashKeeping.{IsWithin}
-use Rattle.score_sheet.specs.Settlement.{cash_of}
+use Rattle.score_sheet.specs.Settlement.{cash_gained}
 use Rattle.score_sheet.proofs.Dollars.{fits}
 use Rattle.score_sheet.proofs.Filling.{filled_more, all_more}
 use Rattle.score_sheet.proofs.settling.all_cash.Goals as goal
@@ -13,9 +13,9 @@ loop-number-preserved c =
     let is : agent ≡ get_or agents place agent = c.agent-item.is ∙ ap (λ (xs : List ℕ). get_or xs place agent) c.all.ensures in
     let number : ℤ = to_z w64 (of_z w64 gain.result) in
     let same : number ≡ gain.result = fits gain.result gain.ensures.bound in
-    let value : number ≡ cash_of c.args.closed.now.auctions agent = same ∙ (gain.ensures.value ∙ ap (cash_of c.args.closed.now.auctions) (c.party.ensures ∙ sym c.agent-item.is)) in
+    let value : number ≡ cash_gained c.args.auctions.now agent = same ∙ (gain.ensures.value ∙ ap (cash_gained c.args.auctions.now) (c.party.ensures ∙ sym c.agent-item.is)) in
     record {
       count = length-set cash place number ∙ so_far.count;
-      filled = filled_more (cash_of c.args.closed.now.auctions) agents cash place agent number c.loop-number-test.true is (omega (arith, so_far.count)) value so_far.filled;
+      filled = filled_more (cash_gained c.args.auctions.now) agents cash place agent number c.loop-number-test.true is (omega (arith, so_far.count)) value so_far.filled;
       range = all_more (IsWithin 1000000000000000) cash place number (omega (arith, so_far.count)) (subst (IsWithin 1000000000000000) (sym same) gain.ensures.bound) so_far.range;
     }

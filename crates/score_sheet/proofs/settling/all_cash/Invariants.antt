@@ -2,12 +2,12 @@ use Rattle.std.proofs.Common.{◌≡◌, length, take, map}
 use Rattle.std.specs.List.{All}
 use Rattle.tac_base.specs.Goods.{agents}
 use Rattle.trade_ledger.specs.CashKeeping.{IsWithin}
-use Rattle.score_sheet.specs.Settlement.{cash_of}
+use Rattle.score_sheet.specs.Settlement.{cash_gained}
 use Rattle.score_sheet.proofs.settling.all_cash.Given as goal
 
 abbrev pub invariant-loop-number : goal.invariant-loop-number
 invariant-loop-number l = record {
   count : length l.cash ≡ 8;
-  filled : take l.number l.cash ≡ map (cash_of l.closed.auctions) (take l.number agents);
+  filled : take l.number l.cash ≡ map (cash_gained l.auctions) (take l.number agents);
   range : All (IsWithin 1000000000000000) (take l.number l.cash);
 }

@@ -8,6 +8,6 @@ use Rattle.score_sheet.proofs.settling.all_holdings.Given as goal
 abbrev pub invariant-loop-number : goal.invariant-loop-number
 invariant-loop-number l = record {
   count : length l.holdings ≡ 8;
-  filled : take l.number l.holdings ≡ map (holdings_of l.closed.auctions) (take l.number agents);
+  filled : take l.number l.holdings ≡ map (holdings_of l.auctions) (take l.number agents);
   range : All AreHoldings (take l.number l.holdings);
 }

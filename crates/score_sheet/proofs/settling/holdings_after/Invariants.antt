@@ -7,6 +7,6 @@ use Rattle.score_sheet.proofs.settling.holdings_after.Given as goal
 abbrev pub invariant-loop-good : goal.invariant-loop-good
 invariant-loop-good l = record {
   count : length l.held ≡ 28;
-  filled : take l.good l.held ≡ holdings_of (take l.good l.auction-items) l.party;
+  filled : take l.good l.held ≡ holdings_of (take l.good l.auctions) l.party;
   range : All IsHolding (take l.good l.held);
 }

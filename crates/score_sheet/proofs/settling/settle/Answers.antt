@@ -1,4 +1,11 @@
+use Rattle.std.proofs.Common.{List, length, ap, ◌∙◌}
+use Rattle.auction_core.specs.Auctions.{AuctionHistory}
+use Rattle.score_sheet.specs.Settlement.{settlement_of}
+use Rattle.score_sheet.proofs.Dollars.{twenty_eight}
 use Rattle.score_sheet.proofs.settling.settle.Goals as goal
 
+pub settle_auctions-requires : goal.settle_auctions-requires
+settle_auctions-requires c = ap (λ (xs : List AuctionHistory). length xs) c.deref.ensures.value ∙ twenty_eight c.closed.inside.auctions.items c.closed.invariant
+
 pub returns : goal.returns
-returns c = λ i. record { holdings = c.all_holdings.ensures.value i; cash = c.all_cash.ensures.value i }
+returns c = c.settle_auctions.ensures ∙ ap settlement_of c.deref.ensures.value

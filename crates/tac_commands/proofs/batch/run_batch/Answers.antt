@@ -1,7 +1,7 @@
 use Rattle.std.specs.Prelude.{◌≡◌}
-use Rattle.game_text.specs.Games.{spelling}
+use Rattle.game_text.specs.Games.{canonical_text}
 use Rattle.draw_maker.specs.Games.{made_game}
-use Rattle.tac_commands.specs.Allowed.{IsTrial, Writes}
+use Rattle.tac_commands.specs.Allowed.{IsTrial, WritesDue}
 use Rattle.tac_commands.proofs.ReadFiles.{ends_alone}
 use Rattle.tac_commands.proofs.batch.run_batch.Goals as goal
 
@@ -15,7 +15,7 @@ pub returns-in-Upgrade : goal.returns-in-Upgrade
 returns-in-Upgrade g c = rw c.in-Upgrade.is c.upgrade.ensures
 
 pub returns-in-Make : goal.returns-in-Make
-returns-in-Make g c = rw c.in-Make.is (ends_alone (g.F.Files.state c.args.files.now) (Writes (λ text. text ≡ spelling (made_game c.in-Make.seed))) _ _ _ c.make.ensures)
+returns-in-Make g c = rw c.in-Make.is (ends_alone (g.F.Files.state c.args.files.now) (WritesDue (λ text. text ≡ canonical_text (made_game c.in-Make.seed))) _ _ _ c.make.ensures)
 
 pub returns-in-Solve : goal.returns-in-Solve
 returns-in-Solve g c = rw c.in-Solve.is c.solve_file.ensures
@@ -28,7 +28,7 @@ returns-in-Play g c = rw c.in-Play.is c.play_files.ensures
 
 pub returns-in-Trial : goal.returns-in-Trial
 returns-in-Trial g c =
-    rw c.in-Trial.is (ends_alone (g.F.Files.state c.args.files.now) (Writes (IsTrial c.in-Trial.seed c.in-Trial.count)) _ _ _ c.trial.ensures)
+    rw c.in-Trial.is (ends_alone (g.F.Files.state c.args.files.now) (WritesDue (IsTrial c.in-Trial.seed c.in-Trial.count)) _ _ _ c.trial.ensures)
 
 pub returns-in-Audit : goal.returns-in-Audit
 returns-in-Audit g c = rw c.in-Audit.is c.audit_files.ensures

@@ -1,7 +1,7 @@
 use Rattle.std.proofs.Common.{ℕ, ap, subst, inr, Err}
 use Rattle.tac_io.specs.Reading.{IsTooLong}
 use Rattle.game_text.specs.declared.fault.GameFault.TheVariants.{TooLong}
-use Rattle.tac_commands.proofs.LongFiles.{told_long}
+use Rattle.tac_commands.proofs.LongFiles.{has_long_fault}
 use Rattle.tac_commands.proofs.reading.read_bytes.Goals as goal
 
 pub returns-in-Err-TooLong-clause-unread : goal.returns-in-Err-TooLong-clause-unread
@@ -12,6 +12,6 @@ returns-in-Err-TooLong-clause-unread g c =
     inr (inr (
       TooLong,
       c.refusal.ensures,
-      told_long content c.args.kind name (subst (λ (n : ℕ). IsTooLong content name n) c.most_bytes.ensures long),
+      has_long_fault content c.args.kind name (subst (λ (n : ℕ). IsTooLong content name n) c.most_bytes.ensures long),
       rw c.in-Err-TooLong.field-0-is at c.in-Err-TooLong.ensures.cause,
     ))

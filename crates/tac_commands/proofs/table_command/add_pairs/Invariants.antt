@@ -1,11 +1,11 @@
 use Rattle.std.proofs.Common.{◌≡◌, ◌*◌, List, ℕ, drop, length, map, string_bytes, IfSome}
-use Rattle.tac_commands.specs.Commands.{paired}
-use Rattle.tac_commands.specs.TableRuns.{GoesOn}
+use Rattle.tac_commands.specs.Commands.{in_pairs}
+use Rattle.tac_commands.specs.TableRuns.{TableGoesOn}
 use Rattle.tac_commands.proofs.table_command.add_pairs.Given as goal
 
 abbrev pub invariant-loop-pair : goal.invariant-loop-pair
 invariant-loop-pair g l =
-    let pairs : List (List ℕ × List ℕ) = paired (map (λ name. string_bytes name) l.names) in
-    GoesOn pairs (drop l.pair pairs) l.pair (g.F.Files.state l.fn.files) (g.F.Files.state l.files) l.standings
+    let pairs : List (List ℕ × List ℕ) = in_pairs (map (λ name. string_bytes name) l.names) in
+    TableGoesOn pairs (drop l.pair pairs) l.pair (g.F.Files.state l.fn.files) (g.F.Files.state l.files) l.standings
     × (l.standings.games ≡ l.pair)
     × IfSome (g.F.Files.state l.files).names (λ selected. length selected ≡ 2 * l.pair)

@@ -1,5 +1,5 @@
 use Rattle.std.proofs.Common.{◌≡◌, ◌<◌, ◌^◌, refl, arith, ◌∙◌, sym, subst, ap}
-use Rattle.tac_io.specs.Told.{IsAtEnd}
+use Rattle.tac_io.specs.Known.{IsAtEnd}
 use Rattle.tac_io.specs.LineText.{has_end}
 use Rattle.tac_io.proofs.NextLine.{IsGoing, going_skip, going_fill, going_undecided, going_same, nothing_given, answers_line, answers_none}
 use Rattle.tac_io.proofs.lines.next_line.Goals as goal

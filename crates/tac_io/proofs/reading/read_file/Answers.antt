@@ -6,11 +6,11 @@ use Rattle.tac_io.proofs.reading.read_file.Goals as goal
 pub loop-bytes-preserved : goal.loop-bytes-preserved
 loop-bytes-preserved g c = record {
   within = omega (arith, c.in_ok-count.ensures.given.0);
-  limited = omega (arith, c.in_ok-make_room.ensures.room.1);
+  limited = omega (arith, c.in_ok-grow_to_read.ensures.room.1);
   going = omega arith;
-  reading = rw (with_items_is c.make_room.new.bytes c.read_at.new.bytes (search (rules, places)))
+  reading = rw (with_items_is c.grow_to_read.new.bytes c.read_at.new.bytes (search (rules, places)))
       (reads_on _ _ _ _ _ _ _ _ c.loop-bytes.invariant.reading
-      (c.read_at.ensures.front ∙ ap (take c.loop-bytes.filled) c.deref_mut.ensures.value ∙ c.make_room.ensures.front)
+      (c.read_at.ensures.front ∙ ap (take c.loop-bytes.filled) c.deref_mut.ensures.value ∙ c.grow_to_read.ensures.front)
       c.in_ok-count.ensures.given.1);
   selected = c.in_ok-count.ensures.selected;
   names = c.in_ok-count.ensures.names ∙ c.loop-bytes.invariant.names;

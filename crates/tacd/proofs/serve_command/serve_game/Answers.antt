@@ -1,4 +1,4 @@
-use Rattle.tacd.proofs.SoundServices.{tells_soundly}
+use Rattle.tacd.proofs.SoundServices.{reports_soundly}
 use Rattle.tacd.proofs.serve_command.serve_game.Goals as goal
 
 pub returns-in-Ok : goal.returns-in-Ok
@@ -9,7 +9,7 @@ returns-in-Ok g c =
       (
         end,
         told.1,
-        tells_soundly _ _ _ c.args.game.now _ _ _ _ _ (record { head = c.in-Ok.field-0.head; closed = c.in-Ok.field-0.closed }) c.in-Ok.field-0.links end c.log_ranges.ensures told.0 told.1,
+        reports_soundly _ _ _ c.args.game.now _ _ _ _ _ (record { head = c.in-Ok.field-0.head; closed = c.in-Ok.field-0.closed }) c.in-Ok.field-0.links end c.log_ranges.ensures told.0 told.1,
       ),
       rw c.number.ensures told.2,
     )

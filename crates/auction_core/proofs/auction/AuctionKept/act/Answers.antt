@@ -10,7 +10,7 @@ use Rattle.auction_rules.proofs.Histories.{entry_caller, entry_call}
 use Rattle.turn_lock.specs.Part.{part}
 use Rattle.trade_ledger.specs.Holdings.{held_after}
 use Rattle.auction_core.specs.Auctions.{AuctionHistory}
-use Rattle.auction_core.specs.KeptAuctions.{IsSound}
+use Rattle.auction_core.specs.KeptAuctions.{IsAuctionSound}
 use Rattle.auction_core.specs.Books.{Stands}
 use Rattle.auction_core.specs.Stored.{stored, entry_behind}
 use Rattle.auction_core.specs.Struck.{struck_of}
@@ -92,7 +92,7 @@ invariant_of-self c =
     subst (λ (h : AuctionHistory). length (part by h.history c.args.caller) < cap c.args.caller) (sym c.self.view_is) c.requires.room in
     let few : length c.act-reply.new.fills ≤ 128 = omega (arith, ap length c.as_slice-trades.ensures.value, c.as_slice-trades.ensures.few) in
     let held_is : c.apply_all.new.held ≡ held_after a.held c.act-reply.new.fills = c.apply_all.ensures ∙ ap (held_after a.held) c.as_slice-trades.ensures.value in
-    subst (λ (kept : List ℤ × List StoredEntry × List Trade × ℕ × ℕ). IsSound a.terms c.act-reply.new.self kept.0 kept.1 kept.2 kept.3 kept.4)
+    subst (λ (kept : List ℤ × List StoredEntry × List Trade × ℕ × ℕ). IsAuctionSound a.terms c.act-reply.new.self kept.0 kept.1 kept.2 kept.3 kept.4)
     (sym (λ i. (held_is i, entries_are c i, trades_are c i, c.store.ensures.entry_capacity i, c.store.ensures.trade_capacity i)))
     (sound_more a.terms a.book c.act-reply.new.self a.held a.entries.items a.trades.items (vec_capacity a.entries) (vec_capacity a.trades) c.args.caller c.args.call.now c.act-reply.result c.act-reply.new.fills c.self.invariant is room
     (follows c) c.act-reply.ensures.units few c.act-reply.ensures.short c.same_call-call.ensures.range c.same_reply.ensures.range)

@@ -1,18 +1,18 @@
 use Rattle.std.proofs.Common.{ℕ, ◌≤◌, List, ap, ◌∙◌, length, arith}
 use Rattle.tac_base.specs.Bids.{left_fault}
 use Rattle.flight_auction.specs.declared.sales.StandingPoint.{StandingPoint}
-use Rattle.flight_auction.specs.Book.{FlightBook, StandsFor, points_of}
+use Rattle.flight_auction.specs.Book.{FlightBook, StandsFor, agents_points}
 use Rattle.flight_auction.proofs.Keeping.{book_of, owns}
 use Rattle.flight_auction.proofs.Limits.{few_points}
 use Rattle.flight_auction.proofs.book.Flight.own.Goals as goal
 
-pub points_of-requires : goal.points_of-requires
-points_of-requires c =
+pub agents_points-requires : goal.agents_points-requires
+agents_points-requires c =
     let f = c.self.inside in
-    omega (arith, few_points f.bound f.price f.standing.items c.get.result c.self.invariant, ap (λ (xs : List StandingPoint). length (points_of c.get.result xs)) c.deref.ensures.0)
+    omega (arith, few_points f.bound f.price f.standing.items c.get.result c.self.invariant, ap (λ (xs : List StandingPoint). length (agents_points c.get.result xs)) c.deref.ensures.0)
 
 pub new-requires : goal.new-requires
-new-requires c = ap left_fault (c.deref-2.ensures.0 ∙ c.points_of.ensures ∙ ap (points_of c.get.result) c.deref.ensures.0) ∙ c.self.invariant.limited c.get.result
+new-requires c = ap left_fault (c.deref-2.ensures.0 ∙ c.points_of.ensures ∙ ap (agents_points c.get.result) c.deref.ensures.0) ∙ c.self.invariant.limited c.get.result
 
 pub returns-clause-left : goal.returns-clause-left
 returns-clause-left c = λ setup past stood.
@@ -20,5 +20,5 @@ returns-clause-left c = λ setup past stood.
     let book : FlightBook = book_of f.good f.bound f.price f.standing.items f.closed in
     let kept : StandsFor book setup past = rw c.self.view_is stood in
     let le : c.args.agent ≤ 7 = omega (arith, c.get.ensures.range, c.get.ensures.value) in
-    c.new.ensures ∙ c.deref-2.ensures.0 ∙ c.points_of.ensures ∙ ap (points_of c.get.result) c.deref.ensures.0 ∙ ap (λ (n : ℕ). points_of n f.standing.items) c.get.ensures.value
+    c.new.ensures ∙ c.deref-2.ensures.0 ∙ c.points_of.ensures ∙ ap (agents_points c.get.result) c.deref.ensures.0 ∙ ap (λ (n : ℕ). agents_points n f.standing.items) c.get.ensures.value
     ∙ owns setup past book kept c.args.agent le

@@ -6,7 +6,7 @@ use Rattle.auction_core.specs.Auctions.{AuctionHistory}
 use Rattle.auction_rules.specs.History.{Entry}
 use Rattle.auction_rules.specs.Legal.{entry_of}
 use Rattle.turn_lock.specs.Part.{part}
-use Rattle.turn_lock.specs.Passes.{LockId, lock_of, lock_id, start_of, caller_of, left_of, made_by, noted_by, seen_by}
+use Rattle.turn_lock.specs.Passes.{LockId, lock_of, lock_id, start_of, caller_of, turns_left, made_by, noted_by, seen_by}
 use Rattle.floor.proofs.Rows.{map_get, map_at, map_set, map_set_same, same_at}
 use Rattle.floor.proofs.Desks.{kept_more, kept_as}
 use Rattle.floor.proofs.Orders.{orders_entry, order_as}
@@ -28,15 +28,15 @@ invariant_of-self g c =
     let long : length ps ≡ 28 = sym (length-map ps (λ q. made_by q)) ∙ d.kept.goods in let inside : k < length ps = omega (arith, c.place-place.ensures.range) in
     let caller : caller_of p ≡ caller_of d.cash = sym (map_get (λ q. caller_of q) ps k p 0 inside at) ∙ (ap (λ (l : List ℕ). get_or l k 0) d.kept.own ∙ get_or-replicate 28 k (caller_of d.cash) 0 (omega (arith, c.place-place.ensures.range))) in
     let posted = c.post.ensures.posted e entry.3 (entry.1 ∙ caller) in
-    let left : left_of p' + 1 ≡ get_or (map (λ q. left_of q) ps) good 0 = own.2 ∙ (sym (map_get (λ q. left_of q) ps k p 0 inside at) ∙ ap (λ (j : ℕ). get_or (map (λ q. left_of q) ps) j 0) is) in
+    let left : turns_left p' + 1 ≡ get_or (map (λ q. turns_left q) ps) good 0 = own.2 ∙ (sym (map_get (λ q. turns_left q) ps k p 0 inside at) ∙ ap (λ (j : ℕ). get_or (map (λ q. turns_left q) ps) j 0) is) in
     let entries = map_set (λ q. made_by q) ps k p' _ (entry.4 ∙ ap (λ (l : List (ℕ × Entry)). l ++ (position, e) ∷ []) (sym (map_get (λ q. made_by q) ps k p [] inside at)))
     ∙ ap (λ (j : ℕ). set (map (λ q. made_by q) ps) j (get_or (map (λ q. made_by q) ps) j [] ++ (position, e) ∷ [])) is in
-    let more = kept_more d.kept good (left_of p') position posted.0.0 (left_of c.post.new.pass) e (omega (arith, c.place-place.ensures.range)) (length-map ps (λ q. left_of q) ∙ long) left posted.1 in
+    let more = kept_more d.kept good (turns_left p') position posted.0.0 (turns_left c.post.new.pass) e (omega (arith, c.place-place.ensures.range)) (length-map ps (λ q. turns_left q) ∙ long) left posted.1 in
     record {
       kept = kept_as more
           c.post.ensures.own.1
           (map_set_same (λ q. caller_of q) ps k p p' inside at own.1)
-          (map_set (λ q. left_of q) ps k p' (left_of p') refl ∙ ap (λ (j : ℕ). set (map (λ q. left_of q) ps) j (left_of p')) is)
+          (map_set (λ q. turns_left q) ps k p' (turns_left p') refl ∙ ap (λ (j : ℕ). set (map (λ q. turns_left q) ps) j (turns_left p')) is)
           entries
           refl
           posted.0.1

@@ -1,7 +1,7 @@
 use Rattle.std.proofs.Common.{◌≡◌, ◌++◌, ℕ, ◌<◌, ◌≤◌, List, [], ◌∷◌, map, length, get_or, set, refl, sym, ap, ◌∙◌, subst, arith}
 use Rattle.std.proofs.lemmas.List.{length-map}
 use Rattle.tac_base.specs.declared.calls.Board.{Board}
-use Rattle.turn_lock.specs.Passes.{lock_of, lock_id, caller_of, left_of, made_by, noted_by, seen_by}
+use Rattle.turn_lock.specs.Passes.{lock_of, lock_id, caller_of, turns_left, made_by, noted_by, seen_by}
 use Rattle.floor.proofs.Rows.{map_get, map_set, map_set_same, same_at}
 use Rattle.floor.proofs.Desks.{kept_as}
 use Rattle.floor.proofs.Orders.{orders_board, order_as}
@@ -19,7 +19,7 @@ invariant_of-self c =
     let d = c.args.self.now in let ps = d.passes.items in let k : ℕ = c.place-place.result in let p = c.index_mut.result.now in let p' = c.peek.new.pass in let at = c.index_mut.ensures.value in let own = c.peek.ensures.own in
     let board = c.peek.result in let long : length ps ≡ 28 = sym (length-map ps (λ q. made_by q)) ∙ d.kept.goods in let inside' : k < 28 = omega (arith, c.place-place.ensures.range) in
     let inside : k < length ps = omega arith in record {
-      kept = kept_as d.kept refl (map_set_same (λ q. caller_of q) ps k p p' inside at own.1) (map_set_same (λ q. left_of q) ps k p p' inside at own.2) (map_set_same (λ q. made_by q) ps k p p' inside at own.3) refl refl refl;
+      kept = kept_as d.kept refl (map_set_same (λ q. caller_of q) ps k p p' inside at own.1) (map_set_same (λ q. turns_left q) ps k p p' inside at own.2) (map_set_same (λ q. made_by q) ps k p p' inside at own.3) refl refl refl;
       in_order = order_as
           (orders_board (map (λ q. made_by q) ps) (map (λ q. noted_by q) ps) (map (λ q. seen_by q) ps) (length-map ps (λ q. seen_by q) ∙ long) k inside' d.in_order (length-map ps (λ q. noted_by q) ∙ long) board.count board
           (subst (λ (n : ℕ). n ≤ board.count) (sym (map_get (λ q. seen_by q) ps k p 0 inside at)) c.peek.ensures.seen.0))

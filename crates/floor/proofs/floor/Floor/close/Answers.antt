@@ -12,7 +12,7 @@ use Rattle.trade_ledger.specs.declared.cash_calls.CashEntry.{CashEntry}
 use Rattle.trade_ledger.proofs.Matching.{called_by_nine, matched_totals}
 use Rattle.turn_lock.specs.Passes.{start_of, passes_of, returned_to, returned_by}
 use Rattle.floor.specs.declared.desk.Desk.{Desk}
-use Rattle.floor.specs.Desks.{desk_ids, desk_caller, cash_of}
+use Rattle.floor.specs.Desks.{desk_ids, desk_caller, desk_cash}
 use Rattle.auction_rules.specs.History.{Entry}
 use Rattle.turn_lock.specs.Part.{part}
 use Rattle.turn_lock.specs.TurnRule.{AreKnown}
@@ -25,7 +25,7 @@ use Rattle.floor.proofs.Rows.{map_of}
 use Rattle.floor.proofs.Tables.{at_next}
 use Rattle.floor.proofs.FreshPasses.{at_replicate}
 use Rattle.floor.proofs.BornOut.{all_by_place, maps_agree, takes_lawful_bids}
-use Rattle.floor.proofs.Told.{told, gathered, all_back, given_by_good, borne_out, all_matched}
+use Rattle.floor.proofs.ReturnedRows.{returned_at, gathered, all_back, given_by_good, borne_out, all_matched}
 use Rattle.floor.proofs.floor.Floor.close.Goals as goal
 
 pub return_passes-requires : goal.return_passes-requires
@@ -99,8 +99,8 @@ returns c =
     let given = given_by_good (λ l. start_of l) (λ l. passes_of l) (λ l. returned_to l) locks desks (v.passes ∙ c.args.self.passes.0) rows auctions c.close_all.ensures.length c.close_all.ensures.given_back in
     let long : length auctions ≡ 28 = c.close_all.ensures.length ∙ (sym (length-map locks (λ l. passes_of l)) ∙ ap length (v.passes ∙ c.args.self.passes.0)) in
     let returned = v.cash_returned ∙ (ap (λ r. r ++ map (λ (d : Desk). returned_by d.cash) c.loop-desk.yielded) c.args.self.returned.1 ∙ ap (λ l. map (λ (d : Desk). returned_by d.cash) l) all) in
-    let known : (good : ℕ) (a : AuctionHistory) → get_elem? auctions good ≡ some a → AreKnown (board_of a) (λ (e : Entry). e.caller) a.history (map (λ d. told d good) desks) = λ good a at. (given good a at).2.known in
-    let cash_known : (k : ℕ) (d : Desk) → get_elem? desks k ≡ some d → cash_of d ≡ part (λ (e : CashEntry). e.caller) cash (desk_caller d) = λ k d at. (c.close.ensures.known k (returned_by d.cash) (ap (λ l. get_elem? l k) returned ∙ at_map (λ (x : Desk). returned_by x.cash) desks k d at)).0 in
+    let known : (good : ℕ) (a : AuctionHistory) → get_elem? auctions good ≡ some a → AreKnown (board_of a) (λ (e : Entry). e.caller) a.history (map (λ d. returned_at d good) desks) = λ good a at. (given good a at).2.known in
+    let cash_known : (k : ℕ) (d : Desk) → get_elem? desks k ≡ some d → desk_cash d ≡ part (λ (e : CashEntry). e.caller) cash (desk_caller d) = λ k d at. (c.close.ensures.known k (returned_by d.cash) (ap (λ l. get_elem? l k) returned ∙ at_map (λ (x : Desk). returned_by x.cash) desks k d at)).0 in
     let called : AllByRecursion (λ (e : CashEntry). e.caller ≤ 8) cash = called_by_nine (λ (e : CashEntry). e.caller) cash (λ b le. c.close.ensures.nobody_else b (omega (arith, le, v.cash_same.1, c.args.self.passes.1))) in
     let matched = all_matched desks auctions cash long known cash_known c.requires.1 (λ good a at. (given good a at).2.legal) called in
     record {

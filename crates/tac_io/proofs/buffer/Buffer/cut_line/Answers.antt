@@ -1,6 +1,6 @@
 use Rattle.std.proofs.Common.{◌≡◌, length, ◌≤◌, ap, ◌∙◌, sym, arith, subst, ◌+◌}
 use Rattle.std.specs.List.{slice_range}
-use Rattle.tac_io.specs.LineText.{Begins}
+use Rattle.tac_io.specs.LineText.{BeginsWithLine}
 use Rattle.tac_io.proofs.LineEnds.{cut_part}
 use Rattle.tac_io.proofs.buffer.Buffer.cut_line.Goals as goal
 
@@ -8,7 +8,7 @@ pub returns-clause-cut : goal.returns-clause-cut
 returns-clause-cut c =
     let is : c.unread.result.now ≡ slice_range c.self.inside.bytes c.self.inside.from c.self.inside.to = c.unread.ensures ∙ sym (ap (λ held. held.unread) c.self.view_is) in
     let within : c.self.inside.to ≤ length c.self.inside.bytes = omega arith in
-    subst (λ bytes. Begins bytes (slice_range c.self.inside.bytes c.self.inside.from (c.self.inside.from + c.in_ok-length.length))
+    subst (λ bytes. BeginsWithLine bytes (slice_range c.self.inside.bytes c.self.inside.from (c.self.inside.from + c.in_ok-length.length))
     (slice_range c.self.inside.bytes (c.self.inside.from + c.in_ok-length.length + 1) c.self.inside.to)
     × (c.in_ok-length.length ≡ length (slice_range c.self.inside.bytes c.self.inside.from (c.self.inside.from + c.in_ok-length.length))))
     c.unread.ensures

@@ -3,7 +3,7 @@ use Rattle.std.specs.Prelude.{true, false, not, filter}
 use Rattle.tac_base.specs.declared.units.Unit.{Unit as ShownUnit}
 use Rattle.auction_rules.specs.Units.{same_unit}
 use Rattle.auction_rules.specs.TicketMatch.{not_taken}
-use Rattle.ticket_book.specs.Sides.{SortedSides, AreSorted, is_same, both}
+use Rattle.ticket_book.specs.Sides.{SortedSides, IsSideSorted, is_same, both}
 use Rattle.ticket_book.proofs.Sorting.{sorted_filter}
 use Rattle.ticket_book.proofs.Sided.{sides_of, buy_taken, sell_taken}
 use Rattle.ticket_book.proofs.Placing.{sides_less}
@@ -28,13 +28,13 @@ pub invariant_of-self : goal.invariant_of-self
 invariant_of-self c =
     let s = c.self.inside in
     sides_less (λ v. not (same_unit v c.args.taken.now)) (sides_of s.buys.items s.sells.items) (sides_of c.take_out.new.units.items s.sells.items) c.self.invariant (buys_are c)
-    (subst (AreSorted true) (sym c.take_out.ensures) (sorted_filter true (λ u. not (is_same u c.shown-shown.result)) s.buys.items c.self.invariant.buys_sorted)) c.self.invariant.sells_sorted
+    (subst (IsSideSorted true) (sym c.take_out.ensures) (sorted_filter true (λ u. not (is_same u c.shown-shown.result)) s.buys.items c.self.invariant.buys_sorted)) c.self.invariant.sells_sorted
 
 pub invariant_of-self-else-taken : goal.invariant_of-self-else-taken
 invariant_of-self-else-taken c =
     let s = c.self.inside in
     sides_less (λ v. not (same_unit v c.args.taken.now)) (sides_of s.buys.items s.sells.items) (sides_of s.buys.items c.take_out-else-taken.new.units.items) c.self.invariant (sells_are c)
-    c.self.invariant.buys_sorted (subst (AreSorted false) (sym c.take_out-else-taken.ensures) (sorted_filter false (λ u. not (is_same u c.shown-shown.result)) s.sells.items c.self.invariant.sells_sorted))
+    c.self.invariant.buys_sorted (subst (IsSideSorted false) (sym c.take_out-else-taken.ensures) (sorted_filter false (λ u. not (is_same u c.shown-shown.result)) s.sells.items c.self.invariant.sells_sorted))
 
 pub returns-then-taken : goal.returns-then-taken
 returns-then-taken c = buys_are c ∙ ap (λ (s : SortedSides). not_taken (Some c.args.taken.now) (both s)) c.self.view_is

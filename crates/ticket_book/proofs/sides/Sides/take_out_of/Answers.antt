@@ -1,7 +1,7 @@
 use Rattle.std.proofs.Common.{◌≡◌, ℕ, List, sym, ap, ◌∙◌, subst}
 use Rattle.std.specs.Prelude.{true, false, not, ◌==◌, filter}
 use Rattle.tac_base.specs.declared.units.Unit.{Unit as ShownUnit}
-use Rattle.ticket_book.specs.Sides.{SortedSides, AreSorted, both, others}
+use Rattle.ticket_book.specs.Sides.{SortedSides, IsSideSorted, both, others}
 use Rattle.ticket_book.proofs.Sorting.{sorted_filter}
 use Rattle.ticket_book.proofs.Sided.{sides_of, others_taken}
 use Rattle.ticket_book.proofs.Placing.{sides_less}
@@ -21,8 +21,8 @@ pub invariant_of-self : goal.invariant_of-self
 invariant_of-self c =
     let s = c.self.inside in
     sides_less (λ u. not (u.agent == c.args.agent)) (sides_of s.buys.items s.sells.items) (sides_of c.take_out_of.new.units.items c.take_out_of-2.new.units.items) c.self.invariant (sides_are c)
-    (subst (AreSorted true) (sym c.take_out_of.ensures) (sorted_filter true (λ u. not (u.agent == c.get-number.result)) s.buys.items c.self.invariant.buys_sorted))
-    (subst (AreSorted false) (sym c.take_out_of-2.ensures) (sorted_filter false (λ u. not (u.agent == c.get-number.result)) s.sells.items c.self.invariant.sells_sorted))
+    (subst (IsSideSorted true) (sym c.take_out_of.ensures) (sorted_filter true (λ u. not (u.agent == c.get-number.result)) s.buys.items c.self.invariant.buys_sorted))
+    (subst (IsSideSorted false) (sym c.take_out_of-2.ensures) (sorted_filter false (λ u. not (u.agent == c.get-number.result)) s.sells.items c.self.invariant.sells_sorted))
 
 pub returns : goal.returns
 returns c = sides_are c ∙ ap (λ (s : SortedSides). others c.args.agent (both s)) c.self.view_is

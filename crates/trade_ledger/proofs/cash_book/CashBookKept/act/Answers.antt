@@ -2,7 +2,7 @@ use Rattle.std.proofs.Common.{rules, ◌<◌, List, [], ◌∷◌, ◌++◌, len
 use Rattle.turn_lock.specs.Part.{part}
 use Rattle.trade_ledger.specs.declared.cash_calls.CashEntry.{CashEntry}
 use Rattle.trade_ledger.specs.CashHistory.{cash_cap}
-use Rattle.trade_ledger.specs.CashKeeping.{IsWithin, IsSound}
+use Rattle.trade_ledger.specs.CashKeeping.{IsWithin, IsCashSound}
 use Rattle.trade_ledger.proofs.CashSteps.{few_entries, room_for, within_all, sound_snoc}
 use Rattle.trade_ledger.proofs.cash_book.CashBookKept.act.Goals as goal
 
@@ -25,8 +25,8 @@ invariant_of-self c =
     let e : CashEntry = record { caller = c.args.caller; call = c.args.call.now; reply = c.settle-reply.result } in
     let room : length (part (λ (x : CashEntry). x.caller) entries.items c.args.caller) < cash_cap c.args.caller =
     subst (λ (h : List CashEntry). length (part (λ (x : CashEntry). x.caller) h c.args.caller) < cash_cap c.args.caller) (sym c.self.view_is) c.requires.room in
-    subst (λ (h : List CashEntry). IsSound h c.settle-reply.new.totals (vec_capacity c.push_reserved.new.self)) (sym c.push_reserved.ensures.items)
-    (subst (IsSound (entries.items ++ e ∷ []) c.settle-reply.new.totals) (sym c.push_reserved.ensures.capacity)
+    subst (λ (h : List CashEntry). IsCashSound h c.settle-reply.new.totals (vec_capacity c.push_reserved.new.self)) (sym c.push_reserved.ensures.items)
+    (subst (IsCashSound (entries.items ++ e ∷ []) c.settle-reply.new.totals) (sym c.push_reserved.ensures.capacity)
     (sound_snoc entries.items c.self.inside.totals c.settle-reply.new.totals _ e c.self.invariant (search rules) room c.requires.fit settled.reply settled.totals settled.small settled.reader))
 
 pub returns-clause-legal : goal.returns-clause-legal

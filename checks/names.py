@@ -1,0 +1,89 @@
+#!/usr/bin/env python3
+"""One name, one thing: lists names that stand for more than one thing.
+
+    checks/names.py
+
+It lists the names that more than one module of specs/ defines, each with its modules. It fails if the
+clauses of `tac` reach two definitions of one name, or if two crates make public items of one name, other
+than one item that a crate gives again.
+"""
+import argparse
+import collections
+import os
+import re
+import sys
+from typing import Dict, List, Set
+
+import reading
+
+ROOT = os.path.dirname(os.path.dirname(os.path.abspath(__file__)))
+GIVEN = re.compile(r"^pub use ([\w:]+)::(?:\{([^}]*)\}|(\w+));$", re.M)
+
+
+def defined_twice(
+    modules: Dict[str, "reading.Module"], reached: Dict[str, List[str]]
+) -> Dict[str, List[str]]:
+    """The names that several modules define, of those that are reached: each with its modules."""
+    places: Dict[str, List[str]] = collections.defaultdict(list)
+    for path, names in reached.items():
+        for name in names:
+            places[name].append(modules[path].key())
+    return {name: keys for name, keys in sorted(places.items()) if len(keys) > 1}
+
+
+def public_items(crates: Set[str]) -> Dict[str, Set[str]]:
+    """The crates' public items: each name with the crates that define it.
+
+    An item that a crate gives again from another one is not counted there.
+    """
+    owners: Dict[str, Set[str]] = collections.defaultdict(set)
+    for crate in sorted(crates):
+        path = os.path.join(ROOT, "crates", crate, "src", "lib.rt")
+        if not os.path.exists(path):
+            continue
+        with open(path, encoding="utf-8") as file:
+            text = file.read()
+        for source, several, one in GIVEN.findall(text):
+            if source.split("::")[0] in crates:
+                continue
+            for item in (several or one).split(","):
+                if item.strip():
+                    owners[item.split(" as ")[-1].strip()].add(crate)
+    return owners
+
+
+def main() -> int:
+    """Prints the names, and returns 1 if one of them is a fault."""
+    parser = argparse.ArgumentParser(
+        description=__doc__, formatter_class=argparse.RawDescriptionHelpFormatter
+    )
+    parser.parse_args()
+    modules, given = reading.read_modules()
+    everywhere = {path: list(module.definitions) for path, module in modules.items()}
+    for name, keys in defined_twice(modules, everywhere).items():
+        print("%s: %s" % (name, ", ".join(keys)))
+    clauses = reading.clauses_of_tac()
+    start = [name for names in clauses.values() for name in names]
+    believed = reading.reached(modules, given, start)
+    faults = [
+        "the clauses of `tac` reach `%s` in %s" % (name, " and in ".join(keys))
+        for name, keys in defined_twice(modules, believed).items()
+    ]
+    items = public_items(set(os.listdir(os.path.join(ROOT, "crates"))))
+    faults += [
+        "`%s` is a public item of %s" % (name, " and of ".join(sorted(owners)))
+        for name, owners in sorted(items.items())
+        if len(owners) > 1
+    ]
+    for fault in faults:
+        print("names.py: " + fault)
+    print("names.py: %s" % ("%d faults" % len(faults) if faults else "one name, one thing"))
+    return 1 if faults else 0
+
+
+if __name__ == "__main__":
+    try:
+        sys.exit(main())
+    except BrokenPipeError:
+        os.dup2(os.open(os.devnull, os.O_WRONLY), sys.stdout.fileno())
+        sys.exit(1)

@@ -1,9 +1,0 @@
--- The effect on a sink of writing a piece of a text.
-use Rattle.std.specs.Prelude.{ℕ, List, Result, MatchResult}
-use Rattle.tac_io.specs.States.{SinkState}
-use Rattle.tac_io.specs.declared.failed.Failed.{Failed}
-use Rattle.game_log.specs.Taken.{TookWhole, TookPart}
-
--- The whole piece was taken and no fault was counted, or a fault was counted and the first bytes were taken, but not all.
-abbrev pub Writes : List ℕ → SinkState → SinkState → Result (Unit {0}) Failed → Type 0
-Writes piece sink sink' result = MatchResult result (λ _. TookWhole sink sink' piece) (λ _. TookPart sink sink' piece)

@@ -1,0 +1,76 @@
+-- The memory of a game, and what a game leaves at each agent's seat.
+use Rattle.std.specs.Prelude.{◌≡◌, ℕ, ◌-◌, ◌+◌, ◌<◌, List, [], ◌++◌, Option, Some, None, Result, Contains, false, length, filter, map, is_some, slice_index_or, vec_capacity}
+use mathlib.Core.Option.{some}
+use lib.ListN.{get_elem?}
+use Rattle.tac_base.specs.declared.limits.TheConstants.{LINK_BYTES}
+use Rattle.game_text.specs.Games.{GameFile}
+use Rattle.tac_base.specs.Goods.{agents, clock}
+use Rattle.auction_core.specs.ClosedGame.{ClosedGame, all_goods}
+use Rattle.auction_core.specs.Setups.{setup_of}
+use Rattle.tac_io.specs.AllAnswers.{all_answers}
+use Rattle.tac_io.specs.Lines.{count_of, held_of, link_of}
+use Rattle.tac_io.specs.LinkCalls.{GaveBytes}
+use Rattle.tac_io.specs.declared.lines.Lines.{Lines}
+use Rattle.line_protocol.specs.declared.asking.Request.{Request}
+use Rattle.line_protocol.specs.declared.asking.RequestFault.{RequestFault}
+use Rattle.line_protocol.specs.declared.saying.Said.{Said}
+use Rattle.line_protocol.specs.declared.admission.Cause.{Cause}
+use Rattle.floor.specs.declared.desk.Desk.{Desk}
+use Rattle.floor.specs.declared.floor.Floor.{Floor}
+use Rattle.floor.specs.Desks.{IsNewDesk}
+use Rattle.floor.specs.Floors.{floor_ids, starts_of, AreDesksOf}
+use Rattle.game_text.specs.Schedule.{clock_calls}
+use Rattle.agent_gate.specs.Served.{IsServed, HasSessionCause}
+use Rattle.agent_gate.specs.Transcript.{IsTranscript}
+use Rattle.agent_gate.specs.Turns.{Turn}
+use Rattle.agent_gate.specs.Welcome.{welcome_text}
+use Rattle.game_run.specs.declared.session_ends.SessionEnds.{SessionEnds}
+use Rattle.game_run.specs.declared.play.OpenFloor.{OpenFloor}
+use Rattle.tac_io.specs.States.{LinkState}
+use Rattle.game_run.specs.PlayedGame.{caller_parts, IsLegalGame, IsAbsent}
+
+-- ---- before the game
+
+-- a floor of a game at which nobody has called, and its nine desks
+pub record IsNewFloor (game : GameFile) (floor : Floor) (desks : List Desk) : Type 0 where
+  pub starts : starts_of floor ≡ map (λ good. record { setup = setup_of good game; history = [] }) all_goods
+  pub own : AreDesksOf floor desks
+  pub fresh : (i : ℕ) (d : Desk) → get_elem? desks i ≡ some d → IsNewDesk (floor_ids floor) i d
+
+-- nothing is gathered yet, and there is memory for what nine desks and eight links leave
+pub record IsReadyForEnds {L : Type 0} (session_ends : SessionEnds L) : Type 0 where
+  pub desks : (session_ends.desks.items ≡ []) × (vec_capacity session_ends.desks ≡ 9)
+  pub ends : (session_ends.ends.items ≡ []) × (vec_capacity session_ends.ends ≡ 8)
+  pub links : (session_ends.links.items ≡ []) × (vec_capacity session_ends.links ≡ 8)
+
+pub record IsOpenFloor {L : Type 0} (game : GameFile) (open_floor : OpenFloor L) : Type 0 where
+  pub floor : IsNewFloor game open_floor.floor open_floor.desks.items
+  pub session_ends : IsReadyForEnds open_floor.session_ends
+
+-- ---- after it
+
+module _ {L : Type 0} (state : L → LinkState) (may_answer : List ℕ → Result Request RequestFault → Type 0) (text : Said → List ℕ) (game : GameFile) (closed : ClosedGame) where
+  -- the agent was served by a session from these lines on, and its turns are its part of the histories
+  pub record IsServedAs (agent : ℕ) (lines : Lines L) (link : L) (cause : Cause) : Type 0 where
+    pub more : List ℕ
+    pub gave : GaveBytes more (state (link_of lines)) (state link)
+    pub turns : List Turn
+    pub count : ℕ
+    pub served : IsServed may_answer text (welcome_text game agent) (all_answers [] (LINK_BYTES - count_of lines + length (held_of lines).unread) ((held_of lines).unread ++ more))
+        (state (link_of lines)) (state link) turns count cause
+    pub transcript : IsTranscript agent closed turns
+    pub faults : HasSessionCause (state (link_of lines)) (state link) cause
+
+  -- what became of an agent: one with lines was served, and has its end; one without made no call
+  abbrev pub IsAgentsPart : List (ℕ × Cause) → ℕ → Option (Lines L) → Option L → Type 0
+  IsAgentsPart ends agent None None = IsAbsent closed agent
+  IsAgentsPart ends agent (Some lines) (Some link) = (cause : Cause) × Contains ends (agent, cause) × IsServedAs agent lines link cause
+  IsAgentsPart ends agent lines link = ⊥
+
+  -- A game was played with these lines. The links are those of the agents, in order.
+  pub record IsPlayedThrough (lines : List (Option (Lines L))) (links : List (Option L)) (ends : List (ℕ × Cause)) : Type 0 where
+    pub each_agent : (agent : ℕ) → agent < 8 → IsAgentsPart ends agent (slice_index_or lines agent None) (slice_index_or links agent None)
+    pub wide : length links ≡ 8
+    pub ended : map (λ end. end.0) ends ≡ filter (λ agent. slice_index_or (map (λ ls. is_some ls) lines) agent false) agents
+    pub legal_game : IsLegalGame game closed
+    pub scheduled : map (λ calls. map (λ p. p.1.call) calls) (caller_parts closed clock) ≡ map (clock_calls game) all_goods

@@ -1,0 +1,90 @@
+// What the packages are worth to the clients that have them left, in one table.
+ghost use Rattle.std.specs.Prelude.{◌≡◌, Some, slice_get, ◌<◌, ◌≤ℤ◌, pos, length};
+ghost use Rattle.tac_base.specs.Clients.{Preferences};
+ghost use Rattle.packages.specs.Packages.{IsPackage, utility_of};
+ghost use Rattle.packages.specs.Features.{feature_of};
+ghost use Rattle.relaxation.specs.Tables.{HasWorths, IsNarrowed, IsPut};
+
+use crate::columns::ClientPackage;
+use crate::features::Features;
+use game_text::Account;
+use packages::{Package, package, utility};
+
+/// The worth of an excluded package: so little that whatever a client has left is worth more.
+const EXCLUDED: i32 = -1_000_000;
+
+/// What each package is worth to each client that has it left, in dollars.
+#[derive(Clone, Copy)]
+pub struct WorthTable {
+    /// By client 0..7 and then the package's number 0..392.
+    pub dollars: [i32; 3144],
+    pub(crate) features: Features,
+}
+
+impl WorthTable {
+    /// Each package is left to each client.
+    pub(crate) fn new(account: &Account) -> WorthTable
+        ensures { HasWorths account.now.clients result.dollars }
+    {
+        // The proof rests on the account's ranges, which are known where it is read.
+        let _holdings = &account.holdings;
+        let mut dollars = [0; 3144];
+        for number in 0..393 {
+            if let Some(choice) = package(number) {
+                put(&mut dollars, account, number, &choice);
+            }
+        }
+        WorthTable {
+            dollars,
+            features: Features::new(),
+        }
+    }
+
+    /// A client, 0..7, keeps those packages whose feature, 0..3, has the value.
+    pub(crate) fn narrow(&mut self, client: usize, feature: usize, value: u8)
+        requires client { client < 8 }
+        requires feature { feature < 4 }
+        ensures { IsNarrowed (feature_of feature) client value self.old.dollars self.new.dollars }
+    {
+        for number in 0..393 {
+            if self.features.value_of(number, feature) != value {
+                self.dollars[393 * client + number] = EXCLUDED;
+            }
+        }
+    }
+
+    /// The dollars of a client, 0..7, by the package's number.
+    pub(crate) fn row(&self, client: usize) -> &[i32]
+        requires { client < 8 }
+        ensures { length result.now ≡ 393 }
+    {
+        &self.dollars[393 * client..393 * client + 393]
+    }
+
+    /// Whether a package is excluded for its client.
+    pub(crate) fn is_excluded(&self, of: &ClientPackage) -> bool {
+        self.dollars[393 * of.client + of.number] < 0
+    }
+}
+
+/// What a package is worth to a client, 0..7.
+fn worth_to(account: &Account, client: usize, choice: &Package) -> i32
+    requires client { client < 8 }
+    requires lawful { IsPackage choice.now }
+    ensures value { (wants : Preferences) → slice_get account.now.clients client ≡ Some wants → result ≡ pos (utility_of wants choice.now) }
+    ensures low { pos 0 ≤ℤ result }
+    ensures high { result ≤ℤ pos 1750 }
+{
+    utility(&account.clients[client], choice) as i32
+}
+
+/// Puts down what the package of a number, 0..392, is worth to each client.
+fn put(dollars: &mut [i32; 3144], account: &Account, number: u16, choice: &Package)
+    requires number { number < 393 }
+    requires lawful { IsPackage choice.now }
+    ensures { IsPut account.now.clients number choice.now dollars.old 8 dollars.new }
+{
+    for client in 0..8 {
+        dollars[393 * client + usize::from(number)] = worth_to(account, client, choice);
+    }
+}

@@ -1,5 +1,0 @@
-use Rattle.script_run.proofs.Tables.{no_counts}
-use Rattle.script_run.proofs.call_counts.CallCounts.new.Goals as goal
-
-pub returns : goal.returns
-returns c agent good = no_counts c.new.result 8 agent good c.new.ensures

@@ -1,0 +1,14 @@
+use Rattle.std.proofs.Common.{ℕ, ap, ◌∙◌}
+use Rattle.game_text.specs.Games.{GameFile}
+use Rattle.game_text.specs.QuietGames.{quiet_game}
+use Rattle.auction_core.specs.Setups.{setup_of}
+use Rattle.script_run.proofs.hotel.run.HotelRun.new.Goals as goal
+
+pub returns : goal.returns
+unfolding quiet_game
+returns c = record {
+  setup = c.in_ok-begin.ensures.setup ∙ ap (λ (good : ℕ). setup_of good c.default.result) c.first_night.ensures ∙ ap (λ (game : GameFile). setup_of 8 game) c.default.ensures;
+  history = c.in_ok-begin.ensures.history;
+  counted = c.new.ensures;
+  text = c.new-2.ensures.items;
+}

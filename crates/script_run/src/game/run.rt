@@ -1,0 +1,98 @@
+// A game that is played line by line.
+ghost use Rattle.std.specs.Prelude.{◌≡◌, ◌++◌, [], List, IfOk, OnOk};
+ghost use Rattle.game_text.specs.Games.{GameFile};
+ghost use Rattle.script_run.specs.OneThreadRun as run;
+ghost use Rattle.script_run.specs.declared.game.lines.GameLine.{GameLine};
+
+use crate::ScriptFault;
+use crate::game::counts::GameCounts;
+use crate::game::lines::GameLine;
+use crate::game::table::Table;
+use auction_core::Closed;
+use game_text::Game;
+use line_protocol::{Said, print_reply};
+use std::alloc::{AllocError, Global};
+use tac_base::{Agent, Memory, Text, print_numeral};
+
+/// The table, how many lines there were, and the text that is to be written of them.
+#[derive(Drop)]
+pub(crate) struct GameRun<'a> {
+    table: Table<'a>,
+    counts: GameCounts,
+    text: Vec<u8>,
+}
+
+/// The line that answers an agent.
+fn line_to_agent(agent: Agent, said: &Said) -> Text
+    ensures { result ≡ run.line_to_agent agent said.now }
+{
+    let mut line = Text::new();
+    print_numeral(u64::from(agent.get()), &mut line);
+    line.push(b' ');
+    print_reply(said, &mut line);
+    line.push(b'\n');
+    line
+}
+
+/// Plays a line, and appends what is written of it.
+fn play_line(table: &mut Table, text: &mut Vec<u8>, line: &GameLine) -> Result<(), AllocError>
+    ensures game { table.new.game ≡ table.old.game }
+    ensures state { table.new.state ≡ run.after_line table.old.game line.now table.old.state }
+    ensures text { OnOk result (text.new.items ≡ text.old.items ++ run.line_text table.old.game line.now table.old.state) }
+{
+    match line {
+        GameLine::Tick => {
+            table.tick();
+            Ok(())
+        }
+        GameLine::Asks { agent, asked } => {
+            let said = table.answer(*agent, asked);
+            text.extend_from_slice(line_to_agent(*agent, &said).as_slice())
+        }
+    }
+}
+
+impl<'a> GameRun<'a> {
+    ghost use Rattle.script_run.specs.GameRuns.{HasRunGame, PlaysGameLine};
+
+    /// The game before the first line.
+    pub(crate) fn begin(alloc: Global, game: &'a Game) -> Result<GameRun<'a>, Memory>
+        ensures { IfOk result (HasRunGame game.now []) }
+    {
+        let table = Table::begin(alloc, game)?;
+        Ok(GameRun {
+            table,
+            counts: GameCounts::new(),
+            text: Vec::new(alloc),
+        })
+    }
+
+    /// Plays the line of this number. After an error the run is unusable.
+    pub(crate) fn step(&mut self, number: u32, line: &[u8]) -> Result<(), ScriptFault>
+        ensures { (game : GameFile) (lines : List GameLine) → HasRunGame game lines self.old → PlaysGameLine game lines number line.now self.new result }
+    {
+        let asked = match self.counts.judge(line) {
+            Ok(asked) => asked,
+            Err(reason) => {
+                return Err(ScriptFault::Line {
+                    line: number,
+                    reason: reason.number(),
+                });
+            }
+        };
+        match play_line(&mut self.table, &mut self.text, &asked) {
+            Ok(()) => Ok(()),
+            Err(_) => Err(ScriptFault::Memory),
+        }
+    }
+
+    /// Makes the ticks that are left. Returns what is to be written of the lines, and the histories.
+    pub(crate) fn close(self) -> (Vec<u8>, Closed)
+        ensures text { result.0.items ≡ self.entry.text.items }
+        ensures closed { (game : GameFile) (lines : List GameLine) → HasRunGame game lines self.entry → result.1 ≡ run.closed_of game (run.whole_game game lines) }
+    {
+        let mut table = self.table;
+        table.finish();
+        (self.text, table.close())
+    }
+}

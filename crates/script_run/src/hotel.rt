@@ -1,0 +1,8 @@
+//! A hotel auction that is run from a script.
+mod line_counts;
+pub(crate) mod lines;
+pub(crate) mod run;
+mod script;
+
+pub use lines::HotelLine;
+pub use script::run_hotel_script;

@@ -1,0 +1,83 @@
+// How many lines of a script there were.
+ghost use Rattle.std.specs.Prelude.{◌≡◌, ◌≤◌, ◌<◌, [], ◌∷◌, List, length, MatchResult, Ok, Err};
+ghost use Rattle.auction_rules.specs.Legal.{cap};
+ghost use Rattle.script_run.specs.HotelScripts.{judge_hotel_line, limited_hotel_line};
+ghost use Rattle.tac_base.specs.declared.limits.TheConstants.{AUCTION_ENTRIES};
+
+use crate::ScriptReason;
+use crate::hotel::lines::{HotelLine, line_of};
+use tac_base::Caller;
+use tac_base::limits::{AGENT_CALLS, AUCTION_ENTRIES, CLOCK_CALLS};
+
+/// How many lines there were, in all and of each caller.
+#[derive(Drop)]
+pub(crate) struct LineCounts {
+    all: u32,
+    of_caller: [u32; 9],
+    ghost few: { all ≤ AUCTION_ENTRIES },
+}
+
+/// The most lines of a caller: those of an agent, or of the clock.
+fn most_lines(caller: Caller) -> u32
+    ensures { result ≡ cap caller }
+{
+    if caller.get() == 8 {
+        CLOCK_CALLS
+    } else {
+        AGENT_CALLS
+    }
+}
+
+impl LineCounts {
+    ghost use Rattle.script_run.specs.LineCounts.{AreLineCounts};
+
+    pub(crate) fn new() -> LineCounts
+        ensures { AreLineCounts [] result }
+    {
+        LineCounts {
+            all: 0,
+            of_caller: [0; 9],
+        }
+    }
+
+    /// How many lines there were.
+    pub(crate) fn all(&self) -> u32
+        ensures value { (lines : List HotelLine) → AreLineCounts lines self.now → result ≡ length lines }
+        ensures few { result ≤ AUCTION_ENTRIES }
+    {
+        self.all
+    }
+
+    /// What a line asks, which is counted, or the first reason why it is bad.
+    pub(crate) fn judge(&mut self, line: &[u8]) -> Result<HotelLine, ScriptReason>
+        ensures { (lines : List HotelLine) → AreLineCounts lines self.old →
+            MatchResult result
+            (λ asked. (judge_hotel_line lines line.now ≡ Ok asked) × AreLineCounts (asked ∷ lines) self.new)
+            (λ reason. judge_hotel_line lines line.now ≡ Err reason) }
+    {
+        match line_of(line) {
+            Ok(line) => self.admit(line),
+            Err(reason) => Err(reason),
+        }
+    }
+
+    /// Counts a line if there are not too many, or gives the reason.
+    fn admit(&mut self, line: HotelLine) -> Result<HotelLine, ScriptReason>
+        ensures { (lines : List HotelLine) → AreLineCounts lines self.old →
+            MatchResult result
+            (λ admitted. (limited_hotel_line lines line ≡ Ok admitted) × AreLineCounts (admitted ∷ lines) self.new)
+            (λ reason. limited_hotel_line lines line ≡ Err reason) }
+    {
+        if self.all >= AUCTION_ENTRIES {
+            return Err(ScriptReason::TooMany);
+        }
+        let caller = line.caller();
+        let count = self.of_caller[caller.get() as usize];
+        if count >= most_lines(caller) {
+            return Err(ScriptReason::TooManyOfCaller);
+        }
+        self.of_caller[caller.get() as usize] = count + 1;
+        self.all += 1;
+        Ok(line)
+    }
+}

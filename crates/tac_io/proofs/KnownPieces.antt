@@ -1,0 +1,45 @@
+-- What is known, piece by piece.
+use Rattle.std.proofs.Common.{◌≡◌, ℕ, ◌+◌, List, ◌++◌, take, drop, [], refl, ap, sym, ◌∙◌, append_assoc, append-nil}
+use Rattle.std.proofs.Math.Seq.{take-add}
+use Rattle.std.specs.Prelude.{None, Some}
+use Rattle.std.specs.declared.option.Option.{Option}
+use Rattle.tac_io.specs.LinkCalls.{GaveBytes, ReadsNothing}
+use Rattle.tac_io.specs.States.{LinkState}
+use Rattle.tac_io.specs.Known.{known_then, then_known}
+
+pub known_then-nothing : {A : Type 0} (known : Option (List A)) → known_then known [] ≡ known
+known_then-nothing None = refl
+known_then-nothing (Some xs) = ap (λ l. Some l) (append-nil xs)
+
+pub then_known-nothing : {A : Type 0} (known : Option (List A)) → then_known [] known ≡ known
+then_known-nothing None = refl
+then_known-nothing (Some xs) = refl
+
+pub known_then-twice : {A : Type 0} (known : Option (List A)) (xs ys : List A) → known_then (known_then known xs) ys ≡ known_then known (xs ++ ys)
+known_then-twice None xs ys = refl
+known_then-twice (Some zs) xs ys = ap (λ l. Some l) (append_assoc zs xs ys)
+
+pub then_known-twice : {A : Type 0} (known : Option (List A)) (xs ys : List A) → then_known xs (then_known ys known) ≡ then_known (xs ++ ys) known
+then_known-twice None xs ys = refl
+then_known-twice (Some zs) xs ys = ap (λ l. Some l) (sym (append_assoc xs ys zs))
+
+-- the first d bytes, and then n more, are the first d + n
+pub known_then-take : (old between new : Option (List ℕ)) (bytes : List ℕ) (d n : ℕ) → between ≡ known_then old (take d bytes) → new ≡ known_then between (take n (drop d bytes)) → new ≡ known_then old (take (d + n) bytes)
+known_then-take old between new bytes d n e f =
+    f ∙ ap (λ known. known_then known (take n (drop d bytes))) e
+    ∙ known_then-twice old (take d bytes) (take n (drop d bytes))
+    ∙ ap (known_then old) (sym (take-add d n bytes))
+
+-- a link that gave no byte
+pub gave_nothing : (before after : LinkState) → after.taken ≡ before.taken → after.left ≡ before.left → GaveBytes [] before after
+gave_nothing before after taken left = (taken ∙ sym (known_then-nothing before.taken), sym (then_known-nothing after.left ∙ left))
+
+-- what a link gave, and then what it gave after that
+pub gave_twice : (before now after : LinkState) (xs ys : List ℕ) → GaveBytes xs before now → GaveBytes ys now after → GaveBytes (xs ++ ys) before after
+gave_twice before now after xs ys one two = (
+  two.0 ∙ ap (λ known. known_then known ys) one.0 ∙ known_then-twice before.taken xs ys,
+  one.1 ∙ ap (then_known xs) two.1 ∙ then_known-twice after.left xs ys,
+)
+
+pub read_nothing_twice : (before now after : LinkState) → ReadsNothing before now → ReadsNothing now after → ReadsNothing before after
+read_nothing_twice before now after one two = (two.0 ∙ one.0, two.1 ∙ one.1, two.2 ∙ one.2)

@@ -1,0 +1,160 @@
+// A link in memory that gives line by line, and may wait for another.
+ghost use Rattle.std.specs.Prelude.{◌≡◌, ◌<◌, ◌≤◌, ◌==◌, [], IfSome, count_by, false, length, position, true};
+ghost use Rattle.tac_io.specs.LineText.{line_length};
+ghost use Rattle.tac_io.specs.declared.memory.held_link.TheConstants.{MOST_TURNS};
+
+use crate::{Failed, Link, MemLink};
+use std::sync::Arc;
+use std::sync::atomic::{AtomicU64, Ordering};
+
+/// How often a wait for lines looks, where nothing else is said.
+pub const MOST_TURNS: u32 = 1_000_000_000;
+
+/// How many lines a link was sent so far. It is shared by the link and those that wait for it.
+pub type LinesSent = Arc<AtomicU64>;
+
+/// A read that answers only after another link was sent a number of lines.
+#[derive(Drop)]
+pub struct Hold {
+    /// Which read it is, counted from 1. The first is never held up.
+    pub read: u64,
+    /// The other link, by the lines that it was sent.
+    pub other: LinesSent,
+    /// How many lines the read waits for, those of the welcome included.
+    pub lines: u64,
+    ghost later: { 1 < read },
+}
+
+/// A `MemLink` of which each read gives a line at most, and one may be held up until another link
+/// was sent a number of lines: it looks at that number again and again, 1,000,000,000 times if
+/// nothing else is said, and then fails.
+#[derive(Drop)]
+pub struct HeldLink {
+    link: MemLink,
+    hold: Option<Hold>,
+    lines_sent: LinesSent,
+    turns: u32,
+}
+
+// Where the first line ends.
+fn line_end(bytes: &[u8]) -> Option<usize>
+    ensures place { result ≡ position (λ byte. byte == 10) bytes.now }
+    ensures within { IfSome result (λ place. place < length bytes.now) }
+{
+    bytes.iter().position(|byte| *byte == b'\n')
+}
+
+// How many bytes the first line has, with its end.
+fn line_len(bytes: &[u8]) -> usize
+    ensures value { result ≡ line_length bytes.now }
+    ensures within { result ≤ length bytes.now }
+    ensures some { result ≡ 0 → bytes.now ≡ [] }
+{
+    match line_end(bytes) {
+        Some(place) => place + 1,
+        None => bytes.len(),
+    }
+}
+
+// How many lines end in the bytes.
+fn line_ends(bytes: &[u8]) -> u64
+    ensures { result ≡ count_by (λ byte. byte == 10) bytes.now }
+{
+    bytes.iter().filter(|byte| **byte == b'\n').count() as u64
+}
+
+/// Looks `turns` times at most whether a link was sent so many lines, and says whether it was.
+pub fn was_sent(link: &AtomicU64, lines: u64, turns: u32) -> bool
+    ensures never { turns ≡ 0 → result ≡ false }
+    ensures at_once { lines ≡ 0 → 0 < turns → result ≡ true }
+{
+    (0..turns).any(|_| link.load(Ordering::SeqCst) >= lines)
+}
+
+impl HeldLink {
+    ghost use Rattle.tac_io.specs.HeldLink.{IsNextHeld, held_link};
+    ghost use Rattle.tac_io.specs.MemLink.{link_sent};
+
+    /// A link over `link`. Each line end that it is sent is counted in `lines_sent`.
+    pub fn new(link: MemLink, lines_sent: LinesSent, hold: Option<Hold>) -> HeldLink
+        ensures { result ≡ record { link = link; hold = hold; lines_sent = lines_sent; turns = MOST_TURNS } }
+    {
+        HeldLink {
+            link,
+            hold,
+            lines_sent,
+            turns: MOST_TURNS,
+        }
+    }
+
+    /// The same link, but that its read which is held up looks `turns` times at most.
+    pub fn giving_up_after(mut self, turns: u32) -> HeldLink
+        ensures { result ≡ record self { turns = turns } }
+    {
+        self.turns = turns;
+        self
+    }
+
+    /// The bytes that it was sent, in order.
+    pub fn sent(&self) -> &[u8]
+        ensures { result.now ≡ link_sent (held_link self.now) }
+    {
+        self.link.sent()
+    }
+
+    // Waits if the next read is held up, and says whether it answers.
+    fn answers(&self) -> bool
+        ensures { result ≡ false → IsNextHeld self.now }
+    {
+        match &self.hold {
+            Some(hold) if hold.read == self.link.next_read() => {
+                was_sent(&hold.other, hold.lines, self.turns)
+            }
+            _ => true,
+        }
+    }
+}
+
+impl Link for HeldLink {
+    ghost use Rattle.std.specs.Prelude.{◌⊎◌, ◌<◌, IsErr, IfOk, length};
+    ghost use Rattle.tac_io.specs.Calls.{IsNextToFail};
+    ghost use Rattle.tac_io.specs.HeldLink.{IsNextHeld, held_hold, held_link, held_share};
+    ghost use Rattle.tac_io.specs.MemLink.{ReadsNext, WritesNext, link_reads, link_state};
+
+    ghost state = { λ s. link_state (held_link s) };
+
+    fn read(&mut self, into: &mut [u8]) -> Result<usize, Failed>
+        requires { 0 < length into.old }
+        ensures fails { IsErr result → IsNextHeld self.old ⊎ IsNextToFail (link_reads (held_link self.old)) }
+        ensures failing { IsNextToFail (link_reads (held_link self.old)) → IsErr result }
+        ensures share { IfOk result (λ n. n ≡ held_share self.old (length into.new)) }
+        ensures next { ReadsNext (held_link self.old) (held_link self.new) result into.new }
+        ensures hold { held_hold self.new ≡ held_hold self.old }
+    {
+        if !self.answers() {
+            return Err(self.link.fail_read());
+        }
+        let line = line_len(self.link.left()).clamp(1, into.len());
+        let (into, _) = into.split_at_mut(line);
+        self.link.read(into)
+    }
+
+    fn write(&mut self, piece: &[u8]) -> Result<usize, Failed>
+        requires { 0 < length piece.now }
+        ensures next { WritesNext (held_link self.old) (held_link self.new) result piece.now }
+        ensures hold { held_hold self.new ≡ held_hold self.old }
+    {
+        let count = self.link.write(piece)?;
+        self.lines_sent
+            .fetch_add(line_ends(&piece[..count]), Ordering::SeqCst);
+        Ok(count)
+    }
+
+    fn faults(&self) -> u64 {
+        self.link.faults()
+    }
+
+    fn write_faults(&self) -> u64 {
+        self.link.write_faults()
+    }
+}
