@@ -23,7 +23,7 @@ WORDS = r"(?:(?:pub|abbrev|unfoldable) )*"
 PARTS = [
     ("The certificates of the scores: their lines in the log, and when they hold", ["bound_cert", "packages.Bounds", "packages.Features", "packages.Listing"]),
     ("For `serve .. json` alone", ["json_dialect"]),
-    ("That the log is sound, as `audit` has it", ["log_reader", "log_text.LoggedGames", "line_protocol.Ranges", "game_log.LogRanges", "tac_commands.SoundTexts", "tacd.SoundLogs"]),
+    ("That the log is sound, as `audit` has it", ["log_reader", "log_text.LoggedGames", "tac_base.Ranges", "auction_core.Ranges", "game_log.LogRanges", "tac_commands.SoundTexts", "tacd.SoundLogs"]),
 ]
 
 

@@ -23,7 +23,12 @@ use Rattle.auction_rules.specs.Legal.{trades_by, entry_by, trades_of}
 use Rattle.auction_rules.proofs.Lists.{all-if, all-map, all-filter_map, all_alike}
 use Rattle.auction_rules.proofs.FlightTrades.{each_point_trade, each_flight_trade}
 use Rattle.auction_rules.proofs.SelfTrades.{parties_within}
-use Rattle.auction_core.specs.Loggable.{IsDealt}
+
+-- a trade of the good, between two of the nine parties
+pub record IsDealt (good : ℕ) (t : Trade) : Type 0 where
+  pub good_is : t.good ≡ good
+  pub buyer : t.buyer ≤ house
+  pub seller : t.seller ≤ house
 
 -- a trade of the good
 abbrev IsOf : ℕ → Trade → Type 0

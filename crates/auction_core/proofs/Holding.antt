@@ -1,10 +1,9 @@
 -- What trades change in the holdings.
-use Rattle.std.proofs.Common.{◌≡◌, ℕ, ◌+◌, ◌<◌, ◌≤◌, List, [], ◌∷◌, ◌++◌, length, map, take, get_or, sum_by, refl, sym, ap, ◌∙◌, subst, arith, ℤ, pos, ◌+ℤ◌, ◌-ℤ◌}
+use Rattle.std.proofs.Common.{◌≡◌, ℕ, ◌+◌, ◌<◌, ◌≤◌, List, [], ◌∷◌, ◌++◌, length, map, take, get_or, sum_by, refl, sym, ap, ◌∙◌, subst, arith, inl, ℤ, pos, ◌+ℤ◌, ◌-ℤ◌, unsigned_abs}
 use Rattle.std.specs.Prelude.{filter, ◌==◌}
-use Rattle.std.specs.List.{All}
 use Rattle.std.proofs.lemmas.Int.{ints}
 use Rattle.std.proofs.lemmas.List.{take_more}
-use Rattle.std.proofs.lemmas.List.Elements.{filter-append, All-from_recursion}
+use Rattle.std.proofs.lemmas.List.Elements.{filter-append}
 use Rattle.std.proofs.lemmas.List.Sums.{sum_by-append, sum_by-take-le}
 use Rattle.tac_base.specs.declared.calls.Trade.{Trade}
 use Rattle.tac_base.specs.Goods.{parties}
@@ -12,7 +11,7 @@ use Rattle.auction_rules.specs.Effects.{bought, sold, net_units}
 use Rattle.auction_rules.specs.Traded.{traded}
 use Rattle.auction_rules.proofs.Trading.{bought_le, sold_le}
 use Rattle.trade_ledger.specs.CashKeeping.{IsWithin}
-use Rattle.trade_ledger.specs.Holdings.{held_after, IsHolding}
+use Rattle.trade_ledger.specs.Holdings.{held_after, Stays, NoneLeaves}
 use Rattle.trade_ledger.proofs.Trading.{nine_numbers, get_or-nine}
 
 bought-append : (xs ys : List Trade) (party : ℕ) → bought (xs ++ ys) party ≡ bought xs party + bought ys party
@@ -60,20 +59,17 @@ held_more held xs ys = nine_numbers (λ party. get_or held party (pos 0) +ℤ ne
     regroup : (a b c : ℤ) → (a +ℤ b) +ℤ c ≡ a +ℤ (b +ℤ c)
     regroup a b c = omega (arith, ints)
 
-all_nine : (P : ℤ → Type 0) (f : ℕ → ℤ) → ((party : ℕ) → party ≤ 8 → P (f party)) → All P (map f parties)
-all_nine P f each = All-from_recursion P (map f parties)
-    (each 0 (omega arith), (each 1 (omega arith), (each 2 (omega arith), (each 3 (omega arith), (each 4 (omega arith), (each 5 (omega arith), (each 6 (omega arith), (each 7 (omega arith), (each 8 (omega arith), tt)))))))))
-
--- few trades leave no holding out of range
-pub all_held : (held start : List ℤ) (xs : List Trade) (t : Trade) → ((party : ℕ) → party ≤ 8 → IsWithin 400000 (get_or start party (pos 0))) → held ≡ held_after start xs →
-    traded (xs ++ t ∷ []) ≤ 400000 → All IsHolding (held_after held (t ∷ []))
-all_held held start xs t small is few =
-    subst (λ (h : List ℤ). All IsHolding h) (sym (ap (λ (h : List ℤ). held_after h (t ∷ [])) is ∙ held_more start xs (t ∷ [])))
-    (all_nine IsHolding (λ party. get_or start party (pos 0) +ℤ net_units (xs ++ t ∷ []) party)
-    (λ party le. sum (get_or start party (pos 0)) (net_units (xs ++ t ∷ []) party) (small party le) (net_units_within (xs ++ t ∷ []) party 400000 few)))
+-- few trades take no holding out of its range
+pub none_leaves : (held start : List ℤ) (xs : List Trade) (t : Trade) → ((party : ℕ) → party ≤ 8 → IsWithin 400000 (get_or start party (pos 0))) → held ≡ held_after start xs →
+    traded (xs ++ t ∷ []) ≤ 400000 → NoneLeaves held (t ∷ [])
+none_leaves held start xs t small is few party le =
+    let after = ap (λ (h : List ℤ). held_after h (t ∷ [])) is ∙ held_more start xs (t ∷ []) in
+    inl (subst (λ (h : List ℤ). unsigned_abs (get_or h party (pos 0)) ≤ 1000000) (sym after)
+    (subst (λ (z : ℤ). unsigned_abs z ≤ 1000000) (sym (get_or-held start (xs ++ t ∷ []) party le))
+    (sum (get_or start party (pos 0)) (net_units (xs ++ t ∷ []) party) (small party le) (net_units_within (xs ++ t ∷ []) party 400000 few))))
   where
-    sum : (a b : ℤ) → IsWithin 400000 a → IsWithin 400000 b → IsHolding (a +ℤ b)
-    sum a b h k = (omega (arith, ints, h.0, k.0), omega (arith, ints, h.1, k.1))
+    sum : (a b : ℤ) → IsWithin 400000 a → IsWithin 400000 b → unsigned_abs (a +ℤ b) ≤ 1000000
+    sum a b h k = omega (arith, ints, h.0, h.1, k.0, k.1)
 
 -- ---- a loop over the trades
 

@@ -8,6 +8,7 @@ use Rattle.tac_base.specs.declared.calls.Reply.{Reply}
 use Rattle.tac_base.specs.declared.calls.Entry.{Entry as StoredEntry}
 use Rattle.tac_base.specs.declared.calls.Trade.{Trade}
 use Rattle.tac_base.specs.Goods.{clock}
+use Rattle.tac_base.specs.Ranges.{IsCall, IsTrade}
 use Rattle.auction_rules.specs.Setup.{Setup}
 use Rattle.auction_rules.specs.History.{Entry}
 use Rattle.auction_rules.specs.Effects.{nets, net_units, all_trades, endowment, holding}
@@ -16,9 +17,9 @@ use Rattle.auction_rules.specs.Legal.{entry_by, entry_of, reply_of, trades_of, e
 use Rattle.auction_rules.specs.Follows.{Follows}
 use Rattle.std.specs.List.{All, AllByRecursion}
 use Rattle.auction_rules.specs.Traded.{traded, Spends, IsShort}
-use Rattle.auction_core.specs.Loggable.{IsLoggableCall, HasSmallNumbers, IsLoggable}
-use Rattle.auction_core.proofs.Dealing.{all_dealt}
-use Rattle.auction_core.proofs.Telling.{AreBids, told_in_range}
+use Rattle.auction_core.specs.Ranges.{IsEntry, HasSmallNumbers, IsToldInRange}
+use Rattle.auction_core.proofs.Dealing.{IsDealt, all_dealt}
+use Rattle.auction_core.proofs.Telling.{AreBids, reply_ranged, told_in_range}
 use Rattle.auction_rules.proofs.Lists.{all-append}
 use Rattle.auction_rules.proofs.Trading.{length_le}
 use Rattle.turn_lock.specs.Part.{part}
@@ -79,19 +80,15 @@ in_range setup book held history party keeps =
 
 -- ---- what a log can show
 
-loggable_snoc : (good : ℕ) (history : List Entry) (e : Entry) → AllByRecursion (IsLoggable good) history → IsLoggable good e → AllByRecursion (IsLoggable good) (history ++ e ∷ [])
-loggable_snoc good [] e all is = (is, tt)
-loggable_snoc good (x ∷ history) e all is = (all.0, loggable_snoc good history e all.1 is)
-
 -- each bid of the past is within its limits
-past_bids : (good : ℕ) (history : List Entry) → AllByRecursion (IsLoggable good) history → AreBids (reverse history)
+past_bids : (good : ℕ) (history : List Entry) → AllByRecursion (IsEntry good) history → AreBids (reverse history)
 past_bids good [] h = tt
-past_bids good (e ∷ history) h = subst AreBids (sym (reverse-append (e ∷ []) history)) (all-append (λ x. IsLoggableCall x.call) (reverse history) (e ∷ []) (past_bids good history h.1) (h.0.call, tt))
+past_bids good (e ∷ history) h = subst AreBids (sym (reverse-append (e ∷ []) history)) (all-append (λ x. IsCall x.call) (reverse history) (e ∷ []) (past_bids good history h.1) (h.0.call, tt))
 
 -- one entry more
 pub kept_more : (setup : Setup) (book book' : Book) (held : List ℤ) (history : List Entry) (e : Entry) (call : Call) → IsAuctionKept setup book held history → e.caller ≤ clock →
     entries_of history e.caller < cap e.caller → e ≡ entry_of setup (reverse history) e.caller e.call → Stands book' setup (e ∷ reverse history) →
-    Spends (units_left book + 16) (units_left book') e.trades → length e.trades ≤ 128 → All IsShort e.trades → IsLoggableCall e.call → HasSmallNumbers e.reply →
+    Spends (units_left book + 16) (units_left book') e.trades → length e.trades ≤ 128 → All IsShort e.trades → IsCall e.call → HasSmallNumbers e.reply →
     IsAuctionKept setup book' (held_after held e.trades) (history ++ e ∷ [])
 kept_more setup book book' held history e call keeps is room rule stands spends few short called numbers =
     let past : reverse (history ++ e ∷ []) ≡ e ∷ reverse history = reverse-append history (e ∷ []) in
@@ -106,17 +103,27 @@ kept_more setup book book' held history e call keeps is room rule stands spends 
       stands = rw past stands;
       held = ap (λ (h : List ℤ). held_after h e.trades) keeps.held ∙ (held_next setup (reverse history) e ∙ ap (held_by setup) (sym past));
       few = rw past (let old = keeps.few in let spent = spends.few in omega (arith, old, spent, sum_by-append (λ (t : Trade). t.units) e.trades (all_trades (reverse history)), length-append history (e ∷ [])));
-      loggable = loggable_snoc setup.good history e keeps.loggable
-          (record {
-            caller = is;
-            call = called;
-            numbers = numbers;
-            told = rw rule (told_in_range (reverse history) (past_bids setup.good history keeps.loggable) e.caller setup e.call (in_range setup book held history e.caller keeps));
-            few = few;
-            short = short;
-            dealt = rw rule (all_dealt setup (reverse history) e.caller e.call is);
-          });
+      loggable = all-append (IsEntry setup.good) history (e ∷ []) keeps.loggable (
+        record {
+          caller = is;
+          call = called;
+          reply = reply_ranged e.reply numbers told;
+          few = few;
+          trades = λ k d inside. trade_is (get_or e.trades k d) (short k d inside) (dealt k d inside);
+        },
+        tt,
+      );
+      told = all-append (λ x. IsToldInRange x.reply) history (e ∷ []) keeps.told (told, tt);
     }
+  where
+    told : IsToldInRange e.reply
+    told = rw rule (told_in_range (reverse history) (past_bids setup.good history keeps.loggable) e.caller setup e.call (in_range setup book held history e.caller keeps))
+
+    dealt : All (IsDealt setup.good) e.trades
+    dealt = rw rule (all_dealt setup (reverse history) e.caller e.call is)
+
+    trade_is : (t : Trade) → IsShort t → IsDealt setup.good t → IsTrade setup.good t
+    trade_is t few is = record { good_is = is.good_is; buyer = is.buyer; seller = is.seller; some = few.some; few = few.few; price = few.priced }
 
 pub few_stored : (setup : Setup) (book : Book) (held : List ℤ) (entries : List StoredEntry) (trades : List Trade) → IsAuctionKept setup book held (stored entries trades) → length entries ≤ 8256
 few_stored setup book held entries trades keeps =
@@ -154,7 +161,7 @@ module _ (setup : Setup) (book book' : Book) (held : List ℤ) (entries : List S
         omega (arith, few, some, spent, length_le more spends.some, entries_fit, length-map entries (entry_with trades))
 
     pub sound_more : Follows setup past caller call reply more (Stands book' setup) → Spends (units_left book + 16) (units_left book') more → length more ≤ 128 → All IsShort more →
-        IsLoggableCall call → HasSmallNumbers reply → IsAuctionSound setup book' (held_after held more) (entries ++ entry_behind trades caller call reply more ∷ []) (trades ++ more) entry_room trade_room
+        IsCall call → HasSmallNumbers reply → IsAuctionSound setup book' (held_after held more) (entries ++ entry_behind trades caller call reply more ∷ []) (trades ++ more) entry_room trade_room
     sound_more follows spends few short called numbers =
         let is_new = new_is follows in
         record {

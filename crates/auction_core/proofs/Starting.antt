@@ -86,6 +86,7 @@ sound_at_first setup book held entries trades entry_room trade_room ranged endow
         held = holds;
         few = let none : traded (all_trades []) ≡ 0 = refl in omega (arith, none, first_units book setup stands);
         loggable = tt;
+        told = tt;
       };
       stored = record { chained = tt; whole = refl; some = omega arith };
       entry_room = enough;

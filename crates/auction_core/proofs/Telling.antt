@@ -1,5 +1,6 @@
 -- The numbers in replies are in range, if every bid of the past is within its limits.
-use Rattle.std.proofs.Common.{◌≡◌, ℕ, ◌+◌, ◌≤◌, Bool, true, false, cond, List, [], ◌∷◌, length, map, arith, Option, Some, None}
+use Rattle.std.proofs.Common.{◌≡◌, ℕ, ◌+◌, ◌≤◌, Bool, true, false, cond, List, [], ◌∷◌, length, map, arith, ℤ, unsigned_abs, Option, Some, None}
+use Rattle.std.proofs.lemmas.Int.{ints}
 use Rattle.std.specs.Prelude.{IfSome, ⊤, not, ◌&&◌, ◌||◌, nat_le, max, filter}
 use Rattle.std.specs.List.{AllByRecursion}
 use Rattle.tac_base.specs.declared.bids.Point.{Point}
@@ -8,7 +9,9 @@ use Rattle.tac_base.specs.declared.limits.TheConstants.{BID_PRICE}
 use Rattle.tac_base.specs.declared.calls.Call.{Call}
 use Rattle.tac_base.specs.declared.calls.Call.TheVariants.{Bid, Withdraw, Own as OwnCall, Update, Publish, Close}
 use Rattle.tac_base.specs.declared.calls.Reply.{Reply}
+use Rattle.tac_base.specs.declared.calls.Reply.TheVariants as replies
 use Rattle.tac_base.specs.Goods.{agents}
+use Rattle.tac_base.specs.Ranges.{IsCall, IsReply}
 use Rattle.tac_base.proofs.Faults.{good_point, both_none}
 use Rattle.auction_rules.specs.declared.units.Placed.{Placed}
 use Rattle.auction_rules.specs.declared.units.BidUnit.{BidUnit}
@@ -26,7 +29,24 @@ use Rattle.auction_rules.proofs.Lists.{all-flat_map, all-map, all_alike}
 use Rattle.auction_rules.proofs.Quotes.{fold_keeps, max_keeps, prices_of}
 use Rattle.auction_rules.proofs.Standing.{Each, each-append, each-block, each-filter, each-weaker}
 use Rattle.game_text.specs.Accounts.{IsHolding}
-use Rattle.auction_core.specs.Loggable.{IsLoggableCall, HasShownNumbers}
+use Rattle.auction_core.specs.Ranges.{HasSmallNumbers, IsToldInRange}
+
+-- ---- what the rules and the type of a reply keep, together
+
+pub reply_ranged : (reply : Reply) → HasSmallNumbers reply → IsToldInRange reply → IsReply reply
+reply_ranged (replies.Taken bought sold) small told = small
+reply_ranged (replies.Own holding left) small told = (shown holding told, small)
+  where
+    shown : (held : ℤ) → IsHolding held → unsigned_abs held ≤ 1000000
+    shown held is = omega (arith, ints, is.0, is.1)
+reply_ranged (replies.Sold units price) small told = (small, omega (arith, told))
+reply_ranged replies.Done small told = tt
+reply_ranged replies.Closed small told = tt
+reply_ranged replies.WrongCall small told = tt
+reply_ranged replies.NoBid small told = tt
+reply_ranged replies.Sell small told = tt
+reply_ranged replies.SelfCross small told = tt
+reply_ranged (replies.BelowQuote need at offered) small told = (small.0, told, small.1)
 
 -- ---- no unit of a bid costs more than 10000 dollars
 
@@ -48,13 +68,13 @@ cheap_bid agent position (point ∷ points) h = cheap_points agent position 0 0 
 
 -- every bid of the past is within its limits
 abbrev pub AreBids : List Entry → Type 0
-AreBids past = AllByRecursion (λ e. IsLoggableCall e.call) past
+AreBids past = AllByRecursion (λ e. IsCall e.call) past
 
 abbrev IsGoodBid : Option Placed → Type 0
 IsGoodBid None = ⊤
 IsGoodBid (Some bid) = fault_of bid.points ≡ None
 
-good_after : (caller position : ℕ) (call : Call) (earlier : Option Placed) → IsLoggableCall call → IsGoodBid earlier → IsGoodBid (bid_after caller position call earlier)
+good_after : (caller position : ℕ) (call : Call) (earlier : Option Placed) → IsCall call → IsGoodBid earlier → IsGoodBid (bid_after caller position call earlier)
 good_after caller position (Bid points) earlier good h = good
 good_after caller position Withdraw earlier good h = tt
 good_after caller position OwnCall earlier good h = h
@@ -110,7 +130,7 @@ published_within rooms live (e ∷ past) h =
 -- ---- refusals
 
 abbrev IsRefusedInRange : Option Reply → Type 0
-IsRefusedInRange refused = IfSome refused HasShownNumbers
+IsRefusedInRange refused = IfSome refused IsToldInRange
 
 if_told : (b : Bool) (r s : Option Reply) → IsRefusedInRange r → IsRefusedInRange s → IsRefusedInRange (cond b r s)
 if_told true r s h k = h
@@ -135,12 +155,12 @@ module _ (past : List Entry) (bids : AreBids past) (caller : ℕ) where
 
   -- ---- admitted replies
 
-  closed_told : (rules : Rules) → HasShownNumbers (close_reply rules past)
+  closed_told : (rules : Rules) → IsToldInRange (close_reply rules past)
   closed_told (FlightRules first bound) = tt
   closed_told (HotelRules rooms live) = ask_within rooms (stand (HotelRules rooms live) past) (cheap_stand (HotelRules rooms live) past bids)
   closed_told TicketRules = tt
 
-  admitted_told : (setup : Setup) (call : Call) → IsHolding (holding setup past caller) → HasShownNumbers (admitted_reply setup past caller call)
+  admitted_told : (setup : Setup) (call : Call) → IsHolding (holding setup past caller) → IsToldInRange (admitted_reply setup past caller call)
   admitted_told setup OwnCall held = held
   admitted_told setup (Bid points) held = tt
   admitted_told setup Withdraw held = tt
@@ -148,9 +168,9 @@ module _ (past : List Entry) (bids : AreBids past) (caller : ℕ) where
   admitted_told setup Publish held = tt
   admitted_told setup Close held = closed_told setup.rules
 
-  pub told_in_range : (setup : Setup) (call : Call) → IsHolding (holding setup past caller) → HasShownNumbers (reply_of setup past caller call)
+  pub told_in_range : (setup : Setup) (call : Call) → IsHolding (holding setup past caller) → IsToldInRange (reply_of setup past caller call)
   told_in_range setup call held = by_refusal (refusal setup.rules past caller call) (refusal_told setup.rules call)
     where
-      by_refusal : (r : Option Reply) → IsRefusedInRange r → HasShownNumbers (entry_by setup past caller call r).reply
+      by_refusal : (r : Option Reply) → IsRefusedInRange r → IsToldInRange (entry_by setup past caller call r).reply
       by_refusal None h = admitted_told setup call held
       by_refusal (Some reply) h = h

@@ -13,7 +13,7 @@ use Rattle.auction_core.specs.declared.book.Book.{Book}
 use Rattle.auction_core.specs.Books.{Stands, units_left, held_by}
 use Rattle.auction_core.specs.Setups.{AreInRange, AreEndowed}
 use Rattle.auction_core.specs.Stored.{stored, IsStored}
-use Rattle.auction_core.specs.Loggable.{IsLoggable}
+use Rattle.auction_core.specs.Ranges.{IsEntry, IsToldInRange}
 
 -- The rules are those that a game may have, and each agent has 0..16 units at first. The history is legal, and book and holdings stand for
 -- it. Each entry brings at most 16 units to trade, besides 128 that a hotel may sell at its closing. A log can show each entry.
@@ -24,7 +24,8 @@ pub record IsAuctionKept (setup : Setup) (book : Book) (holdings : List ℤ) (hi
   pub stands : Stands book setup (reverse history)
   pub held : holdings ≡ held_by setup (reverse history)
   pub few : traded (all_trades (reverse history)) + units_left book ≤ BID_UNITS * length history + ENTRY_TRADES
-  pub loggable : AllByRecursion (IsLoggable setup.good) history
+  pub loggable : AllByRecursion (IsEntry setup.good) history
+  pub told : AllByRecursion (λ e. IsToldInRange e.reply) history
 
 -- a stored history is kept so, with room for all entries that the caps allow, and for all their trades
 pub record IsAuctionSound (setup : Setup) (book : Book) (holdings : List ℤ) (entries : List StoredEntry) (trades : List Trade) (entry_capacity trade_capacity : ℕ) : Type 0 where

@@ -2,7 +2,7 @@ pub mod Calls
 pub mod Books
 pub mod Setups
 pub mod Stored
-pub mod Loggable
+pub mod Ranges
 pub mod Struck
 pub mod Auctions
 pub mod KeptAuctions

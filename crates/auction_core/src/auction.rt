@@ -4,7 +4,7 @@ ghost use Rattle.game_text.specs.Accounts.{IsHolding};
 ghost use Rattle.auction_rules.specs.Effects as effects;
 ghost use Rattle.auction_rules.specs.Legal.{Legal, entry_of};
 ghost use Rattle.auction_core.specs.Setups.{setup_of};
-ghost use Rattle.auction_core.specs.Loggable.{IsLoggable};
+ghost use Rattle.auction_core.specs.Ranges.{IsHistory, IsToldInRange};
 ghost use Rattle.auction_core.specs.Stored.{IsShown};
 ghost use Rattle.auction_core.specs.Struck.{struck_of};
 
@@ -77,12 +77,13 @@ impl Auction {
         self.terms.good
     }
 
-    /// How many entries the history has, at most 8,256. It is legal, and a log can show each entry.
+    /// How many entries the history has, at most 8,256. It is legal, a log can show each entry, and each reply is in the range of an auction's.
     pub fn len(&self) -> u32
         ensures value { result ≡ length self.now.history }
         ensures few { result ≤ AUCTION_ENTRIES }
         ensures legal { Legal self.now.setup self.now.history }
-        ensures loggable { All (IsLoggable self.now.setup.good) self.now.history }
+        ensures loggable { IsHistory self.now.setup.good self.now.history }
+        ensures told { All (λ e. IsToldInRange e.reply) self.now.history }
     {
         self.entries.len() as u32
     }

@@ -1,7 +1,8 @@
 ghost use Rattle.std.specs.Prelude.{◌≡◌, None};
 ghost use Rattle.tac_base.specs.Bids.{fault_of};
+ghost use Rattle.tac_base.specs.Ranges.{IsCall};
 ghost use Rattle.auction_core.specs.Calls.{IsFit};
-ghost use Rattle.auction_core.specs.Loggable.{IsLoggableCall, HasSmallNumbers};
+ghost use Rattle.auction_core.specs.Ranges.{HasSmallNumbers};
 
 use tac_base::{Call, Left, Points, Reply};
 
@@ -18,7 +19,7 @@ fn same_points(points: &Points) -> Points
 pub(crate) fn same_call(call: &Call) -> Call
     requires { IsFit call.now }
     ensures value { result ≡ call.now }
-    ensures range { IsLoggableCall call.now }
+    ensures range { IsCall call.now }
 {
     match call {
         Call::Bid(points) => Call::Bid(same_points(points)),

@@ -1,5 +1,4 @@
+pub mod AllTrue
 pub mod Writing
-pub mod TradedGoods
-pub mod RangedHistories
 pub mod RangedSheets
 pub mod ShortLogs

@@ -5,7 +5,7 @@ use Rattle.std.proofs.lemmas.List.{length-append, take-append-le, take_more, tak
 use Rattle.std.proofs.lemmas.List.Concat.{flat_map-cons}
 use Rattle.std.proofs.lemmas.Grind.{flat_map-append}
 use Rattle.std.proofs.lemmas.Option.{slice_get_cases}
-use Rattle.std.specs.Prelude.{Some, slice_get, IsErr, OnOk}
+use Rattle.std.specs.Prelude.{Some, slice_get, IsErr}
 use Rattle.std.specs.List.{flat_map}
 use Rattle.std.specs.declared.option.Option.{Option}
 use Rattle.tac_io.specs.Counts.{Rose}
@@ -65,10 +65,6 @@ then_some p q s0 s1 s2 v w = (some_after s0.taken s1.taken s2.taken p q v.0 w.0,
 pub refused : (p : List ℕ) (s0 s1 : SinkState) (r : Result (Unit {0}) Failed) → TookPart s0 s1 p → IsErr r → WritesPiece p s0 s1 r
 refused p s0 s1 (Ok done) w h = absurd cc
 refused p s0 s1 (Err failed) w h = w
-
-pub ok_weaker : (r : Result (Unit {0}) Failed) (P Q : Type 0) → (P → Q) → OnOk r P → OnOk r Q
-ok_weaker (Ok done) P Q make h = make h
-ok_weaker (Err failed) P Q make h = tt
 
 -- ---- the pieces of a list
 

@@ -1,16 +1,16 @@
 // The first part of a log, piece by piece.
-ghost use Rattle.std.specs.Prelude.{◌≡◌, ◌<◌, length, Some, OnOk, slice_get};
-ghost use Rattle.std.specs.List.{AllByRecursion, flat_map};
+ghost use Rattle.std.specs.Prelude.{◌≡◌, ◌<◌, length, Some, slice_get};
+ghost use Rattle.std.specs.List.{flat_map};
 ghost use Rattle.auction_rules.specs.History.{Entry};
 ghost use Rattle.trade_ledger.specs.declared.cash_calls.CashEntry.{CashEntry};
 ghost use Rattle.line_protocol.specs.Heads.{head_of};
 ghost use Rattle.log_text.specs.LogText as log;
-ghost use Rattle.log_text.specs.Logged.{AreTradeNumbers, AreNumbers, IsEntry, IsAuction, AreEntryNumbers, IsCash, IsPlayed, IsHead};
+ghost use Rattle.log_text.specs.Logged.{IsPlayed, IsHead};
 ghost use Rattle.tac_io.specs.Written.{WritesPiece};
 
 use crate::LogHead;
 use crate::head_part::write_head;
-use crate::known::{cash_entry_known, entry_known, head_known, trades_known};
+use crate::known::{auctions_known, cash_known, head_known};
 use auction_core::{Auction, Closed};
 use log_text::{auction_line, cash_entry_line, cash_line, entry_line, trade_line};
 use tac_base::Trade;
@@ -20,10 +20,8 @@ use turn_lock::Kept;
 
 /// Writes the lines of trades.
 fn write_trades<K: Sink>(sink: &mut K, trades: &[Trade]) -> Result<(), Failed>
-    ensures text { WritesPiece (flat_map log.trade_line trades.now) (K.state sink.old) (K.state sink.new) result }
-    ensures known { OnOk result (AllByRecursion AreTradeNumbers trades.now) }
+    ensures { WritesPiece (flat_map log.trade_line trades.now) (K.state sink.old) (K.state sink.new) result }
 {
-    trades_known(trades);
     for trade in trades {
         write_all(sink, trade_line(trade).as_slice())?;
     }
@@ -33,14 +31,12 @@ fn write_trades<K: Sink>(sink: &mut K, trades: &[Trade]) -> Result<(), Failed>
 /// Writes the entry of an auction at a position, with its trades.
 fn write_entry<K: Sink>(sink: &mut K, auction: &Auction, position: u32) -> Result<(), Failed>
     requires { position < length auction.now.history }
-    ensures text { (e : Entry) → slice_get auction.now.history position ≡ Some e →
+    ensures { (e : Entry) → slice_get auction.now.history position ≡ Some e →
         WritesPiece (log.entry_text e) (K.state sink.old) (K.state sink.new) result }
-    ensures known { (e : Entry) → slice_get auction.now.history position ≡ Some e → OnOk result (AreNumbers e) }
 {
     let Some(entry) = auction.entry(position) else {
         unreachable!()
     };
-    entry_known(entry);
     let line = entry_line(entry.caller, &entry.call, &entry.reply);
     match write_all(sink, line.as_slice()) {
         Ok(()) => write_trades(sink, auction.trades_of(position)),
@@ -50,8 +46,7 @@ fn write_entry<K: Sink>(sink: &mut K, auction: &Auction, position: u32) -> Resul
 
 /// Writes the entries of an auction.
 fn write_entries<K: Sink>(sink: &mut K, auction: &Auction) -> Result<(), Failed>
-    ensures text { WritesPiece (flat_map log.entry_text auction.now.history) (K.state sink.old) (K.state sink.new) result }
-    ensures known { OnOk result (AllByRecursion (IsEntry auction.now.setup.good) auction.now.history) }
+    ensures { WritesPiece (flat_map log.entry_text auction.now.history) (K.state sink.old) (K.state sink.new) result }
 {
     for position in 0..auction.len() {
         write_entry(sink, auction, position)?;
@@ -61,8 +56,7 @@ fn write_entries<K: Sink>(sink: &mut K, auction: &Auction) -> Result<(), Failed>
 
 /// Writes an auction.
 fn write_auction<K: Sink>(sink: &mut K, auction: &Auction) -> Result<(), Failed>
-    ensures text { WritesPiece (log.auction_text auction.now.setup.good auction.now.history) (K.state sink.old) (K.state sink.new) result }
-    ensures known { OnOk result (IsAuction auction.now) }
+    ensures { WritesPiece (log.auction_text auction.now.setup.good auction.now.history) (K.state sink.old) (K.state sink.new) result }
 {
     let line = auction_line(auction.good(), auction.len());
     match write_all(sink, line.as_slice()) {
@@ -73,8 +67,7 @@ fn write_auction<K: Sink>(sink: &mut K, auction: &Auction) -> Result<(), Failed>
 
 /// Writes auctions in order.
 fn write_auctions<K: Sink>(sink: &mut K, auctions: &[Auction]) -> Result<(), Failed>
-    ensures text { WritesPiece (flat_map (λ a. log.auction_text a.setup.good a.history) auctions.now) (K.state sink.old) (K.state sink.new) result }
-    ensures known { OnOk result (AllByRecursion IsAuction auctions.now) }
+    ensures { WritesPiece (flat_map (λ a. log.auction_text a.setup.good a.history) auctions.now) (K.state sink.old) (K.state sink.new) result }
 {
     for auction in auctions {
         write_auction(sink, auction)?;
@@ -85,22 +78,19 @@ fn write_auctions<K: Sink>(sink: &mut K, auctions: &[Auction]) -> Result<(), Fai
 /// Writes the entry of the cash history at a position.
 fn write_cash_entry<K: Sink>(sink: &mut K, cash: &CashBook, position: u32) -> Result<(), Failed>
     requires { position < length cash.now }
-    ensures text { (e : CashEntry) → slice_get cash.now position ≡ Some e →
+    ensures { (e : CashEntry) → slice_get cash.now position ≡ Some e →
         WritesPiece (log.cash_entry_line e) (K.state sink.old) (K.state sink.new) result }
-    ensures known { (e : CashEntry) → slice_get cash.now position ≡ Some e → OnOk result (AreEntryNumbers e) }
 {
     let Some(entry) = cash.entry(position) else {
         unreachable!()
     };
-    cash_entry_known(entry);
     write_all(sink, cash_entry_line(entry).as_slice())
 }
 
 /// Writes the entries of the cash history.
 fn write_cash_entries<K: Sink>(sink: &mut K, cash: &CashBook, count: u32) -> Result<(), Failed>
     requires { count ≡ length cash.now }
-    ensures text { WritesPiece (flat_map log.cash_entry_line cash.now) (K.state sink.old) (K.state sink.new) result }
-    ensures known { OnOk result (AllByRecursion AreEntryNumbers cash.now) }
+    ensures { WritesPiece (flat_map log.cash_entry_line cash.now) (K.state sink.old) (K.state sink.new) result }
 {
     for position in 0..count {
         write_cash_entry(sink, cash, position)?;
@@ -110,8 +100,7 @@ fn write_cash_entries<K: Sink>(sink: &mut K, cash: &CashBook, count: u32) -> Res
 
 /// Writes the cash history.
 fn write_cash<K: Sink>(sink: &mut K, cash: &CashBook) -> Result<(), Failed>
-    ensures text { WritesPiece (log.cash_text cash.now) (K.state sink.old) (K.state sink.new) result }
-    ensures known { OnOk result (IsCash cash.now) }
+    ensures { WritesPiece (log.cash_text cash.now) (K.state sink.old) (K.state sink.new) result }
 {
     let count = cash.board().count;
     match write_all(sink, cash_line(count).as_slice()) {
@@ -122,13 +111,20 @@ fn write_cash<K: Sink>(sink: &mut K, cash: &CashBook) -> Result<(), Failed>
 
 /// Writes all histories.
 fn write_histories<K: Sink>(sink: &mut K, closed: &Closed) -> Result<(), Failed>
-    ensures text { WritesPiece (log.histories_text (log.histories_of closed.now) closed.now.cash) (K.state sink.old) (K.state sink.new) result }
-    ensures known { OnOk result (IsPlayed closed.now) }
+    ensures { WritesPiece (log.histories_text (log.histories_of closed.now) closed.now.cash) (K.state sink.old) (K.state sink.new) result }
 {
     match write_auctions(sink, closed.auctions.as_slice()) {
         Ok(()) => write_cash(sink, &closed.cash),
         Err(failed) => Err(failed),
     }
+}
+
+/// What the law of logs requires of a game.
+fn game_known(closed: &Closed)
+    ensures { IsPlayed closed.now }
+{
+    auctions_known(closed.auctions.as_slice());
+    cash_known(&closed.cash);
 }
 
 /// Writes the first part of the log of a game: how it was played, the histories of its auctions, and the cash history. It takes no
@@ -138,9 +134,10 @@ pub fn write_play_part<K: Sink>(sink: &mut K, head: &LogHead, closed: &Closed) -
     ensures text { WritesPiece (log.play_part (head_of head.now) closed.now) (K.state sink.old) (K.state sink.new) result }
     // A head and a game are written as the law of logs requires.
     ensures known_head { IsHead (head_of head.now) }
-    ensures known { OnOk result (IsPlayed closed.now) }
+    ensures known { IsPlayed closed.now }
 {
     head_known(head);
+    game_known(closed);
     match write_head(sink, head) {
         Ok(()) => write_histories(sink, closed),
         Err(failed) => Err(failed),

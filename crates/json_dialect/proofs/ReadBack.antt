@@ -20,7 +20,8 @@ use Rattle.line_protocol.specs.declared.asking.RequestFault.{RequestFault}
 use Rattle.line_protocol.specs.declared.asking.RequestFault.TheVariants as faults
 use Rattle.line_protocol.specs.declared.saying.Said.{Said}
 use Rattle.line_protocol.specs.declared.saying.Said.TheVariants.{At, Cash, Quote, Spent, Fault, TooLong, Bye}
-use Rattle.line_protocol.specs.Ranges.{IsReply, IsSaid}
+use Rattle.tac_base.specs.Ranges.{IsReply}
+use Rattle.line_protocol.specs.Ranges.{IsSaid}
 use Rattle.json_dialect.specs.JsonReplies.{reply_members, cash_members, quote_members, json_text}
 use Rattle.json_dialect.proofs.TextWords.{words_in, point_words, placed_words, cash_words, own_words, taken_words, sold_words, below_words, open_words, fault_words}
 

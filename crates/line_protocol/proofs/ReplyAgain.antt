@@ -19,7 +19,8 @@ use Rattle.line_protocol.specs.declared.asking.RequestFault.TheVariants as fault
 use Rattle.line_protocol.specs.declared.saying.Said.{Said}
 use Rattle.line_protocol.specs.declared.saying.Said.TheVariants.{At, Cash, Quote, Spent, Fault, TooLong, Bye}
 use Rattle.line_protocol.specs.Replies.{place, reply_words, reply_text, said_text, state_word, fault_number}
-use Rattle.line_protocol.specs.Ranges.{IsReply, IsReplyText, IsSaid, IsSaidText}
+use Rattle.tac_base.specs.Ranges.{IsReply}
+use Rattle.line_protocol.specs.Ranges.{IsReplyText, IsSaid, IsSaidText}
 use Rattle.line_protocol.specs.ReplyForms.{placed_of, own_of, said_of_words, read_said, fault_at, read_state, answer_of_words, answer_of}
 use Rattle.line_protocol.proofs.JoinedWords.{lacks, words_before, has_words}
 use Rattle.line_protocol.proofs.Numbers.{within_again, next_again, holding_again, dollars_again}

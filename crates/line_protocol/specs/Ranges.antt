@@ -1,25 +1,11 @@
 -- The ranges in which a reply line is read.
-use Rattle.std.specs.Prelude.{◌≡◌, ℕ, ◌^◌, ◌≤◌, ◌<◌, ⊤, List, None, unsigned_abs}
+use Rattle.std.specs.Prelude.{◌≡◌, ℕ, ◌^◌, ◌≤◌, ◌<◌, ⊤, List, unsigned_abs}
 use Rattle.tac_base.specs.declared.calls.Reply.{Reply}
-use Rattle.tac_base.specs.declared.calls.Reply.TheVariants.{Taken, Own, Sold, Done, Closed, WrongCall, NoBid, Sell, SelfCross, BelowQuote}
-use Rattle.tac_base.specs.Bids.{left_fault}
-use Rattle.tac_base.specs.declared.limits.TheConstants.{CASH_DIGITS, POSITION, SHOWN_HOLDING, SHOWN_PRICE}
+use Rattle.tac_base.specs.Ranges.{IsReply}
+use Rattle.tac_base.specs.declared.limits.TheConstants.{CASH_DIGITS, POSITION, SHOWN_PRICE}
 use Rattle.line_protocol.specs.declared.saying.Said.{Said}
 use Rattle.line_protocol.specs.declared.saying.Said.TheVariants.{At, Cash, Quote, Spent, Fault, TooLong, Bye}
 use Rattle.line_protocol.specs.Replies.{reply_text, said_text}
-
--- numbers of units have eight bits, prices and holdings are those that are shown; standing points keep the limits of a bid
-abbrev pub IsReply : Reply → Type 0
-IsReply (Taken bought sold) = (bought ≤ 255) × (sold ≤ 255)
-IsReply (Own holding left) = (unsigned_abs holding ≤ unsigned_abs SHOWN_HOLDING) × (left_fault left ≡ None)
-IsReply (Sold units price) = (units ≤ 255) × (price ≤ SHOWN_PRICE)
-IsReply Done = ⊤
-IsReply Closed = ⊤
-IsReply WrongCall = ⊤
-IsReply NoBid = ⊤
-IsReply Sell = ⊤
-IsReply SelfCross = ⊤
-IsReply (BelowQuote need at offered) = (need ≤ 255) × (at ≤ SHOWN_PRICE) × (offered ≤ 255)
 
 -- positions and counts are those that texts name, and cash has at most 18 digits
 abbrev pub IsSaid : Said → Type 0

@@ -3,13 +3,14 @@ use Rattle.std.proofs.Common.{◌≡◌, ℕ, zero, suc, ◌+◌, ◌<◌, ◌�
 use Rattle.std.specs.List.{All}
 use Rattle.std.proofs.lemmas.Option.{slice_get_within, get_or_from_slice_get}
 use Rattle.std.proofs.lemmas.List.Elements.{All-get_or}
+use Rattle.auction_core.specs.Ranges.{IsEntry, IsHistory}
 use mathlib.Core.Logic.{dite}
 use native.Mathlib.Decide.{dec_lt}
 use Rattle.auction_rules.specs.History.{Entry}
 use Rattle.trade_ledger.specs.declared.cash_calls.CashEntry.{CashEntry}
 use Rattle.auction_core.specs.Setups.{setup_of}
 use Rattle.game_text.specs.Games.{GameFile}
-use Rattle.log_text.specs.LoggedGames.{LoggedGame, IsLogged, IsLoggedHistory, IsLoggedEntry, IsLoggedCashEntry, AreHistories}
+use Rattle.log_text.specs.LoggedGames.{LoggedGame, IsLogged, IsLoggedCashEntry, AreHistories}
 use Rattle.log_reader.specs.SoundLog.{IsSound, logged_history}
 use Rattle.log_audit.specs.declared.findings.Flaw.{Flaw}
 use Rattle.log_audit.specs.declared.findings.Flaw.TheVariants as flaws
@@ -23,11 +24,11 @@ pub all_at : {A : Type 0} (P : A → Type 0) (xs : List A) → All P xs → (i :
 all_at P xs all i x at = subst P (get_or_from_slice_get xs i x x at) (All-get_or P xs i x (slice_get_within xs i x at) all)
 
 -- each history is in its ranges
-histories_at : (n i : ℕ) (histories : List (List Entry)) → AreHistories n histories → i < length histories → IsLoggedHistory (n + i) (get_or histories i [])
+histories_at : (n i : ℕ) (histories : List (List Entry)) → AreHistories n histories → i < length histories → IsHistory (n + i) (get_or histories i [])
 histories_at n i [] are inside = absurd (omega (arith, inside))
-histories_at n zero (h ∷ histories) are inside = let here : n ≡ n + 0 = omega arith in subst (λ (g : ℕ). IsLoggedHistory g h) here are.0
+histories_at n zero (h ∷ histories) are inside = let here : n ≡ n + 0 = omega arith in subst (λ (g : ℕ). IsHistory g h) here are.0
 histories_at n (suc i) (h ∷ histories) are inside =
-    let next : (n + 1) + i ≡ n + suc i = omega arith in subst (λ (g : ℕ). IsLoggedHistory g (get_or histories i [])) next (histories_at (n + 1) i histories are.1 (omega (arith, inside)))
+    let next : (n + 1) + i ≡ n + suc i = omega arith in subst (λ (g : ℕ). IsHistory g (get_or histories i [])) next (histories_at (n + 1) i histories are.1 (omega (arith, inside)))
 
 history_past : (histories : List (List Entry)) (i : ℕ) → length histories ≤ i → get_or histories i [] ≡ []
 history_past [] i le = refl
@@ -46,7 +47,7 @@ module _ (game : GameFile) (log : LoggedGame) (logged : IsLogged log) where
   called_at good low position e at =
       let goods = logged.goods in
       let history = histories_at 0 good log.histories logged.histories (omega (arith, goods, low)) in
-      (all_at (IsLoggedEntry (0 + good)) (logged_history log good) history.entries position e at).caller
+      (all_at (IsEntry (0 + good)) (logged_history log good) history.entries position e at).caller
 
   cash_at : (position : ℕ) (e : CashEntry) → slice_get log.cash position ≡ Some e → IsLoggedCashEntry e
   cash_at position e at = all_at IsLoggedCashEntry log.cash logged.cash position e at

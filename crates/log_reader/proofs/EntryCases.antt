@@ -5,11 +5,11 @@ use Rattle.tac_base.specs.declared.calls.Call.{Call}
 use Rattle.tac_base.specs.declared.calls.Call.TheVariants as calls
 use Rattle.tac_base.specs.declared.calls.Reply.{Reply}
 use Rattle.tac_base.specs.declared.calls.Trade.{Trade}
+use Rattle.tac_base.specs.Ranges.{IsCall}
 use Rattle.text_forms.specs.Lines.{at_line}
 use Rattle.auction_core.specs.Calls.{IsFit}
 use Rattle.log_text.specs.HeadForms.{formed}
 use Rattle.log_text.specs.EntryForms.{trade_of, read_entry}
-use Rattle.log_text.specs.LoggedGames.{IsLoggedCall}
 use Rattle.log_text.proofs.EntryFormLaws.{trade_is, entry_is}
 
 -- a line that has its form
@@ -26,7 +26,7 @@ pub all_some : (trades : List Trade) (trade : Trade) → AllByRecursion (λ (t :
 all_some [] trade all some = (some, tt)
 all_some (t ∷ trades) trade all some = (all.0, all_some trades trade all.1 some)
 
-fit : (call : Call) → IsLoggedCall call → IsFit call
+fit : (call : Call) → IsCall call → IsFit call
 fit (calls.Bid points) h = tt
 fit calls.Withdraw h = tt
 fit calls.Own h = tt

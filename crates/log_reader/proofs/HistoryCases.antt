@@ -1,13 +1,14 @@
 -- Reading a history, case by case, and the history of a good.
 use Rattle.std.proofs.Common.{◌≡◌, ℕ, zero, suc, ◌+◌, List, [], ◌∷◌, Some, Result, Ok, Err, is_err, false, refl, subst, arith}
 use Rattle.std.specs.Prelude.{OnOk, slice_get}
+use Rattle.auction_core.specs.Ranges.{IsHistory}
 use Rattle.text_forms.specs.declared.lines.BadLine.{BadLine}
 use Rattle.text_forms.specs.Lines.{Remaining}
 use Rattle.text_forms.specs.Steps.{repeat}
 use Rattle.auction_rules.specs.History.{Entry}
 use Rattle.log_text.specs.EntryForms.{auction_of}
 use Rattle.log_text.specs.LogReading.{line_by, entry_in, history_in}
-use Rattle.log_text.specs.LoggedGames.{IsLoggedHistory, AreHistories}
+use Rattle.log_text.specs.LoggedGames.{AreHistories}
 
 pub no_count : (good : ℕ) (left : Remaining) (bad : BadLine) → line_by (auction_of good) left ≡ Err bad → history_in good left ≡ Err bad
 unfolding history_in
@@ -23,12 +24,12 @@ if_done (Ok x) h p = p
 if_done (Err fault) h p = absurd cc
 
 -- the history of a good, of those that are numbered from a good
-pub history_at : (from : ℕ) (histories : List (List Entry)) (place : ℕ) (history : List Entry) → AreHistories from histories → slice_get histories place ≡ Some history → IsLoggedHistory (from + place) history
+pub history_at : (from : ℕ) (histories : List (List Entry)) (place : ℕ) (history : List Entry) → AreHistories from histories → slice_get histories place ≡ Some history → IsHistory (from + place) history
 history_at from [] place history all at = absurd cc
 history_at from (h ∷ histories) zero history all at =
     let same : h ≡ history = cc in
     let here : from ≡ from + 0 = omega arith in
-    subst (λ (good : ℕ). IsLoggedHistory good history) here (subst (IsLoggedHistory from) same all.0)
+    subst (λ (good : ℕ). IsHistory good history) here (subst (IsHistory from) same all.0)
 history_at from (h ∷ histories) (suc place) history all at =
     let there : from + 1 + place ≡ from + suc place = omega arith in
-    subst (λ (good : ℕ). IsLoggedHistory good history) there (history_at (from + 1) histories place history all.1 at)
+    subst (λ (good : ℕ). IsHistory good history) there (history_at (from + 1) histories place history all.1 at)

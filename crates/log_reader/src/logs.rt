@@ -1,6 +1,7 @@
 ghost use Rattle.std.specs.Prelude.{◌≡◌, ◌≤◌, Some, slice_get, length};
+ghost use Rattle.auction_core.specs.Ranges.{IsHistory};
 ghost use Rattle.line_protocol.specs.Heads.{head_of};
-ghost use Rattle.log_text.specs.LoggedGames.{IsLogged, IsLoggedHistory, IsLoggedScore};
+ghost use Rattle.log_text.specs.LoggedGames.{IsLogged, IsLoggedScore};
 
 use crate::{LogHead, LogHistory, ScoreLine};
 use std::marker::Model;
@@ -49,7 +50,7 @@ impl Log {
     /// The history of a good.
     pub fn history(&self, good: Good) -> &LogHistory
         ensures value { slice_get self.now.histories good ≡ Some result.now }
-        ensures logged { IsLoggedHistory good result.now }
+        ensures logged { IsHistory good result.now }
     {
         &self.histories[usize::from(good.get())]
     }

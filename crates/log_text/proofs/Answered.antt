@@ -29,7 +29,7 @@ use Rattle.line_protocol.specs.ReplyForms.{read_left}
 use Rattle.line_protocol.proofs.JoinedWords.{lacks, words_before}
 use Rattle.line_protocol.proofs.StandingPoints.{left_again}
 use Rattle.log_text.specs.LogText.{call_text}
-use Rattle.log_text.specs.Logged.{IsCall, IsReply}
+use Rattle.log_text.specs.Logged.{IsShownCall, IsShownReply}
 use Rattle.log_text.proofs.Cuts.{lacks_append, number_word, signed_word, number_again, holding_again}
 
 -- ---- calls
@@ -66,7 +66,7 @@ pair_words keyword m n h j k = joined_parts 32 keyword (decimal m ∷ decimal n 
 bid_found : (points : List Point) → fault_of points ≡ None → call_at (codes "bid" ∷ words_of (spelling points)) ≡ Some (calls.Bid points)
 bid_found points h = rw (join_with_byte-slice_split 32 (spelling points), bid_again points h) refl
 
-call_found : (call : Call) → IsCall call → call_at (words_of (call_text call)) ≡ Some call
+call_found : (call : Call) → IsShownCall call → call_at (words_of (call_text call)) ≡ Some call
 call_found (calls.Bid points) h = ap call_at (words_before (codes "bid" ∷ []) (spelling points) (lacks 32 (codes "bid") refl, tt)) ∙ bid_found points h
 call_found calls.Withdraw h = refl
 call_found calls.Own h = refl
@@ -75,7 +75,7 @@ call_found calls.Publish h = refl
 call_found calls.Close h = refl
 
 -- calls with the same text are equal
-pub call_same : (call other : Call) → IsCall call → IsCall other → call_text call ≡ call_text other → call ≡ other
+pub call_same : (call other : Call) → IsShownCall call → IsShownCall other → call_text call ≡ call_text other → call ≡ other
 call_same call other h k e = same_Some call other (sym (call_found call h) ∙ ap (λ (text : List ℕ). call_at (words_of text)) e ∙ call_found other k)
 
 -- ---- replies
@@ -134,7 +134,7 @@ reply_at (keyword ∷ words) =
 own_found : (holding : ℤ) (left : List Point) → unsigned_abs holding < 2 ^ 64 → left_fault left ≡ None → reply_at (codes "own" ∷ signed_decimal holding ∷ words_of (spelling left)) ≡ Some (replies.Own holding left)
 own_found holding left small h = rw (join_with_byte-slice_split 32 (spelling left), left_again left h, holding_again holding small) refl
 
-reply_found : (reply : Reply) → IsReply reply → reply_at (words_of (reply_text reply)) ≡ Some reply
+reply_found : (reply : Reply) → IsShownReply reply → reply_at (words_of (reply_text reply)) ≡ Some reply
 reply_found (replies.Taken bought sold) h = ap reply_at (pair_words (codes "taken") bought sold (lacks 32 (codes "taken") refl) h.0 h.1) ∙ rw (number_again bought h.0, number_again sold h.1) refl
 reply_found (replies.Own holding left) h =
     ap reply_at (words_before (codes "own" ∷ signed_decimal holding ∷ []) (spelling left) (lacks 32 (codes "own") refl, ((signed_word holding h.0).0, tt))) ∙ own_found holding left h.0 h.1
@@ -151,7 +151,7 @@ reply_found (replies.BelowQuote need at offered) h =
     ∙ rw (number_again need h.0, number_again at h.1, number_again offered h.2) refl
 
 -- replies with the same text are equal
-pub reply_same : (reply other : Reply) → IsReply reply → IsReply other → reply_text reply ≡ reply_text other → reply ≡ other
+pub reply_same : (reply other : Reply) → IsShownReply reply → IsShownReply other → reply_text reply ≡ reply_text other → reply ≡ other
 reply_same reply other h k e = same_Some reply other (sym (reply_found reply h) ∙ ap (λ (text : List ℕ). reply_at (words_of text)) e ∙ reply_found other k)
 
 -- ---- bytes that occur in no call or reply
@@ -202,7 +202,7 @@ bid_left : (points : List Point) → fault_of points ≡ None → left_fault poi
 bid_left [] h = absurd cc
 bid_left (point ∷ points) h = h
 
-pub call_lacks : (call : Call) → IsCall call → Lacks 61 (call_text call)
+pub call_lacks : (call : Call) → IsShownCall call → Lacks 61 (call_text call)
 call_lacks (calls.Bid points) h = lacks_append 61 (codes "bid ") (spelling points) (lacks 61 (codes "bid ") refl) (spelling_lacks 61 equals points (bid_left points h))
 call_lacks calls.Withdraw h = lacks 61 (codes "withdraw") refl
 call_lacks calls.Own h = lacks 61 (codes "own") refl
@@ -210,7 +210,7 @@ call_lacks (calls.Update tick draw) h = join_lacks 61 (codes "update" ∷ decima
 call_lacks calls.Publish h = lacks 61 (codes "publish") refl
 call_lacks calls.Close h = lacks 61 (codes "close") refl
 
-pub reply_lacks : (reply : Reply) → IsReply reply → Lacks 10 (reply_text reply)
+pub reply_lacks : (reply : Reply) → IsShownReply reply → Lacks 10 (reply_text reply)
 reply_lacks (replies.Taken bought sold) h = join_lacks 10 (codes "taken" ∷ decimal bought ∷ decimal sold ∷ []) refl (lacks 10 (codes "taken") refl, (number_lacks 10 bought line_end h.0, (number_lacks 10 sold line_end h.1, tt)))
 reply_lacks (replies.Own holding left) h = join_lacks 10 (codes "own" ∷ signed_decimal holding ∷ spelling left ∷ []) refl (lacks 10 (codes "own") refl, (signed_lack 10 holding line_end h.0, (spelling_lacks 10 line_end left h.1, tt)))
 reply_lacks (replies.Sold units price) h = join_lacks 10 (codes "sold" ∷ decimal units ∷ decimal price ∷ []) refl (lacks 10 (codes "sold") refl, (number_lacks 10 units line_end h.0, (number_lacks 10 price line_end h.1, tt)))
@@ -222,7 +222,7 @@ reply_lacks replies.Sell h = lacks 10 (codes "no sell") refl
 reply_lacks replies.SelfCross h = lacks 10 (codes "no selfcross") refl
 reply_lacks (replies.BelowQuote need at offered) h = join_lacks 10 (codes "no" ∷ codes "belowquote" ∷ decimal need ∷ decimal at ∷ decimal offered ∷ []) refl (lacks 10 (codes "no") refl, (lacks 10 (codes "belowquote") refl, (number_lacks 10 need line_end h.0, (number_lacks 10 at line_end h.1, (number_lacks 10 offered line_end h.2, tt)))))
 
-pub call_one_line : (call : Call) → IsCall call → Lacks 10 (call_text call)
+pub call_one_line : (call : Call) → IsShownCall call → Lacks 10 (call_text call)
 call_one_line (calls.Bid points) h = lacks_append 10 (codes "bid ") (spelling points) (lacks 10 (codes "bid ") refl) (spelling_lacks 10 line_end points (bid_left points h))
 call_one_line calls.Withdraw h = lacks 10 (codes "withdraw") refl
 call_one_line calls.Own h = lacks 10 (codes "own") refl

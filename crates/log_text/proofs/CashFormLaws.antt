@@ -12,6 +12,7 @@ use Rattle.tac_base.specs.declared.calls.Nets.{Nets}
 use Rattle.tac_base.specs.Numerals.{signed_numeral}
 use Rattle.tac_base.proofs.NumeralLaws.{both_true}
 use Rattle.tac_base.proofs.Signed.{Lacks, signed_is, signed_limit, signed_lacks}
+use Rattle.tac_base.specs.Ranges.{IsNet}
 use Rattle.text_forms.specs.declared.rows.Column.{Column}
 use Rattle.text_forms.specs.Words.{words_of}
 use Rattle.text_forms.specs.Rows.{within, is_in, all_in, row_text}
@@ -28,7 +29,7 @@ use Rattle.line_protocol.proofs.JoinedWords.{lacks}
 use Rattle.line_protocol.proofs.Numbers.{bound, either_way, is_word, dollars_again}
 use Rattle.log_text.specs.HeadForms.{read_numbers, number_at}
 use Rattle.log_text.specs.EntryForms.{net_column, post_columns, made_post, post_of, read_of, read_reading, first_is, starts_post, cash_entry_by, cash_entry_of, read_caller}
-use Rattle.log_text.specs.LoggedGames.{IsNet, IsLoggedCash, IsLoggedCashEntry}
+use Rattle.log_text.specs.LoggedGames.{IsLoggedCash, IsLoggedCashEntry}
 use Rattle.log_text.proofs.RowForms.{numbers_is, numbers_again}
 use Rattle.log_text.proofs.EntryFormLaws.{caller_is, caller_again}
 

@@ -17,6 +17,7 @@ use Rattle.tac_base.specs.declared.calls.Trade.{Trade}
 use Rattle.tac_base.specs.Bids.{fault_of}
 use Rattle.tac_base.proofs.NumeralLaws.{both_true}
 use Rattle.tac_base.proofs.Signed.{Lacks, decimal_lacks}
+use Rattle.tac_base.specs.Ranges.{IsCall, IsReply, IsTrade}
 use Rattle.text_forms.specs.Words.{parts_of, words_of}
 use Rattle.text_forms.specs.Rows.{row_text}
 use Rattle.text_forms.proofs.Joins.{joined_parts}
@@ -25,7 +26,7 @@ use Rattle.text_forms.proofs.RowLaws.{is_same}
 use Rattle.bid_strings.specs.BidForm.{points_of, judged}
 use Rattle.bid_strings.specs.Spelling.{spelling}
 use Rattle.bid_strings.proofs.Laws.{bid_is, bid_again}
-use Rattle.line_protocol.specs.Ranges.{IsReply, IsReplyText}
+use Rattle.line_protocol.specs.Ranges.{IsReplyText}
 use Rattle.line_protocol.specs.Replies.{reply_text}
 use Rattle.line_protocol.specs.ReplyForms.{◌>>=◌, answer_of}
 use Rattle.line_protocol.proofs.JoinedWords.{lacks, words_before, has_words}
@@ -36,8 +37,7 @@ use Rattle.line_protocol.proofs.ReplyAgain.{answer_again}
 use Rattle.log_text.specs.LogText.{call_text}
 use Rattle.log_text.specs.HeadForms.{digit_of, read_numbers, number_at}
 use Rattle.log_text.specs.EntryForms.{auction_of, trade_of, bid_by, read_update, word_call, call_of_words, read_call, read_caller, sides_of, read_entry, read_cash_line}
-use Rattle.log_text.specs.Logged.{IsCall, IsReply as IsShownReply}
-use Rattle.log_text.specs.LoggedGames.{IsLoggedCall, IsLoggedTrade}
+use Rattle.log_text.specs.Logged.{IsShownCall, IsShownReply}
 use Rattle.log_text.proofs.RowForms.{digit_is, digit_again, numbers_is, numbers_again, Within, columns_of, each_within}
 use Rattle.log_text.proofs.Cuts.{lacks_append}
 use Rattle.log_text.proofs.Answered.{call_lacks}
@@ -90,7 +90,7 @@ trade_body t = row_text (codes "trade") (pos t.buyer ∷ pos t.seller ∷ pos t.
 abbrev made_trade : ℕ → List ℤ → Trade
 made_trade good numbers = record { buyer = number_at numbers 0; seller = number_at numbers 1; good = good; units = number_at numbers 2; price = number_at numbers 3 }
 
-trade_numbers : (good : ℕ) (numbers : List ℤ) → Within ((0, 8) ∷ (0, 8) ∷ (1, 16) ∷ (0, 10000) ∷ []) numbers → (row_text (codes "trade") numbers ≡ trade_body (made_trade good numbers)) × IsLoggedTrade good (made_trade good numbers)
+trade_numbers : (good : ℕ) (numbers : List ℤ) → Within ((0, 8) ∷ (0, 8) ∷ (1, 16) ∷ (0, 10000) ∷ []) numbers → (row_text (codes "trade") numbers ≡ trade_body (made_trade good numbers)) × IsTrade good (made_trade good numbers)
 trade_numbers good [] h = absurd h
 trade_numbers good (a ∷ []) h = absurd h.1
 trade_numbers good (a ∷ b ∷ []) h = absurd h.1.1
@@ -101,16 +101,16 @@ trade_numbers good (a ∷ b ∷ c ∷ d ∷ []) h = (
 )
 trade_numbers good (a ∷ b ∷ c ∷ d ∷ e ∷ more) h = absurd h.1.1.1.1
 
-pub trade_is : (good : ℕ) (line : List ℕ) (t : Trade) → trade_of good line ≡ Some t → (line ≡ trade_body t) × IsLoggedTrade good t
+pub trade_is : (good : ℕ) (line : List ℕ) (t : Trade) → trade_of good line ≡ Some t → (line ≡ trade_body t) × IsTrade good t
 unfolding trade_of
 trade_is good line t h =
     let ranges = (0, 8) ∷ (0, 8) ∷ (1, 16) ∷ (0, 10000) ∷ [] in
     let b = bound (read_numbers (codes "trade") (columns_of ranges) line) (λ numbers. Some (made_trade good numbers)) t h in
     let r = numbers_is (codes "trade") (columns_of ranges) line b.0 b.1 in
     let are = trade_numbers good b.0 (each_within ranges b.0 r.count r.range) in
-    subst (λ (x : Trade). (line ≡ trade_body x) × IsLoggedTrade good x) (same_Some (made_trade good b.0) t b.2) (r.text ∙ are.0, are.1)
+    subst (λ (x : Trade). (line ≡ trade_body x) × IsTrade good x) (same_Some (made_trade good b.0) t b.2) (r.text ∙ are.0, are.1)
 
-pub trade_again : (good : ℕ) (t : Trade) → IsLoggedTrade good t → trade_of good (trade_body t) ≡ Some t
+pub trade_again : (good : ℕ) (t : Trade) → IsTrade good t → trade_of good (trade_body t) ≡ Some t
 unfolding trade_of
 trade_again good t is =
     let ranges = (0, 8) ∷ (0, 8) ∷ (1, 16) ∷ (0, 10000) ∷ [] in
@@ -120,11 +120,11 @@ trade_again good t is =
 
 -- ---- calls
 
-known_call : (word known : List ℕ) (made call : Call) → bytes_eq word known ≡ true → Some made ≡ Some call → known ≡ call_text made → IsLoggedCall made → (word ≡ call_text call) × IsLoggedCall call
+known_call : (word known : List ℕ) (made call : Call) → bytes_eq word known ≡ true → Some made ≡ Some call → known ≡ call_text made → IsCall made → (word ≡ call_text call) × IsCall call
 known_call word known made call same h is range =
-    subst (λ (c : Call). (word ≡ call_text c) × IsLoggedCall c) (same_Some made call h) (is_word word known same ∙ is, range)
+    subst (λ (c : Call). (word ≡ call_text c) × IsCall c) (same_Some made call h) (is_word word known same ∙ is, range)
 
-word_call_is : (word : List ℕ) (call : Call) → word_call word ≡ Some call → (word ≡ call_text call) × IsLoggedCall call
+word_call_is : (word : List ℕ) (call : Call) → word_call word ≡ Some call → (word ≡ call_text call) × IsCall call
 word_call_is word call h =
     elim (either_way (bytes_eq word (codes "withdraw")) (Some calls.Withdraw) _ call h) [
       | inl is ↦ known_call word (codes "withdraw") calls.Withdraw call is.0 is.1 refl tt
@@ -141,27 +141,27 @@ word_call_is word call h =
     ]
 
 update_numbers : (numbers : List ℤ) → Within ((1, 53) ∷ (0, 4294967295) ∷ []) numbers →
-    (row_text (codes "update") numbers ≡ call_text (calls.Update (number_at numbers 0) (number_at numbers 1))) × IsLoggedCall (calls.Update (number_at numbers 0) (number_at numbers 1))
+    (row_text (codes "update") numbers ≡ call_text (calls.Update (number_at numbers 0) (number_at numbers 1))) × IsCall (calls.Update (number_at numbers 0) (number_at numbers 1))
 update_numbers [] h = absurd h
 update_numbers (x ∷ []) h = absurd h.1
 update_numbers (x ∷ y ∷ []) h = (λ i. row_text (codes "update") (h.0.same i ∷ h.1.0.same i ∷ []), (h.0.least, h.0.most, h.1.0.most))
 update_numbers (x ∷ y ∷ z ∷ more) h = absurd h.1.1
 
-update_is : (text : List ℕ) (call : Call) → read_update text ≡ Some call → (text ≡ call_text call) × IsLoggedCall call
+update_is : (text : List ℕ) (call : Call) → read_update text ≡ Some call → (text ≡ call_text call) × IsCall call
 update_is text call h =
     let ranges = (1, 53) ∷ (0, 4294967295) ∷ [] in
     let b = bound (read_numbers (codes "update") (columns_of ranges) text) (λ numbers. Some (calls.Update (number_at numbers 0) (number_at numbers 1))) call h in
     let r = numbers_is (codes "update") (columns_of ranges) text b.0 b.1 in
     let are = update_numbers b.0 (each_within ranges b.0 r.count r.range) in
-    subst (λ (c : Call). (text ≡ call_text c) × IsLoggedCall c) (same_Some (calls.Update (number_at b.0 0) (number_at b.0 1)) call b.2) (r.text ∙ are.0, are.1)
+    subst (λ (c : Call). (text ≡ call_text c) × IsCall c) (same_Some (calls.Update (number_at b.0 0) (number_at b.0 1)) call b.2) (r.text ∙ are.0, are.1)
 
-bid_call_is : (text : List ℕ) (call : Call) (read : Result (List Point) BidFault) → judged (points_of text) ≡ read → bid_by read ≡ Some call → (codes "bid" ++ 32 ∷ text ≡ call_text call) × IsLoggedCall call
+bid_call_is : (text : List ℕ) (call : Call) (read : Result (List Point) BidFault) → judged (points_of text) ≡ read → bid_by read ≡ Some call → (codes "bid" ++ 32 ∷ text ≡ call_text call) × IsCall call
 bid_call_is text call (Err fault) e h = absurd cc
 bid_call_is text call (Ok points) e h =
-    subst (λ (c : Call). (codes "bid" ++ 32 ∷ text ≡ call_text c) × IsLoggedCall c) (same_Some (calls.Bid points) call h)
+    subst (λ (c : Call). (codes "bid" ++ 32 ∷ text ≡ call_text c) × IsCall c) (same_Some (calls.Bid points) call h)
     (ap (λ (t : List ℕ). codes "bid" ++ 32 ∷ t) (bid_is text points e), judged_good (points_of text) points e)
 
-call_words_is : (text : List ℕ) (words : List (List ℕ)) (call : Call) → words_of text ≡ words → call_of_words text words ≡ Some call → (text ≡ call_text call) × IsLoggedCall call
+call_words_is : (text : List ℕ) (words : List (List ℕ)) (call : Call) → words_of text ≡ words → call_of_words text words ≡ Some call → (text ≡ call_text call) × IsCall call
 call_words_is text [] call e h = absurd cc
 call_words_is text (keyword ∷ []) call e h =
     let whole : text ≡ keyword = sym (join_with_byte-slice_split 32 text) ∙ ap (join_with_byte 32) e in
@@ -177,11 +177,11 @@ call_words_is text (keyword ∷ word ∷ words) call e h =
       | inr other ↦ update_is text call other
     ]
 
-pub call_is : (text : List ℕ) (call : Call) → read_call text ≡ Some call → (text ≡ call_text call) × IsLoggedCall call
+pub call_is : (text : List ℕ) (call : Call) → read_call text ≡ Some call → (text ≡ call_text call) × IsCall call
 unfolding read_call
 call_is text call h = call_words_is text (words_of text) call refl h
 
-pub call_again : (call : Call) → IsLoggedCall call → read_call (call_text call) ≡ Some call
+pub call_again : (call : Call) → IsCall call → read_call (call_text call) ≡ Some call
 unfolding read_call
 call_again (calls.Bid points) h =
     let w = has_words (spelling points) in
@@ -230,7 +230,7 @@ entry_body caller call reply = decimal caller ++ 32 ∷ ((call_text call ++ 32 �
 pub record IsEntryLine (line : List ℕ) (caller : ℕ) (call : Call) (reply : Reply) : Type 0 where
   pub text : line ≡ entry_body caller call reply
   pub caller_range : caller ≤ 8
-  pub call_range : IsLoggedCall call
+  pub call_range : IsCall call
   pub reply_range : IsReply reply
 
 answered : (text : List ℕ) (read : Option Reply) (reply : Reply) → answer_of text ≡ read → read ≡ Some reply → IsReplyText text reply
@@ -255,7 +255,7 @@ entry_is line entry h =
       reply_range = reply.range;
     })
 
-pub logged_call : (call : Call) → IsLoggedCall call → IsCall call
+pub logged_call : (call : Call) → IsCall call → IsShownCall call
 logged_call (calls.Bid points) h = h
 logged_call calls.Withdraw h = tt
 logged_call calls.Own h = tt
@@ -263,7 +263,7 @@ logged_call (calls.Update tick draw) h = let le = h.1 in let few = h.2 in (omega
 logged_call calls.Publish h = tt
 logged_call calls.Close h = tt
 
-pub entry_again : (caller : ℕ) (call : Call) (reply : Reply) → caller ≤ 8 → IsLoggedCall call → IsReply reply → read_entry (entry_body caller call reply) ≡ Some (caller, call, reply)
+pub entry_again : (caller : ℕ) (call : Call) (reply : Reply) → caller ≤ 8 → IsCall call → IsReply reply → read_entry (entry_body caller call reply) ≡ Some (caller, call, reply)
 unfolding read_entry
 entry_again caller call reply low called replied =
     let text = (call_text call ++ 32 ∷ []) ++ 61 ∷ 32 ∷ reply_text reply in

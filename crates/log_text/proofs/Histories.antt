@@ -15,7 +15,7 @@ use Rattle.auction_core.specs.ClosedGame.{ClosedGame}
 use Rattle.line_protocol.specs.Heads.{Head}
 use Rattle.log_text.proofs.InOrder.{kept_text, in_order}
 use Rattle.log_text.specs.LogText.{then_signed, cash_call_text, cash_reply_text, cash_entry_line, cash_line, cash_text, first_lines, play_part}
-use Rattle.log_text.specs.Logged.{IsNumber, IsSigned, AreCashNumbers, IsCashReply, FitsCall, IsCashEntry, IsHead, IsPlayed, HaveOneHistory}
+use Rattle.log_text.specs.Logged.{IsNumber, IsSigned, AreCashNumbers, IsShownCashReply, FitsCall, IsCashEntry, IsHead, IsPlayed, HaveOneHistory}
 use Rattle.log_text.proofs.Cuts.{IsWord, row, row_same, number_word, signed_word, signed_same, pieces_cons}
 use Rattle.log_text.proofs.HeadsAgain.{head_same}
 use Rattle.log_text.proofs.Trades.{known_word, auctions_same}
@@ -56,7 +56,7 @@ pub signed_are : (zs : List ℤ) → AllByRecursion IsSigned zs → AllByRecursi
 signed_are [] h = tt
 signed_are (z ∷ zs) h = (signed_word z h.0, signed_are zs h.1)
 
-cash_are : (caller : ℕ) (call : CashCall) (reply : CashReply) → IsNumber caller → AreCashNumbers call → IsCashReply reply → AllByRecursion IsWord (cash_words caller call reply)
+cash_are : (caller : ℕ) (call : CashCall) (reply : CashReply) → IsNumber caller → AreCashNumbers call → IsShownCashReply reply → AllByRecursion IsWord (cash_words caller call reply)
 cash_are caller (Post good position nets) reply n h k = (number_word caller n, (known_word (codes "post") refl refl, (number_word good h.0, (number_word position h.1, signed_are nets.dollars h.2))))
 cash_are caller (Read agent) Done n h k = (number_word caller n, (known_word (codes "read") refl refl, (known_word (codes "=") refl refl, tt)))
 cash_are caller (Read agent) (Cash dollars) n h k = (number_word caller n, (known_word (codes "read") refl refl, (known_word (codes "=") refl refl, (signed_word dollars k, tt))))
@@ -85,7 +85,7 @@ record AreSame (caller other : ℕ) (call called : CashCall) (reply answered : C
 made_post : ℕ → ℕ → List ℤ → CashCall
 made_post good position dollars = Post good position (record { dollars = dollars })
 
-words_same : (caller other : ℕ) (call called : CashCall) (reply answered : CashReply) → IsNumber caller → IsNumber other → AreCashNumbers call → AreCashNumbers called → IsCashReply reply → IsCashReply answered → FitsCall caller call reply → FitsCall other called answered → cash_words caller call reply ≡ cash_words other called answered → AreSame caller other call called reply answered
+words_same : (caller other : ℕ) (call called : CashCall) (reply answered : CashReply) → IsNumber caller → IsNumber other → AreCashNumbers call → AreCashNumbers called → IsShownCashReply reply → IsShownCashReply answered → FitsCall caller call reply → FitsCall other called answered → cash_words caller call reply ≡ cash_words other called answered → AreSame caller other call called reply answered
 unfolding made_post
 words_same caller other (Post good position nets) (Post good' position' nets') Done Done n m h k r s f g e =
     let callers = decimal_injective caller other n m (ap (λ (ws : List (List ℕ)). get_or ws 0 []) e) in

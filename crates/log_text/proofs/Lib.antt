@@ -15,6 +15,7 @@ pub mod CashFormLaws
 pub mod SheetFormLaws
 pub mod Taking
 pub mod LineTexts
+pub mod ShownNumbers
 pub mod LogTaking
 pub mod Giving
 pub mod LogGiving

@@ -16,6 +16,8 @@ use Rattle.tac_base.specs.declared.calls.Call.TheVariants as calls
 use Rattle.tac_base.specs.declared.calls.Reply.{Reply}
 use Rattle.tac_base.specs.declared.calls.Trade.{Trade}
 use Rattle.tac_base.proofs.Signed.{Lacks, decimal_lacks, signed_lacks}
+use Rattle.tac_base.specs.Ranges.{IsCall, IsNet, IsReply, IsTrade}
+use Rattle.auction_core.specs.Ranges.{IsEntry, IsHistory}
 use Rattle.auction_rules.specs.History.{Entry}
 use Rattle.trade_ledger.specs.declared.cash_calls.CashCall.{CashCall}
 use Rattle.trade_ledger.specs.declared.cash_calls.CashCall.TheVariants as cash_calls
@@ -35,14 +37,13 @@ use Rattle.line_protocol.specs.declared.admission.Verdict.TheVariants as verdict
 use Rattle.line_protocol.specs.declared.admission.Cause.{Cause}
 use Rattle.line_protocol.specs.declared.admission.Cause.TheVariants as causes
 use Rattle.line_protocol.specs.Heads.{Head, Play, Serve}
-use Rattle.line_protocol.specs.Ranges.{IsReply}
 use Rattle.line_protocol.specs.Replies.{reply_text}
 use Rattle.line_protocol.proofs.JoinedWords.{lacks, same_or_not}
 use Rattle.log_text.specs.LogText.{call_text, verdict_text, cause_text, link_line, end_line, missed_line, head_text, first_lines, auction_line, trade_line, entry_line, entry_text, auction_text, cash_line, cash_entry_line, cash_text, histories_text}
 use Rattle.log_text.specs.HeadForms.{is_text, read_link, read_end, read_missed}
 use Rattle.log_text.specs.EntryForms.{first_is, auction_of, trade_of, read_entry, read_cash_line, cash_entry_of}
 use Rattle.log_text.specs.LogReading.{line_by, begins, as_long_as, is_served, served_in, head_by, head_in, entry_in, history_in, cash_in}
-use Rattle.log_text.specs.LoggedGames.{IsLoggedVerdict, IsLoggedEnd, IsServedHead, IsLoggedHead, IsLoggedCall, IsLoggedTrade, IsLoggedEntry, IsNet, IsLoggedCash, IsLoggedHistory, IsLoggedCashEntry, AreHistories}
+use Rattle.log_text.specs.LoggedGames.{IsLoggedVerdict, IsLoggedEnd, IsServedHead, IsLoggedHead, IsLoggedCash, IsLoggedCashEntry, AreHistories}
 use Rattle.log_text.proofs.Cuts.{lacks_append}
 use Rattle.log_text.proofs.Answered.{call_one_line, reply_lacks}
 use Rattle.log_text.proofs.EntryFormLaws.{auction_body, auction_again, trade_body, trade_again, entry_body, entry_again, logged_call, logged_reply, cash_body, cash_again}
@@ -228,7 +229,7 @@ head_given (Serve links ends missed) is number rest =
 
 -- ---- trades
 
-trade_lacks : (byte good : ℕ) (t : Trade) → byte < 45 → IsLoggedTrade good t → Lacks byte (codes "trade") → AllByRecursion (Lacks byte) (codes "trade" ∷ decimal t.buyer ∷ decimal t.seller ∷ decimal t.units ∷ decimal t.price ∷ [])
+trade_lacks : (byte good : ℕ) (t : Trade) → byte < 45 → IsTrade good t → Lacks byte (codes "trade") → AllByRecursion (Lacks byte) (codes "trade" ∷ decimal t.buyer ∷ decimal t.seller ∷ decimal t.units ∷ decimal t.price ∷ [])
 trade_lacks byte good t low is word =
     let buyer = is.buyer in
     let seller = is.seller in
@@ -242,10 +243,10 @@ trade_lacks byte good t low is word =
       ),
     )
 
-trade_line_lacks : (good : ℕ) (t : Trade) → IsLoggedTrade good t → Lacks 10 (trade_body t)
+trade_line_lacks : (good : ℕ) (t : Trade) → IsTrade good t → Lacks 10 (trade_body t)
 trade_line_lacks good t is = join_lacks 10 (codes "trade" ∷ decimal t.buyer ∷ decimal t.seller ∷ decimal t.units ∷ decimal t.price ∷ []) refl (trade_lacks 10 good t (lit< tt) is (lacks 10 (codes "trade") refl))
 
-trade_gives : (good : ℕ) → GivesBytes (λ _. line_by (trade_of good)) (λ _ t. trade_line t) (λ _ t. IsLoggedTrade good t) Any
+trade_gives : (good : ℕ) → GivesBytes (λ _. line_by (trade_of good)) (λ _ t. trade_line t) (λ _ t. IsTrade good t) Any
 unfolding GivesBytes
 trade_gives good i t is number rest q = (
   number + 1,
@@ -253,7 +254,7 @@ trade_gives good i t is number rest q = (
       ∙ line_given (trade_of good) number (trade_body t) rest t (trade_line_lacks good t is) (trade_again good t is),
 )
 
-trade_starts : (good : ℕ) → Starts (codes "trade") (λ _ t. trade_line t) (λ _ t. IsLoggedTrade good t)
+trade_starts : (good : ℕ) → Starts (codes "trade") (λ _ t. trade_line t) (λ _ t. IsTrade good t)
 unfolding Starts
 trade_starts good i t is number rest =
     let are = trade_lacks 32 good t (lit< tt) is (lacks 32 (codes "trade") refl) in
@@ -277,14 +278,14 @@ digit_other caller word low long = elim (same_or_not (decimal caller) word) [
   | inr differ ↦ differ
 ]
 
-entry_lacks : (caller : ℕ) (call : Call) (reply : Reply) → caller ≤ 8 → IsLoggedCall call → IsReply reply → Lacks 10 (entry_body caller call reply)
+entry_lacks : (caller : ℕ) (call : Call) (reply : Reply) → caller ≤ 8 → IsCall call → IsReply reply → Lacks 10 (entry_body caller call reply)
 entry_lacks caller call reply low called replied =
     lacks_append 10 (decimal caller) (32 ∷ ((call_text call ++ 32 ∷ []) ++ 61 ∷ 32 ∷ reply_text reply)) (decimal_lacks 10 caller (lit< tt) (omega (arith, low))) (
       refl,
       lacks_append 10 (call_text call ++ 32 ∷ []) (61 ∷ 32 ∷ reply_text reply) (lacks_append 10 (call_text call) (32 ∷ []) (call_one_line call (logged_call call called)) (refl, tt)) (refl, (refl, reply_lacks reply (logged_reply reply replied))),
     )
 
-entry_begins : (good : ℕ) (e : Entry) → IsLoggedEntry good e → (rest : List ℕ) → NoTrade (entry_text e ++ rest)
+entry_begins : (good : ℕ) (e : Entry) → IsEntry good e → (rest : List ℕ) → NoTrade (entry_text e ++ rest)
 entry_begins good e is rest number =
     let after = flat_map trade_line e.trades ++ rest in
     let low = is.caller in
@@ -295,19 +296,19 @@ entry_begins good e is rest number =
     ∙ begins_at (codes "trade") number (entry_body e.caller e.call e.reply) after false (entry_lacks e.caller e.call e.reply is.caller is.call is.reply)
     (ap (first_is (codes "trade")) words ∙ digit_other e.caller (codes "trade") is.caller (lit< tt))
 
-entry_gives : (good : ℕ) → GivesBytes (λ _. entry_in good) (λ _ e. entry_text e) (λ _ e. IsLoggedEntry good e) NoTrade
+entry_gives : (good : ℕ) → GivesBytes (λ _. entry_in good) (λ _ e. entry_text e) (λ _ e. IsEntry good e) NoTrade
 unfolding GivesBytes entry_in
 entry_gives good i e is number rest none =
     let after = flat_map trade_line e.trades ++ rest in
     let line = ap (λ (t : List ℕ). line_by read_entry (at number t))
     (append_assoc (entry_line e.caller e.call e.reply) (flat_map trade_line e.trades) rest ∙ whole_line (entry_body e.caller e.call e.reply) (entry_line e.caller e.call e.reply) after (entry_end e.caller e.call e.reply))
     ∙ line_given read_entry number (entry_body e.caller e.call e.reply) after (e.caller, e.call, e.reply) (entry_lacks e.caller e.call e.reply is.caller is.call is.reply) (entry_again e.caller e.call e.reply is.caller is.call is.reply) in
-    let trades = as_long_given (codes "trade") (λ _. line_by (trade_of good)) (λ _ t. trade_line t) (λ _ t. IsLoggedTrade good t) (trade_gives good) (trade_starts good) e.trades 128 0 is.few (each_alike (IsLoggedTrade good) 0 e.trades is.trades) (number + 1) rest none in
+    let trades = as_long_given (codes "trade") (λ _. line_by (trade_of good)) (λ _ t. trade_line t) (λ _ t. IsTrade good t) (trade_gives good) (trade_starts good) e.trades 128 0 is.few (each_alike (IsTrade good) 0 e.trades is.trades) (number + 1) rest none in
     let second : as_long_as (codes "trade") (λ _. line_by (trade_of good)) 128 0 (at (number + 1) after) ≡ Ok (e.trades, at trades.0 rest) =
     ap (λ (t : List ℕ). as_long_as (codes "trade") (λ _. line_by (trade_of good)) 128 0 (at (number + 1) (t ++ rest))) (sym (parts_alike trade_line 0 e.trades)) ∙ trades.1 in
     (trades.0, rw (line, second) refl)
 
-entry_keeps : (good : ℕ) → Keeps (λ _ e. entry_text e) (λ _ e. IsLoggedEntry good e) NoTrade
+entry_keeps : (good : ℕ) → Keeps (λ _ e. entry_text e) (λ _ e. IsEntry good e) NoTrade
 unfolding Keeps
 entry_keeps good i e is rest = entry_begins good e is rest
 
@@ -320,33 +321,33 @@ auction_lacks : (good count : ℕ) → good ≤ 27 → count ≤ 8256 → Lacks 
 auction_lacks good count low few = join_lacks 10 (codes "auction" ∷ decimal good ∷ decimal count ∷ []) refl (lacks 10 (codes "auction") refl, auction_words good count low few 10 (lit< tt))
 
 -- the history of a good
-record IsHistory (good : ℕ) (history : List Entry) : Type 0 where
+record IsOfGood (good : ℕ) (history : List Entry) : Type 0 where
   low : good ≤ 27
-  range : IsLoggedHistory good history
+  range : IsHistory good history
 
 history_text : (good : ℕ) (history : List Entry) (rest : List ℕ) → auction_text good history ++ rest ≡ auction_body good (length history) ++ 10 ∷ (flat_map entry_text history ++ rest)
 history_text good history rest =
     append_assoc (auction_line good (length history)) (flat_map entry_text history) rest ∙ whole_line (auction_body good (length history)) (auction_line good (length history)) (flat_map entry_text history ++ rest) (auction_end good (length history))
 
-history_gives : GivesBytes history_in (λ good history. auction_text good history) IsHistory NoTrade
+history_gives : GivesBytes history_in (λ good history. auction_text good history) IsOfGood NoTrade
 unfolding GivesBytes history_in
 history_gives good history is number rest none =
     let after = flat_map entry_text history ++ rest in
     let line = ap (λ (t : List ℕ). line_by (auction_of good) (at number t)) (history_text good history rest)
     ∙ line_given (auction_of good) number (auction_body good (length history)) after (length history) (auction_lacks good (length history) is.low is.range.few) (auction_again good (length history) is.low is.range.few) in
-    let entries = repeat_given (λ _. entry_in good) (λ _ e. entry_text e) (λ _ e. IsLoggedEntry good e) NoTrade (entry_gives good) (entry_keeps good) history 0 (each_alike (IsLoggedEntry good) 0 history is.range.entries) (number + 1) rest none in
+    let entries = repeat_given (λ _. entry_in good) (λ _ e. entry_text e) (λ _ e. IsEntry good e) NoTrade (entry_gives good) (entry_keeps good) history 0 (each_alike (IsEntry good) 0 history is.range.entries) (number + 1) rest none in
     let second : repeat (length history) 0 (λ _. entry_in good) (at (number + 1) after) ≡ Ok (history, at entries.0 rest) =
     ap (λ (t : List ℕ). repeat (length history) 0 (λ _. entry_in good) (at (number + 1) (t ++ rest))) (sym (parts_alike entry_text 0 history)) ∙ entries.1 in
     (entries.0, rw (line, second) refl)
 
-history_keeps : Keeps (λ good history. auction_text good history) IsHistory NoTrade
+history_keeps : Keeps (λ good history. auction_text good history) IsOfGood NoTrade
 unfolding Keeps
 history_keeps good history is rest number =
     let words = words_line (codes "auction") (decimal good ∷ decimal (length history) ∷ []) (lacks 32 (codes "auction") refl) (auction_words good (length history) is.low is.range.few 32 (lit< tt)) in
     ap (λ (t : List ℕ). begins (codes "trade") (at number t)) (history_text good history rest)
     ∙ begins_at (codes "trade") number (auction_body good (length history)) (flat_map entry_text history ++ rest) false (auction_lacks good (length history) is.low is.range.few) (ap (first_is (codes "trade")) words)
 
-are_histories : (from : ℕ) (histories : List (List Entry)) → from + length histories ≤ 28 → AreHistories from histories → AllFrom IsHistory from histories
+are_histories : (from : ℕ) (histories : List (List Entry)) → from + length histories ≤ 28 → AreHistories from histories → AllFrom IsOfGood from histories
 are_histories from [] few h = tt
 are_histories from (history ∷ histories) few h = (record { low = omega (arith, few); range = h.0 }, are_histories (from + 1) histories (omega (arith, few)) h.1)
 
@@ -424,7 +425,7 @@ pub histories_given : (histories : List (List Entry)) (cash : List CashEntry) �
     (k : ℕ) × (m : ℕ) × (repeat 28 0 history_in (at number (histories_text histories cash ++ rest)) ≡ Ok (histories, at k (cash_text cash ++ rest))) × (cash_in (at k (cash_text cash ++ rest)) ≡ Ok (cash, at m rest))
 histories_given histories cash goods are few each number rest =
     let after = cash_text cash ++ rest in
-    let all = repeat_given history_in (λ good history. auction_text good history) IsHistory NoTrade history_gives history_keeps histories 0 (are_histories 0 histories (omega (arith, goods)) are) number after (cash_begins cash few rest) in
+    let all = repeat_given history_in (λ good history. auction_text good history) IsOfGood NoTrade history_gives history_keeps histories 0 (are_histories 0 histories (omega (arith, goods)) are) number after (cash_begins cash few rest) in
     let money = cash_given cash few each all.0 rest in
     let text : histories_text histories cash ++ rest ≡ bytes_of_parts auction_text 0 histories ++ after =
     append_assoc (flat_map (λ auction. auction_text auction.0 auction.1) (enumerate_from 0 histories)) (cash_text cash) rest ∙ ap (λ (t : List ℕ). t ++ after) (sym (parts_numbered auction_text 0 histories)) in

@@ -20,6 +20,8 @@ use Rattle.text_forms.specs.declared.lines.Reason.TheVariants.{TextEnd}
 use Rattle.text_forms.proofs.Joins.{parts_more}
 use Rattle.text_forms.proofs.Reading.{bind_ok, ok_is}
 use Rattle.tac_base.proofs.Signed.{Lacks}
+use Rattle.tac_base.specs.Ranges.{IsTrade}
+use Rattle.auction_core.specs.Ranges.{IsEntry, IsHistory}
 use Rattle.packages.specs.declared.travel_packages.Package.{Package}
 use Rattle.packages.specs.Packages.{IsPackage}
 use Rattle.bound_cert.specs.Trees.{Tree, IsCertificate}
@@ -40,7 +42,7 @@ use Rattle.log_text.specs.HeadForms.{formed, is_text, read_link, read_end, read_
 use Rattle.log_text.specs.EntryForms.{auction_of, trade_of, read_entry, read_cash_line, cash_entry_of}
 use Rattle.log_text.specs.SheetForms.{read_score, package_of, read_count}
 use Rattle.log_text.specs.LogReading.{line_by, as_long_as, is_served, served_in, head_by, head_in, entry_in, history_in, cash_in, cert_by, block_by, cert_in, score_in, log_in}
-use Rattle.log_text.specs.LoggedGames.{LoggedGame, logged_text, IsLoggedVerdict, IsLoggedEnd, IsServedHead, IsLoggedHead, IsLoggedTrade, IsLoggedEntry, IsLoggedHistory, IsLoggedCashEntry, IsLoggedScore, AreHistories, IsLogged}
+use Rattle.log_text.specs.LoggedGames.{LoggedGame, logged_text, IsLoggedVerdict, IsLoggedEnd, IsServedHead, IsLoggedHead, IsLoggedCashEntry, IsLoggedScore, AreHistories, IsLogged}
 use Rattle.log_text.proofs.HeadFormLaws.{link_is, end_is, missed_is}
 use Rattle.log_text.proofs.EntryFormLaws.{auction_is, trade_is, entry_is, cash_is}
 use Rattle.log_text.proofs.CashFormLaws.{cash_entry_is}
@@ -77,7 +79,7 @@ missed_took left x e =
     let is = missed_is r.0 x.0 r.2 in
     (took_as left x.1 (r.0 ++ 10 ∷ []) (missed_line x.0) (ap (λ (t : List ℕ). t ++ 10 ∷ []) is.0 ∙ missed_end x.0) r.1, is.1)
 
-trade_takes : (good : ℕ) → TakesBytes (λ _. line_by (trade_of good)) (λ _ t. trade_line t) (λ _ t. IsLoggedTrade good t)
+trade_takes : (good : ℕ) → TakesBytes (λ _. line_by (trade_of good)) (λ _ t. trade_line t) (λ _ t. IsTrade good t)
 unfolding TakesBytes
 trade_takes good i left x are e =
     let r = line_took (trade_of good) left x e in
@@ -192,34 +194,34 @@ head_took left x are e =
 abbrev made_entry : ℕ → Call → Reply → List Trade → Entry
 made_entry caller call reply trades = record { caller = caller; call = call; reply = reply; trades = trades }
 
-entry_takes : (good : ℕ) → TakesBytes (λ _. entry_in good) (λ _ e. entry_text e) (λ _ e. IsLoggedEntry good e)
+entry_takes : (good : ℕ) → TakesBytes (λ _. entry_in good) (λ _ e. entry_text e) (λ _ e. IsEntry good e)
 unfolding TakesBytes entry_in
 entry_takes good i left x are e =
     let a = bind_ok (line_by read_entry left) (λ line. as_long_as (codes "trade") (λ _. line_by (trade_of good)) 128 0 line.1 >>= λ trades. Ok (made_entry line.0.0 line.0.1 line.0.2 trades.0, trades.1)) x e in
     let b = bind_ok (as_long_as (codes "trade") (λ _. line_by (trade_of good)) 128 0 a.0.1) (λ trades. Ok (made_entry a.0.0.0 a.0.0.1 a.0.0.2 trades.0, trades.1)) x a.2 in
     let r = line_took read_entry left a.0 a.1 in
     let is = entry_is r.0 a.0.0 r.2 in
-    let trades = as_long_took (codes "trade") (λ _. line_by (trade_of good)) (λ _ t. trade_line t) (λ _ t. IsLoggedTrade good t) (trade_takes good) 128 0 a.0.1 b.0 (r.1.lines are) b.1 in
-    subst (λ (y : Entry × Remaining). TookBytes left (entry_text y.0) y.1 × IsLoggedEntry good y.0) (ok_is {E = BadLine} (made_entry a.0.0.0 a.0.0.1 a.0.0.2 b.0.0, b.0.1) x b.2) (
+    let trades = as_long_took (codes "trade") (λ _. line_by (trade_of good)) (λ _ t. trade_line t) (λ _ t. IsTrade good t) (trade_takes good) 128 0 a.0.1 b.0 (r.1.lines are) b.1 in
+    subst (λ (y : Entry × Remaining). TookBytes left (entry_text y.0) y.1 × IsEntry good y.0) (ok_is {E = BadLine} (made_entry a.0.0.0 a.0.0.1 a.0.0.2 b.0.0, b.0.1) x b.2) (
       took_both left a.0.1 b.0.1 (entry_line a.0.0.0 a.0.0.1 a.0.0.2) (flat_map trade_line b.0.0)
           (took_as left a.0.1 (r.0 ++ 10 ∷ []) (entry_line a.0.0.0 a.0.0.1 a.0.0.2) (ap (λ (t : List ℕ). t ++ 10 ∷ []) is.text ∙ entry_end a.0.0.0 a.0.0.1 a.0.0.2) r.1)
           (took_as a.0.1 b.0.1 _ _ (parts_alike trade_line 0 b.0.0) trades.0.took),
-      record { caller = is.caller_range; call = is.call_range; reply = is.reply_range; few = trades.1; trades = all_of (IsLoggedTrade good) 0 b.0.0 trades.0.each },
+      record { caller = is.caller_range; call = is.call_range; reply = is.reply_range; few = trades.1; trades = all_of (IsTrade good) 0 b.0.0 trades.0.each },
     )
 
-history_takes : TakesBytes history_in (λ good history. auction_text good history) IsLoggedHistory
+history_takes : TakesBytes history_in (λ good history. auction_text good history) IsHistory
 unfolding TakesBytes history_in
 history_takes good left x are e =
     let a = bind_ok (line_by (auction_of good) left) (λ count. repeat count.0 0 (λ _. entry_in good) count.1) x e in
     let r = line_took (auction_of good) left a.0 a.1 in
     let is = auction_is good r.0 a.0.0 r.2 in
-    let entries = repeat_took_bytes (λ _. entry_in good) (λ _ e. entry_text e) (λ _ e. IsLoggedEntry good e) (entry_takes good) a.0.0 0 a.0.1 x (r.1.lines are) a.2 in
+    let entries = repeat_took_bytes (λ _. entry_in good) (λ _ e. entry_text e) (λ _ e. IsEntry good e) (entry_takes good) a.0.0 0 a.0.1 x (r.1.lines are) a.2 in
     let few = is.1 in
     let count = entries.1 in (
       took_both left a.0.1 x.1 (auction_line good (length x.0)) (flat_map entry_text x.0)
           (took_as left a.0.1 (r.0 ++ 10 ∷ []) (auction_line good (length x.0)) (ap (λ (t : List ℕ). t ++ 10 ∷ []) is.0 ∙ auction_end good a.0.0 ∙ ap (auction_line good) (sym count)) r.1)
           (took_as a.0.1 x.1 _ _ (parts_alike entry_text 0 x.0) entries.0.took),
-      record { few = omega (arith, few, count); entries = all_of (IsLoggedEntry good) 0 x.0 entries.0.each },
+      record { few = omega (arith, few, count); entries = all_of (IsEntry good) 0 x.0 entries.0.each },
     )
 
 -- the entries of a cash history in their ranges
@@ -405,7 +407,7 @@ score_takes agent left x are e = let part = score_took agent left x are e in (pa
 
 -- ---- the log
 
-histories_are : (from : ℕ) (histories : List (List Entry)) → AllFrom IsLoggedHistory from histories → AreHistories from histories
+histories_are : (from : ℕ) (histories : List (List Entry)) → AllFrom IsHistory from histories → AreHistories from histories
 histories_are from [] h = tt
 histories_are from (history ∷ histories) h = (h.0, histories_are (from + 1) histories h.1)
 
@@ -439,7 +441,7 @@ log_took left log are e =
     let h = bind_ok (nothing_left g.0.1) (λ done. Ok (made_log a.0.0 b.0.0 c.0.0 f.0.0)) log g.2 in
     let head = head_took left a.0 are a.1 in
     let are1 = head.took.lines are in
-    let histories = repeat_took_bytes history_in (λ good history. auction_text good history) IsLoggedHistory history_takes 28 0 a.0.1 b.0 are1 b.1 in
+    let histories = repeat_took_bytes history_in (λ good history. auction_text good history) IsHistory history_takes 28 0 a.0.1 b.0 are1 b.1 in
     let are2 = histories.0.took.lines are1 in
     let cash = cash_took b.0.1 c.0 are2 c.1 in
     let sheet = text_took (codes "sheet") c.0.1 d.0 d.1 in

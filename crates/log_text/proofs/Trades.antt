@@ -16,7 +16,7 @@ use Rattle.auction_rules.specs.History.{Entry}
 use Rattle.auction_core.specs.Auctions.{AuctionHistory}
 use Rattle.log_text.proofs.InOrder.{kept_text}
 use Rattle.log_text.specs.LogText.{call_text, trade_line, entry_line, entry_text, auction_line}
-use Rattle.log_text.specs.Logged.{AreTradeNumbers, IsEntry, IsAuction}
+use Rattle.log_text.specs.Logged.{AreTradeNumbers, IsShownEntry, IsAuction}
 use Rattle.log_text.proofs.Cuts.{cut_same, lacks_append, IsWord, row, row_same, number_word, pieces_cons}
 use Rattle.log_text.proofs.Items.{both_all}
 use Rattle.log_text.proofs.Answered.{call_same, reply_same, call_lacks, reply_lacks}
@@ -31,12 +31,12 @@ abbrev pub NoTrade : List ℕ → Type 0
 NoTrade text = eqb (get_or text 0 0) 116 ≡ false
 
 -- a trade of a good
-record IsTrade (g : ℕ) (t : Trade) : Type 0 where
+record IsShownTrade (g : ℕ) (t : Trade) : Type 0 where
   good : t.good ≡ g
   numbers : AreTradeNumbers t
 
-trades_of_good : (g : ℕ) (e : Entry) → IsEntry g e → AllByRecursion (IsTrade g) e.trades
-trades_of_good g e h = both_all (λ (t : Trade). t.good ≡ g) AreTradeNumbers (IsTrade g) (λ t good numbers. record { good = good; numbers = numbers }) e.trades h.goods h.numbers.trades
+trades_of_good : (g : ℕ) (e : Entry) → IsShownEntry g e → AllByRecursion (IsShownTrade g) e.trades
+trades_of_good g e h = both_all (λ (t : Trade). t.good ≡ g) AreTradeNumbers (IsShownTrade g) (λ t good numbers. record { good = good; numbers = numbers }) e.trades h.goods h.numbers.trades
 
 abbrev trade_words : Trade → List (List ℕ)
 trade_words t = codes "trade" ∷ decimal t.buyer ∷ decimal t.seller ∷ decimal t.units ∷ decimal t.price ∷ []
@@ -44,13 +44,13 @@ trade_words t = codes "trade" ∷ decimal t.buyer ∷ decimal t.seller ∷ decim
 trade_row : (t : Trade) → trade_line t ≡ row (trade_words t)
 trade_row t = simp append_assoc
 
-trade_are : (g : ℕ) (t : Trade) → IsTrade g t → AllByRecursion IsWord (trade_words t)
+trade_are : (g : ℕ) (t : Trade) → IsShownTrade g t → AllByRecursion IsWord (trade_words t)
 trade_are g t h = (known_word (codes "trade") refl refl, (number_word t.buyer h.numbers.buyer, (number_word t.seller h.numbers.seller, (number_word t.units h.numbers.units, (number_word t.price h.numbers.price, tt)))))
 
 abbrev made_trade : ℕ → ℕ → ℕ → ℕ → ℕ → Trade
 made_trade buyer seller good units price = record { buyer = buyer; seller = seller; good = good; units = units; price = price }
 
-trade_same : (g : ℕ) (t u : Trade) → IsTrade g t → IsTrade g u → trade_words t ≡ trade_words u → t ≡ u
+trade_same : (g : ℕ) (t u : Trade) → IsShownTrade g t → IsShownTrade g u → trade_words t ≡ trade_words u → t ≡ u
 trade_same g t u h k e =
     let buyer : t.buyer ≡ u.buyer = decimal_injective t.buyer u.buyer h.numbers.buyer k.numbers.buyer cc in
     let seller : t.seller ≡ u.seller = decimal_injective t.seller u.seller h.numbers.seller k.numbers.seller cc in
@@ -70,7 +70,7 @@ is_trade rest text none e =
     let clash : true ≡ false = sym test ∙ none in
     cc
 
-trades_same : (g : ℕ) (ts us : List Trade) (rest more : List ℕ) → AllByRecursion (IsTrade g) ts → AllByRecursion (IsTrade g) us → NoTrade rest → NoTrade more → flat_map trade_line ts ++ rest ≡ flat_map trade_line us ++ more → (ts ≡ us) × (rest ≡ more)
+trades_same : (g : ℕ) (ts us : List Trade) (rest more : List ℕ) → AllByRecursion (IsShownTrade g) ts → AllByRecursion (IsShownTrade g) us → NoTrade rest → NoTrade more → flat_map trade_line ts ++ rest ≡ flat_map trade_line us ++ more → (ts ≡ us) × (rest ≡ more)
 trades_same g [] [] rest more h k none none' e = (refl, e)
 trades_same g [] (u ∷ us) rest more h k none none' e = absurd (is_trade rest _ none (e ∙ trades_cons u us more))
 trades_same g (t ∷ ts) [] rest more h k none none' e = absurd (is_trade more _ none' (sym e ∙ trades_cons t ts rest))
@@ -92,7 +92,7 @@ record AreSame (e f : Entry) (us vs : List ℕ) : Type 0 where
   reply : e.reply ≡ f.reply
   rest : us ≡ vs
 
-lines_same : (g : ℕ) (e f : Entry) (us vs : List ℕ) → IsEntry g e → IsEntry g f → entry_line e.caller e.call e.reply ++ us ≡ entry_line f.caller f.call f.reply ++ vs → AreSame e f us vs
+lines_same : (g : ℕ) (e f : Entry) (us vs : List ℕ) → IsShownEntry g e → IsShownEntry g f → entry_line e.caller e.call e.reply ++ us ≡ entry_line f.caller f.call f.reply ++ vs → AreSame e f us vs
 lines_same g e f us vs h k same =
     let callers = cut_same 32 (decimal e.caller) (decimal f.caller) _ _ (number_word e.caller h.numbers.caller).0 (number_word f.caller k.numbers.caller).0
     (sym (entry_parts e.caller e.call e.reply us) ∙ same ∙ entry_parts f.caller f.call f.reply vs) in
@@ -125,7 +125,7 @@ digit_first (first ∷ rest) text h some =
     let digit = (both_true _ (all_ascii_digits rest) h).0 in
     grind (arith, nat_tests, digit)
 
-no_trade : (g : ℕ) (es : List Entry) (rest : List ℕ) → AllByRecursion (IsEntry g) es → NoTrade rest → NoTrade (flat_map entry_text es ++ rest)
+no_trade : (g : ℕ) (es : List Entry) (rest : List ℕ) → AllByRecursion (IsShownEntry g) es → NoTrade rest → NoTrade (flat_map entry_text es ++ rest)
 no_trade g [] rest h none = none
 no_trade g (e ∷ es) rest h none =
     let after = flat_map trade_line e.trades ++ (flat_map entry_text es ++ rest) in
@@ -133,7 +133,7 @@ no_trade g (e ∷ es) rest h none =
     (digit_first (decimal e.caller) _ (decimal_digits e.caller h.0.numbers.caller) (decimal_nonempty e.caller h.0.numbers.caller))
 
 -- as many entries as these, and what follows them
-entries_same : (g : ℕ) (es fs : List Entry) (rest more : List ℕ) → AllByRecursion (IsEntry g) es → AllByRecursion (IsEntry g) fs → length es ≡ length fs → NoTrade rest → NoTrade more → flat_map entry_text es ++ rest ≡ flat_map entry_text fs ++ more → (es ≡ fs) × (rest ≡ more)
+entries_same : (g : ℕ) (es fs : List Entry) (rest more : List ℕ) → AllByRecursion (IsShownEntry g) es → AllByRecursion (IsShownEntry g) fs → length es ≡ length fs → NoTrade rest → NoTrade more → flat_map entry_text es ++ rest ≡ flat_map entry_text fs ++ more → (es ≡ fs) × (rest ≡ more)
 entries_same g [] [] rest more h k n none none' same = (refl, same)
 entries_same g [] (f ∷ fs) rest more h k n none none' same = absurd (omega (arith, n))
 entries_same g (e ∷ es) [] rest more h k n none none' same = absurd (omega (arith, n))
@@ -187,7 +187,7 @@ auctions_same (a ∷ xs) (b ∷ ys) rest more h k goods none none' same =
     (auction_are a.setup.good (length a.history) h.0.good h.0.count) (auction_are b.setup.good (length b.history) k.0.good k.0.count)
     (sym (auctions_cons a xs rest) ∙ same ∙ auctions_cons b ys more) in
     let count = decimal_injective (length a.history) (length b.history) h.0.count k.0.count (counts_same a.setup.good b.setup.good (length a.history) (length b.history) cut.0) in
-    let entries = entries_same a.setup.good a.history b.history after after' h.0.entries (subst (λ (g : ℕ). AllByRecursion (IsEntry g) b.history) (sym good) k.0.entries) count
+    let entries = entries_same a.setup.good a.history b.history after after' h.0.entries (subst (λ (g : ℕ). AllByRecursion (IsShownEntry g) b.history) (sym good) k.0.entries) count
     (no_trade_first xs rest none) (no_trade_first ys more none') cut.1 in
     let more_auctions = auctions_same xs ys rest more h.1 k.1 other_goods none none' entries.1 in
     (ap (λ (x : List Entry). x ∷ histories_of xs) entries.0 ∙ ap (λ (hs : List (List Entry)). b.history ∷ hs) more_auctions.0, more_auctions.1)

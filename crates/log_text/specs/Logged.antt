@@ -27,25 +27,25 @@ IsNumber n = n < 2 ^ 64
 abbrev pub IsSigned : ℤ → Type 0
 IsSigned z = unsigned_abs z < 2 ^ 64
 
-abbrev pub IsCall : Call → Type 0
-IsCall (calls.Bid points) = fault_of points ≡ None
-IsCall calls.Withdraw = ⊤
-IsCall calls.Own = ⊤
-IsCall (calls.Update tick draw) = IsNumber tick × IsNumber draw
-IsCall calls.Publish = ⊤
-IsCall calls.Close = ⊤
+abbrev pub IsShownCall : Call → Type 0
+IsShownCall (calls.Bid points) = fault_of points ≡ None
+IsShownCall calls.Withdraw = ⊤
+IsShownCall calls.Own = ⊤
+IsShownCall (calls.Update tick draw) = IsNumber tick × IsNumber draw
+IsShownCall calls.Publish = ⊤
+IsShownCall calls.Close = ⊤
 
-abbrev pub IsReply : Reply → Type 0
-IsReply (replies.Taken bought sold) = IsNumber bought × IsNumber sold
-IsReply (replies.Own holding left) = IsSigned holding × (left_fault left ≡ None)
-IsReply (replies.Sold units price) = IsNumber units × IsNumber price
-IsReply replies.Done = ⊤
-IsReply replies.Closed = ⊤
-IsReply replies.WrongCall = ⊤
-IsReply replies.NoBid = ⊤
-IsReply replies.Sell = ⊤
-IsReply replies.SelfCross = ⊤
-IsReply (replies.BelowQuote need at offered) = IsNumber need × IsNumber at × IsNumber offered
+abbrev pub IsShownReply : Reply → Type 0
+IsShownReply (replies.Taken bought sold) = IsNumber bought × IsNumber sold
+IsShownReply (replies.Own holding left) = IsSigned holding × (left_fault left ≡ None)
+IsShownReply (replies.Sold units price) = IsNumber units × IsNumber price
+IsShownReply replies.Done = ⊤
+IsShownReply replies.Closed = ⊤
+IsShownReply replies.WrongCall = ⊤
+IsShownReply replies.NoBid = ⊤
+IsShownReply replies.Sell = ⊤
+IsShownReply replies.SelfCross = ⊤
+IsShownReply (replies.BelowQuote need at offered) = IsNumber need × IsNumber at × IsNumber offered
 
 pub record AreTradeNumbers (t : Trade) : Type 0 where
   pub buyer : IsNumber t.buyer
@@ -55,35 +55,35 @@ pub record AreTradeNumbers (t : Trade) : Type 0 where
 
 pub record AreNumbers (e : Entry) : Type 0 where
   pub caller : IsNumber e.caller
-  pub call : IsCall e.call
-  pub reply : IsReply e.reply
+  pub call : IsShownCall e.call
+  pub reply : IsShownReply e.reply
   pub trades : AllByRecursion AreTradeNumbers e.trades
 
 -- the trades of an entry are of the auction's good, which their lines do not show
 abbrev pub AreOf : ℕ → Entry → Type 0
 AreOf good e = AllByRecursion (λ t. t.good ≡ good) e.trades
 
-pub record IsEntry (good : ℕ) (e : Entry) : Type 0 where
+pub record IsShownEntry (good : ℕ) (e : Entry) : Type 0 where
   pub numbers : AreNumbers e
   pub goods : AreOf good e
 
 pub record IsAuction (auction : AuctionHistory) : Type 0 where
   pub good : IsNumber auction.setup.good
   pub count : IsNumber (length auction.history)
-  pub entries : AllByRecursion (IsEntry auction.setup.good) auction.history
+  pub entries : AllByRecursion (IsShownEntry auction.setup.good) auction.history
 
 abbrev pub AreCashNumbers : CashCall → Type 0
 AreCashNumbers (Post good position nets) = IsNumber good × IsNumber position × AllByRecursion IsSigned nets.dollars
 AreCashNumbers (Read agent) = ⊤
 
-abbrev pub IsCashReply : CashReply → Type 0
-IsCashReply Done = ⊤
-IsCashReply (Cash dollars) = IsSigned dollars
+abbrev pub IsShownCashReply : CashReply → Type 0
+IsShownCashReply Done = ⊤
+IsShownCashReply (Cash dollars) = IsSigned dollars
 
 pub record AreEntryNumbers (e : CashEntry) : Type 0 where
   pub caller : IsNumber e.caller
   pub call : AreCashNumbers e.call
-  pub reply : IsCashReply e.reply
+  pub reply : IsShownCashReply e.reply
 
 -- a post is done, and a reading is of its caller's own cash
 abbrev pub FitsCall : ℕ → CashCall → CashReply → Type 0

@@ -1,12 +1,10 @@
 -- What a log says, which values it may have, and its text.
-use Rattle.std.specs.Prelude.{◌≡◌, ℕ, ◌+◌, ◌<◌, ◌≤◌, ◌^◌, ⊤, List, [], ◌∷◌, ℤ, negsuc, pos, ◌≤ℤ◌, ◌++◌, None, length, unsigned_abs}
+use Rattle.std.specs.Prelude.{◌≡◌, ℕ, ◌+◌, ◌<◌, ◌≤◌, ◌^◌, ⊤, List, [], ◌∷◌, ◌++◌, length, unsigned_abs}
 use Rattle.std.specs.List.{All}
-use Rattle.tac_base.specs.declared.limits.TheConstants.{AUCTION_ENTRIES, CASH_ENTRIES, ENTRY_TRADES, TEXT_BYTES, BID_UNITS, BID_PRICE, UPDATE_TICKS, LAST_POSITION, BEST_TOTAL}
-use Rattle.tac_base.specs.declared.calls.Call.{Call}
-use Rattle.tac_base.specs.declared.calls.Call.TheVariants as calls
-use Rattle.tac_base.specs.declared.calls.Trade.{Trade}
-use Rattle.tac_base.specs.Bids.{fault_of}
+use Rattle.tac_base.specs.declared.limits.TheConstants.{CASH_ENTRIES, TEXT_BYTES, BEST_TOTAL}
+use Rattle.tac_base.specs.Ranges.{IsPost, IsCashReading}
 use Rattle.auction_rules.specs.History.{Entry}
+use Rattle.auction_core.specs.Ranges.{IsHistory}
 use Rattle.trade_ledger.specs.declared.cash_calls.CashCall.{CashCall}
 use Rattle.trade_ledger.specs.declared.cash_calls.CashCall.TheVariants.{Post, Read}
 use Rattle.trade_ledger.specs.declared.cash_calls.CashReply.{CashReply}
@@ -20,7 +18,6 @@ use Rattle.line_protocol.specs.declared.admission.Verdict.{Verdict}
 use Rattle.line_protocol.specs.declared.admission.Verdict.TheVariants as verdicts
 use Rattle.line_protocol.specs.declared.admission.Cause.{Cause}
 use Rattle.line_protocol.specs.Heads.{Head, Play, Serve}
-use Rattle.line_protocol.specs.Ranges.{IsReply}
 use Rattle.log_text.specs.LogText.{first_lines, histories_text}
 use Rattle.log_text.specs.SheetText.{sheet_part}
 
@@ -59,47 +56,12 @@ abbrev pub IsLoggedHead : Head → Type 0
 IsLoggedHead Play = ⊤
 IsLoggedHead (Serve links ends missed) = IsServedHead links ends missed
 
-abbrev pub IsLoggedCall : Call → Type 0
-IsLoggedCall (calls.Bid points) = fault_of points ≡ None
-IsLoggedCall calls.Withdraw = ⊤
-IsLoggedCall calls.Own = ⊤
-IsLoggedCall (calls.Update tick draw) = (1 ≤ tick) × (tick ≤ UPDATE_TICKS) × (draw ≤ 4294967295)
-IsLoggedCall calls.Publish = ⊤
-IsLoggedCall calls.Close = ⊤
-
--- a trade in the auction of a good
-pub record IsLoggedTrade (good : ℕ) (t : Trade) : Type 0 where
-  pub good_is : t.good ≡ good
-  pub buyer : t.buyer ≤ 8
-  pub seller : t.seller ≤ 8
-  pub some : 1 ≤ t.units
-  pub few : t.units ≤ BID_UNITS
-  pub price : t.price ≤ BID_PRICE
-
--- an entry in the auction of a good
-pub record IsLoggedEntry (good : ℕ) (e : Entry) : Type 0 where
-  pub caller : e.caller ≤ 8
-  pub call : IsLoggedCall e.call
-  pub reply : IsReply e.reply
-  pub few : length e.trades ≤ ENTRY_TRADES
-  pub trades : All (IsLoggedTrade good) e.trades
-
--- the history of a good
-pub record IsLoggedHistory (good : ℕ) (history : List Entry) : Type 0 where
-  pub few : length history ≤ AUCTION_ENTRIES
-  pub entries : All (IsLoggedEntry good) history
-
--- a number of 32 bits with a sign
-pub record IsNet (dollars : ℤ) : Type 0 where
-  pub low : negsuc 2147483647 ≤ℤ dollars
-  pub high : dollars ≤ℤ pos 2147483647
-
 -- a post of any caller, or an agent's reading of its own cash
 abbrev pub IsLoggedCash : ℕ → CashCall → CashReply → Type 0
-IsLoggedCash caller (Post good position nets) Done = (caller ≤ 8) × (good ≤ 27) × (position ≤ LAST_POSITION) × (length nets.dollars ≡ 9) × All IsNet nets.dollars
+IsLoggedCash caller (Post good position nets) Done = IsPost caller good position nets.dollars
 IsLoggedCash caller (Post good position nets) (Cash dollars) = ⊥
 IsLoggedCash caller (Read agent) Done = ⊥
-IsLoggedCash caller (Read agent) (Cash dollars) = (caller ≤ 7) × (agent ≡ caller) × (unsigned_abs dollars < 10 ^ 18)
+IsLoggedCash caller (Read agent) (Cash dollars) = IsCashReading caller agent dollars
 
 abbrev pub IsLoggedCashEntry : CashEntry → Type 0
 IsLoggedCashEntry e = IsLoggedCash e.caller e.call e.reply
@@ -118,7 +80,7 @@ pub record IsLoggedScore (scored : Scored) : Type 0 where
 -- the histories of goods that are numbered from a number
 abbrev pub AreHistories : ℕ → List (List Entry) → Type 0
 AreHistories good [] = ⊤
-AreHistories good (history ∷ histories) = IsLoggedHistory good history × AreHistories (good + 1) histories
+AreHistories good (history ∷ histories) = IsHistory good history × AreHistories (good + 1) histories
 
 -- a log in its ranges
 pub record IsLogged (log : LoggedGame) : Type 0 where

@@ -8,6 +8,7 @@ use Rattle.std.proofs.lemmas.List.Elements.{All-from_recursion, All-filter, recu
 use Rattle.std.proofs.lemmas.List.Sums.{length-filter, count_by-le-length}
 use Rattle.std.proofs.lemmas.Option.{slice_get-get_or}
 use Rattle.tac_base.specs.Goods.{agents}
+use Rattle.auction_core.specs.Ranges.{IsHistory}
 use Rattle.game_text.specs.Games.{GameFile}
 use Rattle.auction_rules.specs.Setup.{Setup}
 use Rattle.trade_ledger.specs.declared.cash_calls.CashCall.{CashCall}
@@ -17,7 +18,6 @@ use Rattle.trade_ledger.specs.declared.cash_calls.CashReply.TheVariants.{Done, C
 use Rattle.trade_ledger.specs.declared.cash_calls.CashEntry.{CashEntry}
 use Rattle.trade_ledger.specs.CashHistory.{IsFitCash, reply_by}
 use Rattle.trade_ledger.specs.CashKeeping.{IsWithin, IsLoggableCash}
-use Rattle.trade_ledger.specs.Posts.{is_post}
 use Rattle.auction_core.specs.Auctions.{AuctionHistory}
 use Rattle.auction_core.specs.ClosedGame.{ClosedGame}
 use Rattle.auction_core.specs.Setups.{setup_of}
@@ -26,14 +26,14 @@ use Rattle.line_protocol.specs.declared.admission.Verdict.{Verdict}
 use Rattle.line_protocol.specs.declared.admission.Cause.{Cause}
 use Rattle.line_protocol.specs.Heads.{Head, Play, Serve}
 use Rattle.log_text.specs.LogText.{histories_of}
-use Rattle.log_text.specs.LoggedGames.{LoggedGame, IsLoggedEnd, IsLoggedHead, IsLoggedHistory, AreHistories, IsLoggedCash, IsLoggedCashEntry}
+use Rattle.log_text.specs.LoggedGames.{LoggedGame, IsLoggedEnd, IsLoggedHead, AreHistories, IsLoggedCash, IsLoggedCashEntry}
 use Rattle.log_reader.specs.SoundLog.{logged_seats, seatings, IsSoundHead}
 use Rattle.game_log.specs.LogRanges.{IsRanged}
 use Rattle.game_log.specs.ShownGames.{HasSeats, IsShowable}
 use Rattle.game_log.specs.ScoredGames.{IsSheetOf}
 use Rattle.script_run.specs.LawfulGames.{IsLawfulGame}
 use Rattle.tac_commands.specs.SoundTexts.{log_of_game}
-use Rattle.tac_commands.proofs.PostRanges.{post_ranged}
+use Rattle.tac_commands.proofs.PostRanges.{IsLow, post_low}
 
 -- ---- the head
 
@@ -67,26 +67,25 @@ head_ranged log (Serve links ends missed) seats sound = record {
 -- ---- the histories
 
 histories_from : (game : GameFile) (n : ℕ) (auctions : List AuctionHistory) → map (λ (a : AuctionHistory). a.setup) auctions ≡ map (λ (good : ℕ). setup_of good game) (range_with_len n (length auctions)) →
-    AllByRecursion (λ (a : AuctionHistory). IsLoggedHistory a.setup.good a.history) auctions → AreHistories n (map (λ (a : AuctionHistory). a.history) auctions)
+    AllByRecursion (λ (a : AuctionHistory). IsHistory a.setup.good a.history) auctions → AreHistories n (map (λ (a : AuctionHistory). a.history) auctions)
 histories_from game n [] is all = tt
 histories_from game n (a ∷ auctions) is all =
     let first : a.setup ≡ setup_of n game = ap (λ (l : List Setup). get_or l 0 a.setup) is in
-    (subst (λ (s : Setup). IsLoggedHistory s.good a.history) first all.0, histories_from game (n + 1) auctions (ap (drop 1) is) all.1)
+    (subst (λ (s : Setup). IsHistory s.good a.history) first all.0, histories_from game (n + 1) auctions (ap (drop 1) is) all.1)
 
 -- ---- the cash history
 
 dollars_small : (dollars : ℤ) → IsWithin 600000000000000 dollars → unsigned_abs dollars < 10 ^ 18
 dollars_small dollars is = omega (arith, ints, is.0, is.1)
 
-entry_ranged : (e : CashEntry) (totals : ℕ → ℤ) → IsLoggableCash e → IsFitCash e.caller e.call → e.reply ≡ reply_by totals e.call → (is_post e.call ≡ true → IsLoggedCashEntry e) → IsLoggedCashEntry e
-entry_ranged e totals is fit replied posted = by_call e.caller e.call e.reply is fit replied posted
+entry_ranged : (e : CashEntry) (totals : ℕ → ℤ) → IsLoggableCash e → IsFitCash e.caller e.call → e.reply ≡ reply_by totals e.call → IsLow e.call → IsLoggedCashEntry e
+entry_ranged e totals is fit replied low = by_call e.caller e.call e.reply is fit replied low
   where
-    by_call : (caller : ℕ) (call : CashCall) (reply : CashReply) → IsLoggableCash (record { caller = caller; call = call; reply = reply }) → IsFitCash caller call → reply ≡ reply_by totals call → (is_post call ≡ true → IsLoggedCash caller call reply) →
-        IsLoggedCash caller call reply
-    by_call caller (Post good position nets) reply is' fit' replied' posted' = posted' refl
-    by_call caller (Read agent) Done is' fit' replied' posted' = absurd cc
-    by_call caller (Read agent) (Cash dollars) is' fit' replied' posted' =
-        let low : agent ≤ 7 = is'.reader in (subst (λ (n : ℕ). n ≤ 7) fit' low, fit', dollars_small dollars is'.told)
+    by_call : (caller : ℕ) (call : CashCall) (reply : CashReply) → IsLoggableCash (record { caller = caller; call = call; reply = reply }) → IsFitCash caller call → reply ≡ reply_by totals call → IsLow call → IsLoggedCash caller call reply
+    by_call caller (Post good position nets) Done is' fit' replied' low' = (is'.caller, is'.call.0, low', is'.call.2, is'.call.3)
+    by_call caller (Post good position nets) (Cash dollars) is' fit' replied' low' = absurd cc
+    by_call caller (Read agent) Done is' fit' replied' low' = absurd cc
+    by_call caller (Read agent) (Cash dollars) is' fit' replied' low' = let few : agent ≤ 7 = is'.call in (subst (λ (n : ℕ). n ≤ 7) fit' few, fit', dollars_small dollars is'.reply)
 
 -- ---- the log
 
@@ -100,7 +99,7 @@ ranged_log game head closed sheet shown lawful scores sound = record {
   cash = λ k d inside.
       let at : slice_get closed.cash k ≡ Some (get_or closed.cash k d) = slice_get-get_or closed.cash k d inside in
       let legal = lawful.cash k (get_or closed.cash k d) at in
-      entry_ranged (get_or closed.cash k d) _ (shown.cash k d inside) legal.0 legal.1 (post_ranged (histories_of closed) closed.cash goods histories lawful.matched k d inside);
+      entry_ranged (get_or closed.cash k d) _ (shown.cash k d inside) legal.0 legal.1 (post_low (histories_of closed) closed.cash histories lawful.matched k d inside);
   agents = scores.count;
   scores = shown.scores sheet scores;
 }
@@ -113,4 +112,4 @@ ranged_log game head closed sheet shown lawful scores sound = record {
 
     histories : AreHistories 0 (histories_of closed)
     histories = histories_from game 0 closed.auctions (lawful.setups ∙ ap (λ (n : ℕ). map (λ (good : ℕ). setup_of good game) (range_with_len 0 n)) (sym many))
-        (recursion_from_All (λ (a : AuctionHistory). IsLoggedHistory a.setup.good a.history) closed.auctions shown.histories)
+        (recursion_from_All (λ (a : AuctionHistory). IsHistory a.setup.good a.history) closed.auctions shown.histories)

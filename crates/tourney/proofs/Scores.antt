@@ -12,6 +12,8 @@ use Rattle.std.proofs.lemmas.Option.{slice_get_within, slice_get-get_or}
 use Rattle.std.proofs.Math.Nat.{mul-le-mul}
 use Rattle.tac_base.specs.declared.calls.Trade.{Trade}
 use Rattle.tac_base.specs.Goods.{agents}
+use Rattle.tac_base.specs.Ranges.{IsTrade}
+use Rattle.auction_core.specs.Ranges.{IsEntry, IsHistory}
 use Rattle.game_text.specs.Games.{GameFile}
 use Rattle.auction_rules.specs.History.{Entry}
 use Rattle.auction_rules.specs.Effects.{all_trades, dollars}
@@ -20,7 +22,7 @@ use Rattle.auction_core.specs.Auctions.{AuctionHistory}
 use Rattle.auction_core.specs.Setups.{setup_of}
 use Rattle.score_sheet.specs.Settlement.{cash_gained}
 use Rattle.score_sheet.specs.Sheets.{Scored}
-use Rattle.log_text.specs.LoggedGames.{LoggedGame, IsLogged, IsLoggedTrade, IsLoggedEntry, IsLoggedHistory, IsLoggedScore, AreHistories}
+use Rattle.log_text.specs.LoggedGames.{LoggedGame, IsLogged, IsLoggedScore, AreHistories}
 use Rattle.log_reader.specs.SoundLog.{IsSound, auctions_in}
 use Rattle.tourney.specs.Tallies.{most_score}
 use Rattle.tourney.specs.Standings.{result_of}
@@ -29,11 +31,11 @@ use Rattle.tourney.proofs.Words.{cases}
 abbrev cost_of : Trade → ℕ
 cost_of t = t.units * t.price
 
-trade_cost : (good : ℕ) (t : Trade) → IsLoggedTrade good t → cost_of t ≤ 160000
+trade_cost : (good : ℕ) (t : Trade) → IsTrade good t → cost_of t ≤ 160000
 trade_cost good t is = mul-le-mul is.few is.price
 
 -- the trades of an entry that pass a test
-trades_cost : (test : Trade → Bool) (good : ℕ) (trades : List Trade) → AllByRecursion (IsLoggedTrade good) trades → sum_by cost_of (filter test trades) ≤ length trades * 160000
+trades_cost : (test : Trade → Bool) (good : ℕ) (trades : List Trade) → AllByRecursion (IsTrade good) trades → sum_by cost_of (filter test trades) ≤ length trades * 160000
 trades_cost test good [] all = omega arith
 trades_cost test good (t ∷ trades) all =
     let rest = trades_cost test good trades all.1 in let one = trade_cost good t all.0 in
@@ -43,10 +45,10 @@ trades_cost test good (t ∷ trades) all =
     more c s n one rest = omega arith
 
 -- the trades of entries that pass a test
-entries_cost : (test : Trade → Bool) (good : ℕ) (past : List Entry) → AllByRecursion (IsLoggedEntry good) past → sum_by cost_of (filter test (all_trades past)) ≤ length past * 20480000
+entries_cost : (test : Trade → Bool) (good : ℕ) (past : List Entry) → AllByRecursion (IsEntry good) past → sum_by cost_of (filter test (all_trades past)) ≤ length past * 20480000
 entries_cost test good [] all = omega arith
 entries_cost test good (e ∷ past) all =
-    let one = trades_cost test good e.trades (recursion_from_All (IsLoggedTrade good) e.trades all.0.trades) in
+    let one = trades_cost test good e.trades (recursion_from_All (IsTrade good) e.trades all.0.trades) in
     let rest = entries_cost test good past all.1 in
     let split : sum_by cost_of (filter test (all_trades (e ∷ past))) ≡ sum_by cost_of (filter test e.trades) + sum_by cost_of (filter test (all_trades past)) =
     ap (λ (ts : List Trade). sum_by cost_of (filter test ts)) (flat_map-cons (λ (x : Entry). x.trades) e past) ∙ ap (sum_by cost_of) (filter-append test e.trades (all_trades past)) ∙ sum_by-append cost_of (filter test e.trades) (filter test (all_trades past)) in
@@ -59,9 +61,9 @@ difference : (a b m : ℕ) → a ≤ m → b ≤ m → IsWithin m (pos a -ℤ po
 difference a b m x y = (omega (arith, ints), omega (arith, ints))
 
 -- what a party gains by the trades of a good
-gain_small : (good : ℕ) (history : List Entry) (party : ℕ) → IsLoggedHistory good history → IsWithin 169082880000 (dollars (all_trades (reverse history)) party)
+gain_small : (good : ℕ) (history : List Entry) (party : ℕ) → IsHistory good history → IsWithin 169082880000 (dollars (all_trades (reverse history)) party)
 gain_small good history party is =
-    let all : AllByRecursion (IsLoggedEntry good) (reverse history) = recursion_from_All (IsLoggedEntry good) (reverse history) (All-permutation (IsLoggedEntry good) history (reverse history) (IsPermutation-reverse history) is.entries) in
+    let all : AllByRecursion (IsEntry good) (reverse history) = recursion_from_All (IsEntry good) (reverse history) (All-permutation (IsEntry good) history (reverse history) (IsPermutation-reverse history) is.entries) in
     let few : length (reverse history) ≤ 8256 = subst (λ (n : ℕ). n ≤ 8256) (sym (length-reverse history)) is.few in
     difference _ _ 169082880000 (bound (entries_cost (λ t. t.seller == party) good (reverse history) all) few) (bound (entries_cost (λ t. t.buyer == party) good (reverse history) all) few)
   where

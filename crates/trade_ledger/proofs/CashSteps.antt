@@ -15,7 +15,7 @@ use Rattle.trade_ledger.specs.declared.cash_calls.CashCall.{CashCall}
 use Rattle.trade_ledger.specs.declared.cash_calls.CashCall.TheVariants.{Post, Read}
 use Rattle.trade_ledger.specs.declared.cash_calls.CashEntry.{CashEntry}
 use Rattle.trade_ledger.specs.CashHistory.{nets_of, posted_nets, cash_total, gain_of, IsFitCash, reply_by, cash_reply_of, IsLegalCash, cash_cap}
-use Rattle.trade_ledger.specs.CashKeeping.{IsWithin, IsReader, IsShownCash, IsLoggableCash, IsCashSound}
+use Rattle.trade_ledger.specs.CashKeeping.{IsWithin, IsCashCall, IsCashReply, IsLoggableCash, IsCashSound}
 
 abbrev net : ℕ → Nets → ℤ
 net party nets = slice_index_or nets.dollars party (pos 0)
@@ -93,11 +93,11 @@ within_all n a few is = (omega (arith, ints, is.0), omega (arith, ints, is.1))
 pub sound_snoc : (history : List CashEntry) (kept kept' : List ℤ) (capacity : ℕ) (e : CashEntry) → IsCashSound history kept capacity → e.caller ≤ clock → length (part by history e.caller) < cash_cap e.caller
     → IsFitCash e.caller e.call → e.reply ≡ reply_by (λ party. slice_index_or kept party (pos 0)) e.call
     → ((party : ℕ) → party < 9 → slice_index_or kept' party (pos 0) ≡ slice_index_or kept party (pos 0) +ℤ gain_of e.call party)
-    → ((party : ℕ) → party < 9 → IsWithin 2147483648 (gain_of e.call party)) → IsReader e.call → IsCashSound (history ++ e ∷ []) kept' capacity
-sound_snoc history kept kept' capacity e sound is room fit reply new small reader = record {
+    → ((party : ℕ) → party < 9 → IsWithin 2147483648 (gain_of e.call party)) → IsCashCall e.call → IsCashSound (history ++ e ∷ []) kept' capacity
+sound_snoc history kept kept' capacity e sound is room fit reply new small ranged = record {
   legal = legal_snoc history e sound.legal fit (reply ∙ same_reply e.call fit);
   called = called_snoc history e sound.called is;
-  loggable = loggable_snoc history e sound.loggable (record { caller = is; reader = reader; told = subst IsShownCash (sym reply) (told e.call reader) });
+  loggable = loggable_snoc history e sound.loggable (record { caller = is; call = ranged; reply = subst IsCashReply (sym reply) (answered e.call ranged) });
   capped = capped_snoc history e sound.capped room;
   totals = λ party lt. new party lt ∙ (ap (λ (z : ℤ). z +ℤ gain_of e.call party) (sound.totals party lt) ∙ sym (cash_total-snoc history e party));
   small = λ party lt. subst (λ (n : ℕ). IsWithin (n * 2147483648) (cash_total (history ++ e ∷ []) party)) (sym (length-append history (e ∷ [])))
@@ -109,8 +109,8 @@ sound_snoc history kept kept' capacity e sound is room fit reply new small reade
     same_reply (Post good position nets) fits = refl
     same_reply (Read agent) fits = ap (λ (z : ℤ). reply_by (λ _. z) (Read agent)) (sound.totals agent (omega arith))
 
-    told : (call : CashCall) → IsReader call → IsShownCash (reply_by (λ party. slice_index_or kept party (pos 0)) call)
-    told (Post good position nets) reads = tt
-    told (Read agent) reads =
+    answered : (call : CashCall) → IsCashCall call → IsCashReply (reply_by (λ party. slice_index_or kept party (pos 0)) call)
+    answered (Post good position nets) is = tt
+    answered (Read agent) is =
         subst (IsWithin 600000000000000) (sym (sound.totals agent (omega arith)))
         (within_all (length history) (cash_total history agent) (few_entries history sound.called sound.capped) (sound.small agent (omega arith)))

@@ -7,8 +7,7 @@ use native.Mathlib.Decide.{ℕ_discrete}
 use Rattle.tac_base.specs.declared.calls.Trade.{Trade}
 use Rattle.tac_base.specs.Goods.{parties}
 use Rattle.auction_rules.specs.Effects.{net_units}
-use Rattle.std.specs.Prelude.{All}
-use Rattle.trade_ledger.specs.Holdings.{held_after, sum_held, IsHolding}
+use Rattle.trade_ledger.specs.Holdings.{held_after, sum_held, Stays, NoneLeaves}
 
 -- the units that a party has more by a trade, and those that it has less
 abbrev pub more : Trade → ℕ → ℕ
@@ -94,30 +93,36 @@ get_or-nine f (suc (suc (suc (suc (suc (suc (suc zero))))))) le = refl
 get_or-nine f (suc (suc (suc (suc (suc (suc (suc (suc zero)))))))) le = refl
 get_or-nine f (suc (suc (suc (suc (suc (suc (suc (suc (suc n))))))))) le = absurd (omega arith)
 
--- ---- what fits
+-- ---- what stays in its range
 
-less_le : (b : Bool) (n : ℕ) → cond b n 0 ≤ n
-less_le true n = omega arith
-less_le false n = omega arith
+after_at : (held : List ℤ) (t : Trade) (party : ℕ) → party ≤ 8 → NoneLeaves held (t ∷ []) → Stays (get_or held party (pos 0)) (get_or held party (pos 0) +ℤ (pos (more t party) -ℤ pos (less t party)))
+after_at held t party low none = subst (Stays (get_or held party (pos 0))) (get_or-nine (λ k. get_or held k (pos 0) +ℤ net_units (t ∷ []) k) party low ∙ ap (λ (z : ℤ). get_or held party (pos 0) +ℤ z) (net_units_one t party))
+    (none party low)
 
-after_at : (held : List ℤ) (t : Trade) (party : ℕ) → party ≤ 8 → All IsHolding (held_after held (t ∷ [])) → IsHolding (get_or held party (pos 0) +ℤ (pos (more t party) -ℤ pos (less t party)))
-after_at held t party low all = subst IsHolding (get_or-nine (λ k. get_or held k (pos 0) +ℤ net_units (t ∷ []) k) party low ∙ ap (λ (z : ℤ). get_or held party (pos 0) +ℤ z) (net_units_one t party))
-    (all party (pos 0) (omega arith))
+pub buyer_stays : (held : List ℤ) (t : Trade) → t.buyer ≤ 8 → (t.seller ≡ t.buyer → ⊥) → NoneLeaves held (t ∷ []) → Stays (get_or held t.buyer (pos 0)) (get_or held t.buyer (pos 0) +ℤ pos t.units)
+buyer_stays held t low ne none =
+    let gained : more t t.buyer ≡ t.units = ap (λ (b : Bool). cond b t.units 0) (eq-eqb t.buyer t.buyer refl) in
+    let lost : less t t.buyer ≡ 0 = ap (λ (b : Bool). cond b t.units 0) (ne_eqb t.seller t.buyer ne) in
+    let net : pos (more t t.buyer) -ℤ pos (less t t.buyer) ≡ pos t.units = omega (arith, ints, gained, lost) in
+    subst (λ (z : ℤ). Stays (get_or held t.buyer (pos 0)) (get_or held t.buyer (pos 0) +ℤ z)) net (after_at held t t.buyer low none)
 
--- if no holding leaves its range by a trade, neither intermediate sum is large
-pub buyer_fits : (held : List ℤ) (t : Trade) → t.buyer ≤ 8 → t.units < 256 → All IsHolding (held_after held (t ∷ []))
-    → (neg_ℤ (pos 1000000) ≤ℤ (get_or held t.buyer (pos 0) +ℤ pos t.units)) × ((get_or held t.buyer (pos 0) +ℤ pos t.units) ≤ℤ pos 1000255)
-buyer_fits held t low few all =
-    let at = after_at held t t.buyer low all in let le = less_le (eqb t.seller t.buyer) t.units in
-    let whole : more t t.buyer ≡ t.units = ap (λ (b : Bool). cond b t.units 0) (eq-eqb t.buyer t.buyer refl) in
-    (omega (arith, ints, at.0, le, whole), omega (arith, ints, at.1, le, whole))
+pub seller_stays : (held : List ℤ) (t : Trade) → t.seller ≤ 8 → (t.buyer ≡ t.seller → ⊥) → NoneLeaves held (t ∷ [])
+    → Stays (get_or (given held t) t.seller (pos 0)) (get_or (given held t) t.seller (pos 0) +ℤ neg_ℤ (pos t.units))
+seller_stays held t low ne none =
+    let gained : more t t.seller ≡ 0 = ap (λ (b : Bool). cond b t.units 0) (ne_eqb t.buyer t.seller ne) in
+    let lost : less t t.seller ≡ t.units = ap (λ (b : Bool). cond b t.units 0) (eq-eqb t.seller t.seller refl) in
+    let net : pos (more t t.seller) -ℤ pos (less t t.seller) ≡ neg_ℤ (pos t.units) = omega (arith, ints, gained, lost) in
+    let there = get_or-set_other held t.buyer t.seller (get_or held t.buyer (pos 0) +ℤ pos t.units) (pos 0) (λ e. ne (sym e)) in
+    subst (λ (z : ℤ). Stays z (z +ℤ neg_ℤ (pos t.units))) (sym there)
+    (subst (λ (z : ℤ). Stays (get_or held t.seller (pos 0)) (get_or held t.seller (pos 0) +ℤ z)) net (after_at held t t.seller low none))
 
-pub seller_fits : (held : List ℤ) (t : Trade) → length held ≡ 9 → t.buyer ≤ 8 → t.seller ≤ 8 → All IsHolding (held_after held (t ∷ []))
-    → IsHolding (get_or (given held t) t.seller (pos 0) +ℤ neg_ℤ (pos t.units))
-seller_fits held t nine buyer low all =
-    let at = after_at held t t.seller low all in let first = get_or-given held t t.seller (omega arith) in
-    let whole : less t t.seller ≡ t.units = ap (λ (b : Bool). cond b t.units 0) (eq-eqb t.seller t.seller refl) in
-    (omega (arith, ints, at.0, first, whole), omega (arith, ints, at.1, first, whole))
+-- a party that trades with itself holds what it held
+pub alone_is : (held : List ℤ) (t : Trade) → length held ≡ 9 → t.buyer ≡ t.seller → held ≡ held_after held (t ∷ [])
+alone_is held t nine same = nine_numbers (λ party. get_or held party (pos 0) +ℤ net_units (t ∷ []) party) held nine
+    (λ party _. unchanged (get_or held party (pos 0)) (net_units (t ∷ []) party) (more t party) (less t party) (net_units_one t party) (ap (λ (k : ℕ). cond (eqb k party) t.units 0) same))
+  where
+    unchanged : (z net : ℤ) (a b : ℕ) → net ≡ pos a -ℤ pos b → a ≡ b → z ≡ z +ℤ net
+    unchanged z net a b is same' = omega (arith, ints, is, same')
 
 -- ---- the sum
 

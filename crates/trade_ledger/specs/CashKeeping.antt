@@ -1,8 +1,9 @@
 -- The invariant of the cash book.
 use Rattle.tac_base.specs.declared.limits.TheConstants.{CASH_ENTRIES}
 use Rattle.std.specs.Prelude.{◌≡◌, ℕ, ◌*◌, ◌<◌, ◌≤◌, ⊤, List, ℤ, pos, neg_ℤ, ◌≤ℤ◌, length, slice_index_or}
-use Rattle.std.specs.List.{AllByRecursion}
+use Rattle.std.specs.List.{All, AllByRecursion}
 use Rattle.tac_base.specs.Goods.{clock}
+use Rattle.tac_base.specs.Ranges.{IsNet}
 use Rattle.turn_lock.specs.Part.{part}
 use Rattle.trade_ledger.specs.declared.cash_calls.CashCall.{CashCall}
 use Rattle.trade_ledger.specs.declared.cash_calls.CashCall.TheVariants.{Post, Read}
@@ -15,21 +16,21 @@ use Rattle.trade_ledger.specs.CashHistory.{IsLegalCash, cash_total, cash_cap}
 abbrev pub IsWithin : ℕ → ℤ → Type 0
 IsWithin most dollars = (neg_ℤ (pos most) ≤ℤ dollars) × (dollars ≤ℤ pos most)
 
--- whoever reads its cash is an agent
-abbrev pub IsReader : CashCall → Type 0
-IsReader (Read agent) = agent ≤ 7
-IsReader (Post good position nets) = ⊤
+-- an agent reads its cash, or a post names a good and a position of 32 bits, and has a net for each of the nine parties
+abbrev pub IsCashCall : CashCall → Type 0
+IsCashCall (Read agent) = agent ≤ 7
+IsCashCall (Post good position nets) = (good ≤ 27) × (position ≤ 4294967295) × (length nets.dollars ≡ 9) × All IsNet nets.dollars
 
 -- the cash that is answered has at most 15 digits
-abbrev pub IsShownCash : CashReply → Type 0
-IsShownCash (Cash dollars) = IsWithin 600000000000000 dollars
-IsShownCash Done = ⊤
+abbrev pub IsCashReply : CashReply → Type 0
+IsCashReply (Cash dollars) = IsWithin 600000000000000 dollars
+IsCashReply Done = ⊤
 
--- an entry of one of the nine callers; it reads an agent's cash, in range, or posts
+-- an entry of one of the nine callers, in its ranges: all of those of a log, but for the position of a post
 pub record IsLoggableCash (e : CashEntry) : Type 0 where
   pub caller : e.caller ≤ clock
-  pub reader : IsReader e.call
-  pub told : IsShownCash e.reply
+  pub call : IsCashCall e.call
+  pub reply : IsCashReply e.reply
 
 -- The history is legal, and each of the nine callers has at most its cap of entries. The book has the total of each party, to which
 -- each entry adds at most 2 ^ 31 dollars, and room for all entries that the caps allow.

@@ -1,6 +1,5 @@
 -- What the parties hold of one good.
-use Rattle.std.specs.Prelude.{ℤ, pos, ◌+ℤ◌, ◌≤ℤ◌, List, map, fold, slice_index_or}
-use Rattle.std.specs.Prelude.{neg_ℤ}
+use Rattle.std.specs.Prelude.{ℕ, ◌≤◌, ◌⊎◌, ℤ, pos, ◌+ℤ◌, unsigned_abs, List, map, fold, slice_index_or}
 use Rattle.tac_base.specs.declared.calls.Trade.{Trade}
 use Rattle.tac_base.specs.Goods.{parties}
 use Rattle.auction_rules.specs.Effects.{net_units}
@@ -13,6 +12,10 @@ held_after held trades = map (λ party. slice_index_or held party (pos 0) +ℤ n
 abbrev pub sum_held : List ℤ → ℤ
 sum_held held = fold ◌+ℤ◌ (pos 0) held
 
--- a holding in -1,000,000 to 1,000,000
-abbrev pub IsHolding : ℤ → Type 0
-IsHolding units = (neg_ℤ (pos 1000000) ≤ℤ units) × (units ≤ℤ pos 1000000)
+-- a holding does not leave -1,000,000 to 1,000,000: it lies there then, or no farther from 0 than before
+abbrev pub Stays : ℤ → ℤ → Type 0
+Stays before after = (unsigned_abs after ≤ 1000000) ⊎ (unsigned_abs after ≤ unsigned_abs before)
+
+-- no party's holding leaves its range by trades
+abbrev pub NoneLeaves : List ℤ → List Trade → Type 0
+NoneLeaves held trades = (party : ℕ) → party ≤ 8 → Stays (slice_index_or held party (pos 0)) (slice_index_or (held_after held trades) party (pos 0))

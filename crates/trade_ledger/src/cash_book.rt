@@ -1,6 +1,7 @@
-ghost use Rattle.std.specs.Prelude.{◌≡◌, ℕ, ◌<◌, ◌≤ℤ◌, ◌+ℤ◌, pos, slice_index_or};
+ghost use Rattle.std.specs.Prelude.{All, ◌≡◌, ℕ, ◌<◌, ◌≤ℤ◌, ◌+ℤ◌, pos, length, slice_index_or};
+ghost use Rattle.tac_base.specs.Ranges.{IsNet};
 ghost use Rattle.trade_ledger.specs.CashHistory.{gain_of, reply_by};
-ghost use Rattle.trade_ledger.specs.CashKeeping.{IsWithin, IsReader};
+ghost use Rattle.trade_ledger.specs.CashKeeping.{IsWithin, IsCashCall};
 
 use crate::cash_calls::{CashCall, CashEntry, CashReply};
 use std::alloc::Global;
@@ -35,6 +36,8 @@ pub fn add_nets(totals: &mut [i64; 9], nets: &Nets)
     ensures totals { (party : ℕ) → party < 9 →
         slice_index_or totals.new party (pos 0) ≡ slice_index_or totals.old party (pos 0) +ℤ slice_index_or nets.now.dollars party (pos 0) }
     ensures small { (party : ℕ) → party < 9 → IsWithin 2147483648 (slice_index_or nets.now.dollars party (pos 0)) }
+    ensures nine { length nets.now.dollars ≡ 9 }
+    ensures each { All IsNet nets.now.dollars }
 {
     for (party, total) in totals.iter_mut().enumerate() {
         *total += i64::from(nets.dollars[party]);
@@ -48,10 +51,15 @@ fn settle(totals: &mut [i64; 9], call: &CashCall) -> CashReply
     ensures totals { (party : ℕ) → party < 9 →
         slice_index_or totals.new party (pos 0) ≡ slice_index_or totals.old party (pos 0) +ℤ gain_of call.now party }
     ensures small { (party : ℕ) → party < 9 → IsWithin 2147483648 (gain_of call.now party) }
-    ensures reader { IsReader call.now }
+    ensures ranged { IsCashCall call.now }
 {
     match call {
-        CashCall::Post { nets, .. } => {
+        CashCall::Post {
+            good,
+            position,
+            nets,
+        } => {
+            let _numbers = (good.get(), *position);
             add_nets(totals, nets);
             CashReply::Done
         }

@@ -1,6 +1,5 @@
-ghost use Rattle.std.specs.Prelude.{◌≡◌, ◌∷◌, [], All, ◌≤◌, pos, ◌+ℤ◌, slice_index_or, slice_set, FitsSigned};
-ghost use Rattle.std.specs.Int.{w32};
-ghost use Rattle.trade_ledger.specs.Holdings.{held_after, sum_held, IsHolding};
+ghost use Rattle.std.specs.Prelude.{◌≡◌, ◌∷◌, [], ◌≤◌, pos, ◌+ℤ◌, slice_index_or, slice_set};
+ghost use Rattle.trade_ledger.specs.Holdings.{held_after, sum_held, Stays, NoneLeaves};
 
 use std::marker::Model;
 use tac_base::{Party, Trade};
@@ -30,7 +29,7 @@ fn place(party: Party) -> usize
 /// Adds units to one holding.
 fn add(holdings: &mut [i32; 9], place: usize, units: i32)
     requires place { place ≤ 8 }
-    requires fits { FitsSigned w32 (slice_index_or holdings.old place (pos 0) +ℤ units) }
+    requires stays { Stays (slice_index_or holdings.old place (pos 0)) (slice_index_or holdings.old place (pos 0) +ℤ units) }
     ensures { holdings.new ≡ slice_set holdings.old place (slice_index_or holdings.old place (pos 0) +ℤ units) }
 {
     holdings[place] += units;
@@ -46,15 +45,19 @@ impl GoodBook {
 
     /// Moves the units of a trade from its seller to its buyer. No holding may leave -1,000,000..1,000,000 by it.
     pub fn apply(&mut self, trade: &Trade)
-        requires { All IsHolding (held_after self.old (trade.now ∷ [])) }
+        requires { NoneLeaves self.old (trade.now ∷ []) }
         ensures held { self.new ≡ held_after self.old (trade.now ∷ []) }
         ensures sum { sum_held self.new ≡ sum_held self.old }
     {
         let units = i32::from(trade.units);
         let buyer = place(trade.buyer);
         let seller = place(trade.seller);
-        add(&mut self.holdings, buyer, units);
-        add(&mut self.holdings, seller, -units);
+        let holdings = &mut self.holdings;
+        if buyer == seller {
+            return;
+        }
+        add(holdings, buyer, units);
+        add(holdings, seller, -units);
     }
 
     /// How many units the party holds.

@@ -1,12 +1,6 @@
-use Rattle.std.proofs.Common.{take}
-use Rattle.std.specs.List.{AllByRecursion}
 use Rattle.log_text.proofs.InOrder.{kept_text}
-use Rattle.log_text.specs.Logged.{IsAuction}
 use Rattle.game_log.proofs.Writing.{WroteUpTo}
 use Rattle.game_log.proofs.play_part.write_auctions.Given as goal
 
 abbrev pub invariant-loop-auction : goal.invariant-loop-auction
-invariant-loop-auction g l = record {
-  wrote : WroteUpTo kept_text l.auctions l.auction-index (g.K.Sink.state l.fn.sink) (g.K.Sink.state l.sink);
-  known : AllByRecursion IsAuction (take l.auction-index l.auctions);
-}
+invariant-loop-auction g l = WroteUpTo kept_text l.auctions l.auction-index (g.K.Sink.state l.fn.sink) (g.K.Sink.state l.sink)

@@ -1,12 +1,6 @@
-use Rattle.std.proofs.Common.{take}
-use Rattle.std.specs.List.{AllByRecursion}
 use Rattle.log_text.specs.LogText.{cash_entry_line}
-use Rattle.log_text.specs.Logged.{AreEntryNumbers}
 use Rattle.game_log.proofs.Writing.{WroteUpTo}
 use Rattle.game_log.proofs.play_part.write_cash_entries.Given as goal
 
 abbrev pub invariant-loop-position : goal.invariant-loop-position
-invariant-loop-position g l = record {
-  wrote : WroteUpTo cash_entry_line l.cash l.position (g.K.Sink.state l.fn.sink) (g.K.Sink.state l.sink);
-  known : AllByRecursion AreEntryNumbers (take l.position l.cash);
-}
+invariant-loop-position g l = WroteUpTo cash_entry_line l.cash l.position (g.K.Sink.state l.fn.sink) (g.K.Sink.state l.sink)

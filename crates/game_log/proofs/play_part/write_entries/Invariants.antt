@@ -1,12 +1,6 @@
-use Rattle.std.proofs.Common.{take}
-use Rattle.std.specs.List.{AllByRecursion}
 use Rattle.log_text.specs.LogText.{entry_text}
-use Rattle.log_text.specs.Logged.{AreNumbers}
 use Rattle.game_log.proofs.Writing.{WroteUpTo}
 use Rattle.game_log.proofs.play_part.write_entries.Given as goal
 
 abbrev pub invariant-loop-position : goal.invariant-loop-position
-invariant-loop-position g l = record {
-  wrote : WroteUpTo entry_text l.auction.history l.position (g.K.Sink.state l.fn.sink) (g.K.Sink.state l.sink);
-  known : AllByRecursion AreNumbers (take l.position l.auction.history);
-}
+invariant-loop-position g l = WroteUpTo entry_text l.auction.history l.position (g.K.Sink.state l.fn.sink) (g.K.Sink.state l.sink)

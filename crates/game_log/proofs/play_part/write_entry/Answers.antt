@@ -1,6 +1,6 @@
-use Rattle.std.proofs.Common.{◌≡◌, ◌∙◌, ℕ, List, ap, sym, subst, map}
+use Rattle.std.proofs.Common.{◌≡◌, ◌∙◌, ℕ, List, ap, sym, map}
 use Rattle.std.specs.Prelude.{Some, option_map, slice_get}
-use Rattle.std.specs.List.{AllByRecursion, flat_map}
+use Rattle.std.specs.List.{flat_map}
 use Rattle.std.proofs.lemmas.Option.{same_Some, slice_get-map}
 use Rattle.tac_base.specs.declared.calls.Entry.{Entry as StoredEntry}
 use Rattle.tac_base.specs.declared.calls.Call.{Call}
@@ -9,8 +9,7 @@ use Rattle.tac_base.specs.declared.calls.Trade.{Trade}
 use Rattle.auction_rules.specs.History.{Entry}
 use Rattle.auction_core.specs.Stored.{IsShown}
 use Rattle.log_text.specs.LogText.{entry_line, trade_line}
-use Rattle.log_text.specs.Logged.{IsNumber, IsCall, IsReply, AreTradeNumbers, AreNumbers}
-use Rattle.game_log.proofs.Writing.{writes_both, fails_both, ok_weaker}
+use Rattle.game_log.proofs.Writing.{writes_both, fails_both}
 use Rattle.game_log.proofs.play_part.write_entry.Goals as goal
 
 -- the line of what is shown of an entry is the entry's
@@ -26,35 +25,15 @@ shown_trades : (history : List Entry) (position : ℕ) (e : Entry) (trades : Lis
 shown_trades history position e trades found shown =
     same_Some trades e.trades (sym shown ∙ slice_get-map (λ (x : Entry). x.trades) history position ∙ ap (option_map (λ (x : Entry). x.trades)) found)
 
-pub returns-in-Ok-clause-text : goal.returns-in-Ok-clause-text
-returns-in-Ok-clause-text g c e found =
+pub returns-in-Ok : goal.returns-in-Ok
+returns-in-Ok g c e found =
     let history = c.args.auction.now.history in
     let line = c.as_slice.ensures.value ∙ c.entry_line-line.ensures ∙ shown_line history c.args.position e c.in-Some.entry.now found c.in-Some.ensures in
     writes_both _ _ (entry_line e.caller e.call e.reply) (flat_map trade_line e.trades) _ _ _ c.write_trades.result
-    line (ap (flat_map trade_line) (shown_trades history c.args.position e c.trades_of.result.now found c.trades_of.ensures)) c.in-Ok.ensures c.write_trades.ensures.text
+    line (ap (flat_map trade_line) (shown_trades history c.args.position e c.trades_of.result.now found c.trades_of.ensures)) c.in-Ok.ensures c.write_trades.ensures
 
-pub returns-in-Err-clause-text : goal.returns-in-Err-clause-text
-returns-in-Err-clause-text g c e found =
+pub returns-in-Err : goal.returns-in-Err
+returns-in-Err g c e found =
     let history = c.args.auction.now.history in
     let line = c.as_slice.ensures.value ∙ c.entry_line-line.ensures ∙ shown_line history c.args.position e c.in-Some.entry.now found c.in-Some.ensures in
     fails_both _ (entry_line e.caller e.call e.reply) (flat_map trade_line e.trades) _ _ line c.in-Err.ensures
-
--- what is shown of an entry has the entry's numbers
-shown_numbers : (history : List Entry) (position : ℕ) (e : Entry) (shown : StoredEntry) (trades : List Trade) → slice_get history position ≡ Some e → IsShown history position (Some shown) → trades ≡ e.trades → IsNumber shown.caller → IsCall shown.call → IsReply shown.reply → AllByRecursion AreTradeNumbers trades → AreNumbers e
-shown_numbers history position e shown trades found shows are caller call reply numbers =
-    let same = same_Some shows.0 e (sym shows.1 ∙ found) in
-    record {
-      caller = subst IsNumber (shows.2.caller ∙ ap (λ (x : Entry). x.caller) same) caller;
-      call = subst IsCall (shows.2.call ∙ ap (λ (x : Entry). x.call) same) call;
-      reply = subst IsReply (shows.2.reply ∙ ap (λ (x : Entry). x.reply) same) reply;
-      trades = subst (AllByRecursion AreTradeNumbers) are numbers;
-    }
-
-pub returns-in-Ok-clause-known : goal.returns-in-Ok-clause-known
-returns-in-Ok-clause-known g c e found =
-    let history = c.args.auction.now.history in
-    let trades = c.trades_of.result.now in
-    let are = shown_trades history c.args.position e trades found c.trades_of.ensures in
-    ok_weaker c.write_trades.result (AllByRecursion AreTradeNumbers trades) (AreNumbers e)
-    (shown_numbers history c.args.position e c.in-Some.entry.now trades found c.in-Some.ensures are c.entry_known.ensures.caller c.entry_known.ensures.call c.entry_known.ensures.reply)
-    c.write_trades.ensures.known

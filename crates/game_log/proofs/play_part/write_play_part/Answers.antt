@@ -8,7 +8,7 @@ pub returns-in-Ok-clause-text : goal.returns-in-Ok-clause-text
 returns-in-Ok-clause-text g c =
     let first = first_lines (head_of c.args.head.now) in
     let histories = histories_text (histories_of c.args.closed.now) c.args.closed.now.cash in
-    writes_both _ _ first histories _ _ _ c.write_histories.result refl refl c.in-Ok.ensures c.write_histories.ensures.text
+    writes_both _ _ first histories _ _ _ c.write_histories.result refl refl c.in-Ok.ensures c.write_histories.ensures
 
 pub returns-in-Err-clause-text : goal.returns-in-Err-clause-text
 returns-in-Err-clause-text g c =

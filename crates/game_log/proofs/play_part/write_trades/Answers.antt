@@ -3,7 +3,7 @@ use Rattle.log_text.specs.LogText.{trade_line}
 use Rattle.game_log.proofs.Writing.{failed_next}
 use Rattle.game_log.proofs.play_part.write_trades.Goals as goal
 
-pub returns-in_err-write_all-clause-text : goal.returns-in_err-write_all-clause-text
-returns-in_err-write_all-clause-text g c =
+pub returns-in_err-write_all : goal.returns-in_err-write_all
+returns-in_err-write_all g c =
     failed_next trade_line c.args.trades.now c.loop-trade.trade-index c.trade-item.result _ _ _ _ c.from_residual.result
     (omega arith) (sym c.trade-item.is) (c.as_slice.ensures.value ∙ c.trade_line.ensures) c.loop-trade.invariant c.in_err-write_all.ensures c.from_residual.ensures.0

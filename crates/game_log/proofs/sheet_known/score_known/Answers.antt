@@ -1,18 +1,23 @@
-use Rattle.std.proofs.Common.{subst, sym}
-use Rattle.score_sheet.specs.Sheets.{Scored}
+use Rattle.std.proofs.Common.{ℤ, SFits, w64, rules, subst, arith}
+use Rattle.std.proofs.lemmas.Int.{ints}
 use Rattle.log_text.specs.Logged.{IsSigned}
 use Rattle.log_text.specs.LoggedSheet.{IsKnownScore}
 use Rattle.game_log.proofs.sheet_known.score_known.Goals as goal
 
-pub returns : goal.returns
-returns c =
-    let same = c.scored.view_is in let dollars = c.dollars_known.ensures in
-    subst IsKnownScore same (record {
-      best = c.number_known.ensures;
-      cash = subst (λ (s : Scored). IsSigned s.cash) (sym same) dollars.cash;
-      short = c.number_known-2.ensures;
-      score = subst (λ (s : Scored). IsSigned s.score) (sym same) dollars.score;
-      eight = c.eight_known.ensures;
-      packages = c.packages_known.ensures;
+signed_is : (z : ℤ) → SFits w64 z → IsSigned z
+signed_is z fits = search (arith, ints)
+
+pub returns-clause-known : goal.returns-clause-known
+returns-clause-known c =
+    let scored = c.scored.inside in
+    let cash : SFits w64 scored.cash = search rules in
+    let score : SFits w64 scored.score = search rules in
+    subst IsKnownScore c.scored.view_is (record {
+      best = omega (arith, c.from.ensures, c.from.type_inv);
+      cash = signed_is scored.cash cash;
+      short = omega (arith, c.from-2.ensures, c.from-2.type_inv);
+      score = signed_is scored.score score;
+      eight = c.packages_known.ensures.eight;
+      packages = c.packages_known.ensures.each;
       certificate = c.cert_known.ensures;
     })

@@ -1,9 +1,11 @@
 use Rattle.std.proofs.Common.{arith, subst}
-use Rattle.std.specs.List.{All}
+use Rattle.std.proofs.lemmas.List.{length-map}
 use Rattle.std.proofs.lemmas.List.Elements.{All-from_recursion}
+use Rattle.std.specs.List.{All}
+use Rattle.auction_rules.specs.History.{Entry}
 use Rattle.auction_core.specs.Auctions.{AuctionHistory}
-use Rattle.auction_core.specs.Loggable.{IsLoggable}
-use Rattle.auction_core.specs.Stored.{stored}
+use Rattle.auction_core.specs.Ranges.{IsEntry, IsHistory, IsToldInRange}
+use Rattle.auction_core.specs.Stored.{stored, entry_with}
 use Rattle.auction_core.proofs.Keeping.{few_stored}
 use Rattle.auction_core.proofs.auction.Auction.len.Goals as goal
 
@@ -19,5 +21,12 @@ returns-clause-few c =
 
 pub returns-clause-loggable : goal.returns-clause-loggable
 returns-clause-loggable c =
-    subst (λ (h : AuctionHistory). All (IsLoggable h.setup.good) h.history) c.self.view_is
-    (All-from_recursion (IsLoggable c.self.inside.terms.good) (stored c.self.inside.entries.items c.self.inside.trades.items) c.self.invariant.kept.loggable)
+    let a = c.self.inside in let history = stored a.entries.items a.trades.items in
+    subst (λ (h : AuctionHistory). IsHistory h.setup.good h.history) c.self.view_is
+    (record { few = omega (arith, few_stored a.terms a.book a.held a.entries.items a.trades.items c.self.invariant.kept, length-map a.entries.items (entry_with a.trades.items)); entries = All-from_recursion (IsEntry a.terms.good) history c.self.invariant.kept.loggable })
+
+pub returns-clause-told : goal.returns-clause-told
+returns-clause-told c =
+    let a = c.self.inside in
+    subst (λ (h : AuctionHistory). All (λ e. IsToldInRange e.reply) h.history) c.self.view_is
+    (All-from_recursion (λ (e : Entry). IsToldInRange e.reply) (stored a.entries.items a.trades.items) c.self.invariant.kept.told)

@@ -27,7 +27,7 @@ invariant_of-self c =
     subst (λ (h : List CashEntry). length (part (λ (x : CashEntry). x.caller) h c.args.caller) < cash_cap c.args.caller) (sym c.self.view_is) c.requires.room in
     subst (λ (h : List CashEntry). IsCashSound h c.settle-reply.new.totals (vec_capacity c.push_reserved.new.self)) (sym c.push_reserved.ensures.items)
     (subst (IsCashSound (entries.items ++ e ∷ []) c.settle-reply.new.totals) (sym c.push_reserved.ensures.capacity)
-    (sound_snoc entries.items c.self.inside.totals c.settle-reply.new.totals _ e c.self.invariant (search rules) room c.requires.fit settled.reply settled.totals settled.small settled.reader))
+    (sound_snoc entries.items c.self.inside.totals c.settle-reply.new.totals _ e c.self.invariant (search rules) room c.requires.fit settled.reply settled.totals settled.small settled.ranged))
 
 pub returns-clause-legal : goal.returns-clause-legal
 returns-clause-legal c = (invariant_of-self c).legal

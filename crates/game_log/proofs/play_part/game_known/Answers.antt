@@ -1,0 +1,13 @@
+use Rattle.std.proofs.Common.{◌∙◌, ap, sym, subst}
+use Rattle.std.specs.List.{AllByRecursion}
+use Rattle.auction_core.specs.ClosedGame.{ClosedGame}
+use Rattle.log_text.proofs.Trades.{goods_of}
+use Rattle.log_text.specs.Logged.{IsAuction, IsCash}
+use Rattle.game_log.proofs.play_part.game_known.Goals as goal
+
+pub returns : goal.returns
+returns c = record {
+  goods = sym (ap (λ (game : ClosedGame). goods_of game.auctions) c.closed.view_is) ∙ c.closed.invariant;
+  auctions = subst (AllByRecursion IsAuction) (c.as_slice.ensures.value ∙ ap (λ (game : ClosedGame). game.auctions) c.closed.view_is) c.auctions_known.ensures.shown;
+  cash = subst IsCash (ap (λ (game : ClosedGame). game.cash) c.closed.view_is) c.cash_known.ensures.shown;
+}
