@@ -1,71 +1,16 @@
 -- Each trade of a legal history is of the auction's good.
-use Rattle.std.proofs.Common.{◌≡◌, ℕ, ◌+◌, Bool, true, false, cond, List, [], ◌∷◌, length, reverse, refl, sym, subst, Option, Some, None}
-use Rattle.std.specs.Prelude.{IfSome, ◌==◌}
-use Rattle.std.specs.List.{AllByRecursion, filter_map}
-use Rattle.tac_base.specs.declared.calls.Call.{Call}
-use Rattle.tac_base.specs.declared.calls.Reply.{Reply}
-use Rattle.tac_base.specs.declared.calls.Trade.{Trade}
-use Rattle.auction_rules.specs.declared.units.Placed.{Placed}
-use Rattle.auction_rules.specs.declared.units.BidUnit.{BidUnit}
-use Rattle.tac_base.specs.Goods.{agents}
+use Rattle.std.proofs.Common.{List, [], ◌∷◌, reverse, sym, subst}
+use Rattle.std.specs.List.{AllByRecursion}
 use Rattle.auction_rules.specs.Setup.{Setup}
-use Rattle.auction_rules.specs.declared.rules.Rules.{Rules}
-use Rattle.auction_rules.specs.declared.rules.Rules.TheVariants.{Flight as FlightRules, Hotel as HotelRules, Tickets as TicketRules}
-use Rattle.auction_rules.specs.History.{Entry, is_close, last_bid}
-use Rattle.auction_rules.specs.FlightRule.{price, price_after, is_sale, looked_at, bids_looked_at, point_trades, flight_trades}
-use Rattle.auction_rules.specs.TicketMatch.{arriving, pairs, pair_trade, ticket_trades}
-use Rattle.auction_rules.specs.Standing.{stand}
-use Rattle.auction_rules.specs.WinningNumber.{winning}
-use Rattle.auction_rules.specs.HotelClosing.{closing_trade, closing_trades}
-use Rattle.auction_rules.specs.Refusals.{refusal}
-use Rattle.auction_rules.specs.Legal.{trades_by, entry_by, IsLawful, Legal}
-use Rattle.auction_rules.proofs.Lists.{all-if, all-map, all-filter_map, all_alike}
+use Rattle.auction_rules.specs.History.{Entry}
+use Rattle.auction_rules.specs.Legal.{IsLawful, Legal}
+use Rattle.auction_core.proofs.Dealing.{traded_goods}
 use Rattle.log_text.specs.Logged.{AreOf}
 use Rattle.log_text.proofs.Items.{all_reversed}
-use Rattle.auction_rules.proofs.FlightTrades.{each_point_trade, each_flight_trade}
-
--- a trade of the good
-abbrev IsOf : ℕ → Trade → Type 0
-IsOf good t = t.good ≡ good
-
-flight_goods : (good current : ℕ) (units : List BidUnit) (bids : List Placed) (end : ℕ) → AllByRecursion (IsOf good) (flight_trades good current units bids end)
-flight_goods good current units bids end =
-    each_flight_trade (IsOf good) good current units bids end
-    (all_alike (λ (bid : Placed). AllByRecursion (IsOf good) (point_trades good current units bid 0 bid.points)) bids
-    (λ bid. each_point_trade (IsOf good) good current units bid (λ from point dear some. refl) 0 bid.points))
-
-if_some : (good : ℕ) (t : Trade) (b : Bool) → IsOf good t → IfSome (cond b None (Some t)) (IsOf good)
-if_some good t true h = tt
-if_some good t false h = h
-
-closing_goods : (good rooms : ℕ) (units : List BidUnit) → AllByRecursion (IsOf good) (closing_trades good rooms units)
-closing_goods good rooms units =
-    all-filter_map (IsOf good) (closing_trade good rooms units) agents
-    (all_alike (λ agent. IfSome (closing_trade good rooms units agent) (IsOf good)) agents (λ agent. if_some good _ (winning rooms units agent == 0) refl))
-
-pair_good : (good : ℕ) (u v : BidUnit) (b : Bool) → u.buys ≡ b → IsOf good (pair_trade good (u, v))
-pair_good good u v true e = rw e refl
-pair_good good u v false e = rw e refl
-
-ticket_goods : (good : ℕ) (standing units : List BidUnit) → AllByRecursion (IsOf good) (ticket_trades good standing units)
-ticket_goods good standing units =
-    all-map (IsOf good) (pair_trade good) (pairs standing units)
-    (all_alike (λ pair. IsOf good (pair_trade good pair)) (pairs standing units) (λ pair. pair_good good pair.0 pair.1 pair.0.buys refl))
-
-goods_by : (rules : Rules) (good : ℕ) (past : List Entry) (caller : ℕ) (call : Call) → AllByRecursion (IsOf good) (trades_by rules good past caller call)
-goods_by (FlightRules first bound) good past caller call = all-if (IsOf good) (is_sale call) _ (flight_goods good (price_after bound (price first bound past) call) (looked_at (stand (FlightRules first bound) past) (length past) caller call)
-    (bids_looked_at (filter_map (λ agent. last_bid agent past) agents) (length past) caller call) (length past + 1))
-goods_by (HotelRules rooms live) good past caller call = all-if (IsOf good) (is_close call) _ (closing_goods good rooms (stand (HotelRules rooms live) past))
-goods_by TicketRules good past caller call = ticket_goods good (stand TicketRules past) (arriving (length past) caller call)
-
-entry_goods : (setup : Setup) (past : List Entry) (caller : ℕ) (call : Call) (refused : Option Reply) → AllByRecursion (IsOf setup.good) (entry_by setup past caller call refused).trades
-entry_goods setup past caller call (Some reply) = tt
-entry_goods setup past caller call None = goods_by setup.rules setup.good past caller call
 
 past_goods : (setup : Setup) (past : List Entry) → IsLawful setup past → AllByRecursion (AreOf setup.good) past
 past_goods setup [] h = tt
-past_goods setup (e ∷ past) h =
-    (subst (AreOf setup.good) (sym h.0) (entry_goods setup past e.caller e.call (refusal setup.rules past e.caller e.call)), past_goods setup past h.1)
+past_goods setup (e ∷ past) h = (subst (AreOf setup.good) (sym h.0) (traded_goods setup past e.caller e.call), past_goods setup past h.1)
 
 pub history_goods : (setup : Setup) (history : List Entry) → Legal setup history → AllByRecursion (AreOf setup.good) history
 history_goods setup history legal = all_reversed (AreOf setup.good) history (past_goods setup (reverse history) legal.lawful)

@@ -1,13 +1,13 @@
 use Rattle.std.proofs.Common.{ℕ, ◌≤◌, List, ap, ◌∙◌, length, arith}
 use Rattle.tac_base.specs.Bids.{left_fault}
-use Rattle.flight_auction.specs.declared.sales.StandingPoint.{StandingPoint}
+use Rattle.auction_rules.specs.declared.units.StandingPoint.{StandingPoint}
 use Rattle.flight_auction.specs.Book.{FlightBook, StandsFor, agents_points}
 use Rattle.flight_auction.proofs.Keeping.{book_of, owns}
 use Rattle.flight_auction.proofs.Limits.{few_points}
 use Rattle.flight_auction.proofs.book.Flight.own.Goals as goal
 
-pub agents_points-requires : goal.agents_points-requires
-agents_points-requires c =
+pub points_of-requires : goal.points_of-requires
+points_of-requires c =
     let f = c.self.inside in
     omega (arith, few_points f.bound f.price f.standing.items c.get.result c.self.invariant, ap (λ (xs : List StandingPoint). length (agents_points c.get.result xs)) c.deref.ensures.0)
 
