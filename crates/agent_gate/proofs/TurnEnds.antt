@@ -8,13 +8,12 @@ use Rattle.tac_io.specs.States.{LinkState}
 use Rattle.tac_io.specs.Known.{known_then, then_known, IsAtEnd, TakesSome}
 use Rattle.tac_io.specs.declared.line_got.LineGot.{LineGot}
 use Rattle.tac_io.specs.declared.line_got.LineGot.TheVariants as gots
-use Rattle.line_protocol.specs.declared.asking.Request.{Request}
-use Rattle.line_protocol.specs.declared.asking.RequestFault.{RequestFault}
 use Rattle.line_protocol.specs.declared.saying.Said.{Said}
 use Rattle.line_protocol.specs.declared.saying.Said.TheVariants.{Bye}
 use Rattle.line_protocol.specs.declared.admission.Cause.{Cause}
 use Rattle.line_protocol.specs.declared.admission.Cause.TheVariants as causes
 use Rattle.floor.specs.declared.desk.Desk.{Desk}
+use Rattle.agent_gate.specs.Dialects.{Dialect}
 use Rattle.agent_gate.specs.Turning.{cause_without_line, TakesNext, Says, IsTurned, HasTurn}
 
 -- the next of the lines' answers never says that the agent left, or that a write failed
@@ -25,8 +24,8 @@ ends_alone gots.End cause is = (λ e. cc, λ e. cc)
 ends_alone gots.Failed cause is = (λ e. cc, λ e. cc)
 ends_alone gots.Budget cause is = (λ e. cc, λ e. cc)
 
-module _ (T : Type 0) (may_answer : List ℕ → Result Request RequestFault → Type 0) (text : Said → List ℕ) (got : LineGot) (line : List ℕ) (before after : Desk) (link link' : LinkState) where
-  no_turn : (cause : Cause) → cause_without_line got ≡ Some cause → after ≡ before → link'.sent ≡ link.sent → IsTurned {T = T} may_answer text got line before after link link' (Err cause)
+module _ (T : Type 0) (dialect : Dialect) (got : LineGot) (line : List ℕ) (before after : Desk) (link link' : LinkState) where
+  no_turn : (cause : Cause) → cause_without_line got ≡ Some cause → after ≡ before → link'.sent ≡ link.sent → IsTurned {T = T} dialect got line before after link link' (Err cause)
   no_turn causes.Quit is same quiet = absurd ((ends_alone got causes.Quit is).0 refl)
   no_turn causes.End is same quiet = (is, same, quiet)
   no_turn causes.ReadFault is same quiet = (is, same, quiet)
@@ -43,29 +42,29 @@ answers_on old new link link' link₂ count count' got a taken left = record {
   next = subst (λ bytes. IsNext got (old.unread ++ a.more) new (IsAtEnd bytes) count') (sym left) a.next;
 }
 
-module _ {T : Type 0} (may_answer : List ℕ → Result Request RequestFault → Type 0) (text : Said → List ℕ) (old new : Held) (link link' : LinkState) (count count' : ℕ) (before after : Desk) where
+module _ {T : Type 0} (dialect : Dialect) (old new : Held) (link link' : LinkState) (count count' : ℕ) (before after : Desk) where
   -- no line came
-  pub turn_none : (result : Result T Cause) (cause : Cause) → result ≡ Err cause → TakesNext may_answer old new link link' count count' before after (Err cause) → link'.sent ≡ link.sent
-      → HasTurn may_answer text old new link link' count count' before after result
+  pub turn_none : (result : Result T Cause) (cause : Cause) → result ≡ Err cause → TakesNext dialect.may_answer old new link link' count count' before after (Err cause) → link'.sent ≡ link.sent
+      → HasTurn dialect old new link link' count count' before after result
   turn_none result cause is next quiet = record {
     got = next.got;
     answer = next.answer;
     within = next.within;
-    turned = subst (IsTurned may_answer text next.got new.line before after link link') (sym is) (no_turn T may_answer text next.got new.line before after link link' cause next.asked.0 next.asked.1 quiet);
+    turned = subst (IsTurned dialect next.got new.line before after link link') (sym is) (no_turn T dialect next.got new.line before after link link' cause next.asked.0 next.asked.1 quiet);
   }
 
   -- a line came, and its reply was sent, whole or not
-  module _ (said : Said) (new₂ : Held) (link₂ : LinkState) (count₂ : ℕ) (next : TakesNext may_answer old new link link' count count' before after (Ok said))
+  module _ (said : Said) (new₂ : Held) (link₂ : LinkState) (count₂ : ℕ) (next : TakesNext dialect.may_answer old new link link' count count' before after (Ok said))
       (e₁ : new₂ ≡ new) (e₂ : count₂ ≡ count') (read : ReadsNothing link' link₂) (quiet : link'.sent ≡ link.sent) where
-    turn_said : (result : Result T Cause) → ((got : LineGot) → Says may_answer got new.line before after said → IsTurned may_answer text got new.line before after link link₂ result)
-        → HasTurn may_answer text old new₂ link link₂ count count₂ before after result
+    turn_said : (result : Result T Cause) → ((got : LineGot) → Says dialect.may_answer got new.line before after said → IsTurned dialect got new.line before after link link₂ result)
+        → HasTurn dialect old new₂ link link₂ count count₂ before after result
     turn_said result turned =
-        subst (λ (w : Held × ℕ). HasTurn may_answer text old w.0 link link₂ count w.1 before after result) (λ i. (sym e₁ i, sym e₂ i))
+        subst (λ (w : Held × ℕ). HasTurn dialect old w.0 link link₂ count w.1 before after result) (λ i. (sym e₁ i, sym e₂ i))
         (record { got = next.got; answer = answers_on old new link link' link₂ count count' next.got next.answer read.0 read.1; within = next.within; turned = turned next.got next.asked })
 
-    pub turn_cut_off : TakesSome link'.sent link₂.sent (text said ++ 10 ∷ []) → HasTurn {T = T} may_answer text old new₂ link link₂ count count₂ before after (Err causes.WriteFault)
-    turn_cut_off some = turn_said (Err causes.WriteFault) (λ got says. (said, says, subst (λ s. TakesSome s link₂.sent (text said ++ 10 ∷ [])) quiet some))
+    pub turn_cut_off : TakesSome link'.sent link₂.sent (dialect.text said ++ 10 ∷ []) → HasTurn {T = T} dialect old new₂ link link₂ count count₂ before after (Err causes.WriteFault)
+    turn_cut_off some = turn_said (Err causes.WriteFault) (λ got says. (said, says, subst (λ s. TakesSome s link₂.sent (dialect.text said ++ 10 ∷ [])) quiet some))
 
-    pub turn_left : said ≡ Bye → link₂.sent ≡ known_then link'.sent (text said ++ 10 ∷ []) → HasTurn {T = T} may_answer text old new₂ link link₂ count count₂ before after (Err causes.Quit)
+    pub turn_left : said ≡ Bye → link₂.sent ≡ known_then link'.sent (dialect.text said ++ 10 ∷ []) → HasTurn {T = T} dialect old new₂ link link₂ count count₂ before after (Err causes.Quit)
     turn_left is whole = turn_said (Err causes.Quit)
-        (λ got says. (subst (Says may_answer got new.line before after) is says, whole ∙ ap (λ s. known_then s (text said ++ 10 ∷ [])) quiet ∙ ap (λ s. known_then link.sent (text s ++ 10 ∷ [])) is))
+        (λ got says. (subst (Says dialect.may_answer got new.line before after) is says, whole ∙ ap (λ s. known_then s (dialect.text said ++ 10 ∷ [])) quiet ∙ ap (λ s. known_then link.sent (dialect.text s ++ 10 ∷ [])) is))

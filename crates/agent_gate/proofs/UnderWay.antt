@@ -24,10 +24,12 @@ use Rattle.floor.specs.declared.desk.Desk.{Desk}
 use Rattle.floor.specs.Answers.{IsSameDesk}
 use Rattle.floor.specs.Desks.{desk_caller}
 use Rattle.game_text.specs.Games.{GameFile}
+use Rattle.agent_gate.specs.Dialects.{Dialect}
 use Rattle.agent_gate.specs.Items.{Item, Asks, Overlong, IsItem, AreItems}
 use Rattle.agent_gate.specs.Turns.{Turn, Called, CallDenied, CashRead, CashDenied, Quoted, Refused, Skipped, Left, item_of, said_of, is_leaving, has_left, AreLawful}
-use Rattle.agent_gate.specs.Served.{reply_line, session_text, IsServed, EndsBy}
-use Rattle.agent_gate.specs.Sessions.{IsSession}
+use Rattle.agent_gate.specs.Served.{Session, reply_line, IsServed}
+use Rattle.agent_gate.specs.Sessions.{IsSession, lines_of}
+use Rattle.agent_gate.proofs.WholeTexts.{session_text, EndsFor, ends_by}
 use Rattle.agent_gate.specs.Welcome.{welcome_text}
 use Rattle.agent_gate.specs.Turning.{cause_without_line, Says, HasTurn, count_whole}
 use Rattle.agent_gate.proofs.LawfulTurns.{lawful_more, has_left-more, none_lawful, zip_more}
@@ -122,14 +124,18 @@ text_more text welcome turns turn =
     ∙ ap (λ l. welcome ++ (flat_map (reply_line text) turns ++ l)) (sym (append-nil (reply_line text turn)))
     ∙ ap (λ l. welcome ++ l) (sym (flat_map-append (reply_line text) turns (turn ∷ [])))
 
-module _ (may_answer : List ℕ → Result Request RequestFault → Type 0) (text : Said → List ℕ) (game : GameFile) (old : Held) (count : ℕ) (link : LinkState) (before : Desk) where
+module _ (dialect : Dialect) (game : GameFile) (old : Held) (count : ℕ) (link : LinkState) (before : Desk) where
   -- what is sent first
   abbrev welcome : List ℕ
   welcome = welcome_text game (desk_caller before)
 
+  -- the text of each reply
+  abbrev text : Said → List ℕ
+  text = dialect.text
+
   -- the session, by what it left
   abbrev HasSession : LinkState → Desk → ℕ → Cause → Type 0
-  HasSession link' after lines cause = IsSession may_answer text game old count link link' before after lines cause
+  HasSession link' after lines cause = IsSession dialect game old count link link' before after lines cause
 
   -- turns were taken, each with a line, and their replies were sent; the agent has not left
   pub record IsUnderWay (now : Held) (count' : ℕ) (link' : LinkState) (after : Desk) (answered : ℕ) : Type 0 where
@@ -138,7 +144,7 @@ module _ (may_answer : List ℕ → Result Request RequestFault → Type 0) (tex
     pub turns : List Turn
     pub gave : GaveBytes more link link'
     pub from : (next : List ℕ) → answers_left old (more ++ next) count ≡ read ++ answers_left now next count'
-    pub items : AreItems may_answer read (map item_of turns)
+    pub items : AreItems dialect.may_answer read (map item_of turns)
     pub many : length turns ≡ answered
     pub lawful : AreLawful turns
     pub here : has_left turns ≡ false
@@ -151,7 +157,7 @@ module _ (may_answer : List ℕ → Result Request RequestFault → Type 0) (tex
     pub read : List (LineGot × List ℕ)
     pub gave : GaveBytes more link link'
     pub from : (next : List ℕ) → answers_left old (more ++ next) count ≡ read ++ answers_left now next count'
-    pub items : AreItems may_answer read (map item_of (turns ++ turn ∷ []))
+    pub items : AreItems dialect.may_answer read (map item_of (turns ++ turn ∷ []))
     pub lawful : AreLawful (turns ++ turn ∷ [])
     pub made : HasMade (turns ++ turn ∷ []) before after
 
@@ -160,8 +166,8 @@ module _ (may_answer : List ℕ → Result Request RequestFault → Type 0) (tex
     gave_on : (more : List ℕ) → GaveBytes more link' link₂ → GaveBytes (u.more ++ more) link link₂
     gave_on more gave = gave_twice link link' link₂ u.more more u.gave gave
 
-    on : (got : LineGot) (said : Said) (a : Answers now new link' link₂ count' count₂ got) → count₂ ≤ 2 ^ 26 → (s : Says may_answer got new.line after desk said) → IsSameDesk after desk → IsTurnOn new count₂ link₂ desk u.turns s.turn
-    on got said a le s same = let first = item_first now new link' link₂ count' count₂ may_answer (item_of s.turn) got a le s.asked in record {
+    on : (got : LineGot) (said : Said) (a : Answers now new link' link₂ count' count₂ got) → count₂ ≤ 2 ^ 26 → (s : Says dialect.may_answer got new.line after desk said) → IsSameDesk after desk → IsTurnOn new count₂ link₂ desk u.turns s.turn
+    on got said a le s same = let first = item_first now new link' link₂ count' count₂ dialect.may_answer (item_of s.turn) got a le s.asked in record {
       more = u.more ++ a.more;
       read = u.read ++ first.0 ∷ [];
       gave = gave_on a.more a.gave;
@@ -170,7 +176,7 @@ module _ (may_answer : List ℕ → Result Request RequestFault → Type 0) (tex
           ∙ u.from (a.more ++ next)
           ∙ ap (λ l. u.read ++ l) (first.2 next)
           ∙ sym (append_assoc u.read (first.0 ∷ []) (answers_left new next count₂));
-      items = zip_more (IsItem may_answer) item_of u.read u.turns first.0 s.turn u.items first.1;
+      items = zip_more (IsItem dialect.may_answer) item_of u.read u.turns first.0 s.turn u.items first.1;
       lawful = lawful_more u.turns s.turn u.lawful (due_lawful u.turns s.turn before after u.made s.made.due) u.here;
       made = made_more u.turns s.turn before after desk u.made s.made same;
     }
@@ -183,7 +189,7 @@ module _ (may_answer : List ℕ → Result Request RequestFault → Type 0) (tex
         ∙ known_then-twice link.sent (session_text text welcome u.turns) (reply_line text turn)
         ∙ ap (known_then link.sent) (text_more text welcome u.turns turn)
 
-    pub goes_on : {T : Type 0} (value : T) (t : HasTurn may_answer text now new link' link₂ count' count₂ after desk (Ok value)) → IsSameDesk after desk → IsUnderWay new count₂ link₂ desk (answered + 1)
+    pub goes_on : {T : Type 0} (value : T) (t : HasTurn dialect now new link' link₂ count' count₂ after desk (Ok value)) → IsSameDesk after desk → IsUnderWay new count₂ link₂ desk (answered + 1)
     goes_on value t same = let s = t.turned.1 in let o = on t.got t.turned.0 t.answer t.within s same in record {
       more = o.more;
       read = o.read;
@@ -201,35 +207,41 @@ module _ (may_answer : List ℕ → Result Request RequestFault → Type 0) (tex
     few_on : (turn : Turn) → answered < 65536 → length (u.turns ++ turn ∷ []) ≤ 65536
     few_on turn lt = omega (arith, length-append u.turns (turn ∷ []), u.many)
 
-    session_of : (more : List ℕ) → GaveBytes more link link₂ → (turns : List Turn) (lines : ℕ) (cause : Cause)
-        → IsServed may_answer text welcome (answers_left old more count) link link₂ turns lines cause → HasMade turns before desk → HasSession link₂ desk lines cause
-    session_of more gave turns lines cause served made = record { more = more; gave = gave; turns = turns; served = served; desk = all_made turns before desk made }
+    -- the session of these turns, as it is left
+    abbrev session_with : List Turn → List (LineGot × List ℕ) → Session
+    session_with turns rest = record { welcome = welcome; turns = turns; rest = rest; before = link; after = link₂ }
 
-    with_turn : (got : LineGot) (said : Said) (a : Answers now new link' link₂ count' count₂ got) → count₂ ≤ 2 ^ 26 → (s : Says may_answer got new.line after desk said) → IsSameDesk after desk → answered < 65536
-        → (lines : ℕ) (cause : Cause) → ((rest : List (LineGot × List ℕ)) → EndsBy cause text welcome (u.turns ++ s.turn ∷ []) rest link link₂ lines) → HasSession link₂ desk lines cause
+    session_of : (more : List ℕ) → GaveBytes more link link₂ → (turns : List Turn) (rest : List (LineGot × List ℕ)) (lines : ℕ) (cause : Cause)
+        → IsServed dialect (answers_left old more count) (session_with turns rest) cause → lines ≡ lines_of cause turns → HasMade turns before desk → HasSession link₂ desk lines cause
+    session_of more gave turns rest lines cause served counted made =
+        record { more = more; gave = gave; turns = turns; rest = rest; served = served; counted = counted; desk = all_made turns before desk made }
+
+    with_turn : (got : LineGot) (said : Said) (a : Answers now new link' link₂ count' count₂ got) → count₂ ≤ 2 ^ 26 → (s : Says dialect.may_answer got new.line after desk said) → IsSameDesk after desk → answered < 65536
+        → (lines : ℕ) (cause : Cause) → ((rest : List (LineGot × List ℕ)) → EndsFor cause text welcome (u.turns ++ s.turn ∷ []) rest link link₂ lines) → HasSession link₂ desk lines cause
     with_turn got said a le s same lt lines cause end = let o = on got said a le s same in
-        session_of o.more o.gave (u.turns ++ s.turn ∷ []) lines cause (record {
+        let turns = u.turns ++ s.turn ∷ [] in let rest = answers_left new [] count₂ in
+        let ended = ends_by text (session_with turns rest) cause lines (end rest) in
+        session_of o.more o.gave turns rest lines cause (record {
           read = o.read;
-          rest = answers_left new [] count₂;
           from = ap (λ l. answers_left old l count) (sym (append-nil o.more)) ∙ o.from [];
           items = o.items;
           few = few_on s.turn lt;
           lawful = o.lawful;
-          end = end (answers_left new [] count₂);
-        }) o.made
+          end = ended.0;
+        }) ended.1 o.made
 
     without_turn : (got : LineGot) (a : Answers now new link' link₂ count' count₂ got) → desk ≡ after → answered < 65536 → (rest : List (LineGot × List ℕ)) → answers_left now a.more count' ≡ rest
-        → (cause : Cause) → EndsBy cause text welcome u.turns rest link link₂ answered → HasSession link₂ desk answered cause
+        → (cause : Cause) → EndsFor cause text welcome u.turns rest link link₂ answered → HasSession link₂ desk answered cause
     without_turn got a same lt rest is cause end =
-        session_of (u.more ++ a.more) (gave_on a.more a.gave) u.turns answered cause (record {
+        let ended = ends_by text (session_with u.turns rest) cause answered end in
+        session_of (u.more ++ a.more) (gave_on a.more a.gave) u.turns rest answered cause (record {
           read = u.read;
-          rest = rest;
           from = u.from a.more ∙ ap (λ l. u.read ++ l) is;
           items = u.items;
           few = omega (arith, u.many, lt);
           lawful = u.lawful;
-          end = end;
-        }) (subst (HasMade u.turns before) (sym same) u.made)
+          end = ended.0;
+        }) ended.1 (subst (HasMade u.turns before) (sym same) u.made)
 
     still_whole : link₂.sent ≡ link'.sent → (link₂.sent ≡ known_then link.sent (session_text text welcome u.turns)) × (answered ≡ length u.turns)
     still_whole quiet = (quiet ∙ u.sent_is, sym u.many)
@@ -237,7 +249,7 @@ module _ (may_answer : List ℕ → Result Request RequestFault → Type 0) (tex
     few_turns : answered < 65536 → length u.turns < 65536
     few_turns lt = omega (arith, u.many, lt)
 
-    pub ends : {T : Type 0} (cause : Cause) (t : HasTurn {T = T} may_answer text now new link' link₂ count' count₂ after desk (Err cause)) → IsSameDesk after desk → answered < 65536
+    pub ends : {T : Type 0} (cause : Cause) (t : HasTurn {T = T} dialect now new link' link₂ count' count₂ after desk (Err cause)) → IsSameDesk after desk → answered < 65536
         → HasSession link₂ desk (count_whole answered cause) cause
     ends causes.Quit t same lt = let s = t.turned.0 in
         with_turn t.got Bye t.answer t.within s same lt (answered + 1) causes.Quit
@@ -260,15 +272,17 @@ module _ (may_answer : List ℕ → Result Request RequestFault → Type 0) (tex
     more = u.more;
     gave = u.gave;
     turns = u.turns;
+    rest = answers_left now [] count';
     served = record {
       read = u.read;
-      rest = answers_left now [] count';
       from = ap (λ l. answers_left old l count) (sym (append-nil u.more)) ∙ u.from [];
       items = u.items;
       few = omega (arith, u.many, full);
       lawful = u.lawful;
-      end = (u.here, inl (u.many ∙ full), (u.sent_is, sym u.many));
+      end = (inl (u.here, u.many ∙ full), (ends_by text (record { welcome = welcome; turns = u.turns; rest = answers_left now [] count'; before = link; after = link' }) causes.Budget answered
+          (u.here, inl (u.many ∙ full), (u.sent_is, sym u.many))).0.1);
     };
+    counted = sym u.many;
     desk = all_made u.turns before after u.made;
   }
 
@@ -278,15 +292,16 @@ module _ (may_answer : List ℕ → Result Request RequestFault → Type 0) (tex
     more = [];
     gave = gave;
     turns = [];
+    rest = answers_left old [] count;
     served = record {
       read = [];
-      rest = answers_left old [] count;
       from = refl;
       items = tt;
       few = omega arith;
       lawful = none_lawful;
-      end = inl (refl, some, refl);
+      end = (ends_by text (record { welcome = welcome; turns = []; rest = answers_left old [] count; before = link; after = link' }) causes.WriteFault 0 (inl (refl, some, refl))).0;
     };
+    counted = refl;
     desk = all_made [] before before made;
   }
 

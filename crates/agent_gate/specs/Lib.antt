@@ -1,6 +1,7 @@
 pub mod Gates
 pub mod Items
 pub mod Turns
+pub mod Dialects
 pub mod Served
 pub mod Sessions
 pub mod Transcript

@@ -1,49 +1,65 @@
 -- How a link's lines are answered, and why its session ends.
-use Rattle.std.specs.Prelude.{◌≡◌, ℕ, ◌<◌, ◌≤◌, ◌⊎◌, List, [], ◌∷◌, ◌++◌, true, false, Result, length, map}
-use Rattle.std.specs.List.{flat_map}
+use Rattle.std.specs.Prelude.{◌≡◌, ℕ, ◌<◌, ◌≤◌, ◌⊎◌, List, [], ◌∷◌, ◌++◌, true, false, length, map}
+use Rattle.std.specs.List.{concat}
 use Rattle.tac_base.specs.declared.limits.TheConstants.{SESSION_LINES}
 use Rattle.tac_io.specs.Counts.{Rose}
 use Rattle.tac_io.specs.States.{LinkState}
 use Rattle.tac_io.specs.Known.{known_then, IsAtEnd, TakesSome}
 use Rattle.tac_io.specs.declared.line_got.LineGot.{LineGot}
 use Rattle.tac_io.specs.declared.line_got.LineGot.TheVariants as gots
-use Rattle.line_protocol.specs.declared.asking.Request.{Request}
-use Rattle.line_protocol.specs.declared.asking.RequestFault.{RequestFault}
 use Rattle.line_protocol.specs.declared.saying.Said.{Said}
 use Rattle.line_protocol.specs.declared.admission.Cause.{Cause}
 use Rattle.line_protocol.specs.declared.admission.Cause.TheVariants as causes
+use Rattle.agent_gate.specs.Dialects.{Dialect}
 use Rattle.agent_gate.specs.Items.{AreItems}
 use Rattle.agent_gate.specs.Turns.{Turn, item_of, said_of, has_left, AreLawful}
+
+-- A session: what its link is sent first, its turns, what the link's bytes give after the lines of the turns, and the link before and after.
+pub record Session : Type 0 where
+  pub welcome : List ℕ
+  pub turns : List Turn
+  pub rest : List (LineGot × List ℕ)
+  pub before : LinkState
+  pub after : LinkState
+
+-- ---- what is sent
 
 -- the line of a reply, with its end
 abbrev pub reply_line : (Said → List ℕ) → Turn → List ℕ
 reply_line text turn = text (said_of turn) ++ 10 ∷ []
 
--- what is sent in a session of these turns
-abbrev pub session_text : (Said → List ℕ) → List ℕ → List Turn → List ℕ
-session_text text welcome turns = welcome ++ flat_map (reply_line text) turns
+-- what the session has to send, piece by piece: the welcome, and a line for each turn
+abbrev pub pieces_of : (Said → List ℕ) → Session → List (List ℕ)
+pieces_of text session = session.welcome ∷ map (reply_line text) session.turns
 
--- the session's text was sent whole, and each turn's line is counted
-abbrev pub IsWhole : (Said → List ℕ) → List ℕ → List Turn → LinkState → LinkState → ℕ → Type 0
-IsWhole text welcome turns before after lines = (after.sent ≡ known_then before.sent (session_text text welcome turns)) × (lines ≡ length turns)
+-- all of it was sent
+abbrev pub SendsAll : (Said → List ℕ) → Session → Type 0
+SendsAll text session = session.after.sent ≡ known_then session.before.sent (concat (pieces_of text session))
 
--- A write failed: in the welcome, so nothing was asked; or in the line of the last turn.
-abbrev pub IsCutOff : (Said → List ℕ) → List ℕ → List Turn → LinkState → LinkState → ℕ → Type 0
-IsCutOff text welcome turns before after lines =
-    ((turns ≡ []) × TakesSome before.sent after.sent welcome × (lines ≡ 0))
-    ⊎ ((answered : List Turn) × (last : Turn) × (turns ≡ answered ++ last ∷ [])
-    × TakesSome (known_then before.sent (session_text text welcome answered)) after.sent (reply_line text last) × (lines ≡ length answered))
+-- a write of the last piece failed: those before it were sent whole, and of the last one the first bytes at most
+pub record IsCutOff (text : Said → List ℕ) (session : Session) : Type 0 where
+  pub whole : List (List ℕ)
+  pub last : List ℕ
+  pub pieces : pieces_of text session ≡ whole ++ last ∷ []
+  pub cut : TakesSome (known_then session.before.sent (concat whole)) session.after.sent last
 
--- The causes of a session's end. `rest` is the next answer that the link's bytes give after the lines of the turns.
-abbrev pub EndsBy : Cause → (Said → List ℕ) → List ℕ → List Turn → List (LineGot × List ℕ) → LinkState → LinkState → ℕ → Type 0
-EndsBy causes.Quit text welcome turns rest before after lines = (has_left turns ≡ true) × IsWhole text welcome turns before after lines
-EndsBy causes.End text welcome turns rest before after lines =
-    (has_left turns ≡ false) × (length turns < SESSION_LINES) × (rest ≡ (gots.End, []) ∷ []) × IsAtEnd after.left × IsWhole text welcome turns before after lines
-EndsBy causes.ReadFault text welcome turns rest before after lines =
-    (has_left turns ≡ false) × (length turns < SESSION_LINES) × (rest ≡ (gots.End, []) ∷ []) × IsWhole text welcome turns before after lines
-EndsBy causes.WriteFault text welcome turns rest before after lines = IsCutOff text welcome turns before after lines
-EndsBy causes.Budget text welcome turns rest before after lines =
-    (has_left turns ≡ false) × ((length turns ≡ SESSION_LINES) ⊎ ((length turns < SESSION_LINES) × (rest ≡ (gots.Budget, []) ∷ []))) × IsWhole text welcome turns before after lines
+-- ---- why it ends
+
+-- the agent has not left, more turns might follow, and the link's bytes give this in place of another line
+abbrev pub ComesTo : LineGot → Session → Type 0
+ComesTo got session = (has_left session.turns ≡ false) × (length session.turns < SESSION_LINES) × (session.rest ≡ (got, []) ∷ [])
+
+-- the agent has not left, and no more turns may follow
+abbrev pub IsUsedUp : Session → Type 0
+IsUsedUp session = (has_left session.turns ≡ false) × (length session.turns ≡ SESSION_LINES)
+
+-- the causes of a session's end
+abbrev pub EndsBy : Cause → (Said → List ℕ) → Session → Type 0
+EndsBy causes.Quit text session = (has_left session.turns ≡ true) × SendsAll text session
+EndsBy causes.End text session = ComesTo gots.End session × IsAtEnd session.after.left × SendsAll text session
+EndsBy causes.ReadFault text session = ComesTo gots.End session × SendsAll text session
+EndsBy causes.WriteFault text session = IsCutOff text session
+EndsBy causes.Budget text session = (IsUsedUp session ⊎ ComesTo gots.Budget session) × SendsAll text session
 
 -- a session ends for a read fault exactly if the count of faults of the link's reads rose, and likewise for writes
 abbrev pub HasSessionCause : LinkState → LinkState → Cause → Type 0
@@ -53,12 +69,10 @@ HasSessionCause before after cause = (after.reads ≡ before.reads) × (after.wr
 
 -- The turns of a session are what its bytes ask, each answered. `answers` is what the bytes taken give, line by line, after
 -- the lines that were read before the session.
-pub record IsServed (may_answer : List ℕ → Result Request RequestFault → Type 0) (text : Said → List ℕ) (welcome : List ℕ)
-    (answers : List (LineGot × List ℕ)) (before after : LinkState) (turns : List Turn) (lines : ℕ) (cause : Cause) : Type 0 where
+pub record IsServed (dialect : Dialect) (answers : List (LineGot × List ℕ)) (session : Session) (cause : Cause) : Type 0 where
   pub read : List (LineGot × List ℕ)
-  pub rest : List (LineGot × List ℕ)
-  pub from : answers ≡ read ++ rest
-  pub items : AreItems may_answer read (map item_of turns)
-  pub few : length turns ≤ SESSION_LINES
-  pub lawful : AreLawful turns
-  pub end : EndsBy cause text welcome turns rest before after lines
+  pub from : answers ≡ read ++ session.rest
+  pub items : AreItems dialect.may_answer read (map item_of session.turns)
+  pub few : length session.turns ≤ SESSION_LINES
+  pub lawful : AreLawful session.turns
+  pub end : EndsBy cause dialect.text session

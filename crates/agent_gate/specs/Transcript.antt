@@ -5,13 +5,12 @@ use Rattle.turn_lock.specs.Part.{part}
 use Rattle.turn_lock.specs.Notes.{AreNotes}
 use Rattle.auction_core.specs.ClosedGame.{ClosedGame, all_goods}
 use Rattle.floor.specs.ClosedBoards.{board_of}
-use Rattle.agent_gate.specs.Turns.{Turn, made_at, cash_made, boards_shown, AreLawful}
+use Rattle.agent_gate.specs.Turns.{Turn, made_at, cash_made, boards_shown}
 
 -- At each good the agent's part of the history is what its turns made, by position, call and reply. Its part of the cash history is, in
 -- the order of the turns, a post for each turn with trades and a reading for each that was answered. Each board that was shown is that of
 -- the prefix of the length that it states.
 pub record IsTranscript (agent : ℕ) (closed : ClosedGame) (turns : List Turn) : Type 0 where
-  pub lawful : AreLawful turns
   pub calls : map (λ auction. part (λ e. e.caller) auction.history agent) closed.auctions ≡ map (λ good. made_at good turns) all_goods
   pub cash : part (λ e. e.caller) closed.cash agent ≡ cash_made agent turns
   pub boards : AllZip (λ auction good. AreNotes (board_of auction) auction.history (length auction.history) (boards_shown good turns)) closed.auctions all_goods

@@ -14,6 +14,7 @@ use Rattle.line_protocol.specs.declared.saying.Said.TheVariants.{Bye}
 use Rattle.line_protocol.specs.declared.admission.Cause.{Cause}
 use Rattle.line_protocol.specs.declared.admission.Cause.TheVariants as causes
 use Rattle.floor.specs.declared.desk.Desk.{Desk}
+use Rattle.agent_gate.specs.Dialects.{Dialect}
 use Rattle.agent_gate.specs.Items.{IsItem}
 use Rattle.agent_gate.specs.Answering.{TakesTurn}
 use Rattle.agent_gate.specs.Served.{HasSessionCause}
@@ -44,23 +45,21 @@ pub record TakesNext (may_answer : List ℕ → Result Request RequestFault → 
   pub asked : IsNextAnswered may_answer got held'.line before after result
 
 -- The result of a turn: its reply was sent whole, and it was `bye` if the agent left; or it was not sent whole; or no line came.
-abbrev pub IsTurned : {T : Type 0} → (List ℕ → Result Request RequestFault → Type 0) → (Said → List ℕ) → LineGot → List ℕ → Desk → Desk
-    → LinkState → LinkState → Result T Cause → Type 0
-IsTurned may_answer text got line before after link link' (Ok _) =
-    (said : Said) × Says may_answer got line before after said × (said ≢ Bye) × (link'.sent ≡ known_then link.sent (text said ++ 10 ∷ []))
-IsTurned may_answer text got line before after link link' (Err causes.Quit) =
-    Says may_answer got line before after Bye × (link'.sent ≡ known_then link.sent (text Bye ++ 10 ∷ []))
-IsTurned may_answer text got line before after link link' (Err causes.WriteFault) =
-    (said : Said) × Says may_answer got line before after said × TakesSome link.sent link'.sent (text said ++ 10 ∷ [])
-IsTurned may_answer text got line before after link link' (Err cause) = (cause_without_line got ≡ Some cause) × (after ≡ before) × (link'.sent ≡ link.sent)
+abbrev pub IsTurned : {T : Type 0} → Dialect → LineGot → List ℕ → Desk → Desk → LinkState → LinkState → Result T Cause → Type 0
+IsTurned dialect got line before after link link' (Ok _) =
+    (said : Said) × Says dialect.may_answer got line before after said × (said ≢ Bye) × (link'.sent ≡ known_then link.sent (dialect.text said ++ 10 ∷ []))
+IsTurned dialect got line before after link link' (Err causes.Quit) =
+    Says dialect.may_answer got line before after Bye × (link'.sent ≡ known_then link.sent (dialect.text Bye ++ 10 ∷ []))
+IsTurned dialect got line before after link link' (Err causes.WriteFault) =
+    (said : Said) × Says dialect.may_answer got line before after said × TakesSome link.sent link'.sent (dialect.text said ++ 10 ∷ [])
+IsTurned dialect got line before after link link' (Err cause) = (cause_without_line got ≡ Some cause) × (after ≡ before) × (link'.sent ≡ link.sent)
 
 -- A turn was taken, from the next answer of the link's lines to the sending of the reply.
-pub record HasTurn {T : Type 0} (may_answer : List ℕ → Result Request RequestFault → Type 0) (text : Said → List ℕ) (held held' : Held)
-    (link link' : LinkState) (count count' : ℕ) (before after : Desk) (result : Result T Cause) : Type 0 where
+pub record HasTurn {T : Type 0} (dialect : Dialect) (held held' : Held) (link link' : LinkState) (count count' : ℕ) (before after : Desk) (result : Result T Cause) : Type 0 where
   pub got : LineGot
   pub answer : Answers held held' link link' count count' got
   pub within : count' ≤ LINK_BYTES
-  pub turned : IsTurned may_answer text got held'.line before after link link' result
+  pub turned : IsTurned dialect got held'.line before after link link' result
 
 -- a turn changes a count of faults only if it ends the session for that fault
 abbrev pub HasTurnCause : {T : Type 0} → LinkState → LinkState → Result T Cause → Type 0

@@ -59,9 +59,7 @@ abbrev pub asked_call : Request → Option (ℕ × Call)
 asked_call (requests.Bid good points) = Some (good, calls.Bid points)
 asked_call (requests.Withdraw good) = Some (good, calls.Withdraw)
 asked_call (requests.Own good) = Some (good, calls.Own)
-asked_call (requests.Quote good) = None
-asked_call requests.Cash = None
-asked_call requests.Quit = None
+asked_call request = None
 
 -- ---- what turns leave
 

@@ -4,6 +4,7 @@ ghost use Rattle.floor.specs.Desks.{desk_ids, desk_caller, desk_entries, desk_ca
 ghost use Rattle.floor.specs.Floors.{floor_ids};
 ghost use Rattle.tac_io.specs.LineAnswers.{goes_on};
 ghost use Rattle.tac_io.specs.Lines.{count_of, held_of, last_of, link_of};
+ghost use Rattle.agent_gate.specs.Dialects.{dialect_of};
 ghost use Rattle.agent_gate.specs.Served.{HasSessionCause};
 ghost use Rattle.agent_gate.specs.Sessions.{IsSession};
 ghost use Rattle.agent_gate.specs.Turning.{count_whole};
@@ -55,7 +56,7 @@ pub fn run_session<R: Wait + Clock, L: Link, D: Dialect>(
     requires agent { desk_caller desk < 8 }
     requires no_calls { (desk_entries desk ≡ replicate 28 []) × (desk_cash desk ≡ []) }
     requires goes_on { goes_on (last_of lines) ≡ true }
-    ensures session { IsSession (D.may_answer dialect.now) (D.text dialect.now) game.now (held_of lines) (count_of lines)
+    ensures session { IsSession (dialect_of (D.may_answer dialect.now) (D.text dialect.now)) game.now (held_of lines) (count_of lines)
         (L.state (link_of lines)) (L.state result.link) desk result.desk result.lines result.cause }
     ensures cause { HasSessionCause (L.state (link_of lines)) (L.state result.link) result.cause }
 {

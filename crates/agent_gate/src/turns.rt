@@ -6,6 +6,7 @@ ghost use Rattle.floor.specs.Floors.{floor_ids};
 ghost use Rattle.tac_io.specs.LineAnswers.{goes_on};
 ghost use Rattle.tac_io.specs.Lines.{KeepsPlace, count_of, held_of, last_of, link_of};
 ghost use Rattle.tac_io.specs.LinkCalls.{OnlySends};
+ghost use Rattle.agent_gate.specs.Dialects.{dialect_of};
 ghost use Rattle.agent_gate.specs.Turning.{TakesNext, HasTurn, HasTurnCause};
 
 use crate::answering::answer_line;
@@ -66,7 +67,7 @@ pub(crate) fn turn<R: Wait + Clock, L: Link, D: Dialect>(
     requires own { desk_ids desk.old ≡ floor_ids floor.now }
     requires agent { desk_caller desk.old < 8 }
     requires goes_on { goes_on (last_of lines.old) ≡ true }
-    ensures turn { HasTurn (D.may_answer dialect.now) (D.text dialect.now) (held_of lines.old) (held_of lines.new)
+    ensures turn { HasTurn (dialect_of (D.may_answer dialect.now) (D.text dialect.now)) (held_of lines.old) (held_of lines.new)
         (L.state (link_of lines.old)) (L.state (link_of lines.new)) (count_of lines.old) (count_of lines.new) desk.old desk.new result }
     ensures same { IsSameDesk desk.old desk.new }
     ensures goes_on { OnOk result (goes_on (last_of lines.new) ≡ true) }

@@ -1,19 +1,20 @@
 -- Each trade of a call is of the auction's good, and between two of the nine parties.
-use Rattle.std.proofs.Common.{◌≡◌, ℕ, ◌+◌, ◌≤◌, Bool, true, false, cond, List, [], ◌∷◌, length, refl, Option, Some, None}
+use Rattle.std.proofs.Common.{◌≡◌, ℕ, ◌≤◌, Bool, true, false, cond, List, [], ◌∷◌, length, refl, Option, Some, None}
 use Rattle.std.specs.Prelude.{IfSome, ◌==◌}
-use Rattle.std.specs.List.{All, AllByRecursion, filter_map}
+use Rattle.std.specs.List.{All, AllByRecursion}
 use Rattle.std.proofs.lemmas.List.Elements.{All-from_recursion}
 use Rattle.tac_base.specs.declared.calls.Call.{Call}
 use Rattle.tac_base.specs.declared.calls.Reply.{Reply}
 use Rattle.tac_base.specs.declared.calls.Trade.{Trade}
-use Rattle.auction_rules.specs.declared.units.Placed.{Placed}
+use Rattle.auction_rules.specs.declared.units.StandingPoint.{StandingPoint}
 use Rattle.auction_rules.specs.declared.units.BidUnit.{BidUnit}
 use Rattle.tac_base.specs.Goods.{agents, house}
 use Rattle.auction_rules.specs.Setup.{Setup}
 use Rattle.auction_rules.specs.declared.rules.Rules.{Rules}
 use Rattle.auction_rules.specs.declared.rules.Rules.TheVariants.{Flight as FlightRules, Hotel as HotelRules, Tickets as TicketRules}
-use Rattle.auction_rules.specs.History.{Entry, is_close, last_bid}
-use Rattle.auction_rules.specs.FlightRule.{price, price_after, is_sale, looked_at, bids_looked_at, point_trades, flight_trades}
+use Rattle.auction_rules.specs.History.{Entry, is_close}
+use Rattle.auction_rules.specs.FlightRule.{price, price_after, is_sale}
+use Rattle.auction_rules.specs.FlightSales.{standing_points, points_looked_at, flight_trades}
 use Rattle.auction_rules.specs.TicketMatch.{arriving, pairs, pair_trade, ticket_trades}
 use Rattle.auction_rules.specs.Standing.{stand}
 use Rattle.auction_rules.specs.WinningNumber.{winning}
@@ -21,7 +22,7 @@ use Rattle.auction_rules.specs.HotelClosing.{closing_trade, closing_trades}
 use Rattle.auction_rules.specs.Refusals.{refusal}
 use Rattle.auction_rules.specs.Legal.{trades_by, entry_by, trades_of}
 use Rattle.auction_rules.proofs.Lists.{all-if, all-map, all-filter_map, all_alike}
-use Rattle.auction_rules.proofs.FlightTrades.{each_point_trade, each_flight_trade}
+use Rattle.auction_rules.proofs.FlightTrades.{each_flight_trade}
 use Rattle.auction_rules.proofs.SelfTrades.{parties_within}
 
 -- a trade of the good, between two of the nine parties
@@ -31,14 +32,11 @@ pub record IsDealt (good : ℕ) (t : Trade) : Type 0 where
   pub seller : t.seller ≤ house
 
 -- a trade of the good
-abbrev IsOf : ℕ → Trade → Type 0
+abbrev pub IsOf : ℕ → Trade → Type 0
 IsOf good t = t.good ≡ good
 
-flight_goods : (good current : ℕ) (units : List BidUnit) (bids : List Placed) (end : ℕ) → AllByRecursion (IsOf good) (flight_trades good current units bids end)
-flight_goods good current units bids end =
-    each_flight_trade (IsOf good) good current units bids end
-    (all_alike (λ (bid : Placed). AllByRecursion (IsOf good) (point_trades good current units bid 0 bid.points)) bids
-    (λ bid. each_point_trade (IsOf good) good current units bid (λ from point dear some. refl) 0 bid.points))
+flight_goods : (good current : ℕ) (points : List StandingPoint) → AllByRecursion (IsOf good) (flight_trades good current points)
+flight_goods good current points = each_flight_trade (IsOf good) good current points (all_alike _ points (λ point. refl))
 
 if_some : (good : ℕ) (t : Trade) (b : Bool) → IsOf good t → IfSome (cond b None (Some t)) (IsOf good)
 if_some good t true h = tt
@@ -59,12 +57,12 @@ ticket_goods good standing units =
     (all_alike (λ pair. IsOf good (pair_trade good pair)) (pairs standing units) (λ pair. pair_good good pair.0 pair.1 pair.0.buys refl))
 
 goods_by : (rules : Rules) (good : ℕ) (past : List Entry) (caller : ℕ) (call : Call) → AllByRecursion (IsOf good) (trades_by rules good past caller call)
-goods_by (FlightRules first bound) good past caller call = all-if (IsOf good) (is_sale call) _ (flight_goods good (price_after bound (price first bound past) call) (looked_at (stand (FlightRules first bound) past) (length past) caller call)
-    (bids_looked_at (filter_map (λ agent. last_bid agent past) agents) (length past) caller call) (length past + 1))
+goods_by (FlightRules first bound) good past caller call =
+    all-if (IsOf good) (is_sale call) _ (flight_goods good (price_after bound (price first bound past) call) (points_looked_at (standing_points (FlightRules first bound) past) caller call))
 goods_by (HotelRules rooms live) good past caller call = all-if (IsOf good) (is_close call) _ (closing_goods good rooms (stand (HotelRules rooms live) past))
 goods_by TicketRules good past caller call = ticket_goods good (stand TicketRules past) (arriving (length past) caller call)
 
-traded_goods : (setup : Setup) (past : List Entry) (caller : ℕ) (call : Call) → AllByRecursion (IsOf setup.good) (trades_of setup past caller call)
+pub traded_goods : (setup : Setup) (past : List Entry) (caller : ℕ) (call : Call) → AllByRecursion (IsOf setup.good) (trades_of setup past caller call)
 traded_goods setup past caller call = by_refusal (refusal setup.rules past caller call)
   where
     by_refusal : (refused : Option Reply) → AllByRecursion (IsOf setup.good) (entry_by setup past caller call refused).trades

@@ -1,7 +1,7 @@
 -- Flights: no agent buys more units at a price or more than units looked at bid so much.
 use Rattle.std.proofs.Common.{◌≡◌, ℕ, zero, suc, ◌+◌, ◌≤◌, Bool, true, false, cond, List, [], ◌∷◌, length, refl, sym, ap, ◌∙◌, arith, Option, Some, None}
 use Rattle.std.specs.Prelude.{not, ◌&&◌, ◌==◌, nat_lt, nat_le, filter, sum_by, count_by}
-use Rattle.std.specs.List.{cons_option, filter_map, flat_map}
+use Rattle.std.specs.List.{AllByRecursion, cons_option, filter_map, flat_map}
 use Rattle.std.proofs.lemmas.Bool.{and_parts}
 use Rattle.std.proofs.lemmas.Bool.Decides.{nat_tests}
 use Rattle.std.proofs.lemmas.List.Sums.{sum_by-cons, sum_by-append, sum_by_push, sum_by-le-sum_by}
@@ -15,13 +15,12 @@ use Rattle.auction_rules.specs.declared.units.BidUnit.{BidUnit}
 use Rattle.tac_base.specs.Goods.{agents, house}
 use Rattle.auction_rules.specs.Units.{point_units, common_units}
 use Rattle.auction_rules.specs.History.{Entry, last_bid}
-use Rattle.auction_rules.specs.FlightRule.{bids_looked_at, point_trades, positions_below, flight_trades}
 use Rattle.auction_rules.proofs.Ranks.{count-cons, count_le}
 use Rattle.auction_rules.proofs.Counts.{count-filter, none_pass}
 use Rattle.auction_rules.proofs.Trading.{sum_by-filter-le}
 use Rattle.auction_rules.proofs.Standing.{IsBidOf, last_is}
 use Rattle.auction_rules.proofs.HotelUnits.{each_in}
-use Rattle.auction_rules.proofs.FlightTrades.{each_point_trade}
+use Rattle.flight_auction.proofs.UnitTrades.{bids_looked_at, point_trades, positions_below, unit_trades}
 use Rattle.auction_core.specs.Laws.{bought_at, bid_at}
 use Rattle.auction_core.proofs.Bought.{sum-filter, sum-flat_map, sum_nothing, counted_once, count_two, is_within, block_found, paid, bought_is}
 use Rattle.auction_core.proofs.Buying.{AllBuy}
@@ -175,11 +174,24 @@ module _ (good current : ℕ) (units : List BidUnit) (agent price : ℕ) (bid : 
   -- another agent buys nothing by the bid
   other_bid : is_bid_of agent bid ≡ false → point_bought 0 bid.points ≡ 0
   other_bid other =
-      sum_nothing (paid agent price) (point_trades good current units bid 0 bid.points)
-      (each_point_trade (λ t. paid agent price t ≡ 0) good current units bid (λ from point reaches some. none (common_units (point_units bid.agent bid.position from point) units)) 0 bid.points)
+      sum_nothing (paid agent price) (point_trades good current units bid 0 bid.points) (each 0 bid.points)
     where
       none : (count : ℕ) → cond ((bid.agent == agent) && nat_le price current) count 0 ≡ 0
       none count = rw other refl
+
+      each : (from : ℕ) (points : List Point) → AllByRecursion (λ t. paid agent price t ≡ 0) (point_trades good current units bid from points)
+      each from [] = tt
+      each from (point ∷ points) = all-if-more (nat_le current point.price && nat_lt 0 count) (none count) (each (from + size_of point) points)
+        where
+          count : ℕ
+          count = common_units (point_units bid.agent bid.position from point) units
+
+          all-if-more : (b : Bool) → cond ((bid.agent == agent) && nat_le price current) count 0 ≡ 0 → AllByRecursion (λ t. paid agent price t ≡ 0) (point_trades good current units bid (from + size_of point) points) →
+              AllByRecursion (λ t. paid agent price t ≡ 0)
+              (cond b (record { buyer = bid.agent; seller = house; good = good; units = count; price = current } ∷ point_trades good current units bid (from + size_of point) points)
+              (point_trades good current units bid (from + size_of point) points))
+          all-if-more true nothing more = (nothing, more)
+          all-if-more false nothing more = more
 
   one_bid : AllBuy units → point_bought 0 bid.points ≤ bid_at units agent price
   one_bid buying =
@@ -191,9 +203,9 @@ module _ (good current : ℕ) (units : List BidUnit) (agent price : ℕ) (bid : 
 -- ---- all bids
 
 pub flight_paid : (good current : ℕ) (units : List BidUnit) (past : List Entry) (position caller : ℕ) (call : Call) (end agent price : ℕ) → agent ≤ 7 → AllBuy units →
-    bought_at (flight_trades good current units (bids_looked_at (filter_map (λ a. last_bid a past) agents) position caller call) end) agent price ≤ bid_at units agent price
+    bought_at (unit_trades good current units (bids_looked_at (filter_map (λ a. last_bid a past) agents) position caller call) end) agent price ≤ bid_at units agent price
 flight_paid good current units past position caller call end agent price le buying =
-    let is = bought_is (flight_trades good current units bids end) agent price in
+    let is = bought_is (unit_trades good current units bids end) agent price in
     let positions = sum-flat_map (paid agent price) (λ p. flat_map of_bid (filter (λ bid. bid.position == p) bids)) (positions_below end) in
     let each = sum_by-le-sum_by (λ p. sum_by (paid agent price) (flat_map of_bid (filter (λ (bid : Placed). bid.position == p) bids))) (λ p. sum_by bought (filter (λ (bid : Placed). bid.position == p) bids)) (positions_below end) (λ p. same (filter (λ (bid : Placed). bid.position == p) bids)) in
     let all = by_positions bought bids end in

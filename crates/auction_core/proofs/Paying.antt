@@ -1,21 +1,21 @@
 -- Nobody pays more than it bid: no agent buys more units at a price or more than units looked at bid so much.
-use Rattle.std.proofs.Common.{◌≡◌, ℕ, ◌+◌, ◌≤◌, Bool, true, false, cond, List, [], length, refl, arith, Option, Some, None, ℤ}
-use Rattle.std.specs.List.{filter_map}
+use Rattle.std.proofs.Common.{◌≡◌, ℕ, ◌+◌, ◌≤◌, Bool, true, false, cond, List, [], length, refl, subst, arith, Option, Some, None, ℤ}
 use Rattle.tac_base.specs.declared.calls.Trade.{Trade}
 use Rattle.tac_base.specs.declared.calls.Call.{Call}
 use Rattle.tac_base.specs.declared.calls.Call.TheVariants.{Bid, Withdraw, Own as OwnCall, Update, Publish, Close}
 use Rattle.tac_base.specs.declared.calls.Reply.{Reply}
 use Rattle.auction_rules.specs.declared.units.BidUnit.{BidUnit}
-use Rattle.tac_base.specs.Goods.{agents}
 use Rattle.auction_rules.specs.Setup.{Setup}
 use Rattle.auction_rules.specs.declared.rules.Rules.{Rules}
 use Rattle.auction_rules.specs.declared.rules.Rules.TheVariants.{Flight as FlightRules, Hotel as HotelRules, Tickets as TicketRules}
-use Rattle.auction_rules.specs.History.{Entry, last_bid}
-use Rattle.auction_rules.specs.FlightRule.{price, price_after, is_sale, looked_at, bids_looked_at, flight_trades}
+use Rattle.auction_rules.specs.History.{Entry}
+use Rattle.auction_rules.specs.FlightRule.{price, price_after, is_sale, looked_at}
+use Rattle.auction_rules.specs.FlightSales.{standing_points, points_looked_at, flight_trades}
 use Rattle.auction_rules.specs.Standing.{stand}
 use Rattle.auction_rules.specs.Refusals.{refusal}
 use Rattle.auction_rules.specs.Legal.{IsLawful, entry_by, trades_by, trades_of}
 use Rattle.auction_rules.proofs.Standing.{each-weaker, IsPlaced, each-placed}
+use Rattle.flight_auction.proofs.UnitTrades.{by_units}
 use Rattle.auction_core.specs.Laws.{bought_at, bid_at}
 use Rattle.auction_core.proofs.Buying.{HouseSells, AllBuy, looked_buys}
 use Rattle.auction_core.proofs.FlightPays.{flight_paid}
@@ -33,11 +33,17 @@ module _ (good : ℕ) (past : List Entry) (caller : ℕ) (agent dollars : ℕ) (
   flight : (first : ℕ) (bound : ℤ) (call : Call) → AllBuy (looked (FlightRules first bound) call) → AreBid (looked (FlightRules first bound) call) agent dollars (trades_by (FlightRules first bound) good past caller call)
   flight first bound call buying = by_test (is_sale call)
     where
-      units : List BidUnit
-      units = looked_at (stand (FlightRules first bound) past) (length past) caller call
+      rules : Rules
+      rules = FlightRules first bound
 
-      by_test : (b : Bool) → AreBid units agent dollars (cond b (flight_trades good (price_after bound (price first bound past) call) units (bids_looked_at (filter_map (λ a. last_bid a past) agents) (length past) caller call) (length past + 1)) [])
-      by_test true = flight_paid good (price_after bound (price first bound past) call) units past (length past) caller call (length past + 1) agent dollars le buying
+      current : ℕ
+      current = price_after bound (price first bound past) call
+
+      units : List BidUnit
+      units = looked_at (stand rules past) (length past) caller call
+
+      by_test : (b : Bool) → AreBid units agent dollars (cond b (flight_trades good current (points_looked_at (standing_points rules past) caller call)) [])
+      by_test true = subst (AreBid units agent dollars) (by_units rules good current past caller call) (flight_paid good current units past (length past) caller call (length past + 1) agent dollars le buying)
       by_test false = omega arith
 
   hotel : (rooms : ℕ) (live : Bool) (call : Call) → AllBuy (looked (HotelRules rooms live) call) → AreBid (looked (HotelRules rooms live) call) agent dollars (trades_by (HotelRules rooms live) good past caller call)

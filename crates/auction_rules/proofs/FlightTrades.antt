@@ -1,41 +1,47 @@
 -- What each trade of a flight has.
-use Rattle.std.proofs.Common.{◌≡◌, ℕ, ◌+◌, Bool, true, false, cond, List, [], ◌∷◌, refl}
-use Rattle.std.specs.Prelude.{◌&&◌, ◌==◌, nat_lt, nat_le, filter}
-use Rattle.std.specs.List.{AllByRecursion}
+use Rattle.std.proofs.Common.{◌≡◌, ℕ, List, length, refl}
+use Rattle.std.specs.Prelude.{◌==◌, not, filter}
+use Rattle.std.specs.List.{AllByRecursion, range_with_len}
 use Rattle.tac_base.specs.declared.bids.Point.{Point}
 use Rattle.tac_base.specs.declared.calls.Trade.{Trade}
-use Rattle.tac_base.specs.Bids.{size_of}
+use Rattle.tac_base.specs.declared.calls.Call.{Call}
+use Rattle.tac_base.specs.declared.calls.Call.TheVariants.{Bid, Withdraw, Own as OwnCall, Update, Publish, Close}
 use Rattle.auction_rules.specs.declared.units.Placed.{Placed}
-use Rattle.auction_rules.specs.declared.units.BidUnit.{BidUnit}
-use Rattle.tac_base.specs.Goods.{house}
-use Rattle.auction_rules.specs.Units.{point_units, common_units}
-use Rattle.auction_rules.specs.FlightRule.{point_trades, positions_below, flight_trades}
-use Rattle.auction_rules.proofs.Lists.{all-filter, all-flat_map, all_alike}
+use Rattle.auction_rules.specs.declared.units.StandingPoint.{StandingPoint}
+use Rattle.auction_rules.specs.declared.rules.Rules.{Rules}
+use Rattle.auction_rules.specs.History.{Entry}
+use Rattle.auction_rules.specs.Standing.{stand}
+use Rattle.auction_rules.specs.FlightSales.{placed_bids, by_position, owned_by, standing_of, standing_points, points_looked_at, is_sold, sale, flight_trades}
+use Rattle.auction_rules.proofs.Lists.{all-append, all-filter, all-flat_map, all-map, all-weaker, all_alike}
 
--- a bid's trades, one for each point that is sold
-pub each_point_trade : (P : Trade → Type 0) (good current : ℕ) (units : List BidUnit) (bid : Placed) →
-    ((from : ℕ) (point : Point) → nat_le current point.price ≡ true → nat_lt 0 (common_units (point_units bid.agent bid.position from point) units) ≡ true →
-    P (record { buyer = bid.agent; seller = house; good = good; units = common_units (point_units bid.agent bid.position from point) units; price = current })) →
-    (from : ℕ) (points : List Point) → AllByRecursion P (point_trades good current units bid from points)
-each_point_trade P good current units bid has from [] = tt
-each_point_trade P good current units bid has from (point ∷ points) =
-    keep (nat_le current point.price) (nat_lt 0 count) (has from point) (each_point_trade P good current units bid has (from + size_of point) points)
-  where
-    count : ℕ
-    count = common_units (point_units bid.agent bid.position from point) units
+-- each trade is the sale of one of the points
+pub each_flight_trade : (P : Trade → Type 0) (good current : ℕ) (points : List StandingPoint) → AllByRecursion (λ s. P (sale good current s)) points →
+    AllByRecursion P (flight_trades good current points)
+each_flight_trade P good current points each = all-map P (sale good current) (filter (is_sold current) points) (all-filter (λ s. P (sale good current s)) (is_sold current) points each)
 
-    trade : Trade
-    trade = record { buyer = bid.agent; seller = house; good = good; units = count; price = current }
+-- each point that a call looks at is of an agent of whom this holds
+module _ (P : ℕ → Type 0) where
+  each_owned : (agent : ℕ) (points : List Point) → P agent → AllByRecursion (λ s. P s.agent) (owned_by agent points)
+  each_owned agent points h = all-map (λ (s : StandingPoint). P s.agent) (λ point. record { agent = agent; point = point }) points (all_alike (λ point. P agent) points (λ point. h))
 
-    keep : (a b : Bool) → (a ≡ true → b ≡ true → P trade) → AllByRecursion P (point_trades good current units bid (from + size_of point) points) →
-        AllByRecursion P (cond (a && b) (trade ∷ point_trades good current units bid (from + size_of point) points) (point_trades good current units bid (from + size_of point) points))
-    keep true true one more = (one refl refl, more)
-    keep true false one more = more
-    keep false b one more = more
+  each_in_order : (bids : List Placed) (end : ℕ) → AllByRecursion (λ bid. P bid.agent) bids → AllByRecursion (λ bid. P bid.agent) (by_position bids end)
+  each_in_order bids end each =
+      all-flat_map (λ (bid : Placed). P bid.agent) (λ position. filter (λ bid. bid.position == position) bids) (range_with_len 0 end)
+      (all_alike _ (range_with_len 0 end) (λ position. all-filter (λ (bid : Placed). P bid.agent) (λ bid. bid.position == position) bids each))
 
--- the trades of all bids
-pub each_flight_trade : (P : Trade → Type 0) (good current : ℕ) (units : List BidUnit) (bids : List Placed) (end : ℕ) →
-    AllByRecursion (λ bid. AllByRecursion P (point_trades good current units bid 0 bid.points)) bids → AllByRecursion P (flight_trades good current units bids end)
-each_flight_trade P good current units bids end each =
-    all-flat_map P _ (positions_below end)
-    (all_alike _ (positions_below end) (λ position. all-flat_map P _ (filter (λ bid. bid.position == position) bids) (all-filter _ (λ bid. bid.position == position) bids each)))
+  each_standing : (rules : Rules) (past : List Entry) → AllByRecursion (λ bid. P bid.agent) (placed_bids past) → AllByRecursion (λ s. P s.agent) (standing_points rules past)
+  each_standing rules past each =
+      all-flat_map (λ (s : StandingPoint). P s.agent) (standing_of (stand rules past)) (by_position (placed_bids past) (length past))
+      (all-weaker (λ (bid : Placed). P bid.agent) _ (by_position (placed_bids past) (length past)) (λ bid h. each_owned bid.agent _ h)
+      (each_in_order (placed_bids past) (length past) each))
+
+  pub each_looked_at : (rules : Rules) (past : List Entry) (caller : ℕ) (call : Call) → ((points : List Point) → call ≡ Bid points → P caller) →
+      AllByRecursion (λ bid. P bid.agent) (placed_bids past) → AllByRecursion (λ s. P s.agent) (points_looked_at (standing_points rules past) caller call)
+  each_looked_at rules past caller (Bid points) new each =
+      all-append (λ (s : StandingPoint). P s.agent) (filter (λ s. not (s.agent == caller)) (standing_points rules past)) (owned_by caller points)
+      (all-filter (λ (s : StandingPoint). P s.agent) (λ s. not (s.agent == caller)) (standing_points rules past) (each_standing rules past each)) (each_owned caller points (new points refl))
+  each_looked_at rules past caller Withdraw new each = each_standing rules past each
+  each_looked_at rules past caller OwnCall new each = each_standing rules past each
+  each_looked_at rules past caller (Update tick draw) new each = each_standing rules past each
+  each_looked_at rules past caller Publish new each = each_standing rules past each
+  each_looked_at rules past caller Close new each = each_standing rules past each

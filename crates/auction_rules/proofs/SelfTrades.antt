@@ -1,7 +1,7 @@
 -- Nobody trades with itself, and each trade is between two of the nine parties.
-use Rattle.std.proofs.Common.{◌≡◌, ℕ, ◌≤◌, Bool, true, false, cond, List, length, ◌+◌, refl, sym, arith, Option, Some, None}
-use Rattle.std.specs.Prelude.{IfSome, ◌≢◌, not, ◌&&◌, ◌||◌, ◌==◌, if◌then◌else◌, filter}
-use Rattle.std.specs.List.{AllByRecursion, filter_map}
+use Rattle.std.proofs.Common.{◌≡◌, ℕ, ◌≤◌, Bool, true, false, cond, List, length, refl, ap, ◌∙◌, sym, arith, Option, Some, None}
+use Rattle.std.specs.Prelude.{IfSome, ◌≢◌, not, ◌&&◌, ◌||◌, ◌==◌, if◌then◌else◌}
+use Rattle.std.specs.List.{AllByRecursion}
 use Rattle.std.proofs.lemmas.Bool.{or_parts}
 use Rattle.std.proofs.lemmas.Bool.Decides.{nat_tests}
 use Rattle.tac_base.specs.declared.bids.Point.{Point}
@@ -11,13 +11,15 @@ use Rattle.tac_base.specs.declared.calls.Call.TheVariants.{Bid, Withdraw, Own as
 use Rattle.tac_base.specs.declared.calls.Reply.{Reply}
 use Rattle.tac_base.specs.declared.calls.Reply.TheVariants.{Closed, WrongCall}
 use Rattle.auction_rules.specs.declared.units.Placed.{Placed}
+use Rattle.auction_rules.specs.declared.units.StandingPoint.{StandingPoint}
 use Rattle.auction_rules.specs.declared.units.BidUnit.{BidUnit}
 use Rattle.tac_base.specs.Goods.{agents, clock, house}
 use Rattle.auction_rules.specs.Setup.{Setup}
 use Rattle.auction_rules.specs.declared.rules.Rules.{Rules}
 use Rattle.auction_rules.specs.declared.rules.Rules.TheVariants.{Flight as FlightRules, Hotel as HotelRules, Tickets as TicketRules}
 use Rattle.auction_rules.specs.History.{Entry, is_own, is_closed, last_bid}
-use Rattle.auction_rules.specs.FlightRule.{price, price_after, looked_at, bids_looked_at}
+use Rattle.auction_rules.specs.FlightRule.{price, price_after}
+use Rattle.auction_rules.specs.FlightSales.{standing_points, points_looked_at, placed_bids, sale}
 use Rattle.auction_rules.specs.TicketMatch.{arriving, faces, crosses, pairs, pair_trade, ticket_trades}
 use Rattle.auction_rules.specs.Standing.{stand}
 use Rattle.auction_rules.specs.Ask.{ask}
@@ -29,10 +31,10 @@ use Rattle.auction_rules.specs.Legal.{entry_by, trades_by, trades_of}
 use Rattle.auction_rules.specs.Units.{units_of}
 use Rattle.auction_rules.proofs.Agents.{agents_within}
 use Rattle.auction_rules.proofs.AgentUnits.{stand_owned}
-use Rattle.auction_rules.proofs.Lists.{all-append, all-filter, all-filter_map, all-if, all-map, all-weaker}
+use Rattle.auction_rules.proofs.Lists.{all-filter_map, all-if, all-map, all-weaker}
 use Rattle.auction_rules.proofs.Standing.{Each, each-weaker, IsPlaced, each-placed, IsBidOf, last_is}
 use Rattle.auction_rules.proofs.Matching.{each_pair, faces_differ}
-use Rattle.auction_rules.proofs.FlightTrades.{each_point_trade, each_flight_trade}
+use Rattle.auction_rules.proofs.FlightTrades.{each_flight_trade, each_looked_at}
 
 -- a trade is between two of the nine parties
 abbrev IsBetween : Trade → Type 0
@@ -65,23 +67,12 @@ bidder_is_agent rules past caller points le h = below (admitted_caller rules pas
 abbrev IsOfAgent : Placed → Type 0
 IsOfAgent bid = bid.agent ≤ 7
 
-last_of_agents : (past : List Entry) → AllByRecursion IsOfAgent (filter_map (λ agent. last_bid agent past) agents)
+last_of_agents : (past : List Entry) → AllByRecursion IsOfAgent (placed_bids past)
 last_of_agents past = all-filter_map IsOfAgent (λ agent. last_bid agent past) agents (all-weaker (λ agent. agent ≤ 7) _ agents (λ agent le. one agent (last_bid agent past) le (last_is agent past)) agents_within)
   where
     one : (agent : ℕ) (bid : Option Placed) → agent ≤ 7 → IsBidOf agent (length past) bid → IfSome bid IsOfAgent
     one agent None le is = tt
     one agent (Some bid) le is = rw (is.0) le
-
-looked_of_agents : (rules : Rules) (past : List Entry) (bids : List Placed) (position caller : ℕ) (call : Call) → caller ≤ 8 → refusal rules past caller call ≡ None →
-    AllByRecursion IsOfAgent bids → AllByRecursion IsOfAgent (bids_looked_at bids position caller call)
-looked_of_agents rules past bids position caller (Bid points) le admitted of_agents =
-    all-append IsOfAgent (filter (λ bid. not (bid.agent == caller)) bids) _ (all-filter IsOfAgent (λ bid. not (bid.agent == caller)) bids of_agents)
-    (bidder_is_agent rules past caller points le admitted, tt)
-looked_of_agents rules past bids position caller Withdraw le admitted of_agents = of_agents
-looked_of_agents rules past bids position caller OwnCall le admitted of_agents = of_agents
-looked_of_agents rules past bids position caller (Update tick draw) le admitted of_agents = of_agents
-looked_of_agents rules past bids position caller Publish le admitted of_agents = of_agents
-looked_of_agents rules past bids position caller Close le admitted of_agents = of_agents
 
 -- ---- hotels
 
@@ -127,18 +118,16 @@ admitted_parties : (rules : Rules) (good : ℕ) (past : List Entry) (caller : �
     AllByRecursion IsBetween (trades_by rules good past caller call)
 admitted_parties (FlightRules first bound) good past caller call le admitted =
     all-if IsBetween _ _
-    (each_flight_trade IsBetween good current units bids (length past + 1)
-    (all-weaker IsOfAgent _ bids (λ bid agent. each_point_trade IsBetween good current units bid (λ from point reached some. from_house bid.agent agent) 0 bid.points)
-    (looked_of_agents (FlightRules first bound) past _ (length past) caller call le admitted (last_of_agents past))))
+    (each_flight_trade IsBetween good current points
+    (all-weaker (λ (s : StandingPoint). s.agent ≤ 7) (λ s. IsBetween (sale good current s)) points (λ s agent. from_house s.agent agent)
+    (each_looked_at (λ agent. agent ≤ 7) (FlightRules first bound) past caller call (λ new is. bidder_is_agent (FlightRules first bound) past caller new le (ap (refusal (FlightRules first bound) past caller) (sym is) ∙ admitted))
+    (last_of_agents past))))
   where
     current : ℕ
     current = price_after bound (price first bound past) call
 
-    units : List BidUnit
-    units = looked_at (stand (FlightRules first bound) past) (length past) caller call
-
-    bids : List Placed
-    bids = bids_looked_at (filter_map (λ agent. last_bid agent past) agents) (length past) caller call
+    points : List StandingPoint
+    points = points_looked_at (standing_points (FlightRules first bound) past) caller call
 admitted_parties (HotelRules rooms live) good past caller call le admitted = all-if IsBetween _ _ (closing_parties good rooms (stand (HotelRules rooms live) past))
 admitted_parties TicketRules good past caller call le admitted =
     ticket_parties good (stand TicketRules past) (arriving (length past) caller call) (stand_owned TicketRules past) (arriving_owned TicketRules past (length past) caller call le admitted)

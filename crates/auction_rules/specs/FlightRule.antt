@@ -1,18 +1,12 @@
--- Flights: the price, and the points that the house sells whole. That a price stays in 150..800 is the game description's;
--- how a draw changes it is our own rule.
-use Rattle.std.specs.Prelude.{ℕ, zero, suc, ◌+◌, ◌%◌, ◌==◌, min, max, Bool, true, false, not, ◌&&◌, nat_lt, nat_le, if◌then◌else◌, List, [], ◌∷◌, ◌++◌, ℤ, pos, negsuc, neg_ℤ, ◌+ℤ◌, ◌-ℤ◌, ◌*ℤ◌, int_lt, unsigned_abs, filter}
+-- Flights: the price, the calls in which the house may sell, and the units that it then sells. That a price stays in 150..800 is the
+-- game description's; how a draw changes it is our own rule.
+use Rattle.std.specs.Prelude.{ℕ, ◌+◌, ◌%◌, ◌==◌, min, max, Bool, true, false, not, nat_le, if◌then◌else◌, List, [], ◌∷◌, ◌++◌, ℤ, pos, negsuc, neg_ℤ, ◌+ℤ◌, ◌-ℤ◌, ◌*ℤ◌, int_lt, unsigned_abs, filter}
 use Rattle.std.specs.Int.{int_div_euclid}
-use Rattle.std.specs.List.{flat_map}
 use Rattle.tac_base.specs.declared.limits.TheConstants.{TICKS}
-use Rattle.tac_base.specs.declared.bids.Point.{Point}
-use Rattle.tac_base.specs.declared.calls.Trade.{Trade}
 use Rattle.tac_base.specs.declared.calls.Call.{Call}
 use Rattle.tac_base.specs.declared.calls.Call.TheVariants.{Bid, Update}
-use Rattle.tac_base.specs.Bids.{size_of}
 use Rattle.auction_rules.specs.declared.units.BidUnit.{BidUnit}
-use Rattle.auction_rules.specs.declared.units.Placed.{Placed}
-use Rattle.tac_base.specs.Goods.{house}
-use Rattle.auction_rules.specs.Units.{units_of, point_units, common_units}
+use Rattle.auction_rules.specs.Units.{units_of}
 use Rattle.auction_rules.specs.History.{Entry, is_admission}
 
 -- the drift at a tick: 10 plus the floor of t * (bound - 10) / 54, since the divisor is positive
@@ -60,32 +54,6 @@ abbrev pub looked_at : List BidUnit → ℕ → ℕ → Call → List BidUnit
 looked_at standing position caller (Bid points) =
     filter (λ u. not (u.agent == caller)) standing ++ units_of (record { agent = caller; position = position; points = points })
 looked_at standing position caller call = standing
-
--- the bids of these units, including the new one
-abbrev pub bids_looked_at : List Placed → ℕ → ℕ → Call → List Placed
-bids_looked_at bids position caller (Bid points) =
-    filter (λ bid. not (bid.agent == caller)) bids ++ record { agent = caller; position = position; points = points } ∷ []
-bids_looked_at bids position caller call = bids
-
--- one trade for each point at or above the current price that has a unit among those looked at; the points' units are numbered from an index
-abbrev pub point_trades : ℕ → ℕ → List BidUnit → Placed → ℕ → List Point → List Trade
-point_trades good current units bid from [] = []
-point_trades good current units bid from (point ∷ points) =
-    let count = common_units (point_units bid.agent bid.position from point) units in
-    let more = point_trades good current units bid (from + size_of point) points in
-    if nat_le current point.price && nat_lt 0 count
-    then record { buyer = bid.agent; seller = house; good = good; units = count; price = current } ∷ more
-    else more
-
--- the positions below a number, in order
-abbrev pub positions_below : ℕ → List ℕ
-positions_below zero = []
-positions_below (suc n) = positions_below n ++ n ∷ []
-
--- the trades of the bids made below a position: by bid position, and then by point
-abbrev pub flight_trades : ℕ → ℕ → List BidUnit → List Placed → ℕ → List Trade
-flight_trades good current units bids end =
-    flat_map (λ position. flat_map (λ bid. point_trades good current units bid 0 bid.points) (filter (λ bid. bid.position == position) bids)) (positions_below end)
 
 -- the units that are sold
 abbrev pub flight_gone : ℕ → List BidUnit → List BidUnit

@@ -1,19 +1,20 @@
 -- The entry that the rules give for a call, and the histories that consist of such entries.
-use Rattle.std.specs.Prelude.{◌≡◌, ℕ, ◌+◌, ◌==◌, ◌≤◌, ⊤, if◌then◌else◌, List, [], ◌∷◌, length, reverse, Option, Some, None, count_by}
-use Rattle.std.specs.List.{filter_map, AllByRecursion}
+use Rattle.std.specs.Prelude.{◌≡◌, ℕ, ◌==◌, ◌≤◌, ⊤, if◌then◌else◌, List, [], ◌∷◌, length, reverse, Option, Some, None, count_by}
+use Rattle.std.specs.List.{AllByRecursion}
 use Rattle.tac_base.specs.declared.calls.Trade.{Trade}
 use Rattle.tac_base.specs.declared.calls.Call.{Call}
 use Rattle.tac_base.specs.declared.calls.Call.TheVariants.{Bid, Own as OwnCall, Close}
 use Rattle.tac_base.specs.declared.calls.Reply.{Reply}
 use Rattle.tac_base.specs.declared.calls.Reply.TheVariants.{Taken, Own, Sold, Done}
 use Rattle.tac_base.specs.declared.limits.TheConstants.{AGENT_CALLS, CLOCK_CALLS}
-use Rattle.tac_base.specs.Goods.{agents, clock}
+use Rattle.tac_base.specs.Goods.{clock}
 use Rattle.auction_rules.specs.Setup.{Setup}
 use Rattle.auction_rules.specs.declared.rules.Rules.{Rules}
 use Rattle.auction_rules.specs.declared.rules.Rules.TheVariants.{Flight as FlightRules, Hotel as HotelRules, Tickets as TicketRules}
-use Rattle.auction_rules.specs.History.{Entry, is_close, last_bid}
+use Rattle.auction_rules.specs.History.{Entry, is_close}
 use Rattle.auction_rules.specs.Effects.{bought, sold, holding}
-use Rattle.auction_rules.specs.FlightRule.{price, price_after, is_sale, looked_at, bids_looked_at, flight_trades}
+use Rattle.auction_rules.specs.FlightRule.{price, price_after, is_sale}
+use Rattle.auction_rules.specs.FlightSales.{standing_points, points_looked_at, flight_trades}
 use Rattle.auction_rules.specs.TicketMatch.{arriving, ticket_trades}
 use Rattle.auction_rules.specs.Standing.{stand, left}
 use Rattle.auction_rules.specs.Ask.{ask}
@@ -23,12 +24,7 @@ use Rattle.auction_rules.specs.Refusals.{refusal}
 -- the trades of an admitted call in an auction of the good
 abbrev pub trades_by : Rules → ℕ → List Entry → ℕ → Call → List Trade
 trades_by (FlightRules first bound) good past caller call =
-    if is_sale call
-    then flight_trades good (price_after bound (price first bound past) call)
-    (looked_at (stand (FlightRules first bound) past) (length past) caller call)
-    (bids_looked_at (filter_map (λ agent. last_bid agent past) agents) (length past) caller call)
-    (length past + 1)
-    else []
+    if is_sale call then flight_trades good (price_after bound (price first bound past) call) (points_looked_at (standing_points (FlightRules first bound) past) caller call) else []
 trades_by (HotelRules rooms live) good past caller call =
     if is_close call then closing_trades good rooms (stand (HotelRules rooms live) past) else []
 trades_by TicketRules good past caller call = ticket_trades good (stand TicketRules past) (arriving (length past) caller call)

@@ -6,6 +6,7 @@ pub mod Effects
 pub mod FlightRule
 pub mod TicketMatch
 pub mod Standing
+pub mod FlightSales
 pub mod Precedence
 pub mod Ask
 pub mod WinningNumber

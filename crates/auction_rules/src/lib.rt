@@ -8,5 +8,5 @@ mod wrong_calls;
 
 pub use rules::Rules;
 pub use trades::{bought, sold};
-pub use units::{BidUnit, Placed, push_point, push_units, sells};
+pub use units::{BidUnit, Placed, StandingPoint, push_point, push_units, sells};
 pub use wrong_calls::wrong_reply;

@@ -16,6 +16,13 @@ pub struct Placed {
     pub points: Points,
 }
 
+/// A point of an agent's bid that stands.
+#[derive(Clone, Copy, Debug, Default, PartialEq, Eq)]
+pub struct StandingPoint {
+    pub agent: Agent,
+    pub point: Point,
+}
+
 /// One unit of a bid: whose it is, its side and price in dollars, the position of its bid, and its
 /// number in the bid, from 0.
 #[derive(Clone, Copy, Debug, Default, PartialEq, Eq)]

@@ -1,6 +1,6 @@
 -- What one more entry changes in the standing points of a flight.
-use Rattle.std.proofs.Common.{◌≡◌, ℕ, suc, ◌+◌, ◌<◌, ◌≤◌, Bool, true, false, cond, List, [], ◌∷◌, ◌++◌, length, refl, sym, ap, ◌∙◌, subst, arith, add-one, append-nil, Option, Some, None, ℤ}
-use Rattle.std.specs.Prelude.{not, ◌&&◌, ◌||◌, ◌==◌, ◌≢◌, nat_le, filter, if◌then◌else◌}
+use Rattle.std.proofs.Common.{◌≡◌, ℕ, zero, suc, ◌+◌, ◌<◌, ◌≤◌, Bool, true, false, cond, List, [], ◌∷◌, ◌++◌, length, map, refl, sym, ap, ◌∙◌, subst, arith, append-nil, Option, Some, None, ℤ}
+use Rattle.std.specs.Prelude.{not, ◌&&◌, ◌||◌, ◌==◌, ◌≢◌, nat_le, nat_lt, filter, if◌then◌else◌}
 use Rattle.std.specs.List.{AllByRecursion, flat_map}
 use Rattle.std.proofs.lemmas.Bool.Decides.{nat_tests}
 use Rattle.std.proofs.lemmas.List.Concat.{flat_map-append}
@@ -12,20 +12,29 @@ use Rattle.tac_base.specs.Bids.{size_of}
 use Rattle.auction_rules.specs.declared.units.Placed.{Placed}
 use Rattle.auction_rules.specs.declared.units.BidUnit.{BidUnit}
 use Rattle.tac_base.specs.Goods.{clock}
-use Rattle.auction_rules.specs.Units.{units_of, among}
+use Rattle.auction_rules.specs.Units.{point_units, units_of, among, common_units}
 use Rattle.auction_rules.specs.declared.rules.Rules.{Rules}
 use Rattle.auction_rules.specs.declared.rules.Rules.TheVariants.{Flight as FlightRules}
 use Rattle.auction_rules.specs.History.{Entry, is_closed, last_bid, units_of_last}
-use Rattle.auction_rules.specs.FlightRule.{price, next_price, looked_at, bids_looked_at, flight_gone, flight_trades}
-use Rattle.auction_rules.specs.Standing.{gone, stand, left_points}
+use Rattle.auction_rules.specs.FlightRule.{price, next_price, flight_gone}
+use Rattle.auction_rules.specs.Standing.{gone, stand, signed_as, left_points}
 use Rattle.auction_rules.proofs.Idle.{IsIdle, idle_stand, idle_last}
 use Rattle.auction_rules.proofs.Standing.{last_units, Each, each-weaker, each-both, IsPlaced, each-placed, last_is, all_among_right, all_among_self, among-append, among-filter, not_among, new_not_gone, stands_unless_gone, left_whole, left_none}
-use Rattle.flight_auction.specs.declared.sales.StandingPoint.{StandingPoint}
-use Rattle.flight_auction.specs.Book.{owned_by, is_points_agent, others_than, sales, unsold, by_position, placed_bids, standing_of, standing_points}
-use Rattle.auction_rules.proofs.Lists.{filter-flat_map, flat_map-filter, flat_map_same, flat_map_alike, all-weaker, all_passing}
-use Rattle.flight_auction.proofs.Sold.{standing_cut, standing_same, unsold_all, trades_are}
+use Rattle.auction_rules.specs.declared.units.StandingPoint.{StandingPoint}
+use Rattle.auction_rules.specs.FlightSales.{points_looked_at, is_sold, sale, flight_trades, owned_by, by_position, placed_bids, standing_of, standing_points}
+use Rattle.flight_auction.specs.Book.{reaches, is_points_agent, others_than, sales, unsold}
+use Rattle.auction_rules.proofs.LeftPoints.{suc_not_zero, signed_size}
+use Rattle.auction_rules.proofs.Lists.{filter_same, all-append, all-filter, all-flat_map, all-map, all_alike, filter-flat_map, flat_map-filter, flat_map_same, flat_map_alike, all-weaker, all_passing}
+use Rattle.flight_auction.proofs.Sold.{standing_cut, standing_same, unsold_all}
 use Rattle.auction_rules.proofs.Agents.{number_same, numbers_differ, another}
-use Rattle.flight_auction.proofs.Order.{made_at, of_others, replaced_order, looked_order, order_more, ordered_all}
+use Rattle.flight_auction.proofs.Order.{made_at, of_others, replaced_order, order_more, ordered_all}
+
+-- a point that has units
+abbrev pub IsFull : Point → Type 0
+IsFull point = size_of point ≢ 0
+
+owned_full : (agent : ℕ) (points : List Point) → AllByRecursion IsFull points → AllByRecursion (λ s. IsFull s.point) (owned_by agent points)
+owned_full agent points full = all-map (λ (s : StandingPoint). IsFull s.point) (λ point. record { agent = agent; point = point }) points full
 
 -- ---- a sale
 
@@ -91,12 +100,38 @@ update_left first bound past tick draw trades still_open =
         subst (λ (bid : Option Placed). Each (λ u. among u (stand rules past) ≡ not (among u (gone rules past))) (units_of_last bid))
         (sym (either_same (clock == a) (last_bid a past))) (stands_unless_gone rules past a le still_open)
 
-pub update_trades : (good current : ℕ) (first : ℕ) (bound : ℤ) (past : List Entry) →
-    flight_trades good current (stand (FlightRules first bound) past) (placed_bids past) (length past + 1) ≡ sales good current (standing_points (FlightRules first bound) past)
-update_trades good current first bound past =
-    ap (flight_trades good current (stand (FlightRules first bound) past) (placed_bids past)) (add-one (length past))
-    ∙ trades_are good current (stand (FlightRules first bound) past) (placed_bids past) (suc (length past))
-    ∙ ap (λ (bids : List Placed). sales good current (flat_map (standing_of (stand (FlightRules first bound) past)) bids)) (order_more past)
+-- ---- what is sold
+
+-- what stands of a bid has units
+left_full : (units : List BidUnit) (agent position from : ℕ) (points : List Point) → AllByRecursion IsFull (left_points units agent position from points)
+left_full units agent position from [] = tt
+left_full units agent position from (point ∷ points) = by_count (common_units (point_units agent position from point) units) (left_full units agent position (from + size_of point) points)
+  where
+    rest : List Point
+    rest = left_points units agent position (from + size_of point) points
+
+    by_count : (n : ℕ) → AllByRecursion IsFull rest → AllByRecursion IsFull (cond (n == 0) rest (record { units = signed_as point.units n; price = point.price } ∷ rest))
+    by_count zero full = full
+    by_count (suc n) full = rw (suc_not_zero n) ((λ none. let size = signed_size point.units (suc n) in omega (arith, size, none)), full)
+
+standing_full : (rules : Rules) (past : List Entry) → AllByRecursion (λ s. IsFull s.point) (standing_points rules past)
+standing_full rules past =
+    all-flat_map (λ (s : StandingPoint). IsFull s.point) (standing_of (stand rules past)) (by_position (placed_bids past) (length past))
+    (all_alike _ (by_position (placed_bids past) (length past)) (λ bid. owned_full bid.agent _ (left_full (stand rules past) bid.agent bid.position 0 bid.points)))
+
+-- of points that have units those are sold that the price reaches
+sold_reached : (good current : ℕ) (points : List StandingPoint) → AllByRecursion (λ s. IsFull s.point) points → flight_trades good current points ≡ sales good current points
+sold_reached good current points full =
+    ap (map (sale good current)) (filter_same (is_sold current) (reaches current) points (all-weaker (λ (s : StandingPoint). IsFull s.point) _ points (λ s some. one s (tested (size_of s.point) some)) full))
+  where
+    tested : (n : ℕ) → n ≢ 0 → nat_lt 0 n ≡ true
+    tested n some = grind (arith, nat_tests)
+
+    one : (s : StandingPoint) → nat_lt 0 (size_of s.point) ≡ true → is_sold current s ≡ reaches current s
+    one s some = rw some refl
+
+pub update_trades : (good current : ℕ) (rules : Rules) (past : List Entry) → flight_trades good current (standing_points rules past) ≡ sales good current (standing_points rules past)
+update_trades good current rules past = sold_reached good current (standing_points rules past) (standing_full rules past)
 
 -- ---- a bid
 
@@ -117,7 +152,7 @@ others_flat units agent bids =
         by_test false k ih = rw k (ap (λ (ps : List StandingPoint). record { agent = owner; point = point } ∷ ps) ih)
 
 -- the units that a bid looks at
-abbrev looked : List BidUnit → Placed → List BidUnit
+abbrev pub looked : List BidUnit → Placed → List BidUnit
 looked standing new = filter (λ u. not (u.agent == new.agent)) standing ++ units_of new
 
 differ_by_test : (m n : ℕ) → (m == n) ≡ false → m ≡ n → ⊥
@@ -139,14 +174,14 @@ others_looked standing new u differs =
 abbrev pub bid_entry : ℕ → List Point → ℕ → List Trade → Entry
 bid_entry agent points bought trades = record { caller = agent; call = Bid points; reply = Taken bought 0; trades = trades }
 
--- a new bid is whole among the units that it looks at, and the others' points are as they were
-new_looked : (rules : Rules) (past : List Entry) (agent : ℕ) (points : List Point) → AllByRecursion (λ (p : Point). size_of p ≢ 0) points →
+-- the others' points are as they were, and the new bid's are those of its units that are looked at
+pub others_stand : (rules : Rules) (past : List Entry) (agent : ℕ) (points : List Point) →
     let new : Placed = record { agent = agent; position = length past; points = points } in
     flat_map (standing_of (looked (stand rules past) new)) (filter (of_others agent) (by_position (placed_bids past) (length past)) ++ new ∷ [])
-    ≡ others_than agent (standing_points rules past) ++ owned_by agent points
-new_looked rules past agent points full =
+    ≡ others_than agent (standing_points rules past) ++ standing_of (looked (stand rules past) new) new
+others_stand rules past agent points =
     flat_map-append (standing_of units) (filter (of_others agent) order) (new ∷ [])
-    ∙ rw (others, whole) (ap (λ (more : List StandingPoint). others_than agent (standing_points rules past) ++ more) (append-nil (owned_by agent points)))
+    ∙ rw others (ap (λ (more : List StandingPoint). others_than agent (standing_points rules past) ++ more) (append-nil (standing_of units new)))
   where
     new : Placed
     new = record { agent = agent; position = length past; points = points }
@@ -156,9 +191,6 @@ new_looked rules past agent points full =
 
     order : List Placed
     order = by_position (placed_bids past) (length past)
-
-    whole : left_points units agent (length past) 0 points ≡ points
-    whole = left_whole units agent (length past) 0 points (all_among_right (units_of new) (filter (λ u. not (u.agent == agent)) (stand rules past)) (units_of new) (all_among_self (units_of new))) full
 
     alike : (bid : Placed) → of_others agent bid ≡ true → standing_of units bid ≡ standing_of (stand rules past) bid
     alike bid other =
@@ -174,6 +206,22 @@ new_looked rules past agent points full =
     others =
         flat_map_same (standing_of units) (standing_of (stand rules past)) (filter (of_others agent) order) (all_passing _ (of_others agent) order alike)
         ∙ others_flat (stand rules past) agent order
+
+-- a new bid whose points have units is whole among the units that it looks at
+new_looked : (rules : Rules) (past : List Entry) (agent : ℕ) (points : List Point) → AllByRecursion IsFull points →
+    let new : Placed = record { agent = agent; position = length past; points = points } in
+    flat_map (standing_of (looked (stand rules past) new)) (filter (of_others agent) (by_position (placed_bids past) (length past)) ++ new ∷ [])
+    ≡ others_than agent (standing_points rules past) ++ owned_by agent points
+new_looked rules past agent points full =
+    others_stand rules past agent points ∙ ap (λ (ps : List Point). others_than agent (standing_points rules past) ++ owned_by agent ps) whole
+  where
+    new : Placed
+    new = record { agent = agent; position = length past; points = points }
+
+    whole : left_points (looked (stand rules past) new) agent (length past) 0 points ≡ points
+    whole =
+        left_whole (looked (stand rules past) new) agent (length past) 0 points
+        (all_among_right (units_of new) (filter (λ u. not (u.agent == agent)) (stand rules past)) (units_of new) (all_among_self (units_of new))) full
 
 -- each unit that is left to a last bid, or is new, is looked at
 bid_looked : (rules : Rules) (past : List Entry) (agent : ℕ) (points : List Point) → is_closed past ≡ false → (a : ℕ) → a ≤ 7 →
@@ -212,7 +260,7 @@ new_here agent points n = rw (number_same n) refl
 
 -- after a bid those of the others' points and of the new ones stand that are not sold
 pub bid_left : (first : ℕ) (bound : ℤ) (past : List Entry) (agent : ℕ) (points : List Point) (bought : ℕ) (trades : List Trade) → agent ≤ 7 → is_closed past ≡ false →
-    AllByRecursion (λ (p : Point). size_of p ≢ 0) points →
+    AllByRecursion IsFull points →
     standing_points (FlightRules first bound) (bid_entry agent points bought trades ∷ past)
     ≡ unsold (price first bound past) (others_than agent (standing_points (FlightRules first bound) past) ++ owned_by agent points)
 bid_left first bound past agent points bought trades le still_open full =
@@ -225,23 +273,12 @@ bid_left first bound past agent points bought trades le still_open full =
     new : Placed
     new = record { agent = agent; position = length past; points = points }
 
-pub bid_trades : (good current : ℕ) (rules : Rules) (past : List Entry) (agent : ℕ) (points : List Point) → AllByRecursion (λ (p : Point). size_of p ≢ 0) points →
-    flight_trades good current (looked_at (stand rules past) (length past) agent (Bid points)) (bids_looked_at (placed_bids past) (length past) agent (Bid points)) (length past + 1)
-    ≡ sales good current (others_than agent (standing_points rules past) ++ owned_by agent points)
+pub bid_trades : (good current : ℕ) (rules : Rules) (past : List Entry) (agent : ℕ) (points : List Point) → AllByRecursion IsFull points →
+    flight_trades good current (points_looked_at (standing_points rules past) agent (Bid points)) ≡ sales good current (others_than agent (standing_points rules past) ++ owned_by agent points)
 bid_trades good current rules past agent points full =
-    ap (flight_trades good current units bids) (add-one (length past))
-    ∙ trades_are good current units bids (suc (length past))
-    ∙ ap (λ (order : List Placed). sales good current (flat_map (standing_of units) order)) (looked_order agent new past refl)
-    ∙ ap (sales good current) (new_looked rules past agent points full)
-  where
-    new : Placed
-    new = record { agent = agent; position = length past; points = points }
-
-    units : List BidUnit
-    units = looked (stand rules past) new
-
-    bids : List Placed
-    bids = filter (of_others agent) (placed_bids past) ++ new ∷ []
+    sold_reached good current (others_than agent (standing_points rules past) ++ owned_by agent points)
+    (all-append (λ (s : StandingPoint). IsFull s.point) (others_than agent (standing_points rules past)) (owned_by agent points)
+    (all-filter (λ (s : StandingPoint). IsFull s.point) (λ s. not (is_points_agent agent s)) (standing_points rules past) (standing_full rules past)) (owned_full agent points full))
 
 -- ---- a withdrawal
 

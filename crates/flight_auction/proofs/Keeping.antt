@@ -24,8 +24,9 @@ use Rattle.auction_rules.specs.Follows.{Follows}
 use Rattle.auction_rules.proofs.Idle.{IsIdle, idle_refused, idle_price, idle_closed, wrong_follows}
 use Rattle.auction_rules.proofs.Agents.{not_clock}
 use Rattle.auction_rules.proofs.Steps.{refused_entry, entry_refused, entry_admitted, refusal_refuses, follows}
-use Rattle.flight_auction.specs.declared.sales.StandingPoint.{StandingPoint}
-use Rattle.flight_auction.specs.Book.{owned_by, is_points_agent, agents_points, others_than, reaches, sale, sales, unsold, FlightBook, standing_points, StandsFor}
+use Rattle.auction_rules.specs.declared.units.StandingPoint.{StandingPoint}
+use Rattle.auction_rules.specs.FlightSales.{owned_by, sale, standing_points}
+use Rattle.flight_auction.specs.Book.{is_points_agent, agents_points, others_than, reaches, sales, unsold, FlightBook, StandsFor}
 use Rattle.flight_auction.proofs.Changes.{update_entry, update_left, update_trades, bid_entry, bid_left, bid_trades, withdraw_entry, withdraw_left, closed_left, idle_left}
 use Rattle.flight_auction.proofs.Owning.{own_points, has_standing_is}
 
@@ -194,7 +195,7 @@ module _ (setup : Setup) (past : List Entry) (book : FlightBook) (stood : Stands
       traded : trades ≡ admitted_trades setup past clock (Update tick draw)
       traded =
           trades_is ∙ rw (good_is, price_now, standing_is, stood.rules)
-          (sym (update_trades setup.good (next_price (price stood.first book.bound past) book.bound tick draw) stood.first book.bound past))
+          (sym (update_trades setup.good (next_price (price stood.first book.bound past) book.bound tick draw) (FlightRules stood.first book.bound) past))
 
   -- ---- a closing
 

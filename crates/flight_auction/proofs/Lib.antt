@@ -4,6 +4,7 @@ pub mod Points
 pub mod Sold
 pub mod Order
 pub mod Changes
+pub mod UnitTrades
 pub mod Owning
 pub mod Keeping
 pub mod Limits

@@ -13,8 +13,9 @@ use Rattle.tac_base.proofs.Faults.{IsGood, good_point, both_none, few_units, lis
 use Rattle.auction_rules.specs.Effects.{bought}
 use Rattle.auction_rules.proofs.Agents.{another}
 use Rattle.auction_rules.proofs.Standing.{number_is}
-use Rattle.flight_auction.specs.declared.sales.StandingPoint.{StandingPoint}
-use Rattle.flight_auction.specs.Book.{owned_by, is_points_agent, agents_points, others_than, reaches, sale, sales, unsold, IsFlightSound}
+use Rattle.auction_rules.specs.declared.units.StandingPoint.{StandingPoint}
+use Rattle.auction_rules.specs.FlightSales.{owned_by, sale}
+use Rattle.flight_auction.specs.Book.{is_points_agent, agents_points, others_than, reaches, sales, unsold, IsFlightSound}
 use Rattle.auction_rules.proofs.LeftPoints.{no_fault}
 use Rattle.auction_rules.proofs.Lists.{filter-map, filter-filter, filter_all, all_passing}
 use Rattle.flight_auction.proofs.Sold.{stays}

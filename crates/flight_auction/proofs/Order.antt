@@ -1,7 +1,7 @@
 -- The last bids in the order of their positions, and how one entry changes it.
-use Rattle.std.proofs.Common.{◌≡◌, ℕ, zero, suc, ◌<◌, ◌≤◌, Bool, true, false, cond, List, [], ◌∷◌, ◌++◌, length, refl, sym, ap, ◌∙◌, arith, append-nil, Option, Some, None}
+use Rattle.std.proofs.Common.{◌≡◌, ℕ, zero, suc, ◌+◌, ◌<◌, ◌≤◌, Bool, true, false, cond, List, [], ◌∷◌, ◌++◌, length, refl, sym, ap, ◌∙◌, arith, append-nil, add-zero, Option, Some, None}
 use Rattle.std.specs.Prelude.{not, ◌==◌, filter, if◌then◌else◌}
-use Rattle.std.specs.List.{AllByRecursion, cons_option, filter_map, flat_map}
+use Rattle.std.specs.List.{AllByRecursion, cons_option, filter_map, flat_map, range_with_len}
 use Rattle.std.specs.Option.{option_to_list}
 use Rattle.std.proofs.lemmas.Bool.Decides.{nat_tests}
 use Rattle.std.proofs.lemmas.List.Elements.{filter-append}
@@ -11,10 +11,9 @@ use Rattle.auction_rules.specs.declared.units.BidUnit.{BidUnit}
 use Rattle.tac_base.specs.Goods.{agents}
 use Rattle.auction_rules.specs.Units.{units_of}
 use Rattle.auction_rules.specs.History.{Entry, last_bid, units_of_last}
-use Rattle.auction_rules.specs.FlightRule.{positions_below}
 use Rattle.auction_rules.proofs.Agents.{number_same, numbers_differ, another, agents_pick}
 use Rattle.auction_rules.proofs.Standing.{Each, IsBidOf, last_is, number_is}
-use Rattle.flight_auction.specs.Book.{by_position, placed_bids}
+use Rattle.auction_rules.specs.FlightSales.{by_position, placed_bids}
 use Rattle.auction_rules.proofs.Lists.{filter-filter, filter-flat_map, flat_map_alike, filter-filter_map, all-filter, all-append}
 
 abbrev pub made_at : ℕ → Placed → Bool
@@ -26,9 +25,18 @@ of_others agent bid = not (bid.agent == agent)
 
 -- ---- one position more
 
+range_more : (from n : ℕ) → range_with_len from (suc n) ≡ range_with_len from n ++ (from + n) ∷ []
+range_more from zero = ap (λ (k : ℕ). k ∷ []) (sym (add-zero from))
+range_more from (suc n) = ap (λ (ks : List ℕ). from ∷ ks) (range_more (from + 1) n ∙ ap (λ (k : ℕ). range_with_len (from + 1) n ++ k ∷ []) (omega arith))
+
+-- the positions below a number, with that number
+pub below_more : (n : ℕ) → range_with_len 0 (suc n) ≡ range_with_len 0 n ++ n ∷ []
+below_more n = range_more 0 n ∙ ap (λ (k : ℕ). range_with_len 0 n ++ k ∷ []) (omega arith)
+
 pub by_position_more : (bids : List Placed) (n : ℕ) → by_position bids (suc n) ≡ by_position bids n ++ filter (made_at n) bids
 by_position_more bids n =
-    flat_map-append (λ (position : ℕ). filter (made_at position) bids) (positions_below n) (n ∷ [])
+    ap (flat_map (λ (position : ℕ). filter (made_at position) bids)) (below_more n)
+    ∙ flat_map-append (λ (position : ℕ). filter (made_at position) bids) (range_with_len 0 n) (n ∷ [])
     ∙ ap (λ (more : List Placed). by_position bids n ++ more) (append-nil (filter (made_at n) bids))
 
 -- bids that are alike below a position
@@ -41,9 +49,9 @@ by_position_alike xs ys (suc n) h =
 
 by_position_filter : (test : Placed → Bool) (bids : List Placed) (n : ℕ) → by_position (filter test bids) n ≡ filter test (by_position bids n)
 by_position_filter test bids n =
-    flat_map_alike (λ (position : ℕ). filter (made_at position) (filter test bids)) (λ (position : ℕ). filter test (filter (made_at position) bids)) (positions_below n)
+    flat_map_alike (λ (position : ℕ). filter (made_at position) (filter test bids)) (λ (position : ℕ). filter test (filter (made_at position) bids)) (range_with_len 0 n)
     (λ position. filter-filter (made_at position) test bids)
-    ∙ sym (filter-flat_map test (λ (position : ℕ). filter (made_at position) bids) (positions_below n))
+    ∙ sym (filter-flat_map test (λ (position : ℕ). filter (made_at position) bids) (range_with_len 0 n))
 
 -- ---- the bids that an agent's new one, or its withdrawal, leaves
 
@@ -109,7 +117,7 @@ pub replaced_order : (agent : ℕ) (new : Option Placed) (past : List Entry) →
     ((position : ℕ) → position < length past → filter (made_at position) (option_to_list new) ≡ []) → filter (made_at (length past)) (option_to_list new) ≡ option_to_list new →
     by_position (filter_map (replaced agent new (λ a. last_bid a past)) agents) (suc (length past)) ≡ filter (of_others agent) (by_position (placed_bids past) (length past)) ++ option_to_list new
 replaced_order agent new past le below here =
-    by_position_more _ (length past)
+    by_position_more (filter_map (replaced agent new (λ a. last_bid a past)) agents) (length past)
     ∙ rw (placed_here agent new past le here) refl
     ∙ ap (λ (bids : List Placed). bids ++ option_to_list new)
     (by_position_alike _ (filter (of_others agent) (placed_bids past)) (length past) (placed_below agent new past below)
@@ -168,7 +176,7 @@ placed_all P f (a ∷ who) h = placed_one P (f a) (filter_map f who) h.0 (placed
 -- what the units of each agent's last bid have, so have those of all bids in order
 pub ordered_all : (P : BidUnit → Type 0) (f : ℕ → Option Placed) (n : ℕ) → ((a : ℕ) → a ≤ 7 → Each P (units_of_last (f a))) →
     AllByRecursion (λ (bid : Placed). Each P (units_of bid)) (by_position (filter_map f agents) n)
-ordered_all P f n h = all_of (positions_below n)
+ordered_all P f n h = all_of (range_with_len 0 n)
   where
     all : AllByRecursion (λ (bid : Placed). Each P (units_of bid)) (filter_map f agents)
     all = placed_all P f agents

@@ -15,8 +15,9 @@ use Rattle.auction_rules.specs.History.{Entry, is_closed, last_bid, units_of_las
 use Rattle.auction_rules.specs.Standing.{gone, stand, signed_as, left_points, left_of, left}
 use Rattle.auction_rules.specs.Refusals.{has_standing}
 use Rattle.auction_rules.proofs.Standing.{Each, each-front, each-back, stands_unless_gone}
-use Rattle.flight_auction.specs.declared.sales.StandingPoint.{StandingPoint}
-use Rattle.flight_auction.specs.Book.{owned_by, is_points_agent, agents_points, by_position, placed_bids, standing_of, standing_points}
+use Rattle.auction_rules.specs.declared.units.StandingPoint.{StandingPoint}
+use Rattle.auction_rules.specs.FlightSales.{owned_by, by_position, placed_bids, standing_of, standing_points}
+use Rattle.flight_auction.specs.Book.{is_points_agent, agents_points}
 use Rattle.auction_rules.proofs.LeftPoints.{suc_not_zero}
 use Rattle.auction_rules.proofs.Lists.{filter_same, filter-flat_map, map-flat_map, flat_map-filter, flat_map_alike, some_of, some-append, any_is_some}
 use Rattle.auction_rules.proofs.AgentUnits.{own_units}

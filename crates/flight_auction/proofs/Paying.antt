@@ -6,8 +6,9 @@ use Rattle.std.proofs.lemmas.Bool.Decides.{nat_tests}
 use Rattle.std.proofs.lemmas.List.Elements.{All-from_recursion, All-weaker}
 use Rattle.tac_base.specs.declared.calls.Trade.{Trade}
 use Rattle.tac_base.specs.Bids.{size_of}
-use Rattle.flight_auction.specs.declared.sales.StandingPoint.{StandingPoint}
-use Rattle.flight_auction.specs.Book.{is_points_agent, reaches, sale, sales, others_than, IsPaid}
+use Rattle.auction_rules.specs.declared.units.StandingPoint.{StandingPoint}
+use Rattle.auction_rules.specs.FlightSales.{sale}
+use Rattle.flight_auction.specs.Book.{is_points_agent, reaches, sales, others_than, IsPaid}
 use Rattle.auction_rules.proofs.Lists.{all-weaker}
 
 any_here : (P : StandingPoint → Type 0) (s : StandingPoint) (standing : List StandingPoint) → P s → Any P (s ∷ standing)

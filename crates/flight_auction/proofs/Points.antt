@@ -2,7 +2,7 @@
 use Rattle.std.proofs.Common.{◌≡◌, ℕ, ◌+◌, ◌<◌, true, cond, List, length, arith, get_or, take}
 use Rattle.std.proofs.lemmas.List.Sums.{length-filter, count_by_more_yes, sum_by-take-le}
 use Rattle.std.proofs.lemmas.List.{length-map}
-use Rattle.flight_auction.specs.declared.sales.StandingPoint.{StandingPoint}
+use Rattle.auction_rules.specs.declared.units.StandingPoint.{StandingPoint}
 use Rattle.flight_auction.specs.Book.{is_points_agent, agents_points}
 
 -- one more point of the agent is one of all

@@ -1,22 +1,20 @@
 -- What a sale leaves of a bid's points, and its trades.
-use Rattle.std.proofs.Common.{◌≡◌, ℕ, zero, suc, ◌+◌, Bool, true, false, cond, List, [], ◌∷◌, map, refl, sym, ap, ◌∙◌, arith}
-use Rattle.std.specs.Prelude.{not, ◌&&◌, ◌==◌, nat_le, nat_lt, filter, if◌then◌else◌}
+use Rattle.std.proofs.Common.{◌≡◌, ℕ, zero, suc, ◌+◌, Bool, true, false, cond, List, [], ◌∷◌, refl, sym, ap, ◌∙◌}
+use Rattle.std.specs.Prelude.{not, ◌&&◌, ◌==◌, nat_le, filter, if◌then◌else◌}
 use Rattle.std.specs.List.{flat_map}
-use Rattle.std.proofs.lemmas.Bool.Decides.{nat_tests}
 use Rattle.std.proofs.lemmas.List.Sums.{sum_by-cons}
 use Rattle.tac_base.specs.declared.bids.Point.{Point}
 use Rattle.tac_base.specs.Bids.{size_of, buys_of}
 use Rattle.auction_rules.specs.declared.units.Placed.{Placed}
 use Rattle.auction_rules.specs.declared.units.BidUnit.{BidUnit}
-use Rattle.tac_base.specs.Goods.{house}
 use Rattle.auction_rules.specs.Units.{point_units, units_from, units_of, among, common_units}
-use Rattle.auction_rules.specs.FlightRule.{point_trades, flight_trades, positions_below}
 use Rattle.auction_rules.specs.Standing.{signed_as, left_points}
 use Rattle.auction_rules.proofs.Standing.{Each, each-front, each-back, each-block, each-both}
-use Rattle.flight_auction.specs.declared.sales.StandingPoint.{StandingPoint}
-use Rattle.flight_auction.specs.Book.{owned_by, reaches, sale, sales, unsold, by_position, standing_of}
-use Rattle.auction_rules.proofs.LeftPoints.{suc_not_zero, signed_size}
-use Rattle.auction_rules.proofs.Lists.{filter-map, filter-flat_map, map-flat_map, flat_map-flat_map, flat_map_alike}
+use Rattle.auction_rules.specs.declared.units.StandingPoint.{StandingPoint}
+use Rattle.auction_rules.specs.FlightSales.{owned_by, standing_of}
+use Rattle.flight_auction.specs.Book.{reaches, unsold}
+use Rattle.auction_rules.proofs.LeftPoints.{suc_not_zero}
+use Rattle.auction_rules.proofs.Lists.{filter-map, filter-flat_map}
 
 -- ---- points by their units
 
@@ -48,9 +46,6 @@ each_priced agent position from point =
 -- whether a point stays unsold at a price
 abbrev pub stays : ℕ → Point → Bool
 stays current point = not (nat_le current point.price)
-
-zero_below : (n : ℕ) → nat_lt 0 (suc n) ≡ true
-zero_below n = grind (arith, nat_tests)
 
 -- the points of which each unit stands that stood before
 pub left_same : (xs ys : List BidUnit) (agent position from : ℕ) (points : List Point) → Each (λ (u : BidUnit). among u ys ≡ among u xs) (units_from agent position from points) →
@@ -91,27 +86,6 @@ left_cut current xs ys agent position from (point ∷ points) h =
     by_test false k zero = refl
     by_test false k (suc n) = rw (suc_not_zero n) (by_count (suc n) false k)
 
--- ---- trades by the points that stand
-
--- the trades of a bid are the sales of its points that stand
-point_trades_are : (good current : ℕ) (units : List BidUnit) (bid : Placed) (from : ℕ) (points : List Point) →
-    point_trades good current units bid from points ≡ sales good current (owned_by bid.agent (left_points units bid.agent bid.position from points))
-point_trades_are good current units bid from [] = refl
-point_trades_are good current units bid from (point ∷ points) =
-    by_tests (nat_le current point.price) refl (common_units (point_units bid.agent bid.position from point) units) (point_trades_are good current units bid (from + size_of point) points)
-  where
-    rest : List Point
-    rest = left_points units bid.agent bid.position (from + size_of point) points
-
-    by_tests : (b : Bool) → nat_le current point.price ≡ b → (n : ℕ) → point_trades good current units bid (from + size_of point) points ≡ sales good current (owned_by bid.agent rest) →
-        cond (b && nat_lt 0 n) (record { buyer = bid.agent; seller = house; good = good; units = n; price = current } ∷ point_trades good current units bid (from + size_of point) points)
-        (point_trades good current units bid (from + size_of point) points)
-        ≡ sales good current (owned_by bid.agent (cond (n == 0) rest (record { units = signed_as point.units n; price = point.price } ∷ rest)))
-    by_tests true k zero ih = ih
-    by_tests true k (suc n) ih = rw (suc_not_zero n, zero_below n, k, signed_size point.units (suc n), ih) refl
-    by_tests false k zero ih = ih
-    by_tests false k (suc n) ih = rw (suc_not_zero n, k, ih) refl
-
 -- ---- all bids
 
 unsold_owned : (current agent : ℕ) (points : List Point) → unsold current (owned_by agent points) ≡ owned_by agent (filter (stays current) points)
@@ -129,12 +103,3 @@ standing_same xs ys bid h = ap (owned_by bid.agent) (left_same xs ys bid.agent b
 -- the unsold points of all bids
 pub unsold_all : (current : ℕ) (units : List BidUnit) (bids : List Placed) → unsold current (flat_map (standing_of units) bids) ≡ flat_map (λ bid. unsold current (standing_of units bid)) bids
 unsold_all current units bids = filter-flat_map (λ (s : StandingPoint). not (reaches current s)) (standing_of units) bids
-
--- the trades of the rules are the sales of the points, bid by bid
-pub trades_are : (good current : ℕ) (units : List BidUnit) (bids : List Placed) (end : ℕ) →
-    flight_trades good current units bids end ≡ sales good current (flat_map (standing_of units) (by_position bids end))
-trades_are good current units bids end =
-    sym (flat_map-flat_map (λ (bid : Placed). point_trades good current units bid 0 bid.points) (λ (position : ℕ). filter (λ (bid : Placed). bid.position == position) bids) (positions_below end))
-    ∙ flat_map_alike _ (λ (bid : Placed). sales good current (standing_of units bid)) (by_position bids end) (λ bid. point_trades_are good current units bid 0 bid.points)
-    ∙ sym (map-flat_map (sale good current) (λ (bid : Placed). filter (reaches current) (standing_of units bid)) (by_position bids end))
-    ∙ sym (ap (map (sale good current)) (filter-flat_map (reaches current) (standing_of units) (by_position bids end)))

@@ -13,8 +13,9 @@ use Rattle.auction_rules.specs.Traded.{traded, Spends, IsShort}
 use Rattle.auction_rules.proofs.Agents.{number_same}
 use Rattle.auction_rules.proofs.Trading.{sum_by-filter-le}
 use Rattle.auction_rules.proofs.Lists.{all-filter}
-use Rattle.flight_auction.specs.declared.sales.StandingPoint.{StandingPoint}
-use Rattle.flight_auction.specs.Book.{is_points_agent, agents_points, others_than, owned_by, reaches, sale, sales, unsold, units_standing, IsFlightSound}
+use Rattle.auction_rules.specs.declared.units.StandingPoint.{StandingPoint}
+use Rattle.auction_rules.specs.FlightSales.{owned_by, sale}
+use Rattle.flight_auction.specs.Book.{is_points_agent, agents_points, others_than, reaches, sales, unsold, units_standing, IsFlightSound}
 
 HasUnits : StandingPoint → Type 0
 HasUnits s = 1 ≤ size_of s.point

@@ -1,25 +1,16 @@
 -- What a contract sees of a flight auction, and the pasts that it stands for.
-use Rattle.std.specs.Prelude.{◌≡◌, ℕ, ◌==◌, Bool, not, nat_le, ◌≤◌, List, All, Any, ℤ, pos, negsuc, ◌≤ℤ◌, None, map, filter, length, sum_by}
-use Rattle.std.specs.List.{filter_map, flat_map}
+use Rattle.std.specs.Prelude.{◌≡◌, ℕ, ◌==◌, Bool, not, nat_le, ◌≤◌, List, All, Any, ℤ, pos, negsuc, ◌≤ℤ◌, None, map, filter, sum_by}
 use Rattle.tac_base.specs.declared.bids.Point.{Point}
 use Rattle.tac_base.specs.declared.calls.Trade.{Trade}
-use Rattle.auction_rules.specs.declared.units.Placed.{Placed}
-use Rattle.auction_rules.specs.declared.units.BidUnit.{BidUnit}
-use Rattle.tac_base.specs.Goods.{agents, house}
 use Rattle.auction_rules.specs.Setup.{Setup}
-use Rattle.auction_rules.specs.declared.rules.Rules.{Rules}
 use Rattle.auction_rules.specs.declared.rules.Rules.TheVariants.{Flight as FlightRules}
-use Rattle.auction_rules.specs.History.{Entry, is_closed, last_bid}
-use Rattle.auction_rules.specs.FlightRule.{price, positions_below}
-use Rattle.auction_rules.specs.Standing.{stand, left_points}
+use Rattle.auction_rules.specs.History.{Entry, is_closed}
+use Rattle.auction_rules.specs.FlightRule.{price}
+use Rattle.auction_rules.specs.FlightSales.{sale, standing_points}
 use Rattle.tac_base.specs.Bids.{size_of, left_fault}
-use Rattle.flight_auction.specs.declared.sales.StandingPoint.{StandingPoint}
+use Rattle.auction_rules.specs.declared.units.StandingPoint.{StandingPoint}
 
 -- ---- standing points
-
--- the points of an agent, each with the agent
-abbrev pub owned_by : ℕ → List Point → List StandingPoint
-owned_by agent points = map (λ point. record { agent = agent; point = point }) points
 
 abbrev pub is_points_agent : ℕ → StandingPoint → Bool
 is_points_agent agent standing = standing.agent == agent
@@ -34,10 +25,6 @@ others_than agent standing = filter (λ s. not (is_points_agent agent s)) standi
 -- whether the house sells a point at a price
 abbrev pub reaches : ℕ → StandingPoint → Bool
 reaches price standing = nat_le price standing.point.price
-
--- the sale of a whole point
-abbrev pub sale : ℕ → ℕ → StandingPoint → Trade
-sale good price standing = record { buyer = standing.agent; seller = house; good = good; units = size_of standing.point; price = price }
 
 -- what is sold of the standing points at a price, one trade for each point, and what is left of them
 abbrev pub sales : ℕ → ℕ → List StandingPoint → List Trade
@@ -77,22 +64,6 @@ units_standing standing = sum_by (λ s. size_of s.point) standing
 -- how many units the house may still sell if nobody makes a new bid
 abbrev pub flight_units_left : FlightBook → ℕ
 flight_units_left book = units_standing book.standing
-
--- the bids made below a position, by their position
-abbrev pub by_position : List Placed → ℕ → List Placed
-by_position bids end = flat_map (λ position. filter (λ bid. bid.position == position) bids) (positions_below end)
-
--- the last bids of those agents that have one
-abbrev pub placed_bids : List Entry → List Placed
-placed_bids past = filter_map (λ agent. last_bid agent past) agents
-
--- the points of a bid that stand, if these units stand
-abbrev pub standing_of : List BidUnit → Placed → List StandingPoint
-standing_of units bid = owned_by bid.agent (left_points units bid.agent bid.position 0 bid.points)
-
--- the points that stand after a past, by the position of their bid and then in the order of the bid
-abbrev pub standing_points : Rules → List Entry → List StandingPoint
-standing_points rules past = flat_map (standing_of (stand rules past)) (by_position (placed_bids past) (length past))
 
 -- what a flight keeps of a past
 abbrev pub flight_book : ℕ → ℕ → ℤ → List Entry → FlightBook

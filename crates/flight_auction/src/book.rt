@@ -8,12 +8,13 @@ ghost use Rattle.auction_rules.specs.Refusals.{is_wrong_caller, is_wrong_place};
 ghost use Rattle.auction_rules.specs.Legal.{entry_of};
 ghost use Rattle.auction_rules.specs.Follows.{Follows};
 ghost use Rattle.auction_rules.specs.Traded.{Spends, IsShort};
-ghost use Rattle.flight_auction.specs.Book.{StandsFor, IsPaid, owned_by, flight_units_left};
+ghost use Rattle.auction_rules.specs.FlightSales.{owned_by};
+ghost use Rattle.flight_auction.specs.Book.{StandsFor, IsPaid, flight_units_left};
 
 use crate::prices::next_price;
-use crate::sales::{StandingPoint, forget, has_points, place, points_of, sell};
+use crate::sales::{forget, has_points, place, points_of, sell};
 use arrayvec::ArrayVec;
-use auction_rules::{Rules, bought, sells, wrong_reply};
+use auction_rules::{Rules, StandingPoint, bought, sells, wrong_reply};
 use std::marker::Model;
 use tac_base::limits::{BID_UNITS, STANDING_UNITS, UPDATE_TICKS};
 use tac_base::{Agent, Board, Call, Caller, Fills, Good, Kind, Left, Points, Reply, Tick};

@@ -1,17 +1,12 @@
 ghost use Rattle.std.specs.Prelude.{◌≡◌, ◌+◌, ◌<◌, ◌≤◌, ◌++◌, [], ◌∷◌, length};
 ghost use Rattle.std.specs.List.{list_any};
+ghost use Rattle.auction_rules.specs.FlightSales as rule;
 ghost use Rattle.flight_auction.specs.Book as spec;
 
 use arrayvec::ArrayVec;
+use auction_rules::StandingPoint;
 use tac_base::limits::{ENTRY_TRADES, STANDING_UNITS};
 use tac_base::{Agent, Fills, Good, Party, Point, Trade};
-
-/// A standing point of an agent's bid.
-#[derive(Clone, Copy, Debug, Default, PartialEq, Eq)]
-pub struct StandingPoint {
-    pub agent: Agent,
-    pub point: Point,
-}
 
 /// Whether the point belongs to the agent with this number.
 fn is_of(standing: &StandingPoint, number: u8) -> bool
@@ -29,7 +24,7 @@ fn reaches(standing: &StandingPoint, price: u16) -> bool
 
 /// The sale of the whole point by the house at the price.
 fn sale(good: Good, price: u16, standing: &StandingPoint) -> Trade
-    ensures { result ≡ spec.sale good price standing.now }
+    ensures { result ≡ rule.sale good price standing.now }
 {
     Trade {
         buyer: standing.agent.party(),
@@ -61,7 +56,7 @@ pub(crate) fn place(
     points: &[Point],
 )
     requires { length standing.old.items + length points.now ≤ STANDING_UNITS }
-    ensures { standing.new.items ≡ standing.old.items ++ spec.owned_by agent points.now }
+    ensures { standing.new.items ≡ standing.old.items ++ rule.owned_by agent points.now }
 {
     for point in points {
         standing.push(StandingPoint {

@@ -1,6 +1,6 @@
 -- What became of each agent, by its seat.
 use Rattle.std.proofs.Common.{zero, suc, ◌≡◌, ℕ, ◌<◌, ◌+◌, ◌-◌, ◌^◌, List, [], ◌∷◌, ◌++◌, map, length, refl, ap, sym, ◌∙◌, subst, true, Bool, Some, None, arith, add-zero, filter}
-use Rattle.std.specs.Prelude.{cond, Contains, Result, is_some, slice_get, IfSome}
+use Rattle.std.specs.Prelude.{cond, Contains, is_some, slice_get, IfSome}
 use Rattle.std.specs.declared.option.Option.{Option}
 use Rattle.std.specs.Option.{option_map}
 use Rattle.std.specs.List.{cons_option, filter_map, range_with_len}
@@ -12,9 +12,6 @@ use Rattle.tac_io.specs.AllAnswers.{all_answers}
 use Rattle.tac_io.specs.LineAnswers.{goes_on}
 use Rattle.tac_io.specs.Lines.{count_of, held_of, last_of, link_of}
 use Rattle.tac_io.specs.declared.lines.Lines.{Lines}
-use Rattle.line_protocol.specs.declared.asking.Request.{Request}
-use Rattle.line_protocol.specs.declared.asking.RequestFault.{RequestFault}
-use Rattle.line_protocol.specs.declared.saying.Said.{Said}
 use Rattle.line_protocol.specs.declared.admission.Cause.{Cause}
 use Rattle.floor.specs.declared.desk.Desk.{Desk}
 use Rattle.floor.specs.Answers.{IsSameDesk}
@@ -29,6 +26,7 @@ use Rattle.tac_io.specs.States.{LinkState}
 use Rattle.game_run.specs.Seatings.{FloorIds, eight_of, played_end, IsReadySeat, IsReadyClock, AreEightReady, IsPlayedOut, IsServedBy}
 use Rattle.game_run.specs.GameSessions.{IsAgentsPart, IsServedAs}
 use Rattle.game_run.proofs.Transcripts.{transcript_of, absent_of}
+use Rattle.agent_gate.specs.Dialects.{Dialect}
 
 -- what holds of each number below eight
 pub below_eight : (P : ℕ → Type 0) → P 0 → P 1 → P 2 → P 3 → P 4 → P 5 → P 6 → P 7 → (n : ℕ) → n < 8 → P n
@@ -85,14 +83,14 @@ module _ {L : Type 0} (ids : FloorIds) (e : Two (Two (Two (AgentSeat L)))) (cloc
 
 -- ---- after them
 
-module _ {L : Type 0} (state : L → LinkState) (may_answer : List ℕ → Result Request RequestFault → Type 0) (text : Said → List ℕ) (game : GameFile) where
-  pub same_out : (before : Desk) (lines : Option (Lines L)) (after : Desk) (end : Option (L × Cause)) → IsPlayedOut state may_answer text game before lines after end → IsSameDesk before after
+module _ {L : Type 0} (state : L → LinkState) (dialect : Dialect) (game : GameFile) where
+  pub same_out : (before : Desk) (lines : Option (Lines L)) (after : Desk) (end : Option (L × Cause)) → IsPlayedOut state dialect game before lines after end → IsSameDesk before after
   same_out before None after None out = (ap desk_ids out, ap desk_caller out)
   same_out before None after (Some end) out = absurd out
   same_out before (Some ls) after None out = absurd out
   same_out before (Some ls) after (Some (link, cause)) out = out.session.desk.same
 
-  pub same_kind : (before : Desk) (lines : Option (Lines L)) (after : Desk) (end : Option (L × Cause)) → IsPlayedOut state may_answer text game before lines after end → is_some end ≡ is_some lines
+  pub same_kind : (before : Desk) (lines : Option (Lines L)) (after : Desk) (end : Option (L × Cause)) → IsPlayedOut state dialect game before lines after end → is_some end ≡ is_some lines
   same_kind before None after None out = refl
   same_kind before None after (Some end) out = absurd out
   same_kind before (Some ls) after None out = absurd out
@@ -100,21 +98,21 @@ module _ {L : Type 0} (state : L → LinkState) (may_answer : List ℕ → Resul
 
   module _ (closed : ClosedGame) (long : length closed.auctions ≡ 28) (ids : FloorIds) (ends : List (ℕ × Cause)) where
     served_as : (agent : ℕ) (before after : Desk) (lines : Lines L) (link : L) (cause : Cause) → IsNewDesk ids agent before → IsBorneOut closed after
-        → IsServedBy state may_answer text game before lines after link cause → IsServedAs state may_answer text game closed agent lines link cause
+        → IsServedBy state dialect game before lines after link cause → IsServedAs state dialect game closed agent lines link cause
     served_as agent before after lines link cause new borne by = record {
       more = by.session.more;
       gave = by.session.gave;
       turns = by.session.turns;
-      count = by.count;
-      served = subst (λ n. IsServed may_answer text (welcome_text game n) (all_answers [] (2 ^ 26 - count_of lines + length (held_of lines).unread) ((held_of lines).unread ++ by.session.more))
-          (state (link_of lines)) (state link) by.session.turns by.count cause) new.caller by.session.served;
-      transcript = transcript_of closed long ids agent before after new borne by.session.turns by.session.desk by.session.served.lawful;
+      rest = by.session.rest;
+      served = subst (λ n. IsServed dialect (all_answers [] (2 ^ 26 - count_of lines + length (held_of lines).unread) ((held_of lines).unread ++ by.session.more))
+          (record { welcome = welcome_text game n; turns = by.session.turns; rest = by.session.rest; before = state (link_of lines); after = state link }) cause) new.caller by.session.served;
+      transcript = transcript_of closed long ids agent before after new borne by.session.turns by.session.desk;
       faults = by.faults;
     }
 
     pub agents_part : (agent : ℕ) (before : Desk) (lines : Option (Lines L)) (after : Desk) (end : Option (L × Cause)) → IsNewDesk ids agent before → IsBorneOut closed after
         → ((link : L) (cause : Cause) → end ≡ Some (link, cause) → Contains ends (agent, cause))
-        → IsPlayedOut state may_answer text game before lines after end → IsAgentsPart state may_answer text game closed ends agent lines (option_map (λ e. e.0) end)
+        → IsPlayedOut state dialect game before lines after end → IsAgentsPart state dialect game closed ends agent lines (option_map (λ e. e.0) end)
     agents_part agent before None after None new borne in_ends out = absent_of closed long ids agent before after new borne out
     agents_part agent before None after (Some end) new borne in_ends out = absurd out
     agents_part agent before (Some ls) after None new borne in_ends out = absurd out

@@ -10,8 +10,7 @@ use Rattle.line_protocol.specs.declared.admission.Verdict.TheVariants.{Seated, S
 use Rattle.agent_gate.specs.Gates.{Seats, verdict_of, word_verdict, seat_verdict, greeting_of, seats_after}
 use Rattle.game_run.specs.declared.arrivals.Holder.{Holder}
 use Rattle.game_run.specs.declared.arrivals.Holder.TheVariants.{Seat, Unseated}
-use Rattle.game_run.specs.Admission.{AreAdmitted}
-use Rattle.game_run.specs.Arriving.{IsTurnedAway, Keeps}
+use Rattle.game_run.specs.Arriving.{HoldsInTurn, IsTurnedAway, Keeps}
 use Rattle.tac_io.specs.States.{LinkState}
 use Rattle.game_run.specs.SeatedLinks.{AreFilled, AreLinksOf}
 use Rattle.game_run.proofs.Admitting.{follows}
@@ -106,7 +105,7 @@ module _ {L : Type 0} (state : L → LinkState) {X : Type 0} (Sits : Seats → �
         both t f = cc
 
     emptied : (agent_seats : List (Option X)) (a : ℕ) (seats : Seats) (xs : List LinkState) (vs : List Verdict) (holders : List (Holder L)) → slice_index_or seats.taken a false ≡ true
-        → AreAdmitted (Keeps state Sits agent_seats) seats xs vs holders → AreAdmitted (Keeps state Sits (slice_set agent_seats a None)) seats xs vs holders
+        → HoldsInTurn (Keeps state Sits agent_seats) seats xs vs holders → HoldsInTurn (Keeps state Sits (slice_set agent_seats a None)) seats xs vs holders
     emptied agent_seats a seats xs vs holders taken all =
         follows (Keeps state Sits agent_seats) (Keeps state Sits (slice_set agent_seats a None)) (λ s. slice_index_or s.taken a false ≡ true)
         (λ s v x holder t k. seats_stay_taken s v a t) (λ s v x holder t k. keeps_after agent_seats a s v x holder t k) seats xs vs holders taken all
@@ -120,7 +119,7 @@ module _ {L : Type 0} (state : L → LinkState) {X : Type 0} (Sits : Seats → �
     (free : (seats : Seats) (agent : ℕ) (before : LinkState) (x : X) → Sits seats agent before x → slice_index_or seats.taken agent false ≡ false) where
   -- each holder can be given its link
   pub filled : (agent_seats : List (Option X)) (seats : Seats) (xs : List LinkState) (vs : List Verdict) (holders : List (Holder L)) → length seats.taken ≡ length agent_seats
-      → AreAdmitted (Keeps state Sits agent_seats) seats xs vs holders → AreFilled agent_seats holders
+      → HoldsInTurn (Keeps state Sits agent_seats) seats xs vs holders → AreFilled agent_seats holders
   filled agent_seats seats [] [] [] size all = tt
   filled agent_seats seats [] [] (holder ∷ holders) size all = absurd all
   filled agent_seats seats [] (v ∷ vs) holders size all = absurd all
@@ -142,7 +141,7 @@ pub links_hold : {L : Type 0} (state : L → LinkState) (Sits : Seats → ℕ �
     → ((seats : Seats) (agent : ℕ) (before : LinkState) (link : L) → Sits seats agent before link → Holds seats (Seated agent) before (state link))
     → ((seats : Seats) (v : Verdict) (before after : LinkState) → IsTurnedAway seats v before after → Holds seats v before after)
     → (agent_seats : List (Option L)) (seats : Seats) (xs : List LinkState) (vs : List Verdict) (holders : List (Holder L)) (links : List L)
-    → AreAdmitted (Keeps state Sits agent_seats) seats xs vs holders → AreLinksOf agent_seats holders links → AreAdmitted Holds seats xs vs (map state links)
+    → HoldsInTurn (Keeps state Sits agent_seats) seats xs vs holders → AreLinksOf agent_seats holders links → HoldsInTurn Holds seats xs vs (map state links)
 links_hold state Sits Holds sits apart agent_seats seats [] [] [] [] all of = tt
 links_hold state Sits Holds sits apart agent_seats seats [] [] [] (link ∷ links) all of = absurd of
 links_hold state Sits Holds sits apart agent_seats seats [] [] (holder ∷ holders) links all of = absurd all

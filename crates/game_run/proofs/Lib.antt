@@ -1,5 +1,6 @@
 pub mod FirstLines
 pub mod Admitting
+pub mod ByIndex
 pub mod KeptSeats
 pub mod TakenLinks
 pub mod Transcripts

@@ -1,6 +1,6 @@
 -- Eight seats and the clock, after a game.
 use Rattle.std.proofs.Common.{◌≡◌, ℕ, ◌<◌, ◌+◌, List, [], ◌∷◌, ◌++◌, map, length, refl, ap, sym, ◌∙◌, subst, false, Some, None, All, arith, filter, replicate}
-use Rattle.std.specs.Prelude.{Result, is_some, slice_get, slice_index_or}
+use Rattle.std.specs.Prelude.{is_some, slice_get, slice_index_or}
 use Rattle.std.specs.List.{filter_map}
 use Rattle.std.specs.declared.option.Option.{Option}
 use Rattle.std.proofs.lemmas.List.{length-map}
@@ -12,9 +12,6 @@ use Rattle.tac_base.specs.Goods.{agents}
 use Rattle.auction_core.specs.ClosedGame.{ClosedGame, all_goods}
 use Rattle.auction_core.specs.Setups.{setup_of}
 use Rattle.tac_io.specs.declared.lines.Lines.{Lines}
-use Rattle.line_protocol.specs.declared.asking.Request.{Request}
-use Rattle.line_protocol.specs.declared.asking.RequestFault.{RequestFault}
-use Rattle.line_protocol.specs.declared.saying.Said.{Said}
 use Rattle.line_protocol.specs.declared.admission.Cause.{Cause}
 use Rattle.floor.specs.declared.desk.Desk.{Desk}
 use Rattle.floor.specs.Answers.{IsSameDesk}
@@ -30,18 +27,19 @@ use Rattle.game_run.specs.Seatings.{AreBoth, FloorIds, eight_of, played_end, pla
 use Rattle.game_run.specs.GameSessions.{IsAgentsPart, IsPlayedThrough}
 use Rattle.game_run.proofs.AgentParts.{below_eight, same_out, same_kind, agents_part, end_of_agent, ends_in_order}
 use Rattle.game_run.proofs.Transcripts.{scheduled_of}
+use Rattle.agent_gate.specs.Dialects.{Dialect}
 
 same_value : {A : Type 0} (a b : A) → Some a ≡ Some b → a ≡ b
 same_value a b e = cc
 
-module _ {L : Type 0} (state : L → LinkState) (may_answer : List ℕ → Result Request RequestFault → Type 0) (text : Said → List ℕ) (game : GameFile)
+module _ {L : Type 0} (state : L → LinkState) (dialect : Dialect) (game : GameFile)
     (e : Two (Two (Two (AgentSeat L)))) (p : Two (Two (Two (PlayedSeat L)))) (clock clock' : Desk) (ids : FloorIds)
     (fresh : (i : ℕ) (d : Desk) → get_elem? (map (λ q. q.desk) (eight_of e) ++ clock ∷ []) i ≡ some d → IsNewDesk ids i d)
-    (played : AreEightPlayed state may_answer text game e p) where
-  same_at : (number : ℕ) (agent_seat : AgentSeat L) (q : PlayedSeat L) → get_elem? (map (λ r. r.desk) (eight_of e) ++ clock ∷ []) number ≡ some agent_seat.desk → IsPlayedSeat state may_answer text game agent_seat q
+    (played : AreEightPlayed state dialect game e p) where
+  same_at : (number : ℕ) (agent_seat : AgentSeat L) (q : PlayedSeat L) → get_elem? (map (λ r. r.desk) (eight_of e) ++ clock ∷ []) number ≡ some agent_seat.desk → IsPlayedSeat state dialect game agent_seat q
       → (desk_ids q.desk ≡ ids) × (desk_caller q.desk ≡ number)
   same_at number agent_seat q at out =
-      let new = fresh number agent_seat.desk at in let same = same_out state may_answer text game agent_seat.desk agent_seat.lines q.desk q.end out in
+      let new = fresh number agent_seat.desk at in let same = same_out state dialect game agent_seat.desk agent_seat.lines q.desk q.end out in
       (same.0 ∙ new.ids, same.1 ∙ new.caller)
 
   at0 : (desk_ids p.first.first.first.desk ≡ ids) × (desk_caller p.first.first.first.desk ≡ 0)
@@ -87,15 +85,15 @@ module _ {L : Type 0} (state : L → LinkState) (may_answer : List ℕ → Resul
     long = sym (length-map closed.auctions (λ a. a.setup)) ∙ ap length setups
 
     part_at : (number : ℕ) (agent_seat : AgentSeat L) (q : PlayedSeat L) → get_elem? (map (λ r. r.desk) (eight_of e) ++ clock ∷ []) number ≡ some agent_seat.desk → slice_get (eight_of p) number ≡ Some q
-        → IsBorneOut closed q.desk → IsPlayedSeat state may_answer text game agent_seat q
-        → IsAgentsPart state may_answer text game closed (filter_map played_end (eight_of p)) number agent_seat.lines (played_link q)
+        → IsBorneOut closed q.desk → IsPlayedSeat state dialect game agent_seat q
+        → IsAgentsPart state dialect game closed (filter_map played_end (eight_of p)) number agent_seat.lines (played_link q)
     part_at number agent_seat q at at_end out_borne out =
-        agents_part state may_answer text game closed long ids (filter_map played_end (eight_of p)) number agent_seat.desk agent_seat.lines q.desk q.end (fresh number agent_seat.desk at) out_borne
+        agents_part state dialect game closed long ids (filter_map played_end (eight_of p)) number agent_seat.desk agent_seat.lines q.desk q.end (fresh number agent_seat.desk at) out_borne
         (λ link cause is. end_of_agent (eight_of p) number q link cause at_end (same_at number agent_seat q at out).1 is) out
 
-    each_agent : (agent : ℕ) → agent < 8 → IsAgentsPart state may_answer text game closed (filter_map played_end (eight_of p)) agent
+    each_agent : (agent : ℕ) → agent < 8 → IsAgentsPart state dialect game closed (filter_map played_end (eight_of p)) agent
         (slice_index_or (map (λ q. q.lines) (eight_of e)) agent None) (slice_index_or (map played_link (eight_of p)) agent None)
-    each_agent = below_eight (λ agent. IsAgentsPart state may_answer text game closed (filter_map played_end (eight_of p)) agent
+    each_agent = below_eight (λ agent. IsAgentsPart state dialect game closed (filter_map played_end (eight_of p)) agent
         (slice_index_or (map (λ q. q.lines) (eight_of e)) agent None) (slice_index_or (map played_link (eight_of p)) agent None))
         (part_at 0 e.first.first.first p.first.first.first refl refl (borne 0 clock' (omega arith)) played.one.one.one)
         (part_at 1 e.first.first.second p.first.first.second refl refl (borne 1 clock' (omega arith)) played.one.one.other)
@@ -109,10 +107,10 @@ module _ {L : Type 0} (state : L → LinkState) (may_answer : List ℕ → Resul
     HasEnd : ℕ → Type 0
     HasEnd k = (q : PlayedSeat L) → slice_get (eight_of p) k ≡ Some q → (desk_caller q.desk ≡ 0 + k) × (slice_index_or (map (λ ls. is_some ls) (map (λ q. q.lines) (eight_of e))) (0 + k) false ≡ is_some q.end)
 
-    end_at : (number : ℕ) (agent_seat : AgentSeat L) (q r : PlayedSeat L) → get_elem? (map (λ r. r.desk) (eight_of e) ++ clock ∷ []) number ≡ some agent_seat.desk → IsPlayedSeat state may_answer text game agent_seat q
+    end_at : (number : ℕ) (agent_seat : AgentSeat L) (q r : PlayedSeat L) → get_elem? (map (λ r. r.desk) (eight_of e) ++ clock ∷ []) number ≡ some agent_seat.desk → IsPlayedSeat state dialect game agent_seat q
         → Some q ≡ Some r → (desk_caller r.desk ≡ number) × (is_some agent_seat.lines ≡ is_some r.end)
     end_at number agent_seat q r at out is =
-        subst (λ s. (desk_caller s.desk ≡ number) × (is_some agent_seat.lines ≡ is_some s.end)) (same_value q r is) ((same_at number agent_seat q at out).1, sym (same_kind state may_answer text game agent_seat.desk agent_seat.lines q.desk q.end out))
+        subst (λ s. (desk_caller s.desk ≡ number) × (is_some agent_seat.lines ≡ is_some s.end)) (same_value q r is) ((same_at number agent_seat q at out).1, sym (same_kind state dialect game agent_seat.desk agent_seat.lines q.desk q.end out))
 
     each_end : (k : ℕ) → k < 8 → HasEnd k
     unfolding HasEnd
@@ -132,13 +130,13 @@ module _ {L : Type 0} (state : L → LinkState) (may_answer : List ℕ → Resul
         (λ k q at. each_end k (slice_get_within (eight_of p) k q at) q at)
 
     pub played_through : (lines : List (Option (Lines L))) (links : List (Option L)) (ends : List (ℕ × Cause)) → lines ≡ map (λ q. q.lines) (eight_of e) → links ≡ map played_link (eight_of p)
-        → ends ≡ filter_map played_end (eight_of p) → IsLegalGame game closed → IsSameDesk clock clock' → HasMadeAll game clock' → IsPlayedThrough state may_answer text game closed lines links ends
+        → ends ≡ filter_map played_end (eight_of p) → IsLegalGame game closed → IsSameDesk clock clock' → HasMadeAll game clock' → IsPlayedThrough state dialect game closed lines links ends
     played_through lines links ends lines_are links_are ends_are legal same made =
         let new = fresh 8 clock refl in
         record {
-          each_agent = λ agent lt. subst (λ ls. IsAgentsPart state may_answer text game closed ends agent (slice_index_or ls agent None) (slice_index_or links agent None)) (sym lines_are)
-              (subst (λ ls. IsAgentsPart state may_answer text game closed ends agent (slice_index_or (map (λ q. q.lines) (eight_of e)) agent None) (slice_index_or ls agent None)) (sym links_are)
-              (subst (λ es. IsAgentsPart state may_answer text game closed es agent (slice_index_or (map (λ q. q.lines) (eight_of e)) agent None) (slice_index_or (map played_link (eight_of p)) agent None)) (sym ends_are)
+          each_agent = λ agent lt. subst (λ ls. IsAgentsPart state dialect game closed ends agent (slice_index_or ls agent None) (slice_index_or links agent None)) (sym lines_are)
+              (subst (λ ls. IsAgentsPart state dialect game closed ends agent (slice_index_or (map (λ q. q.lines) (eight_of e)) agent None) (slice_index_or ls agent None)) (sym links_are)
+              (subst (λ es. IsAgentsPart state dialect game closed es agent (slice_index_or (map (λ q. q.lines) (eight_of e)) agent None) (slice_index_or (map played_link (eight_of p)) agent None)) (sym ends_are)
               (each_agent agent lt)));
           wide = ap length links_are;
           ended = ap (map (λ end. end.0)) ends_are ∙ (ended ∙ ap (λ ls. filter (λ agent. slice_index_or (map (λ l. is_some l) ls) agent false) agents) (sym lines_are));

@@ -21,8 +21,8 @@ use Rattle.game_run.specs.declared.arrivals.Greeting.{Greeting}
 use Rattle.game_run.specs.declared.arrivals.Greeting.TheVariants as greetings
 use Rattle.game_run.specs.declared.arrivals.Holder.{Holder}
 use Rattle.game_run.specs.declared.arrivals.Holder.TheVariants.{Seat, Unseated}
-use Rattle.game_run.specs.Admission.{free_seats, seats_given, is_seated, AreAdmitted, MayGoOn}
-use Rattle.game_run.specs.Arriving.{IsTurnedAway, IsGreeted, IsGreeting, AddsArrival, IsTakenIn, Keeps, AreKept, AreTaken}
+use Rattle.game_run.specs.Admission.{free_seats, seats_given, is_seated, MayGoOn}
+use Rattle.game_run.specs.Arriving.{HoldsInTurn, IsTurnedAway, IsGreeted, IsGreeting, AddsArrival, IsTakenIn, Keeps, AreKept, AreTaken}
 use Rattle.tac_io.specs.States.{LinkState}
 use Rattle.game_run.proofs.Admitting.{one_more, follows}
 use Rattle.game_run.proofs.KeptSeats.{get_set_same, map_set, seat_was_free, keeps_beside}
@@ -83,8 +83,8 @@ module _ {L : Type 0} (state : L → LinkState) (game : GameFile) where
     given = [];
     from = sym (then_known-nothing pending);
     kept = record {
-      links = subst (λ vs. AreAdmitted (Keeps state (IsGreeted state) arrivals.lines.items) (free_seats game) [] vs arrivals.holders.items) (sym verdicts)
-          (subst (λ ss. AreAdmitted (Keeps state (IsGreeted state) arrivals.lines.items) (free_seats game) [] [] ss) (sym holders) tt);
+      links = subst (λ vs. HoldsInTurn (Keeps state (IsGreeted state) arrivals.lines.items) (free_seats game) [] vs arrivals.holders.items) (sym verdicts)
+          (subst (λ ss. HoldsInTurn (Keeps state (IsGreeted state) arrivals.lines.items) (free_seats game) [] [] ss) (sym holders) tt);
       seats = ap (map (λ l. is_some l)) lines ∙ ap (λ vs. (seats_given game vs).taken) (sym verdicts);
       readable = λ agent ls at. absurd (none_of 8 agent ls (sym (ap (λ l. slice_get l agent) lines) ∙ at));
       wide = ap length lines;
@@ -94,13 +94,13 @@ module _ {L : Type 0} (state : L → LinkState) (game : GameFile) where
 
   -- what holds of the arrivals, by their lists
   kept_by_lists : (given : List LinkState) (arrivals : Arrivals L) (vs : List Verdict) (holders : List (Holder L)) (lines : List (Option (Lines L))) → arrivals.verdicts.items ≡ vs → arrivals.holders.items ≡ holders
-      → arrivals.lines.items ≡ lines → AreAdmitted (Keeps state (IsGreeted state) lines) (free_seats game) given vs holders → map (λ l. is_some l) lines ≡ (seats_given game vs).taken
+      → arrivals.lines.items ≡ lines → HoldsInTurn (Keeps state (IsGreeted state) lines) (free_seats game) given vs holders → map (λ l. is_some l) lines ≡ (seats_given game vs).taken
       → ((agent : ℕ) (ls : Lines L) → slice_get lines agent ≡ Some (Some ls) → goes_on (last_of ls) ≡ true) → length lines ≡ 8
       → ((n : ℕ) → n < length vs → MayGoOn (take n vs)) → AreKept state game given arrivals
   kept_by_lists given arrivals vs holders lines e f h links seats readable wide no_more = record {
-    links = subst (λ ls. AreAdmitted (Keeps state (IsGreeted state) ls) (free_seats game) given arrivals.verdicts.items arrivals.holders.items) (sym h)
-        (subst (λ ss. AreAdmitted (Keeps state (IsGreeted state) lines) (free_seats game) given arrivals.verdicts.items ss) (sym f)
-        (subst (λ ws. AreAdmitted (Keeps state (IsGreeted state) lines) (free_seats game) given ws holders) (sym e) links));
+    links = subst (λ ls. HoldsInTurn (Keeps state (IsGreeted state) ls) (free_seats game) given arrivals.verdicts.items arrivals.holders.items) (sym h)
+        (subst (λ ss. HoldsInTurn (Keeps state (IsGreeted state) lines) (free_seats game) given arrivals.verdicts.items ss) (sym f)
+        (subst (λ ws. HoldsInTurn (Keeps state (IsGreeted state) lines) (free_seats game) given ws holders) (sym e) links));
     seats = ap (map (λ l. is_some l)) h ∙ (seats ∙ ap (λ ws. (seats_given game ws).taken) (sym e));
     readable = λ agent ls at. readable agent ls (ap (λ l. slice_get l agent) (sym h) ∙ at);
     wide = ap length h ∙ wide;

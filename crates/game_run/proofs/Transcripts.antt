@@ -16,7 +16,7 @@ use Rattle.floor.specs.ClosedBoards.{board_of}
 use Rattle.game_text.specs.Schedule.{clock_calls}
 use Rattle.agent_gate.specs.Sessions.{AreMadeBy}
 use Rattle.agent_gate.specs.Transcript.{IsTranscript}
-use Rattle.agent_gate.specs.Turns.{Turn, cash_made, boards_shown, AreLawful}
+use Rattle.agent_gate.specs.Turns.{Turn, cash_made, boards_shown}
 use Rattle.game_run.specs.PlayedGame.{caller_parts, IsAbsent}
 use Rattle.game_run.specs.Seatings.{FloorIds, HasMadeAll}
 
@@ -60,11 +60,10 @@ module _ (closed : ClosedGame) (long : length closed.auctions ≡ 28) (ids : Flo
       by_goods (boards_of after) (λ good. boards_shown good turns) [] (AllZip-long _ closed.auctions (boards_of after) borne.boards ∙ long)
       (λ good lt. made.boards good lt ∙ ap (λ l. l ++ boards_shown good turns) (ap (λ l. slice_index_or l good []) new.boards ∙ get_or-replicate 28 good [] [] lt))
 
-  pub transcript_of : (turns : List Turn) → AreMadeBy turns before after → AreLawful turns → IsTranscript number closed turns
-  transcript_of turns made lawful =
+  pub transcript_of : (turns : List Turn) → AreMadeBy turns before after → IsTranscript number closed turns
+  transcript_of turns made =
       let is : desk_caller after ≡ number = made.same.1 ∙ new.caller in
       record {
-        lawful = lawful;
         calls = sym (of_caller is) ∙ made.entries;
         cash = ap (λ n. part (λ e. e.caller) closed.cash n) (sym is) ∙ (sym borne.cash ∙ (made.cash ∙ ap (λ n. cash_made n turns) new.caller));
         boards = each_mapped (λ auction seen. AreNotes (board_of auction) auction.history (length auction.history) seen) (λ good. boards_shown good turns) closed.auctions all_goods

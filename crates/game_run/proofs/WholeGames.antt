@@ -16,9 +16,6 @@ use Rattle.tac_io.specs.Known.{known_then, IsAtEnd}
 use Rattle.tac_io.specs.declared.line_got.LineGot.TheVariants as gots
 use Rattle.tac_io.specs.declared.lines.Lines.{Lines}
 use Rattle.tac_io.proofs.KnownPieces.{gave_twice}
-use Rattle.line_protocol.specs.declared.asking.Request.{Request}
-use Rattle.line_protocol.specs.declared.asking.RequestFault.{RequestFault}
-use Rattle.line_protocol.specs.declared.saying.Said.{Said}
 use Rattle.line_protocol.specs.declared.admission.Cause.{Cause}
 use Rattle.line_protocol.specs.declared.admission.Verdict.{Verdict}
 use Rattle.line_protocol.specs.declared.admission.Verdict.TheVariants.{Seated, Syntax, WrongWord, Taken, Lost}
@@ -32,14 +29,17 @@ use Rattle.game_run.specs.Arriving.{IsGreeted, IsTurnedAway, Keeps, AreKept, Are
 use Rattle.game_run.specs.LinkRuns.{IsSeated, IsLeftUnplayed}
 use Rattle.game_run.specs.Outcomes.{IsPlayedOver, IsNotPlayed}
 use Rattle.game_run.specs.SeatedLinks.{AreFilled, AreLinksOf}
-use Rattle.game_run.specs.PlayedGame.{IsAbsent}
+use Rattle.game_run.specs.Hosted.{HostedGame}
+use Rattle.game_run.specs.PlayedGame.{PlayedGame, IsAbsent}
 use Rattle.game_run.specs.GameSessions.{IsServedAs, IsAgentsPart, IsPlayedThrough}
 use Rattle.game_run.proofs.Admitting.{follows}
+use Rattle.game_run.proofs.ByIndex.{admitted}
 use Rattle.game_run.proofs.FirstLines.{first_line, begins_with}
 use Rattle.game_run.proofs.LinksBack.{filled_alike}
 use Rattle.game_run.proofs.SameStart.{caused_from, served_from}
 use Rattle.game_run.proofs.KeptSeats.{seat_was_free, filled, links_hold, get_map}
 use Rattle.game_run.proofs.Transcripts.{map_at}
+use Rattle.agent_gate.specs.Dialects.{Dialect}
 
 -- ---- every kept holder can be given its link
 
@@ -78,28 +78,33 @@ module _ {L : Type 0} (state : L → LinkState) where
   left_at lines seats v before (Unseated link) k = k
   left_at lines seats v before (Seat agent) k = (link_of k.0, k.1, get_map (λ o. option_map (λ l. link_of l) o) lines agent (Some k.0) k.2, left_so seats agent before k.0 k.3)
 
-  pub not_played : (game : GameFile) (port : ℕ) (links links' : LinksState L) (arrivals : Arrivals L) (ended : List L) → AreTaken state game links.pending links'.pending arrivals → MayGoOn arrivals.verdicts.items
-      → AreLinksOf (map (λ o. option_map (λ l. link_of l) o) arrivals.lines.items) arrivals.holders.items ended → links'.ports ≡ known_then links.ports (port ∷ []) → Rose links.faults links'.faults
-      → IsNotPlayed state game port links links' ended
-  not_played game port links links' arrivals ended taken may back ports fault =
-      let agent_seats = map (λ o. option_map (λ l. link_of l) o) arrivals.lines.items in
+  pub not_played : (hosted : HostedGame) (links links' : LinksState L) (arrivals : Arrivals L) (ended : List L) → AreTaken state hosted.game links.pending links'.pending arrivals → MayGoOn arrivals.verdicts.items
+      → AreLinksOf (map (λ o. option_map (λ l. link_of l) o) arrivals.lines.items) arrivals.holders.items ended → links'.ports ≡ known_then links.ports (hosted.port ∷ []) → Rose links.faults links'.faults
+      → IsNotPlayed state hosted links links' ended
+  not_played hosted links links' arrivals ended taken may back ports fault =
+      let game = hosted.game in let agent_seats = map (λ o. option_map (λ l. link_of l) o) arrivals.lines.items in
       record {
         given = taken.given;
         from = taken.from;
         verdicts = arrivals.verdicts.items;
         more = may;
-        admitted = links_hold state (λ s agent b link. IsLeftUnplayed s agent b (state link)) (CameTo IsLeftUnplayed) (λ s agent b link h. h) (came_so IsLeftUnplayed) agent_seats (free_seats game) (map state taken.given) arrivals.verdicts.items arrivals.holders.items ended
+        admitted = admitted game IsLeftUnplayed (map state taken.given) arrivals.verdicts.items (map state ended)
+            (links_hold state (λ s agent b link. IsLeftUnplayed s agent b (state link)) (CameTo IsLeftUnplayed) (λ s agent b link h. h) (came_so IsLeftUnplayed) agent_seats (free_seats game) (map state taken.given) arrivals.verdicts.items arrivals.holders.items ended
             (follows (Keeps state (IsGreeted state) arrivals.lines.items) (Keeps state (λ s agent b link. IsLeftUnplayed s agent b (state link)) agent_seats) (λ s. Unit {0}) (λ s v x y u h. tt)
-            (λ s v x holder u h. left_at arrivals.lines.items s v x holder h) (free_seats game) (map state taken.given) arrivals.verdicts.items arrivals.holders.items tt taken.kept.links) back;
+            (λ s v x holder u h. left_at arrivals.lines.items s v x holder h) (free_seats game) (map state taken.given) arrivals.verdicts.items arrivals.holders.items tt taken.kept.links) back);
         ports = ports;
         fault = fault;
       }
 
 -- ---- a game that was played
 
-module _ {L : Type 0} (state : L → LinkState) (may_answer : List ℕ → Result Request RequestFault → Type 0) (text : Said → List ℕ) (game : GameFile) (closed : ClosedGame) (ends : List (ℕ × Cause)) where
+module _ {L : Type 0} (state : L → LinkState) (hosted : HostedGame) (arrivals : Arrivals L) (closed : ClosedGame) (ends : List (ℕ × Cause)) where
+  -- what the game came to
+  abbrev over : PlayedGame
+  over = record { verdicts = arrivals.verdicts.items; ends = ends; closed = closed }
+
   seated_so : (seats : Seats) (agent : ℕ) (before : LinkState) (lines : Lines L) (link : L) (cause : Cause) → IsGreeted state seats agent before lines
-      → Contains ends (agent, cause) → IsServedAs state may_answer text game closed agent lines link cause → IsSeated may_answer text game closed ends seats agent before (state link)
+      → Contains ends (agent, cause) → IsServedAs state hosted.dialect hosted.game closed agent lines link cause → IsSeated hosted over seats agent before (state link)
   seated_so seats agent before lines link cause g ended s = record {
     cause = cause;
     ended = ended;
@@ -111,29 +116,29 @@ module _ {L : Type 0} (state : L → LinkState) (may_answer : List ℕ → Resul
         ∙ ap (λ n. (gots.Line, g.line) ∷ all_answers [] (2 ^ 26 - n + length (held_of lines).unread) ((held_of lines).unread ++ s.more)) (sym g.counted);
     seat = g.seat;
     turns = s.turns;
-    lines = s.count;
-    served = served_from before (state (link_of lines)) (state link) g.quiet.0 may_answer text (welcome_text game agent) _ s.turns s.count cause s.served;
+    rest = s.rest;
+    served = served_from before (state (link_of lines)) (state link) g.quiet.0 hosted.dialect _ (record { welcome = welcome_text hosted.game agent; turns = s.turns; rest = s.rest; before = before; after = state link }) cause s.served;
     transcript = s.transcript;
     faults = caused_from before (state (link_of lines)) (state link) g.reads g.quiet.1 cause s.faults;
   }
 
-  served_link : (seats : Seats) (agent : ℕ) (before : LinkState) (lines : Lines L) (o : Option L) → IsGreeted state seats agent before lines → IsAgentsPart state may_answer text game closed ends agent (Some lines) o
-      → (link : L) × (o ≡ Some link) × IsSeated may_answer text game closed ends seats agent before (state link)
+  served_link : (seats : Seats) (agent : ℕ) (before : LinkState) (lines : Lines L) (o : Option L) → IsGreeted state seats agent before lines → IsAgentsPart state hosted.dialect hosted.game closed ends agent (Some lines) o
+      → (link : L) × (o ≡ Some link) × IsSeated hosted over seats agent before (state link)
   served_link seats agent before lines None g part = absurd part
   served_link seats agent before lines (Some link) g part = (link, refl, seated_so seats agent before lines link part.0 g part.1 part.2)
 
-  absent_part : (agent : ℕ) (o : Option (Lines L)) (l : Option L) → is_some o ≡ false → IsAgentsPart state may_answer text game closed ends agent o l → IsAbsent closed agent
+  absent_part : (agent : ℕ) (o : Option (Lines L)) (l : Option L) → is_some o ≡ false → IsAgentsPart state hosted.dialect hosted.game closed ends agent o l → IsAbsent closed agent
   absent_part agent None None no_lines part = part
   absent_part agent None (Some link) no_lines part = absurd part
   absent_part agent (Some lines) l no_lines part = absurd (cc)
 
-  module _ (lines : List (Option (Lines L))) (agent_seats : List (Option L)) (wide : length lines ≡ 8) (through : IsPlayedThrough state may_answer text game closed lines agent_seats ends) where
+  module _ (lines : List (Option (Lines L))) (agent_seats : List (Option L)) (wide : length lines ≡ 8) (through : IsPlayedThrough state hosted.dialect hosted.game closed lines agent_seats ends) where
     runs_at : (seats : Seats) (v : Verdict) (before : LinkState) (holder : Holder L) → Keeps state (IsGreeted state) lines seats v before holder
-        → Keeps state (λ s agent b link. IsSeated may_answer text game closed ends s agent b (state link)) agent_seats seats v before holder
+        → Keeps state (λ s agent b link. IsSeated hosted over s agent b (state link)) agent_seats seats v before holder
     runs_at seats v before (Unseated link) k = k
     runs_at seats v before (Seat agent) k =
         let lt : agent < 8 = let within = slice_get_within lines agent (Some k.0) k.2 in omega (arith, within, wide) in
-        let part = subst (λ o. IsAgentsPart state may_answer text game closed ends agent o (slice_index_or agent_seats agent None)) (get_or_from_slice_get lines agent (Some k.0) None k.2) (through.each_agent agent lt) in
+        let part = subst (λ o. IsAgentsPart state hosted.dialect hosted.game closed ends agent o (slice_index_or agent_seats agent None)) (get_or_from_slice_get lines agent (Some k.0) None k.2) (through.each_agent agent lt) in
         let served = served_link seats agent before k.0 (slice_index_or agent_seats agent None) k.3 part in
         (served.0, k.1, slice_get-get_or agent_seats agent None (omega (arith, lt, through.wide)) ∙ ap (λ o. Some o) served.1, served.2)
 
@@ -142,23 +147,24 @@ module _ {L : Type 0} (state : L → LinkState) (may_answer : List ℕ → Resul
         absent_part agent (slice_index_or lines agent None) (slice_index_or agent_seats agent None)
         (sym (map_at (λ (ls : Option (Lines L)). is_some ls) lines agent None) ∙ (ap (λ l. slice_index_or l agent false) same ∙ free)) (through.each_agent agent lt)
 
-  pub was_played : (pending pending' : Option (List L)) (arrivals : Arrivals L) (agent_seats : List (Option L)) (links : List L) → AreTaken state game pending pending' arrivals
-      → (MayGoOn arrivals.verdicts.items → IsAtEnd pending') → IsPlayedThrough state may_answer text game closed arrivals.lines.items agent_seats ends
-      → AreLinksOf agent_seats arrivals.holders.items links → IsPlayedOver state may_answer text game pending pending' arrivals.verdicts.items ends closed links
-  was_played pending pending' arrivals agent_seats links taken no_fewer through back =
-      let lines = arrivals.lines.items in let kept = taken.kept in
-      let Sits = λ (s : Seats) (agent : ℕ) (b : LinkState) (link : L). IsSeated may_answer text game closed ends s agent b (state link) in
+  pub was_played : (pending pending' : Option (List L)) (agent_seats : List (Option L)) (links : List L) → AreTaken state hosted.game pending pending' arrivals
+      → (MayGoOn arrivals.verdicts.items → IsAtEnd pending') → IsPlayedThrough state hosted.dialect hosted.game closed arrivals.lines.items agent_seats ends
+      → AreLinksOf agent_seats arrivals.holders.items links → IsPlayedOver state hosted pending pending' over links
+  was_played pending pending' agent_seats links taken no_fewer through back =
+      let lines = arrivals.lines.items in let kept = taken.kept in let verdicts = arrivals.verdicts.items in let holders = arrivals.holders.items in
+      let Sits = λ (s : Seats) (agent : ℕ) (b : LinkState) (link : L). IsSeated hosted over s agent b (state link) in
       record {
         given = taken.given;
         from = taken.from;
         all = record { no_more = kept.no_more; no_fewer = no_fewer };
-        admitted = links_hold state Sits (CameTo (IsSeated may_answer text game closed ends)) (λ s agent b link h. h) (came_so (IsSeated may_answer text game closed ends)) agent_seats (free_seats game) (map state taken.given) arrivals.verdicts.items arrivals.holders.items links
+        admitted = admitted hosted.game (IsSeated hosted over) (map state taken.given) verdicts (map state links)
+            (links_hold state Sits (CameTo (IsSeated hosted over)) (λ s agent b link h. h) (came_so (IsSeated hosted over)) agent_seats (free_seats hosted.game) (map state taken.given) verdicts holders links
             (follows (Keeps state (IsGreeted state) lines) (Keeps state Sits agent_seats) (λ s. Unit {0}) (λ s v x y u h. tt)
-            (λ s v x holder u h. runs_at lines agent_seats kept.wide through s v x holder h) (free_seats game) (map state taken.given) arrivals.verdicts.items arrivals.holders.items tt kept.links) back;
-        played = record {
+            (λ s v x holder u h. runs_at lines agent_seats kept.wide through s v x holder h) (free_seats hosted.game) (map state taken.given) verdicts holders tt kept.links) back);
+        lawful = record {
           legal_game = through.legal_game;
           each_end = through.ended ∙ ap (λ taken. filter (λ agent. slice_index_or taken agent false) agents) kept.seats;
-          absent = absent lines agent_seats kept.wide through (seats_given game arrivals.verdicts.items).taken kept.seats;
+          absent = absent lines agent_seats kept.wide through (seats_given hosted.game verdicts).taken kept.seats;
           scheduled = through.scheduled;
         };
       }
@@ -173,15 +179,15 @@ same_lists (x ∷ xs) (y ∷ ys) long each =
     let first : x ≡ y = each 0 (omega arith) in
     ap (λ z. z ∷ xs) first ∙ ap (λ l. y ∷ l) (same_lists xs ys (omega (arith, long)) (λ k lt. each (suc k) (omega (arith, lt))))
 
-module _ {L : Type 0} (state : L → LinkState) (may_answer : List ℕ → Result Request RequestFault → Type 0) (text : Said → List ℕ) (game : GameFile) (closed : ClosedGame) (ends : List (ℕ × Cause)) where
-  same_part : (agent : ℕ) (o : Option (Lines L)) (l : Option L) → IsAgentsPart state may_answer text game closed ends agent o l → is_some o ≡ is_some l
+module _ {L : Type 0} (state : L → LinkState) (dialect : Dialect) (game : GameFile) (closed : ClosedGame) (ends : List (ℕ × Cause)) where
+  same_part : (agent : ℕ) (o : Option (Lines L)) (l : Option L) → IsAgentsPart state dialect game closed ends agent o l → is_some o ≡ is_some l
   same_part agent None None part = refl
   same_part agent None (Some link) part = absurd part
   same_part agent (Some lines) None part = absurd part
   same_part agent (Some lines) (Some link) part = refl
 
   -- the links of a game that was played can be given to their holders
-  pub filled_after : (lines : List (Option (Lines L))) (links : List (Option L)) (holders : List (Holder L)) → length lines ≡ 8 → IsPlayedThrough state may_answer text game closed lines links ends
+  pub filled_after : (lines : List (Option (Lines L))) (links : List (Option L)) (holders : List (Holder L)) → length lines ≡ 8 → IsPlayedThrough state dialect game closed lines links ends
       → AreFilled lines holders → AreFilled links holders
   filled_after lines links holders wide through filled =
       filled_alike lines links holders

@@ -1,5 +1,5 @@
 -- How links are admitted, in the order in which they come. The rule is our own.
-use Rattle.std.specs.Prelude.{⊤, ◌≡◌, ℕ, ◌<◌, ◌⊎◌, List, [], ◌∷◌, Bool, true, false, Option, codes, length, take, replicate}
+use Rattle.std.specs.Prelude.{◌≡◌, ℕ, ◌<◌, ◌⊎◌, List, [], ◌∷◌, Bool, true, false, Option, Some, codes, length, take, replicate, slice_get}
 use Rattle.std.specs.List.{count_by, fold}
 use Rattle.tac_base.specs.declared.limits.TheConstants.{LINK_BYTES, LINKS}
 use Rattle.game_text.specs.Games.{GameFile}
@@ -34,10 +34,6 @@ first_verdict seats gots.Line line = verdict_of seats line
 first_verdict seats gots.TooLong line = Syntax
 first_verdict seats got line = Lost
 
--- the first line of a link: the bytes that were taken begin with it
-abbrev pub BeginsWith : List ℕ → LineGot → List ℕ → Type 0
-BeginsWith bytes got line = (others : List (LineGot × List ℕ)) × (all_answers [] (LINK_BYTES) bytes ≡ (got, line) ∷ others)
-
 -- what a link without a seat is sent
 abbrev pub refusal_line : Verdict → List ℕ
 refusal_line Syntax = codes "refused syntax\n"
@@ -57,13 +53,9 @@ pub record HasFirstLine (seats : Seats) (verdict : Verdict) (before after : Link
   pub gave : GaveBytes bytes before after
   pub got : LineGot
   pub line : List ℕ
-  pub first : BeginsWith bytes got line
+  pub first : (others : List (LineGot × List ℕ)) × (all_answers [] (LINK_BYTES) bytes ≡ (got, line) ∷ others)
   pub due : verdict ≡ first_verdict seats got line
   pub reads : after.reads ≡ before.reads
-
--- a link was refused by its first line
-abbrev pub IsRefused : Seats → Verdict → LinkState → LinkState → Type 0
-IsRefused seats verdict before after = HasFirstLine seats verdict before after × IsSentOrCut (refusal_line verdict) before after
 
 -- A link is lost: its first line has no end within the first 67,108,864 bytes that it had to give, or a read failed before that end was
 -- taken. It was sent nothing.
@@ -76,20 +68,21 @@ pub record IsLost (before after : LinkState) : Type 0 where
       ⊎ ((all_answers [] (LINK_BYTES) bytes ≡ (gots.End, []) ∷ []) × Rose before.reads after.reads)
   pub quiet : SendsNothing before after
 
--- what became of a link by its verdict, where `Sits` holds of one with a seat
+-- what became of a link by its verdict: `Sits` holds of one with a seat, it is lost, or it was refused by its first line
 abbrev pub CameTo : (Seats → ℕ → LinkState → LinkState → Type 0) → Seats → Verdict → LinkState → LinkState → Type 0
 CameTo Sits seats (Seated agent) before after = Sits seats agent before after
 CameTo Sits seats Lost before after = IsLost before after
-CameTo Sits seats verdict before after = IsRefused seats verdict before after
+CameTo Sits seats verdict before after = HasFirstLine seats verdict before after × IsSentOrCut (refusal_line verdict) before after
 
 -- ---- all links
 
--- each link has its verdict by the seats that were free when it came, and what is said of it holds
-abbrev pub AreAdmitted : {A B : Type 0} → (Seats → Verdict → A → B → Type 0) → Seats → List A → List Verdict → List B → Type 0
-AreAdmitted Holds seats [] [] [] = ⊤
-AreAdmitted Holds seats (before ∷ befores) (verdict ∷ verdicts) (after ∷ afters) =
-    Holds seats verdict before after × AreAdmitted Holds (seats_after seats verdict) befores verdicts afters
-AreAdmitted Holds seats befores verdicts afters = ⊥
+-- Each link has a verdict, and came to what it says: the n-th one by the seats that are left after the first n verdicts.
+pub record AreAdmitted (game : GameFile) (Sits : Seats → ℕ → LinkState → LinkState → Type 0) (befores : List LinkState) (verdicts : List Verdict)
+    (afters : List LinkState) : Type 0 where
+  pub came : length befores ≡ length verdicts
+  pub left : length afters ≡ length verdicts
+  pub each : (n : ℕ) (before : LinkState) (verdict : Verdict) (after : LinkState) → slice_get befores n ≡ Some before → slice_get verdicts n ≡ Some verdict
+      → slice_get afters n ≡ Some after → CameTo Sits (seats_given game (take n verdicts)) verdict before after
 
 -- another link may be taken: fewer came than the limit, and fewer than eight have a seat
 abbrev pub MayGoOn : List Verdict → Type 0

@@ -1,13 +1,15 @@
 -- Links after their first line, as admission keeps them.
-use Rattle.std.specs.Prelude.{◌≡◌, ℕ, ◌<◌, ◌≤◌, List, [], ◌∷◌, ◌++◌, Bool, true, false, Option, Some, None, length, map, take, is_some, slice_get, slice_set}
+use Rattle.std.specs.Prelude.{⊤, ◌≡◌, ℕ, ◌<◌, ◌≤◌, List, [], ◌∷◌, ◌++◌, Bool, true, false, Option, Some, None, length, map, take, is_some, slice_get, slice_set}
 use Rattle.tac_base.specs.declared.limits.TheConstants.{LINE_BYTES, LINK_BYTES}
 use Rattle.game_text.specs.Games.{GameFile}
+use Rattle.tac_io.specs.AllAnswers.{all_answers}
 use Rattle.tac_io.specs.LineAnswers.{goes_on}
 use Rattle.tac_io.specs.LineText.{BeginsWithLine}
 use Rattle.tac_io.specs.Lines.{count_of, held_of, last_of, link_of}
 use Rattle.tac_io.specs.LinkCalls.{GaveBytes, ReadsNothing, SendsNothing}
 use Rattle.tac_io.specs.States.{LinkState}
 use Rattle.tac_io.specs.Known.{then_known}
+use Rattle.tac_io.specs.declared.line_got.LineGot.{LineGot}
 use Rattle.tac_io.specs.declared.lines.Lines.{Lines}
 use Rattle.line_protocol.specs.declared.admission.Verdict.{Verdict}
 use Rattle.line_protocol.specs.declared.admission.Verdict.TheVariants.{Seated, Lost}
@@ -17,7 +19,22 @@ use Rattle.game_run.specs.declared.arrivals.Greeting.{Greeting}
 use Rattle.game_run.specs.declared.arrivals.Greeting.TheVariants as greetings
 use Rattle.game_run.specs.declared.arrivals.Holder.{Holder}
 use Rattle.game_run.specs.declared.arrivals.Holder.TheVariants.{Seat, Unseated}
-use Rattle.game_run.specs.Admission.{free_seats, seats_given, HasFirstLine, IsSentOrCut, IsLost, CameTo, AreAdmitted, MayGoOn}
+use Rattle.game_run.specs.Admission.{free_seats, seats_given, HasFirstLine, IsSentOrCut, refusal_line, IsLost, CameTo, MayGoOn}
+
+-- What holds of each link with its verdict, in turn: by the seats that were free when it came.
+abbrev pub HoldsInTurn : {A B : Type 0} → (Seats → Verdict → A → B → Type 0) → Seats → List A → List Verdict → List B → Type 0
+HoldsInTurn Holds seats [] [] [] = ⊤
+HoldsInTurn Holds seats (before ∷ befores) (verdict ∷ verdicts) (after ∷ afters) =
+    Holds seats verdict before after × HoldsInTurn Holds (seats_after seats verdict) befores verdicts afters
+HoldsInTurn Holds seats befores verdicts afters = ⊥
+
+-- the first line of a link: the bytes that were taken begin with it
+abbrev pub BeginsWith : List ℕ → LineGot → List ℕ → Type 0
+BeginsWith bytes got line = (others : List (LineGot × List ℕ)) × (all_answers [] (LINK_BYTES) bytes ≡ (got, line) ∷ others)
+
+-- a link was refused by its first line
+abbrev pub IsRefused : Seats → Verdict → LinkState → LinkState → Type 0
+IsRefused seats verdict before after = HasFirstLine seats verdict before after × IsSentOrCut (refusal_line verdict) before after
 
 -- the agent that a verdict seats
 abbrev pub seat_of : Verdict → Option ℕ
@@ -86,7 +103,7 @@ module _ {L : Type 0} (state : L → LinkState) where
 
   -- Links were taken and read as long as another could be: each has its holder, and a seat is taken if it has lines.
   pub record AreKept (game : GameFile) (given : List LinkState) (arrivals : Arrivals L) : Type 0 where
-    pub links : AreAdmitted (Keeps (IsGreeted state) arrivals.lines.items) (free_seats game) given arrivals.verdicts.items arrivals.holders.items
+    pub links : HoldsInTurn (Keeps (IsGreeted state) arrivals.lines.items) (free_seats game) given arrivals.verdicts.items arrivals.holders.items
     pub seats : map (λ lines. is_some lines) arrivals.lines.items ≡ (seats_given game arrivals.verdicts.items).taken
     pub readable : (agent : ℕ) (lines : Lines L) → slice_get arrivals.lines.items agent ≡ Some (Some lines) → goes_on (last_of lines) ≡ true
     pub wide : length arrivals.lines.items ≡ 8

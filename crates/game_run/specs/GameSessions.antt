@@ -1,5 +1,5 @@
 -- The memory of a game, and what a game leaves at each agent's seat.
-use Rattle.std.specs.Prelude.{◌≡◌, ℕ, ◌-◌, ◌+◌, ◌<◌, List, [], ◌++◌, Option, Some, None, Result, Contains, false, length, filter, map, is_some, slice_index_or, vec_capacity}
+use Rattle.std.specs.Prelude.{◌≡◌, ℕ, ◌-◌, ◌+◌, ◌<◌, List, [], ◌++◌, Option, Some, None, Contains, false, length, filter, map, is_some, slice_index_or, vec_capacity}
 use mathlib.Core.Option.{some}
 use lib.ListN.{get_elem?}
 use Rattle.tac_base.specs.declared.limits.TheConstants.{LINK_BYTES}
@@ -11,9 +11,6 @@ use Rattle.tac_io.specs.AllAnswers.{all_answers}
 use Rattle.tac_io.specs.Lines.{count_of, held_of, link_of}
 use Rattle.tac_io.specs.LinkCalls.{GaveBytes}
 use Rattle.tac_io.specs.declared.lines.Lines.{Lines}
-use Rattle.line_protocol.specs.declared.asking.Request.{Request}
-use Rattle.line_protocol.specs.declared.asking.RequestFault.{RequestFault}
-use Rattle.line_protocol.specs.declared.saying.Said.{Said}
 use Rattle.line_protocol.specs.declared.admission.Cause.{Cause}
 use Rattle.floor.specs.declared.desk.Desk.{Desk}
 use Rattle.floor.specs.declared.floor.Floor.{Floor}
@@ -27,7 +24,9 @@ use Rattle.agent_gate.specs.Welcome.{welcome_text}
 use Rattle.game_run.specs.declared.session_ends.SessionEnds.{SessionEnds}
 use Rattle.game_run.specs.declared.play.OpenFloor.{OpenFloor}
 use Rattle.tac_io.specs.States.{LinkState}
+use Rattle.tac_io.specs.declared.line_got.LineGot.{LineGot}
 use Rattle.game_run.specs.PlayedGame.{caller_parts, IsLegalGame, IsAbsent}
+use Rattle.agent_gate.specs.Dialects.{Dialect}
 
 -- ---- before the game
 
@@ -49,15 +48,15 @@ pub record IsOpenFloor {L : Type 0} (game : GameFile) (open_floor : OpenFloor L)
 
 -- ---- after it
 
-module _ {L : Type 0} (state : L → LinkState) (may_answer : List ℕ → Result Request RequestFault → Type 0) (text : Said → List ℕ) (game : GameFile) (closed : ClosedGame) where
+module _ {L : Type 0} (state : L → LinkState) (dialect : Dialect) (game : GameFile) (closed : ClosedGame) where
   -- the agent was served by a session from these lines on, and its turns are its part of the histories
   pub record IsServedAs (agent : ℕ) (lines : Lines L) (link : L) (cause : Cause) : Type 0 where
     pub more : List ℕ
     pub gave : GaveBytes more (state (link_of lines)) (state link)
     pub turns : List Turn
-    pub count : ℕ
-    pub served : IsServed may_answer text (welcome_text game agent) (all_answers [] (LINK_BYTES - count_of lines + length (held_of lines).unread) ((held_of lines).unread ++ more))
-        (state (link_of lines)) (state link) turns count cause
+    pub rest : List (LineGot × List ℕ)
+    pub served : IsServed dialect (all_answers [] (LINK_BYTES - count_of lines + length (held_of lines).unread) ((held_of lines).unread ++ more))
+        (record { welcome = welcome_text game agent; turns = turns; rest = rest; before = state (link_of lines); after = state link }) cause
     pub transcript : IsTranscript agent closed turns
     pub faults : HasSessionCause (state (link_of lines)) (state link) cause
 

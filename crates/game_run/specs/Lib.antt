@@ -1,6 +1,7 @@
 pub mod Admission
-pub mod LinkRuns
+pub mod Hosted
 pub mod PlayedGame
+pub mod LinkRuns
 pub mod Outcomes
 pub mod SeatedLinks
 pub mod Arriving

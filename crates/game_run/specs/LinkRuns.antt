@@ -1,16 +1,11 @@
 -- What became of a link that has a seat in a game, and in one that was not played.
-use Rattle.std.specs.Prelude.{◌≡◌, ℕ, List, [], ◌∷◌, Result, Contains}
+use Rattle.std.specs.Prelude.{◌≡◌, ℕ, List, [], ◌∷◌, Contains}
 use Rattle.tac_base.specs.declared.limits.TheConstants.{LINK_BYTES}
-use Rattle.game_text.specs.Games.{GameFile}
-use Rattle.auction_core.specs.ClosedGame.{ClosedGame}
 use Rattle.tac_io.specs.AllAnswers.{all_answers}
 use Rattle.tac_io.specs.LinkCalls.{GaveBytes, SendsNothing}
 use Rattle.tac_io.specs.States.{LinkState}
 use Rattle.tac_io.specs.declared.line_got.LineGot.{LineGot}
 use Rattle.tac_io.specs.declared.line_got.LineGot.TheVariants as gots
-use Rattle.line_protocol.specs.declared.asking.Request.{Request}
-use Rattle.line_protocol.specs.declared.asking.RequestFault.{RequestFault}
-use Rattle.line_protocol.specs.declared.saying.Said.{Said}
 use Rattle.line_protocol.specs.declared.admission.Cause.{Cause}
 use Rattle.line_protocol.specs.declared.admission.Verdict.TheVariants.{Seated}
 use Rattle.agent_gate.specs.Gates.{Seats, verdict_of}
@@ -19,13 +14,14 @@ use Rattle.agent_gate.specs.Transcript.{IsTranscript}
 use Rattle.agent_gate.specs.Turns.{Turn}
 use Rattle.agent_gate.specs.Welcome.{welcome_text}
 use Rattle.game_run.specs.Admission.{HasFirstLine}
+use Rattle.game_run.specs.Hosted.{HostedGame}
+use Rattle.game_run.specs.PlayedGame.{PlayedGame}
 
 -- A link was seated by its first line, and then served as the agent, until its session ended. `bytes` are all that it gave. Its turns are
 -- what its later lines ask, and are the agent's part of the histories.
-pub record IsSeated (may_answer : List ℕ → Result Request RequestFault → Type 0) (text : Said → List ℕ) (game : GameFile) (closed : ClosedGame)
-    (ends : List (ℕ × Cause)) (seats : Seats) (agent : ℕ) (before after : LinkState) : Type 0 where
+pub record IsSeated (hosted : HostedGame) (played : PlayedGame) (seats : Seats) (agent : ℕ) (before after : LinkState) : Type 0 where
   pub cause : Cause
-  pub ended : Contains ends (agent, cause)
+  pub ended : Contains played.ends (agent, cause)
   pub bytes : List ℕ
   pub gave : GaveBytes bytes before after
   pub line : List ℕ
@@ -33,9 +29,9 @@ pub record IsSeated (may_answer : List ℕ → Result Request RequestFault → T
   pub first : all_answers [] (LINK_BYTES) bytes ≡ (gots.Line, line) ∷ answers
   pub seat : verdict_of seats line ≡ Seated agent
   pub turns : List Turn
-  pub lines : ℕ
-  pub served : IsServed may_answer text (welcome_text game agent) answers before after turns lines cause
-  pub transcript : IsTranscript agent closed turns
+  pub rest : List (LineGot × List ℕ)
+  pub served : IsServed hosted.dialect answers (record { welcome = welcome_text hosted.game agent; turns = turns; rest = rest; before = before; after = after }) cause
+  pub transcript : IsTranscript agent played.closed turns
   pub faults : HasSessionCause before after cause
 
 -- a link that has a seat in a game that was not played was sent nothing

@@ -28,19 +28,22 @@ pub record IsLegalGame (game : GameFile) (closed : ClosedGame) : Type 0 where
   pub matched : Matched (map (λ auction. auction.history) closed.auctions) closed.cash
   pub totals : (party : ℕ) → party ≤ 8 → cash_total closed.cash party ≡ dollars (trades_of_all (map (λ auction. auction.history) closed.auctions)) party
 
--- which agents have a seat, in order
-abbrev pub seated_agents : GameFile → List Verdict → List ℕ
-seated_agents game verdicts = filter (λ agent. slice_index_or (seats_given game verdicts).taken agent false) agents
-
 -- a caller made no call
 pub record IsAbsent (closed : ClosedGame) (caller : ℕ) : Type 0 where
   pub calls : caller_parts closed caller ≡ replicate 28 []
   pub cash : part (λ e. e.caller) closed.cash caller ≡ []
 
+-- What a game over links came to: the verdict on each link, why the session of each seated agent ended, and the histories. A log's head
+-- has the first two, with how many ticks lapsed.
+pub record PlayedGame : Type 0 where
+  pub verdicts : List Verdict
+  pub ends : List (ℕ × Cause)
+  pub closed : ClosedGame
+
 -- Each seated agent has one end, in rising order; an agent without a seat made no call; and the clock's calls of each good are those of
 -- the schedule.
-pub record IsPlayedBy (game : GameFile) (verdicts : List Verdict) (ends : List (ℕ × Cause)) (closed : ClosedGame) : Type 0 where
-  pub legal_game : IsLegalGame game closed
-  pub each_end : map (λ end. end.0) ends ≡ seated_agents game verdicts
-  pub absent : (agent : ℕ) → agent < 8 → slice_index_or (seats_given game verdicts).taken agent false ≡ false → IsAbsent closed agent
-  pub scheduled : map (λ calls. map (λ p. p.1.call) calls) (caller_parts closed clock) ≡ map (clock_calls game) all_goods
+pub record IsPlayedBy (game : GameFile) (played : PlayedGame) : Type 0 where
+  pub legal_game : IsLegalGame game played.closed
+  pub each_end : map (λ end. end.0) played.ends ≡ filter (λ agent. slice_index_or (seats_given game played.verdicts).taken agent false) agents
+  pub absent : (agent : ℕ) → agent < 8 → slice_index_or (seats_given game played.verdicts).taken agent false ≡ false → IsAbsent played.closed agent
+  pub scheduled : map (λ calls. map (λ p. p.1.call) calls) (caller_parts played.closed clock) ≡ map (clock_calls game) all_goods

@@ -1,5 +1,5 @@
 -- Eight seats, and what is at them before and after the sessions.
-use Rattle.std.specs.Prelude.{◌≡◌, ℕ, ◌<◌, List, [], ◌∷◌, ◌++◌, Option, Some, None, Result, true, map, replicate, IfSome}
+use Rattle.std.specs.Prelude.{◌≡◌, ℕ, ◌<◌, List, [], ◌∷◌, ◌++◌, Option, Some, None, true, map, replicate, IfSome}
 use Rattle.std.specs.Option.{option_map}
 use Rattle.trade_ledger.specs.declared.cash_calls.CashEntry.{CashEntry}
 use Rattle.turn_lock.specs.Passes.{LockId}
@@ -8,9 +8,6 @@ use Rattle.game_text.specs.Games.{GameFile}
 use Rattle.tac_io.specs.LineAnswers.{goes_on}
 use Rattle.tac_io.specs.Lines.{count_of, held_of, last_of, link_of}
 use Rattle.tac_io.specs.declared.lines.Lines.{Lines}
-use Rattle.line_protocol.specs.declared.asking.Request.{Request}
-use Rattle.line_protocol.specs.declared.asking.RequestFault.{RequestFault}
-use Rattle.line_protocol.specs.declared.saying.Said.{Said}
 use Rattle.line_protocol.specs.declared.admission.Cause.{Cause}
 use Rattle.floor.specs.declared.desk.Desk.{Desk}
 use Rattle.floor.specs.Desks.{desk_ids, desk_caller, entries_at, desk_entries, desk_cash}
@@ -21,6 +18,7 @@ use Rattle.game_run.specs.declared.sessions.Two.{Two}
 use Rattle.game_run.specs.declared.sessions.AgentSeat.{AgentSeat}
 use Rattle.game_run.specs.declared.sessions.PlayedSeat.{PlayedSeat}
 use Rattle.tac_io.specs.States.{LinkState}
+use Rattle.agent_gate.specs.Dialects.{Dialect}
 
 -- ---- two, four and eight in order
 
@@ -71,11 +69,11 @@ AreEightReady ids eight = AreBoth (AreBoth (AreBoth (IsReadySeat ids))) eight
 pub record HasMadeAll (game : GameFile) (desk : Desk) : Type 0 where
   pub each : (good : ℕ) → good < 28 → map (λ p. p.1.call) (entries_at desk good) ≡ clock_calls game good
 
-module _ {L : Type 0} (state : L → LinkState) (may_answer : List ℕ → Result Request RequestFault → Type 0) (text : Said → List ℕ) (game : GameFile) where
+module _ {L : Type 0} (state : L → LinkState) (dialect : Dialect) (game : GameFile) where
   -- a session of these lines at this desk left the link and the desk, and ended so
   pub record IsServedBy (before : Desk) (lines : Lines L) (after : Desk) (link : L) (cause : Cause) : Type 0 where
     pub count : ℕ
-    pub session : IsSession may_answer text game (held_of lines) (count_of lines) (state (link_of lines)) (state link) before after count cause
+    pub session : IsSession dialect game (held_of lines) (count_of lines) (state (link_of lines)) (state link) before after count cause
     pub faults : HasSessionCause (state (link_of lines)) (state link) cause
 
   -- a seat without lines was left as it was; a seat with lines had its session

@@ -4,7 +4,11 @@ ghost use Rattle.std.specs.Option.{option_map};
 ghost use Rattle.tac_io.specs.Lines.{link_of};
 ghost use Rattle.game_run.specs.SeatedLinks.{AreFilled, AreLinksOf};
 ghost use Rattle.game_run.specs.ReservedMemory.{IsReadyForArrivals, IsReserved};
-ghost use Rattle.game_run.specs.Outcomes.{IsGameEnd, IsRunFault};
+ghost use Rattle.clock_events.specs.Clocking.{WaitsForAll};
+ghost use Rattle.line_protocol.specs.Heads.{head_of};
+ghost use Rattle.game_run.specs.Hosted.{hosted_game};
+ghost use Rattle.game_run.specs.Outcomes.{IsGameEnd, IsRunFault, missed_of};
+ghost use Rattle.agent_gate.specs.Dialects.{dialect_of};
 
 use crate::admission::admit;
 use crate::arrivals::Arrivals;
@@ -130,9 +134,11 @@ pub fn run_game<R: Threads + Sync + Wait + Clock, D: Dialect + Sync, N: Links, T
 ) -> Result<GameEnd<N::Link>, RunFault<N::Link>>
     requires ports { IfSome (N.state links.old).ports (λ ports. ports ≡ []) }
     requires ticks { IfSome (T.state ticker.old).waited (λ ticks. ticks ≡ []) }
-    ensures played { IfOk result (IsGameEnd N.Link.state (D.may_answer dialect.now) (D.text dialect.now) game.now port
-        (N.state links.old) (N.state links.new) (T.state ticker.old) (T.state ticker.new)) }
-    ensures not_played { IfErr result (IsRunFault N.Link.state game.now port (N.state links.old) (N.state links.new)) }
+    ensures played { IfOk result (IsGameEnd N.Link.state (hosted_game game.now (dialect_of (D.may_answer dialect.now) (D.text dialect.now)) port)
+        (N.state links.old) (N.state links.new)) }
+    ensures waits { IfOk result (λ end. WaitsForAll (T.state ticker.old) (T.state ticker.new) (missed_of (head_of end.head))) }
+    ensures not_played { IfErr result (IsRunFault N.Link.state (hosted_game game.now (dialect_of (D.may_answer dialect.now) (D.text dialect.now)) port)
+        (N.state links.old) (N.state links.new)) }
     ensures untouched { IfErr result (λ _. ticker.new ≡ ticker.old) }
 {
     let Ok(reserved) = reserve(alloc, game) else {

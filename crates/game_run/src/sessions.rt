@@ -4,6 +4,7 @@ ghost use Rattle.floor.specs.Answers.{IsSameDesk};
 ghost use Rattle.floor.specs.Floors.{floor_ids};
 ghost use Rattle.clock_events.specs.Clocking.{WaitsForAll};
 ghost use Rattle.game_run.specs.Seatings.{AreBoth, AreEightPlayed, AreEightReady, AreTakenPlayed, BothOver, IsPlayedSeat, IsReadySeat, IsReadyClock, HasMadeAll};
+ghost use Rattle.agent_gate.specs.Dialects.{dialect_of};
 
 use agent_gate::{Dialect, SessionEnd, run_session};
 use clock_events::{ClockEnd, run_clock};
@@ -50,7 +51,7 @@ fn run_seat<R: Wait + Clock, D: Dialect, L: Link>(
 ) -> PlayedSeat<L>
     requires ready { IsReadySeat (floor_ids floor.now) agent_seat }
     ensures { IsPlayedSeat L.state
-        (D.may_answer dialect.now) (D.text dialect.now) game.now agent_seat result }
+        (dialect_of (D.may_answer dialect.now) (D.text dialect.now)) game.now agent_seat result }
 {
     let AgentSeat { desk, lines } = agent_seat;
     match lines {
@@ -79,7 +80,7 @@ fn run_two<R: Threads + Sync + Wait + Clock, D: Dialect + Sync, L: Link + Send +
     agent_seats: Two<AgentSeat<L>>,
 ) -> Two<PlayedSeat<L>>
     requires ready { AreBoth (IsReadySeat (floor_ids floor.now)) agent_seats }
-    ensures { BothOver (IsPlayedSeat L.state (D.may_answer dialect.now) (D.text dialect.now) game.now) agent_seats result }
+    ensures { BothOver (IsPlayedSeat L.state (dialect_of (D.may_answer dialect.now) (D.text dialect.now)) game.now) agent_seats result }
 {
     let Two { first, second } = agent_seats;
     let (first, second) = join(
@@ -99,7 +100,7 @@ fn run_four<R: Threads + Sync + Wait + Clock, D: Dialect + Sync, L: Link + Send 
     agent_seats: Four<AgentSeat<L>>,
 ) -> Four<PlayedSeat<L>>
     requires ready { AreBoth (AreBoth (IsReadySeat (floor_ids floor.now))) agent_seats }
-    ensures { BothOver (BothOver (IsPlayedSeat L.state (D.may_answer dialect.now) (D.text dialect.now) game.now)) agent_seats result }
+    ensures { BothOver (BothOver (IsPlayedSeat L.state (dialect_of (D.may_answer dialect.now) (D.text dialect.now)) game.now)) agent_seats result }
 {
     let Two { first, second } = agent_seats;
     let (first, second) = join(
@@ -124,7 +125,7 @@ fn run_eight<R: Threads + Sync + Wait + Clock, D: Dialect + Sync, L: Link + Send
 ) -> Eight<PlayedSeat<L>>
     requires ready { AreEightReady (floor_ids floor.now) agent_seats }
     ensures { AreEightPlayed L.state
-        (D.may_answer dialect.now) (D.text dialect.now) game.now agent_seats result }
+        (dialect_of (D.may_answer dialect.now) (D.text dialect.now)) game.now agent_seats result }
 {
     let Two { first, second } = agent_seats;
     let (first, second) = join(
@@ -149,7 +150,7 @@ fn run_taken<R: Threads + Sync + Wait + Clock, D: Dialect + Sync, L: Link + Send
 ) -> Eight<PlayedSeat<L>>
     requires ready { IsSomeAnd agent_seats.old (λ p. AreEightReady (floor_ids floor.now) p) }
     ensures { AreTakenPlayed L.state
-        (D.may_answer dialect.now) (D.text dialect.now) game.now agent_seats.old result }
+        (dialect_of (D.may_answer dialect.now) (D.text dialect.now)) game.now agent_seats.old result }
 {
     run_eight(rt, floor, game, dialect, agent_seats.take().unwrap())
 }
@@ -193,7 +194,7 @@ pub(crate) fn run_all<
     requires clock { IsReadyClock (floor_ids floor.now) clock }
     requires ticks { IfSome (T.state ticker.old).waited (λ ticks. ticks ≡ []) }
     ensures played { AreTakenPlayed L.state
-        (D.may_answer dialect.now) (D.text dialect.now) game.now (Some agent_seats) result.0 }
+        (dialect_of (D.may_answer dialect.now) (D.text dialect.now)) game.now (Some agent_seats) result.0 }
     ensures made { HasMadeAll game.now result.1.desk }
     ensures same { IsSameDesk clock result.1.desk }
     ensures waits { WaitsForAll (T.state ticker.old) (T.state ticker.new) result.1.missed }
@@ -205,7 +206,7 @@ pub(crate) fn run_all<
         &mut || -> Eight<PlayedSeat<L>>
             requires { IsSomeAnd agent_seats (λ p. AreEightReady (floor_ids floor.now) p) }
             ensures { AreTakenPlayed L.state
-                (D.may_answer dialect.entry.now) (D.text dialect.entry.now) game.entry.now agent_seats.entry result }
+                (dialect_of (D.may_answer dialect.entry.now) (D.text dialect.entry.now)) game.entry.now agent_seats.entry result }
         { run_taken(rt, floor, game, dialect, &mut agent_seats) },
         &mut ||
             requires { IsSomeAnd clock (λ d. IsReadyClock (floor_ids floor.now) d) × IfSome (T.state ticker.now).waited (λ ticks. ticks ≡ []) }

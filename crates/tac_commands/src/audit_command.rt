@@ -1,12 +1,13 @@
 // The command that judges the log of a game by the game.
-ghost use Rattle.std.specs.Prelude.{◌≡◌, ◌<◌, ◌≤◌, [], ◌∷◌, length, IfSome};
-ghost use Rattle.tac_base.specs.declared.limits.TheConstants.{FILE_NAMES, NAME_BYTES};
+ghost use Rattle.std.specs.Prelude.{◌≡◌, ◌≤◌, [], ◌∷◌, length, IfSome};
+ghost use Rattle.tac_base.specs.declared.limits.TheConstants.{NAME_BYTES};
 ghost use Rattle.tac_commands.specs.Allowed.{audit_steps};
 ghost use Rattle.tac_commands.specs.Commands as commands;
 ghost use Rattle.tac_commands.specs.declared.file_kinds.FileKind.TheVariants.{Log as LogKind};
 ghost use Rattle.tac_commands.specs.Ends.{EndsBatch, EndsSteps, EndsUnread};
 ghost use Rattle.tac_commands.specs.Steps.{Reads, file};
 ghost use Rattle.tac_commands.specs.FlawTexts as texts;
+ghost use Rattle.tac_io.specs.States.{MaySelect};
 
 use crate::ends::End;
 use crate::numbered_lines::{counted, numbered, plain};
@@ -65,7 +66,7 @@ fn audit_by_file<F: Files, K: Sink>(
     files: &mut F,
     out: &mut K,
 ) -> End
-    requires { IfSome (F.state files.old).names (λ names. (length names < FILE_NAMES) × (length name.now ≤ NAME_BYTES)) }
+    requires { MaySelect (F.state files.old) name.now }
     ensures { EndsSteps (Reads (file LogKind name.now) (audit_steps game.now)) (F.state files.old) (F.state files.new) (K.state out.old) (K.state out.new) result }
 {
     match read_value::<Log, F>(alloc, files, name) {

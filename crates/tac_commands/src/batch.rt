@@ -1,6 +1,5 @@
 // The commands that need no links.
-ghost use Rattle.std.specs.Prelude.{◌≡◌, ◌<◌, ◌≤◌, [], length, IfSome};
-ghost use Rattle.tac_base.specs.declared.limits.TheConstants.{FILE_NAMES, NAME_BYTES};
+ghost use Rattle.std.specs.Prelude.{◌≡◌, [], IfSome};
 ghost use Rattle.game_text.specs.Games.{canonical_text, upgraded};
 ghost use Rattle.draw_maker.specs.Games.{made_game};
 ghost use Rattle.allocator.specs.Solutions.{IsSolvedText};
@@ -9,6 +8,7 @@ ghost use Rattle.tac_commands.specs.Commands as commands;
 ghost use Rattle.tac_commands.specs.Commands.{seen_batch};
 ghost use Rattle.tac_commands.specs.Ends.{Ends, EndsBatch};
 ghost use Rattle.tac_commands.specs.Words.{IsShortBatch};
+ghost use Rattle.tac_io.specs.States.{MaySelect};
 
 use crate::audit_command::audit_files;
 use crate::ends::End;
@@ -71,7 +71,7 @@ fn write_solved<K: Sink>(alloc: Global, account: &Account, out: &mut K) -> End
 
 /// Shows the game of the file of that name in its canonical text.
 fn show<F: Files, K: Sink>(alloc: Global, name: &str, files: &mut F, out: &mut K) -> End
-    requires { IfSome (F.state files.old).names (λ names. (length names < FILE_NAMES) × (length name.now ≤ NAME_BYTES)) }
+    requires { MaySelect (F.state files.old) name.now }
     ensures { EndsBatch (commands.Show name.now) (F.state files.old) (F.state files.new) (K.state out.old) (K.state out.new) result }
 {
     match read_value::<Game, F>(alloc, files, name) {
@@ -82,7 +82,7 @@ fn show<F: Files, K: Sink>(alloc: Global, name: &str, files: &mut F, out: &mut K
 
 /// Shows the game of the file of that name in the canonical text of its version 2.
 fn upgrade<F: Files, K: Sink>(alloc: Global, name: &str, files: &mut F, out: &mut K) -> End
-    requires { IfSome (F.state files.old).names (λ names. (length names < FILE_NAMES) × (length name.now ≤ NAME_BYTES)) }
+    requires { MaySelect (F.state files.old) name.now }
     ensures { EndsBatch (commands.Upgrade name.now) (F.state files.old) (F.state files.new) (K.state out.old) (K.state out.new) result }
 {
     match read_value::<Game, F>(alloc, files, name) {
@@ -93,7 +93,7 @@ fn upgrade<F: Files, K: Sink>(alloc: Global, name: &str, files: &mut F, out: &mu
 
 /// Solves the account of the file of that name.
 fn solve_file<F: Files, K: Sink>(alloc: Global, name: &str, files: &mut F, out: &mut K) -> End
-    requires { IfSome (F.state files.old).names (λ names. (length names < FILE_NAMES) × (length name.now ≤ NAME_BYTES)) }
+    requires { MaySelect (F.state files.old) name.now }
     ensures { EndsBatch (commands.Solve name.now) (F.state files.old) (F.state files.new) (K.state out.old) (K.state out.new) result }
 {
     match read_value::<Account, F>(alloc, files, name) {

@@ -1,7 +1,7 @@
 // The files that commands read.
-ghost use Rattle.std.specs.Prelude.{◌≡◌, ◌<◌, ◌≤◌, ◌⊎◌, [], ◌∷◌, length, Ok, Err, IfOk, IfErr, IfSome, OnOk};
-ghost use Rattle.tac_base.specs.declared.limits.TheConstants.{FILE_NAMES, NAME_BYTES};
+ghost use Rattle.std.specs.Prelude.{◌≡◌, ◌≤◌, ◌⊎◌, [], ◌∷◌, length, Ok, Err, IfOk, IfErr, OnOk};
 ghost use Rattle.tac_io.specs.Reading.{IsFile};
+ghost use Rattle.tac_io.specs.States.{MaySelect};
 ghost use Rattle.tac_io.specs.Known.{known_then};
 ghost use Rattle.game_text.specs.declared.fault.GameFault.{GameFault};
 ghost use Rattle.tac_commands.specs.declared.refusals.Refusal.TheVariants.{Memory};
@@ -22,7 +22,7 @@ pub(crate) fn read_bytes<F: Files>(
     name: &str,
     kind: FileKind,
 ) -> Result<Vec<u8>, Refusal>
-    requires { IfSome (F.state files.old).names (λ names. (length names < FILE_NAMES) × (length name.now ≤ NAME_BYTES)) }
+    requires { MaySelect (F.state files.old) name.now }
     ensures whole { IfOk result (λ bytes. IsFile (F.state files.old).content name.now bytes.items) }
     ensures within { IfOk result (λ bytes. length bytes.items ≤ most_bytes kind) }
     ensures quiet { OnOk result ((F.state files.new).faults ≡ (F.state files.old).faults) }
@@ -126,7 +126,7 @@ pub fn read_value<T: FileValue, F: Files>(
     files: &mut F,
     name: &str,
 ) -> Result<T, Refusal>
-    requires { IfSome (F.state files.old).names (λ names. (length names < FILE_NAMES) × (length name.now ≤ NAME_BYTES)) }
+    requires { MaySelect (F.state files.old) name.now }
     ensures value { IfOk result (λ value. IsFileRead (F.state files.old).content T.kind name.now (T.seen value)) }
     ensures quiet { OnOk result ((F.state files.new).faults ≡ (F.state files.old).faults) }
     ensures unread { IfErr result (IsNotRead (F.state files.old) (F.state files.new) T.kind name.now) }

@@ -1,10 +1,11 @@
 // The commands that run a script: of one hotel, and of a game.
-ghost use Rattle.std.specs.Prelude.{◌≡◌, ◌<◌, ◌≤◌, [], ◌∷◌, length, IfSome};
-ghost use Rattle.tac_base.specs.declared.limits.TheConstants.{FILE_NAMES, NAME_BYTES};
+ghost use Rattle.std.specs.Prelude.{◌≡◌, ◌≤◌, [], ◌∷◌, length, IfSome};
+ghost use Rattle.tac_base.specs.declared.limits.TheConstants.{NAME_BYTES};
 ghost use Rattle.tac_commands.specs.Commands as commands;
 ghost use Rattle.tac_commands.specs.Allowed.{play_steps};
 ghost use Rattle.tac_commands.specs.Ends.{EndsBatch, EndsSteps};
 ghost use Rattle.tac_commands.specs.Ends as ends;
+ghost use Rattle.tac_io.specs.States.{MaySelect};
 
 use crate::ends::End;
 use crate::file_kinds::FileKind;
@@ -38,7 +39,7 @@ pub(crate) fn hotel_by_file<F: Files, K: Sink>(
     files: &mut F,
     out: &mut K,
 ) -> End
-    requires { IfSome (F.state files.old).names (λ names. (length names < FILE_NAMES) × (length name.now ≤ NAME_BYTES)) }
+    requires { MaySelect (F.state files.old) name.now }
     ensures { EndsBatch (commands.Hotel name.now) (F.state files.old) (F.state files.new) (K.state out.old) (K.state out.new) result }
 {
     match read_bytes(alloc, files, name, FileKind::HotelScript) {
@@ -56,7 +57,7 @@ fn play_by_file<R: Threads + Sync, F: Files, K: Sink>(
     files: &mut F,
     out: &mut K,
 ) -> End
-    requires { IfSome (F.state files.old).names (λ names. (length names < FILE_NAMES) × (length name.now ≤ NAME_BYTES)) }
+    requires { MaySelect (F.state files.old) name.now }
     ensures { EndsSteps (play_steps game.now name.now) (F.state files.old) (F.state files.new) (K.state out.old) (K.state out.new) result }
 {
     script_law(game);

@@ -1,9 +1,9 @@
 // The command that shows what one unit more and one unit less of each good would change.
-ghost use Rattle.std.specs.Prelude.{◌≡◌, ◌<◌, ◌≤◌, length, IfOk, IfSome};
-ghost use Rattle.tac_base.specs.declared.limits.TheConstants.{FILE_NAMES, NAME_BYTES};
+ghost use Rattle.std.specs.Prelude.{IfOk};
 ghost use Rattle.tac_commands.specs.Allowed.{IsValued, WritesDue};
 ghost use Rattle.tac_commands.specs.Commands as commands;
 ghost use Rattle.tac_commands.specs.Ends.{Ends, EndsBatch};
+ghost use Rattle.tac_io.specs.States.{MaySelect};
 
 use crate::ends::End;
 use crate::reading::read_value;
@@ -47,7 +47,7 @@ pub(crate) fn worth_file<F: Files, K: Sink>(
     files: &mut F,
     out: &mut K,
 ) -> End
-    requires { IfSome (F.state files.old).names (λ names. (length names < FILE_NAMES) × (length name.now ≤ NAME_BYTES)) }
+    requires { MaySelect (F.state files.old) name.now }
     ensures { EndsBatch (commands.Worth name.now) (F.state files.old) (F.state files.new) (K.state out.old) (K.state out.new) result }
 {
     match read_value::<Account, F>(alloc, files, name) {

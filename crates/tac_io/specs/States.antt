@@ -1,5 +1,6 @@
 -- What is known of the objects of the outside.
-use Rattle.std.specs.Prelude.{ℕ, List, Bool, Option}
+use Rattle.std.specs.Prelude.{ℕ, ◌<◌, ◌≤◌, List, length, Bool, Option, IfSome}
+use Rattle.tac_base.specs.declared.limits.TheConstants.{FILE_NAMES, NAME_BYTES}
 
 -- Of a link: the bytes that were taken of it, those that it still has to give and those that it was sent, where they are known; and its
 -- counts of faults of reads and of writes.
@@ -23,6 +24,10 @@ pub record FilesState : Type 0 where
   pub selected : Bool
   pub left : Option (List ℕ)
   pub faults : ℕ
+
+-- one more file may be selected, and its name has few bytes enough, where the names are known
+abbrev pub MaySelect : FilesState → List ℕ → Type 0
+MaySelect files name = IfSome files.names (λ names. (length names < FILE_NAMES) × (length name ≤ NAME_BYTES))
 
 -- Of the links: whether they listen; the ports that they were asked to listen at, and the links that they still have to give, in order,
 -- where they are known; and the count of faults.

@@ -1,8 +1,7 @@
 // Files of the outside.
 ghost use Rattle.std.specs.Prelude.{◌≡◌, ◌∷◌, [], ◌<◌, ◌≤◌, length, IsTrue, IfSome, OnOk, OnErr, IsSome, MatchResult};
-ghost use Rattle.tac_base.specs.declared.limits.TheConstants.{FILE_NAMES, NAME_BYTES};
 ghost use Rattle.tac_io.specs.Counts.{HasCause};
-ghost use Rattle.tac_io.specs.States.{FilesState};
+ghost use Rattle.tac_io.specs.States.{FilesState, MaySelect};
 ghost use Rattle.tac_io.specs.Known.{Reads, known_then};
 
 use crate::Failed;
@@ -17,8 +16,7 @@ pub trait Files {
     /// Selects a file, at its beginning. A name that no file has is a fault. After a fault the
     /// file that was selected before is still selected, at its place.
     fn select(&mut self, name: &str) -> Result<(), Failed>
-        requires { IfSome (state self.old).names (λ names.
-            (length names < FILE_NAMES) × (length name.now ≤ NAME_BYTES)) }
+        requires { MaySelect (state self.old) name.now }
         ensures selected { MatchResult result
             (λ _. IsTrue (state self.new).selected)
             (λ _. (state self.new).selected ≡ (state self.old).selected) }

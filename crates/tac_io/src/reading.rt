@@ -1,8 +1,8 @@
 // Whole files.
 ghost use Rattle.std.specs.Prelude.{◌≡◌, ◌<◌, ◌≤◌, ◌+◌, [], ◌∷◌, ℕ, length, take, drop, vec_len, IsTrue, IfSome, IfOk, OnOk, OnErr, IsErrOf, MatchResult};
-ghost use Rattle.tac_base.specs.declared.limits.TheConstants.{FILE_NAMES, NAME_BYTES};
 ghost use Rattle.tac_io.specs.Counts.{HasCause};
 ghost use Rattle.tac_io.specs.Reading.{HasFileCause, IsFile, IsTooLong};
+ghost use Rattle.tac_io.specs.States.{MaySelect};
 ghost use Rattle.tac_io.specs.Known.{IsAtEnd, known_then, then_known};
 
 use crate::{Failed, Files};
@@ -58,8 +58,7 @@ pub fn read_file<F: Files>(
     name: &str,
     limit: usize,
 ) -> Result<Vec<u8>, FileFault>
-    requires { IfSome (F.state files.old).names (λ names.
-        (length names < FILE_NAMES) × (length name.now ≤ NAME_BYTES)) }
+    requires { MaySelect (F.state files.old) name.now }
     ensures whole { IfOk result (λ bytes. IsFile (F.state files.old).content name.now bytes.items) }
     ensures within { IfOk result (λ bytes. length bytes.items ≤ limit) }
     ensures long { IsErrOf result FileFault.TooLong → IsTooLong (F.state files.old).content name.now limit }

@@ -12,7 +12,9 @@ use Rattle.tac_commands.specs.declared.code.Code.TheVariants.{Success}
 use Rattle.tac_commands.specs.Codes.{code_number}
 use Rattle.tac_commands.specs.Outcomes.{Outcome, Done, Lapsed, Unsound, Cut, Refused}
 use Rattle.tac_commands.specs.Reporting.{Reports}
-use Rattle.tacd.specs.Service.{IsLogOf, LogAllows, PlayedAllows, lapsed_code, missed_of}
+use Rattle.game_run.specs.Outcomes.{missed_of}
+use Rattle.tacd.specs.Finishing.{LogAllows, lapsed_code}
+use Rattle.tacd.specs.Service.{IsLogOf, PlayedAllows}
 
 abbrev missed : Played → ℕ
 missed played = missed_of (head_of played.head)

@@ -1,6 +1,6 @@
 -- The cash in a sheet is what the posts add up to, in each game that was played over links.
 use Rattle.std.proofs.Common.{◌≡◌, ℕ, ◌≤◌, List, [], ◌∷◌, ◌++◌, map, fold, refl, sym, ap, ◌∙◌, subst, inl, inr, arith, ℤ, pos, ◌+ℤ◌, Option, Some, None}
-use Rattle.std.specs.Prelude.{reverse, Result, IfSome}
+use Rattle.std.specs.Prelude.{reverse, IfSome}
 use Rattle.std.specs.Global.{Vec}
 use Rattle.std.proofs.lemmas.Int.{ints}
 use Rattle.std.proofs.lemmas.List.{reverse-append}
@@ -15,17 +15,17 @@ use Rattle.trade_ledger.proofs.Matching.{dollars-append}
 use Rattle.auction_core.specs.Auctions.{AuctionHistory}
 use Rattle.auction_core.specs.ClosedGame.{ClosedGame}
 use Rattle.score_sheet.specs.Settlement.{cash_gained}
-use Rattle.line_protocol.specs.declared.asking.Request.{Request}
-use Rattle.line_protocol.specs.declared.asking.RequestFault.{RequestFault}
-use Rattle.line_protocol.specs.declared.saying.Said.{Said}
-use Rattle.tac_io.specs.States.{LinkState, LinksState, TickerState}
+use Rattle.tac_io.specs.States.{LinkState}
+use Rattle.game_run.specs.Hosted.{HostedGame}
 use Rattle.game_run.specs.PlayedGame.{IsLegalGame}
+use Rattle.tacd.specs.declared.answer.Answer.{Answer}
 use Rattle.tacd.specs.declared.answer.Played.{Played}
 use Rattle.tac_commands.specs.Outcomes.{Outcome}
 use Rattle.tac_commands.specs.Outsides.{Outside}
 use Rattle.tac_commands.specs.Services.{Service}
 use Rattle.tac_commands.specs.Cash.{IsCashOfPosts}
-use Rattle.tacd.specs.Service.{ServesGame, ServeAllows, answers_by, texts_by}
+use Rattle.tacd.specs.Service.{ServeAllows, at_pace, hosted_by}
+use Rattle.tacd.proofs.ServiceCauses.{IsServedOr}
 
 -- the order of the entries does not matter
 reversed : (history : List Entry) (party : ℕ) → dollars (all_trades (reverse history)) party ≡ dollars (all_trades history) party
@@ -78,13 +78,11 @@ no_game : (played : Option Played) → played ≡ None → HasCash played
 no_game played none = subst HasCash (sym none) tt
 
 module _ {L : Type 0} (state : L → LinkState) where
-  in_game : (may_answer : List ℕ → Result Request RequestFault → Type 0) (text : Said → List ℕ) (game : GameFile) (port pace : ℕ) (links links' : LinksState L) (ticker ticker' : TickerState)
-      (played : Option Played) (ended : Vec L) (outcome : Outcome) → ServesGame state may_answer text game port pace links links' ticker ticker' played ended outcome → HasCash played
-  in_game may_answer text game port pace links links' ticker ticker' (Some played) ended outcome plays = cash_of_posts game played.closed plays.0.played.played.legal_game
-  in_game may_answer text game port pace links links' ticker ticker' None ended outcome plays = tt
+  in_game : (hosted : HostedGame) (before after : Outside L) (ended : Vec L) (played : Option Played) (outcome : Outcome) → IsServedOr state hosted before after played ended outcome → HasCash played
+  in_game hosted before after ended None outcome plays = tt
+  in_game hosted before after ended (Some played) outcome plays = cash_of_posts hosted.game played.closed plays.0.played.lawful.legal_game
 
-  pub in_service : (service : Service) (before after : Outside L) (played : Option Played) (ended : Vec L) (outcome : Outcome) →
-      ServeAllows state service before after played ended outcome → HasCash played
-  in_service service before after played ended outcome (inl serves) =
-      in_game (answers_by service.form) (texts_by service.form) serves.0 service.port service.pace before.links after.links before.ticker after.ticker played ended outcome serves.2
-  in_service service before after played ended outcome (inr refuses) = no_game played refuses.6
+  pub in_service : (service : Service) (before after : Outside L) (answer : Answer L) (outcome : Outcome) → ServeAllows state service before after answer outcome → HasCash answer.played
+  in_service service before after answer outcome (inl serves) =
+      in_game (hosted_by service serves.0) (at_pace service.pace before) after answer.ended answer.played outcome serves.2
+  in_service service before after answer outcome (inr refuses) = no_game answer.played refuses.6

@@ -10,7 +10,7 @@ use native.Mathlib.Decide.{ℕ_discrete}
 use Rattle.line_protocol.specs.declared.admission.Verdict.{Verdict}
 use Rattle.line_protocol.specs.declared.admission.Verdict.TheVariants.{Seated, Syntax, WrongWord, Taken, Lost}
 use Rattle.agent_gate.specs.Gates.{Seats, seats_after}
-use Rattle.game_run.specs.Admission.{AreAdmitted}
+use Rattle.game_run.specs.Arriving.{HoldsInTurn}
 use Rattle.log_reader.specs.SoundLog.{gives_seat, seatings}
 
 -- an agent's seat is taken
@@ -64,7 +64,7 @@ taken_after seats (verdict ∷ verdicts) agent inside =
 -- ---- a seat is given once
 
 module _ {A B : Type 0} (Holds : Seats → Verdict → A → B → Type 0) (free : (seats : Seats) (agent : ℕ) (before : A) (after : B) → Holds seats (Seated agent) before after → is_taken seats agent ≡ false) where
-  pub given_once : (seats : Seats) (befores : List A) (verdicts : List Verdict) (afters : List B) (agent : ℕ) → agent < length seats.taken → AreAdmitted Holds seats befores verdicts afters →
+  pub given_once : (seats : Seats) (befores : List A) (verdicts : List Verdict) (afters : List B) (agent : ℕ) → agent < length seats.taken → HoldsInTurn Holds seats befores verdicts afters →
       cond (is_taken seats agent) 1 0 + seatings verdicts agent ≤ 1
   given_once seats [] [] [] agent inside admitted = one_at_most (is_taken seats agent)
     where

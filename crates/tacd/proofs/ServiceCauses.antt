@@ -1,13 +1,9 @@
 -- What the service of a game says of the codes.
-use Rattle.std.proofs.Common.{◌≡◌, ◌≢◌, ℕ, ◌<◌, List, [], ◌∷◌, refl, sym, ap, ◌∙◌, subst, inl, inr, arith, Option, Some, None}
-use Rattle.std.specs.Prelude.{◌⊎◌, Result}
+use Rattle.std.proofs.Common.{◌≡◌, ◌≢◌, ℕ, ◌<◌, [], ◌∷◌, refl, sym, ap, ◌∙◌, inl, inr, arith, Option, Some, None}
+use Rattle.std.specs.Prelude.{◌⊎◌, MatchOption}
 use Rattle.std.specs.Global.{Vec}
 use Rattle.tac_io.specs.Counts.{Rose}
 use Rattle.tac_io.specs.Known.{known_then}
-use Rattle.game_text.specs.Games.{GameFile}
-use Rattle.line_protocol.specs.declared.asking.Request.{Request}
-use Rattle.line_protocol.specs.declared.asking.RequestFault.{RequestFault}
-use Rattle.line_protocol.specs.declared.saying.Said.{Said}
 use Rattle.tac_io.specs.States.{LinkState, SinkState, LinksState, TickerState}
 use Rattle.tacd.specs.declared.answer.Answer.{Answer}
 use Rattle.tacd.specs.declared.answer.Played.{Played}
@@ -19,7 +15,12 @@ use Rattle.tac_commands.specs.Services.{Service}
 use Rattle.tac_commands.specs.Allowed.{Allows, IsServiceEnd}
 use Rattle.tac_commands.specs.Causes.{LinkFaultExactly, ClockFaultExactly}
 use Rattle.tac_commands.specs.Outsides.{Outside}
-use Rattle.tacd.specs.Service.{Serves, ServesGame, ServeAllows, answers_by, missed_of, texts_by}
+use Rattle.clock_events.specs.Clocking.{WaitsForAll}
+use Rattle.line_protocol.specs.Heads.{head_of}
+use Rattle.game_run.specs.Hosted.{HostedGame}
+use Rattle.game_run.specs.Outcomes.{IsGameEnd, missed_of}
+use Rattle.tacd.specs.Service.{HasNoGame, PlayedAllows, Serves, ServeAllows, at_pace, hosted_by}
+use Rattle.tacd.specs.SoundLogs.{ReportsSoundly}
 use Rattle.tac_commands.proofs.CodedOutcomes.{IsCoded, coded, explained_only}
 use Rattle.tac_commands.proofs.FileCauses.{no_link_refusal}
 
@@ -69,42 +70,67 @@ clock_exactly ticker ticker' sink sink' code outcome told either = record {
 
 -- ---- the game of a service
 
-module _ {L : Type 0} (state : L → LinkState) (may_answer : List ℕ → Result Request RequestFault → Type 0) (text : Said → List ℕ) (game : GameFile)
-    (port pace : ℕ) (links links' : LinksState L) (ticker ticker' : TickerState) (ended : Vec L) where
-  abbrev AreServed : Option Played → Outcome → Type 0
-  AreServed played outcome = ServesGame state may_answer text game port pace links links' ticker ticker' played ended outcome
+module _ {L : Type 0} (state : L → LinkState) (hosted : HostedGame) (before after : Outside L) where
+  -- a game that was played
+  module _ (ended : Vec L) (played : Played) where
+    abbrev pub IsServed : Outcome → Type 0
+    IsServed outcome = IsGameEnd state hosted before.links after.links (record { closed = played.closed; head = played.head; links = ended })
+        × WaitsForAll before.ticker after.ticker (missed_of (head_of played.head))
+        × PlayedAllows hosted.game played outcome × ReportsSoundly hosted.game played outcome
 
-  ended_so : (played : Option Played) (outcome : Outcome) → AreServed played outcome → IsServiceEnd outcome
-  ended_so (Some played) (Done text') plays = tt
-  ended_so (Some played) (Lapsed text') plays = tt
-  ended_so (Some played) (Cut text') plays = tt
-  ended_so (Some played) (Unsound text') plays = absurd plays.1
-  ended_so (Some played) (Refused refusal) plays = absurd plays.1
-  ended_so None (Refused LinkFault) plays = tt
-  ended_so None (Refused Memory) plays = tt
-  ended_so None outcome plays = absurd plays
+    ended_played : (outcome : Outcome) → IsServed outcome → IsServiceEnd outcome
+    ended_played (Done text) plays = tt
+    ended_played (Lapsed text) plays = tt
+    ended_played (Cut text) plays = tt
+    ended_played (Unsound text) plays = absurd plays.2
+    ended_played (Refused refusal) plays = absurd plays.2
 
-  link_game : (played : Option Played) (outcome : Outcome) → AreServed played outcome → IsExplained 5 links.faults links'.faults (code_of outcome)
-  link_game (Some played) (Done text') plays = inr (omega arith, plays.0.no_fault)
-  link_game (Some played) (Lapsed text') plays = inr (omega arith, plays.0.no_fault)
-  link_game (Some played) (Cut text') plays = inr (omega arith, plays.0.no_fault)
-  link_game (Some played) (Unsound text') plays = absurd plays.1
-  link_game (Some played) (Refused refusal) plays = absurd plays.1
-  link_game None (Refused LinkFault) plays = inl (refl, plays.0.fault)
-  link_game None (Refused Memory) plays = inr (omega arith, ap (λ l. l.faults) plays.0)
-  link_game None outcome plays = absurd plays
+    links_played : (outcome : Outcome) → IsServed outcome → IsExplained 5 before.links.faults after.links.faults (code_of outcome)
+    links_played (Done text) plays = inr (omega arith, plays.0.no_fault)
+    links_played (Lapsed text) plays = inr (omega arith, plays.0.no_fault)
+    links_played (Cut text) plays = inr (omega arith, plays.0.no_fault)
+    links_played (Unsound text) plays = absurd plays.2
+    links_played (Refused refusal) plays = absurd plays.2
 
-  clock_game : (played : Option Played) (outcome : Outcome) → AreServed played outcome → IsTimed ticker.faults ticker'.faults (code_of outcome)
-  clock_game (Some played) (Done text') plays =
-      let end = plays.0 in inr (inl (omega arith, end.waits.cause.same (ap missed_of (sym end.head) ∙ plays.1.1)))
-  clock_game (Some played) (Lapsed text') plays =
-      let end = plays.0 in inl (refl, end.waits.cause.rose (subst (λ (n : ℕ). 0 < n) (ap missed_of end.head) plays.1.1))
-  clock_game (Some played) (Cut text') plays = inr (inr refl)
-  clock_game (Some played) (Unsound text') plays = absurd plays.1
-  clock_game (Some played) (Refused refusal) plays = absurd plays.1
-  clock_game None (Refused LinkFault) plays = inr (inl (omega arith, ap (λ t. t.faults) plays.1))
-  clock_game None (Refused Memory) plays = inr (inr refl)
-  clock_game None outcome plays = absurd plays
+    clock_played : (outcome : Outcome) → IsServed outcome → IsTimed before.ticker.faults after.ticker.faults (code_of outcome)
+    clock_played (Done text) plays = inr (inl (omega arith, plays.1.cause.same plays.2.1))
+    clock_played (Lapsed text) plays = inl (refl, plays.1.cause.rose plays.2.1)
+    clock_played (Cut text) plays = inr (inr refl)
+    clock_played (Unsound text) plays = absurd plays.2
+    clock_played (Refused refusal) plays = absurd plays.2
+
+  -- no game was played
+  module _ (ended : Vec L) where
+    ended_unplayed : (outcome : Outcome) → HasNoGame state hosted before after ended outcome → IsServiceEnd outcome
+    ended_unplayed (Refused LinkFault) plays = tt
+    ended_unplayed (Refused Memory) plays = tt
+    ended_unplayed outcome plays = absurd plays
+
+    links_unplayed : (outcome : Outcome) → HasNoGame state hosted before after ended outcome → IsExplained 5 before.links.faults after.links.faults (code_of outcome)
+    links_unplayed (Refused LinkFault) plays = inl (refl, plays.0.fault)
+    links_unplayed (Refused Memory) plays = inr (omega arith, ap (λ l. l.faults) plays.0)
+    links_unplayed outcome plays = absurd plays
+
+    clock_unplayed : (outcome : Outcome) → HasNoGame state hosted before after ended outcome → IsTimed before.ticker.faults after.ticker.faults (code_of outcome)
+    clock_unplayed (Refused LinkFault) plays = inr (inl (omega arith, ap (λ t. t.faults) plays.1))
+    clock_unplayed (Refused Memory) plays = inr (inr refl)
+    clock_unplayed outcome plays = absurd plays
+
+  -- whichever it was
+  abbrev pub IsServedOr : Option Played → Vec L → Outcome → Type 0
+  IsServedOr played ended outcome = MatchOption played (HasNoGame state hosted before after ended outcome) (λ p. IsServed ended p outcome)
+
+  ended_so : (played : Option Played) (ended : Vec L) (outcome : Outcome) → IsServedOr played ended outcome → IsServiceEnd outcome
+  ended_so None ended outcome plays = ended_unplayed ended outcome plays
+  ended_so (Some played) ended outcome plays = ended_played ended played outcome plays
+
+  link_game : (played : Option Played) (ended : Vec L) (outcome : Outcome) → IsServedOr played ended outcome → IsExplained 5 before.links.faults after.links.faults (code_of outcome)
+  link_game None ended outcome plays = links_unplayed ended outcome plays
+  link_game (Some played) ended outcome plays = links_played ended played outcome plays
+
+  clock_game : (played : Option Played) (ended : Vec L) (outcome : Outcome) → IsServedOr played ended outcome → IsTimed before.ticker.faults after.ticker.faults (code_of outcome)
+  clock_game None ended outcome plays = clock_unplayed ended outcome plays
+  clock_game (Some played) ended outcome plays = clock_played ended played outcome plays
 
 -- a command that leaves the links and the ticker as they were has no code of theirs
 pub no_link_fault : {L : Type 0} (links : LinksState L) (sink sink' : SinkState) (code : ℕ) (outcome : Outcome) → code_of outcome ≢ 5 → IsCoded sink sink' code outcome → LinkFaultExactly links links code
@@ -113,46 +139,37 @@ no_link_fault links sink sink' code outcome not either = link_exactly links link
 pub no_clock_fault : (ticker : TickerState) (sink sink' : SinkState) (code : ℕ) (outcome : Outcome) → code_of outcome ≢ 6 → IsCoded sink sink' code outcome → ClockFaultExactly ticker ticker code
 no_clock_fault ticker sink sink' code outcome not either = clock_exactly ticker ticker sink sink' code outcome (inr (inl (not, refl))) either
 
-module _ {L : Type 0} (state : L → LinkState) (service : Service) (before after : Outside L) where
+module _ {L : Type 0} (state : L → LinkState) (service : Service) (before after : Outside L) (answer : Answer L) where
+  -- the outside once the pace is set
+  abbrev paced : Outside L
+  paced = at_pace service.pace before
+
   -- what the service leaves is among what the words and the files allow
-  pub allowed : (played : Option Played) (ended : Vec L) (outcome : Outcome) → after.files.names ≡ known_then before.files.names (service.game ∷ []) →
-      ServeAllows state service before after played ended outcome → Allows (Some (Serve service)) before.files after.files outcome
-  allowed played ended outcome selected (inl serves) = inl (
-    serves.0,
-    serves.1,
-    (
-      ended_so state (answers_by service.form) (texts_by service.form) serves.0 service.port service.pace before.links after.links before.ticker after.ticker ended played outcome serves.2,
-      (selected, serves.3),
-    ),
-  )
-  allowed played ended outcome selected (inr refuses) = inr (refuses.0, refuses.1, refuses.2, selected)
+  pub allowed : (outcome : Outcome) → after.files.names ≡ known_then before.files.names (service.game ∷ []) → ServeAllows state service before after answer outcome →
+      Allows (Some (Serve service)) before.files after.files outcome
+  allowed outcome selected (inl serves) = inl (serves.0, serves.1, (ended_so state (hosted_by service serves.0) paced after answer.played answer.ended outcome serves.2, (selected, serves.3)))
+  allowed outcome selected (inr refuses) = inr (refuses.0, refuses.1, refuses.2, selected)
 
   -- ---- the faults of the links and of the ticker
 
-  link_explained : (played : Option Played) (ended : Vec L) (outcome : Outcome) → ServeAllows state service before after played ended outcome →
-      IsExplained 5 before.links.faults after.links.faults (code_of outcome)
-  link_explained played ended outcome (inl serves) =
-      link_game state (answers_by service.form) (texts_by service.form) serves.0 service.port service.pace before.links after.links before.ticker after.ticker ended played outcome serves.2
-  link_explained played ended outcome (inr refuses) = inr (
+  link_explained : (outcome : Outcome) → ServeAllows state service before after answer outcome → IsExplained 5 before.links.faults after.links.faults (code_of outcome)
+  link_explained outcome (inl serves) = link_game state (hosted_by service serves.0) paced after answer.played answer.ended outcome serves.2
+  link_explained outcome (inr refuses) = inr (
     (λ five. (no_link_refusal before.files after.files Game service.game refuses.0 refuses.2).0 (ap code_of (sym refuses.1) ∙ five)),
     ap (λ l. l.faults) refuses.3,
   )
 
-  clock_explained : (played : Option Played) (ended : Vec L) (outcome : Outcome) → ServeAllows state service before after played ended outcome →
-      IsTimed before.ticker.faults after.ticker.faults (code_of outcome)
-  clock_explained played ended outcome (inl serves) =
-      clock_game state (answers_by service.form) (texts_by service.form) serves.0 service.port service.pace before.links after.links before.ticker after.ticker ended played outcome serves.2
-  clock_explained played ended outcome (inr refuses) = inr (inl (
+  clock_explained : (outcome : Outcome) → ServeAllows state service before after answer outcome → IsTimed before.ticker.faults after.ticker.faults (code_of outcome)
+  clock_explained outcome (inl serves) = clock_game state (hosted_by service serves.0) paced after answer.played answer.ended outcome serves.2
+  clock_explained outcome (inr refuses) = inr (inl (
     (λ six. (no_link_refusal before.files after.files Game service.game refuses.0 refuses.2).1 (ap code_of (sym refuses.1) ∙ six)),
     ap (λ t. t.faults) refuses.4,
   ))
 
   -- ---- the codes
 
-  pub link_fault : (answer : Answer L) → Serves state service before after answer → LinkFaultExactly before.links after.links answer.code
-  link_fault answer (outcome, allows, reports) =
-      link_exactly before.links after.links before.out after.out answer.code outcome (link_explained answer.played answer.ended outcome allows) (coded outcome before.out after.out answer.code reports)
+  pub link_fault : Serves state service before after answer → LinkFaultExactly before.links after.links answer.code
+  link_fault (outcome, allows, reports) = link_exactly before.links after.links before.out after.out answer.code outcome (link_explained outcome allows) (coded outcome before.out after.out answer.code reports)
 
-  pub clock_fault : (answer : Answer L) → Serves state service before after answer → ClockFaultExactly before.ticker after.ticker answer.code
-  clock_fault answer (outcome, allows, reports) =
-      clock_exactly before.ticker after.ticker before.out after.out answer.code outcome (clock_explained answer.played answer.ended outcome allows) (coded outcome before.out after.out answer.code reports)
+  pub clock_fault : Serves state service before after answer → ClockFaultExactly before.ticker after.ticker answer.code
+  clock_fault (outcome, allows, reports) = clock_exactly before.ticker after.ticker before.out after.out answer.code outcome (clock_explained outcome allows) (coded outcome before.out after.out answer.code reports)

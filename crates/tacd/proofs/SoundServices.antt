@@ -1,6 +1,6 @@
 -- The log of a game that was played over links is sound.
 use Rattle.std.proofs.Common.{◌≡◌, ℕ, suc, ◌+◌, ◌<◌, ◌≤◌, Bool, true, false, cond, List, [], ◌∷◌, length, map, take, get_or, replicate, refl, sym, ap, ◌∙◌, subst, arith, Option}
-use Rattle.std.specs.Prelude.{◌==◌, ◌||◌, nat_lt, Result}
+use Rattle.std.specs.Prelude.{◌==◌, ◌||◌, nat_lt}
 use Rattle.std.specs.List.{list_any}
 use Rattle.std.specs.Global.{Vec}
 use Rattle.std.proofs.lemmas.List.{get_or-map, get_or-replicate, length-map, length-take-le}
@@ -19,12 +19,8 @@ use Rattle.auction_rules.specs.Legal.{Legal}
 use Rattle.turn_lock.specs.Part.{part_from, part}
 use Rattle.trade_ledger.specs.declared.cash_calls.CashEntry.{CashEntry}
 use Rattle.auction_core.specs.Auctions.{AuctionHistory}
-use Rattle.auction_core.specs.ClosedGame.{ClosedGame}
 use Rattle.auction_core.specs.Setups.{setup_of}
 use Rattle.score_sheet.specs.Sheets.{Scored}
-use Rattle.line_protocol.specs.declared.asking.Request.{Request}
-use Rattle.line_protocol.specs.declared.asking.RequestFault.{RequestFault}
-use Rattle.line_protocol.specs.declared.saying.Said.{Said}
 use Rattle.line_protocol.specs.declared.admission.Cause.{Cause}
 use Rattle.line_protocol.specs.declared.admission.Verdict.{Verdict}
 use Rattle.line_protocol.specs.Heads.{Head, Serve, head_of}
@@ -37,8 +33,10 @@ use Rattle.game_log.specs.ScoredGames.{IsSheetOf}
 use Rattle.game_run.specs.Admission.{free_seats, seats_given, CameTo}
 use Rattle.game_run.specs.LinkRuns.{IsSeated}
 use Rattle.tac_io.specs.States.{LinkState, LinksState, TickerState}
-use Rattle.game_run.specs.Outcomes.{IsPlayedOver, IsGameEnd}
-use Rattle.game_run.specs.PlayedGame.{caller_parts, IsAbsent, IsPlayedBy}
+use Rattle.game_run.specs.Hosted.{HostedGame}
+use Rattle.game_run.specs.Outcomes.{IsPlayedOver, IsGameEnd, missed_of}
+use Rattle.game_run.specs.PlayedGame.{PlayedGame, caller_parts, IsAbsent, IsPlayedBy}
+use Rattle.game_run.proofs.ByIndex.{admitted_in_turn}
 use Rattle.game_run.proofs.KeptSeats.{seat_was_free}
 use Rattle.game_run.specs.declared.run.GameEnd.{GameEnd}
 use Rattle.script_run.specs.LawfulGames.{closed_history, calls_by, IsLawfulGame}
@@ -63,60 +61,60 @@ none_of {E} caller_of caller n (e ∷ history) none = by_test (caller_of e == ca
 
 -- ---- the histories
 
-module _ (game : GameFile) (verdicts : List Verdict) (ends : List (ℕ × Cause)) (closed : ClosedGame) (played : IsPlayedBy game verdicts ends closed) where
-  count : length closed.auctions ≡ 28
-  count = sym (length-map closed.auctions (λ (a : AuctionHistory). a.setup)) ∙ ap length played.legal_game.setups
+module _ (game : GameFile) (over : PlayedGame) (played : IsPlayedBy game over) where
+  count : length over.closed.auctions ≡ 28
+  count = sym (length-map over.closed.auctions (λ (a : AuctionHistory). a.setup)) ∙ ap length played.legal_game.setups
 
   -- an auction of the good, if it has none
   abbrev none_at : ℕ → AuctionHistory
   none_at good = record { setup = setup_of good game; history = [] }
 
   abbrev auction_at : ℕ → AuctionHistory
-  auction_at good = get_or closed.auctions good (none_at good)
+  auction_at good = get_or over.closed.auctions good (none_at good)
 
-  inside : (good : ℕ) → good < 28 → good < length closed.auctions
+  inside : (good : ℕ) → good < 28 → good < length over.closed.auctions
   inside good low = let many = count in omega (arith, low, many)
 
   setup_there : (good : ℕ) → good < 28 → (auction_at good).setup ≡ setup_of good game
   setup_there good low =
-      sym (get_or-map (λ (a : AuctionHistory). a.setup) closed.auctions good (none_at good) (setup_of good game) (inside good low))
+      sym (get_or-map (λ (a : AuctionHistory). a.setup) over.closed.auctions good (none_at good) (setup_of good game) (inside good low))
       ∙ (ap (λ (l : List Setup). get_or l good (setup_of good game)) played.legal_game.setups
       ∙ get_or-map-range_with_len (λ (g : ℕ). setup_of g game) 0 28 good good (setup_of good game) low (omega arith))
 
-  history_there : (good : ℕ) → good < 28 → closed_history closed good ≡ (auction_at good).history
-  history_there good low = get_or-map (λ (a : AuctionHistory). a.history) closed.auctions good (none_at good) [] (inside good low)
+  history_there : (good : ℕ) → good < 28 → closed_history over.closed good ≡ (auction_at good).history
+  history_there good low = get_or-map (λ (a : AuctionHistory). a.history) over.closed.auctions good (none_at good) [] (inside good low)
 
-  part_there : (good caller : ℕ) → good < 28 → get_or (caller_parts closed caller) good [] ≡ part (λ (e : Entry). e.caller) (closed_history closed good) caller
+  part_there : (good caller : ℕ) → good < 28 → get_or (caller_parts over.closed caller) good [] ≡ part (λ (e : Entry). e.caller) (closed_history over.closed good) caller
   part_there good caller low =
-      get_or-map (λ (a : AuctionHistory). part (λ (e : Entry). e.caller) a.history caller) closed.auctions good (none_at good) [] (inside good low)
+      get_or-map (λ (a : AuctionHistory). part (λ (e : Entry). e.caller) a.history caller) over.closed.auctions good (none_at good) [] (inside good low)
       ∙ ap (λ (h : List Entry). part (λ (e : Entry). e.caller) h caller) (sym (history_there good low))
 
-  on_schedule : (good : ℕ) → good < 28 → calls_by clock (closed_history closed good) ≡ clock_calls game good
+  on_schedule : (good : ℕ) → good < 28 → calls_by clock (closed_history over.closed good) ≡ clock_calls game good
   on_schedule good low =
       let calls = λ (p : List (ℕ × Entry)). map (λ (q : ℕ × Entry). q.1.call) p in
-      let wide : length (caller_parts closed clock) ≡ 28 = length-map closed.auctions (λ (a : AuctionHistory). part (λ (e : Entry). e.caller) a.history clock) ∙ count in
+      let wide : length (caller_parts over.closed clock) ≡ 28 = length-map over.closed.auctions (λ (a : AuctionHistory). part (λ (e : Entry). e.caller) a.history clock) ∙ count in
       ap calls (sym (part_there good clock low))
-      ∙ (sym (get_or-map calls (caller_parts closed clock) good [] [] (omega (arith, low, wide)))
+      ∙ (sym (get_or-map calls (caller_parts over.closed clock) good [] [] (omega (arith, low, wide)))
       ∙ (ap (λ (l : List (List Call)). get_or l good []) played.scheduled
       ∙ get_or-map-range_with_len (clock_calls game) 0 28 good good [] low (omega arith)))
 
-  pub lawful : IsLawfulGame game closed
+  pub lawful : IsLawfulGame game over.closed
   lawful = record {
     setups = played.legal_game.setups;
     legal = λ good low. subst (λ (h : List Entry). Legal (setup_of good game) h) (sym (history_there good low))
         (subst (λ (s : Setup). Legal s (auction_at good).history) (setup_there good low)
-        (All-get_or (λ (a : AuctionHistory). Legal a.setup a.history) closed.auctions good (none_at good) (inside good low) played.legal_game.legal));
+        (All-get_or (λ (a : AuctionHistory). Legal a.setup a.history) over.closed.auctions good (none_at good) (inside good low) played.legal_game.legal));
     scheduled = on_schedule;
     cash = played.legal_game.cash;
     matched = played.legal_game.matched;
   }
 
   -- an agent without a seat has no entry
-  absent : (head : Head) (sheet : List Scored) (agent : ℕ) → IsAbsent closed agent → sound.HasNoEntry (log_of_game head closed sheet) agent
+  absent : (head : Head) (sheet : List Scored) (agent : ℕ) → IsAbsent over.closed agent → sound.HasNoEntry (log_of_game head over.closed sheet) agent
   absent head sheet agent none = record {
-    calls = λ good low. none_of (λ (e : Entry). e.caller) agent 0 (closed_history closed good)
+    calls = λ good low. none_of (λ (e : Entry). e.caller) agent 0 (closed_history over.closed good)
         (sym (part_there good agent low) ∙ (ap (λ (l : List (List (ℕ × Entry))). get_or l good []) none.calls ∙ get_or-replicate 28 good [] [] low));
-    cash = none_of (λ (e : CashEntry). e.caller) agent 0 closed.cash none.cash;
+    cash = none_of (λ (e : CashEntry). e.caller) agent 0 over.closed.cash none.cash;
   }
 
 -- ---- the head
@@ -134,61 +132,60 @@ few_missed ticker ticker' missed all =
     let lapses = all.lapses in
     omega (arith, many, few, lapses)
 
-module _ {L : Type 0} (state : L → LinkState) (may_answer : List ℕ → Result Request RequestFault → Type 0) (text : Said → List ℕ) (game : GameFile)
-    (pending pending' : Option (List L)) (verdicts : List Verdict) (ends : List (ℕ × Cause)) (closed : ClosedGame) (links : List L)
-    (played : IsPlayedOver state may_answer text game pending pending' verdicts ends closed links) where
+module _ {L : Type 0} (state : L → LinkState) (hosted : HostedGame) (pending pending' : Option (List L)) (over : PlayedGame) (links : List L)
+    (played : IsPlayedOver state hosted pending pending' over links) where
   -- an agent's seat is taken if it was given
-  seat_is : (agent : ℕ) → agent ≤ 7 → is_taken (seats_given game verdicts) agent ≡ nat_lt 0 (seatings verdicts agent)
+  seat_is : (agent : ℕ) → agent ≤ 7 → is_taken (seats_given hosted.game over.verdicts) agent ≡ nat_lt 0 (seatings over.verdicts agent)
   seat_is agent low =
       let free : get_or (replicate 8 false) agent false ≡ false = get_or-replicate 8 agent false false (omega (arith, low)) in
-      taken_after (free_seats game) verdicts agent (omega (arith, low)) ∙ ap (λ (b : Bool). b || nat_lt 0 (seatings verdicts agent)) free
+      taken_after (free_seats hosted.game) over.verdicts agent (omega (arith, low)) ∙ ap (λ (b : Bool). b || nat_lt 0 (seatings over.verdicts agent)) free
 
-  once : (agent : ℕ) → agent ≤ 7 → seatings verdicts agent ≤ 1
+  once : (agent : ℕ) → agent ≤ 7 → seatings over.verdicts agent ≤ 1
   once agent low =
-      let given = given_once (CameTo (IsSeated may_answer text game closed ends)) (λ seats a before after sits. seat_was_free seats sits.line a sits.seat) (free_seats game) (map state played.given) verdicts (map state links)
-      agent (omega (arith, low)) played.admitted in
+      let given = given_once (CameTo (IsSeated hosted over)) (λ seats a before after sits. seat_was_free seats sits.line a sits.seat) (free_seats hosted.game) (map state played.given) over.verdicts (map state links)
+      agent (omega (arith, low)) (admitted_in_turn hosted.game (IsSeated hosted over) (map state played.given) over.verdicts (map state links) played.admitted) in
       omega (arith, given)
 
-  each_end : map (λ (end : ℕ × Cause). end.0) ends ≡ sound.logged_seats verdicts
-  each_end = played.played.each_end
-      ∙ same_kept (is_taken (seats_given game verdicts)) (λ agent. nat_lt 0 (seatings verdicts agent)) agents
+  each_end : map (λ (end : ℕ × Cause). end.0) over.ends ≡ sound.logged_seats over.verdicts
+  each_end = played.lawful.each_end
+      ∙ same_kept (is_taken (seats_given hosted.game over.verdicts)) (λ agent. nat_lt 0 (seatings over.verdicts agent)) agents
       (seat_is 0 (omega arith), (seat_is 1 (omega arith), (seat_is 2 (omega arith), (seat_is 3 (omega arith), (seat_is 4 (omega arith), (seat_is 5 (omega arith), (seat_is 6 (omega arith), (seat_is 7 (omega arith), tt))))))))
 
-  pub service : (missed : ℕ) (sheet : List Scored) → missed ≤ 54 → IsService (log_of_game (Serve verdicts ends missed) closed sheet) verdicts ends missed
+  pub service : (missed : ℕ) (sheet : List Scored) → missed ≤ 54 → IsService (log_of_game (Serve over.verdicts over.ends missed) over.closed sheet) over.verdicts over.ends missed
   service missed sheet few = record {
-    few_links = few_links verdicts pending' 64 (λ lt. (played.all.no_more 64 lt).0) refl;
+    few_links = few_links over.verdicts pending' 64 (λ lt. (played.all.no_more 64 lt).0) refl;
     seats_differ = once;
     each_end = each_end;
     few_missed = few;
-    absent = λ agent low none. absent game verdicts ends closed played.played (Serve verdicts ends missed) sheet agent
-        (played.played.absent agent (omega (arith, low)) (seat_is agent low ∙ ap (nat_lt 0) none));
+    absent = λ agent low none. absent hosted.game over played.lawful (Serve over.verdicts over.ends missed) sheet agent
+        (played.lawful.absent agent (omega (arith, low)) (seat_is agent low ∙ ap (nat_lt 0) none));
   }
 
--- a game that was played over links, with a sheet of it
-served_soundly : {L : Type 0} (state : L → LinkState) (may_answer : List ℕ → Result Request RequestFault → Type 0) (text : Said → List ℕ) (game : GameFile) (port : ℕ)
-    (links links' : LinksState L) (ticker ticker' : TickerState) (end : GameEnd L) (sheet : List Scored) (told : List ℕ) → IsGameEnd state may_answer text game port links links' ticker ticker' end →
-    IsShowable game (head_of end.head) end.closed → IsSheetOf game end.closed sheet → told ≡ logged_text (log_of_game (head_of end.head) end.closed sheet) → EndsInSoundLog game (log_of_game (head_of end.head) end.closed sheet) [] told
-served_soundly state may_answer text game port links links' ticker ticker' end sheet told is shown scores due =
-    ends_soundly game (head_of end.head) end.closed sheet [] told (lawful game is.verdicts is.ends end.closed is.played.played) scores
-    (subst (λ (h : Head). IsSoundHead (log_of_game h end.closed sheet) h) (sym is.head)
-    (service state may_answer text game links.pending links'.pending is.verdicts is.ends end.closed end.links.items is.played is.missed sheet (few_missed ticker ticker' is.missed is.waits)))
-    shown due
+module _ {L : Type 0} (state : L → LinkState) (hosted : HostedGame) (links links' : LinksState L) (ticker ticker' : TickerState) where
+  -- a game that was played over links, with a sheet of it
+  served_soundly : (end : GameEnd L) (sheet : List Scored) (told : List ℕ) → IsGameEnd state hosted links links' end → WaitsForAll ticker ticker' (missed_of (head_of end.head)) →
+      IsShowable hosted.game (head_of end.head) end.closed → IsSheetOf hosted.game end.closed sheet → told ≡ logged_text (log_of_game (head_of end.head) end.closed sheet) →
+      EndsInSoundLog hosted.game (log_of_game (head_of end.head) end.closed sheet) [] told
+  served_soundly end sheet told is waits shown scores due =
+      let over : PlayedGame = record { verdicts = is.verdicts; ends = is.ends; closed = end.closed } in
+      ends_soundly hosted.game (head_of end.head) end.closed sheet [] told (lawful hosted.game over is.played.lawful) scores
+      (subst (λ (h : Head). IsSoundHead (log_of_game h end.closed sheet) h) (sym is.head)
+      (service state hosted links.pending links'.pending over end.links.items is.played is.missed sheet
+      (subst (λ (h : Head). missed_of h ≤ 54) is.head (few_missed ticker ticker' (missed_of (head_of end.head)) waits))))
+      shown due
 
-module _ {L : Type 0} (state : L → LinkState) (may_answer : List ℕ → Result Request RequestFault → Type 0) (text : Said → List ℕ) (game : GameFile) (port : ℕ)
-    (links links' : LinksState L) (ticker ticker' : TickerState) (played : Played) (ended : Vec L)
-    (is : IsGameEnd state may_answer text game port links links' ticker ticker' (record { closed = played.closed; head = played.head; links = ended }))
-    (shown : IsShowable game (head_of played.head) played.closed) where
-  log_soundly : (told : List ℕ) → IsLogOf game played told → IsSoundLogOf game played told
-  log_soundly told log = (
-    log.sheet,
-    served_soundly state may_answer text game port links links' ticker ticker' (record { closed = played.closed; head = played.head; links = ended }) log.sheet told is shown log.scores
-        (log.due ∙ text_is (head_of played.head) played.closed log.sheet),
-  )
+  module _ (played : Played) (ended : Vec L) (is : IsGameEnd state hosted links links' (record { closed = played.closed; head = played.head; links = ended }))
+      (waits : WaitsForAll ticker ticker' (missed_of (head_of played.head))) (shown : IsShowable hosted.game (head_of played.head) played.closed) where
+    log_soundly : (told : List ℕ) → IsLogOf hosted.game played told → IsSoundLogOf hosted.game played told
+    log_soundly told log = (
+      log.sheet,
+      served_soundly (record { closed = played.closed; head = played.head; links = ended }) log.sheet told is waits shown log.scores (log.due ∙ text_is (head_of played.head) played.closed log.sheet),
+    )
 
-  -- the log of that game that is written is sound
-  pub reports_soundly : (outcome : Outcome) → PlayedAllows game played outcome → ReportsSoundly game played outcome
-  reports_soundly (Done told) allows = log_soundly told allows.0
-  reports_soundly (Lapsed told) allows = log_soundly told allows.0
-  reports_soundly (Unsound told) allows = tt
-  reports_soundly (Cut told) allows = tt
-  reports_soundly (Refused refusal) allows = tt
+    -- the log of that game that is written is sound
+    pub reports_soundly : (outcome : Outcome) → PlayedAllows hosted.game played outcome → ReportsSoundly hosted.game played outcome
+    reports_soundly (Done told) allows = log_soundly told allows.0
+    reports_soundly (Lapsed told) allows = log_soundly told allows.0
+    reports_soundly (Unsound told) allows = tt
+    reports_soundly (Cut told) allows = tt
+    reports_soundly (Refused refusal) allows = tt

@@ -10,7 +10,7 @@ use Rattle.tac_io.specs.Taken.{TookWhole}
 use Rattle.tacd.specs.declared.answer.Played.{Played}
 use Rattle.tac_commands.specs.declared.ends.End.TheVariants as ends
 use Rattle.tac_commands.specs.Ends.{EndsOrIsCut}
-use Rattle.tacd.specs.Service.{LogAllows, first_part}
+use Rattle.tacd.specs.Finishing.{LogAllows, first_part}
 
 module _ (game : GameFile) (played : Played) (s0 s1 s2 : SinkState) (first : TookWhole s0 s1 (first_part played)) where
   -- both parts were written

@@ -1,2 +1,3 @@
 pub mod SoundLogs
 pub mod Service
+pub mod Finishing

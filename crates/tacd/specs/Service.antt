@@ -1,10 +1,10 @@
 -- What `serve` leaves: the game that was played, its log, the links and the ticker.
-use Rattle.std.specs.Prelude.{◌≡◌, ℕ, ◌<◌, ◌⊎◌, List, [], nat_lt, if◌then◌else◌, Result, Ok, Err, Option, Some, None}
+use Rattle.std.specs.Prelude.{◌≡◌, ℕ, ◌<◌, ◌⊎◌, List, [], Result, Ok, Err, Some, None, MatchOption}
 use Rattle.std.specs.Global.{Vec}
 use Rattle.std.specs.Option.{option_map}
 use Rattle.tac_io.specs.Counts.{Rose}
 use Rattle.tac_io.specs.Reading.{IsFile}
-use Rattle.tac_io.specs.States.{LinkState, FilesState, LinksState, TickerState}
+use Rattle.tac_io.specs.States.{LinkState, FilesState}
 use Rattle.game_text.specs.declared.fault.GameFault.{GameFault}
 use Rattle.game_text.specs.Games.{GameFile, game_of}
 use Rattle.line_protocol.specs.declared.asking.Request.{Request}
@@ -13,24 +13,24 @@ use Rattle.line_protocol.specs.declared.asking.RequestFault.TheVariants as reque
 use Rattle.line_protocol.specs.declared.saying.Said.{Said}
 use Rattle.line_protocol.specs.Requests.{request_of}
 use Rattle.line_protocol.specs.Replies.{said_text}
+use Rattle.line_protocol.specs.Heads.{head_of}
 use Rattle.json_dialect.specs.JsonRequests.{asks_json}
 use Rattle.json_dialect.specs.JsonReplies.{json_text}
+use Rattle.clock_events.specs.Clocking.{WaitsForAll}
 use Rattle.score_sheet.specs.Sheets.{Scored}
-use Rattle.line_protocol.specs.Heads.{Head, Play, Serve, head_of}
 use Rattle.game_log.specs.LogText.{play_part}
 use Rattle.game_log.specs.SheetText.{log_text}
 use Rattle.game_log.specs.ScoredGames.{IsSheetOf}
-use Rattle.game_run.specs.Outcomes.{IsGameEnd, IsNotPlayed}
+use Rattle.game_run.specs.Hosted.{HostedGame}
+use Rattle.game_run.specs.Outcomes.{IsGameEnd, IsNotPlayed, missed_of}
 use Rattle.tacd.specs.declared.answer.Answer.{Answer}
 use Rattle.tacd.specs.declared.answer.Played.{Played}
-use Rattle.tac_commands.specs.declared.code.Code.{Code}
-use Rattle.tac_commands.specs.declared.code.Code.TheVariants.{Success, ClockFault}
 use Rattle.tac_commands.specs.declared.refusals.Refusal.{Refusal}
 use Rattle.tac_commands.specs.declared.refusals.Refusal.TheVariants.{ReadFault, LinkFault, Memory}
 use Rattle.tac_commands.specs.declared.services.Form.{Form}
 use Rattle.tac_commands.specs.declared.services.Form.TheVariants.{Lines, Json}
 use Rattle.tac_commands.specs.FileKinds.{game_refusal}
-use Rattle.tac_commands.specs.Outcomes.{Outcome, Done, Lapsed, Unsound, Cut, Refused}
+use Rattle.tac_commands.specs.Outcomes.{Outcome, Done, Lapsed, Cut, Refused}
 use Rattle.tac_commands.specs.Outsides.{Outside}
 use Rattle.tac_commands.specs.Services.{Service}
 use Rattle.tac_commands.specs.Reporting.{Reports}
@@ -51,15 +51,6 @@ IsNoGameFile files files' name refusal =
 
 -- ---- the text
 
--- how many ticks lapsed in a game
-abbrev pub missed_of : Head → ℕ
-missed_of Play = 0
-missed_of (Serve verdicts ends missed) = missed
-
--- the first part of the log of a game that was played
-abbrev pub first_part : Played → List ℕ
-first_part played = play_part (head_of played.head) played.closed
-
 -- the log of a game that was played, with some sheet of it: for each agent the greatest total utility over all feasible allocations, less
 -- what it cost and the penalties
 pub record IsLogOf (game : GameFile) (played : Played) (text : List ℕ) : Type 0 where
@@ -67,25 +58,13 @@ pub record IsLogOf (game : GameFile) (played : Played) (text : List ℕ) : Type 
   pub scores : IsSheetOf game played.closed sheet
   pub due : text ≡ log_text (head_of played.head) played.closed sheet
 
--- the log of the game is written, or its first part alone
-abbrev pub LogAllows : GameFile → Played → Outcome → Type 0
-LogAllows game played (Done text) = IsLogOf game played text
-LogAllows game played (Cut text) = text ≡ first_part played
-LogAllows game played outcome = ⊥
-
--- the log of the game that was played is written, with another code if ticks lapsed, or without its sheet if memory was refused for
--- it
+-- the log of the game that was played is written, with another code if ticks lapsed; or its first part alone, if memory was refused for
+-- its sheet
 abbrev pub PlayedAllows : GameFile → Played → Outcome → Type 0
 PlayedAllows game played (Done text) = IsLogOf game played text × (missed_of (head_of played.head) ≡ 0)
 PlayedAllows game played (Lapsed text) = IsLogOf game played text × (0 < missed_of (head_of played.head))
-PlayedAllows game played (Cut text) = text ≡ first_part played
-PlayedAllows game played (Unsound text) = ⊥
-PlayedAllows game played (Refused refusal) = ⊥
-
--- the code of a game that was played is that of a lapsed tick if no other applies
-abbrev pub lapsed_code : Code → ℕ → Code
-lapsed_code Success missed = if nat_lt 0 missed then ClockFault else Success
-lapsed_code code missed = code
+PlayedAllows game played (Cut text) = text ≡ play_part (head_of played.head) played.closed
+PlayedAllows game played outcome = ⊥
 
 -- ---- the form of lines
 
@@ -99,37 +78,41 @@ abbrev pub texts_by : Form → Said → List ℕ
 texts_by Lines said = said_text said
 texts_by Json said = json_text said
 
+-- the game as the service hosts it
+abbrev pub hosted_by : Service → GameFile → HostedGame
+hosted_by service game = record { game = game; dialect = record { may_answer = answers_by service.form; text = texts_by service.form }; port = service.port }
+
 -- ---- the links and the ticker
 
--- a ticker once its pace is set
-abbrev pub at_pace : ℕ → TickerState → TickerState
-at_pace pace ticker = record ticker { paced = option_map (λ _. Some pace) ticker.paced }
+-- the outside once the pace of the ticker is set
+abbrev pub at_pace : {L : Type 0} → ℕ → Outside L → Outside L
+at_pace pace outside = record outside { ticker = record (outside.ticker) { paced = option_map (λ _. Some pace) outside.ticker.paced } }
 
 module _ {L : Type 0} (state : L → LinkState) where
-  -- The game was played over the links, by a ticker of this pace, and its log is written; or the links failed, and no game was played; or
-  -- memory was refused for the game, and nothing was asked. So a game was played exactly if the links were asked to listen and
-  -- did not fail.
-  abbrev pub ServesGame : (List ℕ → Result Request RequestFault → Type 0) → (Said → List ℕ) → GameFile → ℕ → ℕ → LinksState L → LinksState L
-      → TickerState → TickerState → Option Played → Vec L → Outcome → Type 0
-  ServesGame may_answer text game port pace links links' ticker ticker' (Some played) ended outcome =
-      IsGameEnd state may_answer text game port links links' (at_pace pace ticker) ticker' (record { closed = played.closed; head = played.head; links = ended })
-      × PlayedAllows game played outcome × ReportsSoundly game played outcome
-  ServesGame may_answer text game port pace links links' ticker ticker' None ended (Refused LinkFault) =
-      IsNotPlayed state game port links links' ended.items × (ticker' ≡ at_pace pace ticker)
-  ServesGame may_answer text game port pace links links' ticker ticker' None ended (Refused Memory) =
-      (links' ≡ links) × (ended.items ≡ []) × (ticker' ≡ at_pace pace ticker)
-  ServesGame may_answer text game port pace links links' ticker ticker' None ended outcome = ⊥
+  -- no game was played, since the links failed; or since memory was refused for it, and nothing was asked of them
+  abbrev pub HasNoGame : HostedGame → Outside L → Outside L → Vec L → Outcome → Type 0
+  HasNoGame hosted before after ended (Refused LinkFault) = IsNotPlayed state hosted before.links after.links ended.items × (after.ticker ≡ before.ticker)
+  HasNoGame hosted before after ended (Refused Memory) = (after.links ≡ before.links) × (ended.items ≡ []) × (after.ticker ≡ before.ticker)
+  HasNoGame hosted before after ended outcome = ⊥
+
+  -- The game was played over the links and by the ticker, and its log is written; or no game was played. So a game was played exactly if
+  -- the links were asked to listen and did not fail.
+  abbrev pub ServesGame : HostedGame → Outside L → Outside L → Answer L → Outcome → Type 0
+  ServesGame hosted before after answer outcome = MatchOption answer.played
+      (HasNoGame hosted before after answer.ended outcome)
+      (λ played. IsGameEnd state hosted before.links after.links (record { closed = played.closed; head = played.head; links = answer.ended })
+      × WaitsForAll before.ticker after.ticker (missed_of (head_of played.head))
+      × PlayedAllows hosted.game played outcome × ReportsSoundly hosted.game played outcome)
 
   -- the game of that file is served; or the game file is refused, and nothing was asked
-  abbrev pub ServeAllows : Service → Outside L → Outside L → Option Played → Vec L → Outcome → Type 0
-  ServeAllows service before after played ended outcome =
+  abbrev pub ServeAllows : Service → Outside L → Outside L → Answer L → Outcome → Type 0
+  ServeAllows service before after answer outcome =
       ((game : GameFile) × IsGameFile before.files service.game game
-      × ServesGame (answers_by service.form) (texts_by service.form) game service.port service.pace before.links after.links before.ticker after.ticker played ended outcome
+      × ServesGame (hosted_by service game) (at_pace service.pace before) after answer outcome
       × (after.files.faults ≡ before.files.faults))
       ⊎ ((refusal : Refusal) × (outcome ≡ Refused refusal) × IsNoGameFile before.files after.files service.game refusal
-      × (after.links ≡ before.links) × (after.ticker ≡ before.ticker) × (ended.items ≡ []) × (played ≡ None))
+      × (after.links ≡ before.links) × (after.ticker ≡ before.ticker) × (answer.ended.items ≡ []) × (answer.played ≡ None))
 
   -- the service of that game left the outside so, wrote what is due, and answered so
   abbrev pub Serves : Service → Outside L → Outside L → Answer L → Type 0
-  Serves service before after answer =
-      (outcome : Outcome) × ServeAllows service before after answer.played answer.ended outcome × Reports outcome before.out after.out answer.code
+  Serves service before after answer = (outcome : Outcome) × ServeAllows service before after answer outcome × Reports outcome before.out after.out answer.code

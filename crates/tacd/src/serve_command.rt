@@ -1,15 +1,18 @@
 // The command that serves a game over links.
-ghost use Rattle.std.specs.Prelude.{◌≡◌, ◌<◌, ◌≤◌, ◌∷◌, [], length, IfSome};
-ghost use Rattle.tac_base.specs.declared.limits.TheConstants.{FILE_NAMES, NAME_BYTES};
+ghost use Rattle.std.specs.Prelude.{◌≡◌, ◌∷◌, [], IfSome};
 ghost use Rattle.tac_io.specs.Known.{known_then};
 ghost use Rattle.tac_commands.specs.Codes.{code_number};
 ghost use Rattle.tac_commands.specs.Commands.{seen_service};
 ghost use Rattle.tac_commands.specs.Ends.{EndsOrIsCut};
 ghost use Rattle.tac_commands.specs.Reporting.{Reports};
 ghost use Rattle.tac_commands.specs.Outcomes.{Outcome};
-ghost use Rattle.tacd.specs.Service as service;
+ghost use Rattle.tacd.specs.Finishing as finishing;
 ghost use Rattle.tac_commands.specs.Outsides.{outside_of};
-ghost use Rattle.tacd.specs.Service.{LogAllows, first_part, PlayedAllows, Serves, ServesGame, missed_of};
+ghost use Rattle.agent_gate.specs.Dialects.{dialect_of};
+ghost use Rattle.game_run.specs.Hosted.{hosted_game};
+ghost use Rattle.game_run.specs.Outcomes.{missed_of};
+ghost use Rattle.tac_io.specs.States.{FilesState, MaySelect};
+ghost use Rattle.tacd.specs.Service.{at_pace, PlayedAllows, Serves, ServesGame};
 ghost use Rattle.line_protocol.specs.Heads.{head_of};
 ghost use Rattle.tac_io.specs.Written.{WritesPiece};
 
@@ -29,7 +32,7 @@ use tac_io::{Failed, Files, Links, Sink, Ticker};
 
 /// Writes the first part of the log of a game that was played.
 fn write_first<K: Sink>(out: &mut K, played: &Played) -> Result<(), Failed>
-    ensures { WritesPiece (first_part played.now) (K.state out.old) (K.state out.new) result }
+    ensures { WritesPiece (finishing.first_part played.now) (K.state out.old) (K.state out.new) result }
 {
     write_play_part(out, &played.head, &played.closed)
 }
@@ -42,7 +45,7 @@ fn write_log<R: Threads + Sync, K: Sink>(
     played: &Played,
     out: &mut K,
 ) -> End
-    ensures { EndsOrIsCut (LogAllows game.now played.now) (K.state out.old) (K.state out.new) result }
+    ensures { EndsOrIsCut (finishing.LogAllows game.now played.now) (K.state out.old) (K.state out.new) result }
 {
     match write_first(out, played) {
         Ok(()) => match write_scores(rt, alloc, game, &played.closed, out) {
@@ -66,7 +69,7 @@ fn missed(head: &LogHead) -> u8
 
 /// The code of a game that was played: that of a lapsed tick if no other applies.
 fn lapsed_code(code: Code, missed: u8) -> Code
-    ensures { result ≡ service.lapsed_code code missed }
+    ensures { result ≡ finishing.lapsed_code code missed }
 {
     match code {
         Code::Success if missed > 0 => Code::ClockFault,
@@ -109,10 +112,10 @@ fn serve_game<
 ) -> Answer<N::Link>
     requires ports { IfSome (N.state links.old).ports (λ ports. ports ≡ []) }
     requires ticks { IfSome (T.state ticker.old).waited (λ ticks. ticks ≡ []) }
-    ensures { (outcome : Outcome)
-        × ServesGame N.Link.state (D.may_answer dialect.now) (D.text dialect.now)
-        game.now port pace (N.state links.old) (N.state links.new)
-        (T.state ticker.old) (T.state ticker.new) result.played result.ended outcome
+    ensures { (before after : FilesState) → (outcome : Outcome)
+        × ServesGame N.Link.state (hosted_game game.now (dialect_of (D.may_answer dialect.now) (D.text dialect.now)) port)
+        (at_pace pace (outside_of before (K.state out.old) (N.state links.old) (T.state ticker.old)))
+        (outside_of after (K.state out.new) (N.state links.new) (T.state ticker.new)) result outcome
         × Reports outcome (K.state out.old) (K.state out.new) result.code }
 {
     ticker.pace(pace);
@@ -164,7 +167,7 @@ pub(crate) fn serve<
     links: &mut N,
     ticker: &mut T,
 ) -> Answer<N::Link>
-    requires names { IfSome (F.state files.old).names (λ names. (length names < FILE_NAMES) × (length service.game.now ≤ NAME_BYTES)) }
+    requires names { MaySelect (F.state files.old) service.game.now }
     requires ports { IfSome (N.state links.old).ports (λ ports. ports ≡ []) }
     requires ticks { IfSome (T.state ticker.old).waited (λ ticks. ticks ≡ []) }
     ensures outcome { Serves N.Link.state (seen_service service.entry)

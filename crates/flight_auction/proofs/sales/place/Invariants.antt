@@ -1,9 +1,9 @@
 use Rattle.std.proofs.Common.{◌≡◌, ◌+◌, ◌++◌, length, take}
-use Rattle.flight_auction.specs.Book as spec
+use Rattle.auction_rules.specs.FlightSales.{owned_by}
 use Rattle.flight_auction.proofs.sales.place.Given as goal
 
 abbrev pub invariant-loop-point : goal.invariant-loop-point
 invariant-loop-point l = record {
-  placed : l.standing.items ≡ l.fn.standing.items ++ spec.owned_by l.agent (take l.point-index l.points);
+  placed : l.standing.items ≡ l.fn.standing.items ++ owned_by l.agent (take l.point-index l.points);
   room : length l.standing.items ≡ length l.fn.standing.items + l.point-index;
 }

@@ -1,6 +1,6 @@
 use Rattle.std.proofs.Common.{sym}
 use Rattle.tac_commands.proofs.Endings.{reports_or_cut}
-use Rattle.tacd.specs.Service.{LogAllows}
+use Rattle.tacd.specs.Finishing.{LogAllows}
 use Rattle.tacd.proofs.LapsedGames.{by_code}
 use Rattle.tacd.proofs.serve_command.finish_played.Goals as goal
 

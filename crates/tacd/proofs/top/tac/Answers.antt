@@ -12,14 +12,14 @@ returns-in-Some-clause-outcome g c =
     let served = c.serve.ensures.outcome in
     let before = outside_of (g.F.Files.state c.args.files.now) (g.K.Sink.state c.args.out.now) (g.N.Links.state c.args.links.now) (g.T.Ticker.state c.args.ticker.now) in
     let after = outside_of (g.F.Files.state c.serve.new.files) (g.K.Sink.state c.serve.new.out) (g.N.Links.state c.serve.new.links) (g.T.Ticker.state c.serve.new.ticker) in
-    rw c.in-Some.ensures.service (served.0, allowed _ _ before after c.serve.result.played c.serve.result.ended served.0 c.serve.ensures.names served.1, served.2)
+    rw c.in-Some.ensures.service (served.0, allowed _ _ before after c.serve.result served.0 c.serve.ensures.names served.1, served.2)
 
 pub returns-in-Some-clause-cash : goal.returns-in-Some-clause-cash
 returns-in-Some-clause-cash g c =
     let served = c.serve.ensures.outcome in
     let before = outside_of (g.F.Files.state c.args.files.now) (g.K.Sink.state c.args.out.now) (g.N.Links.state c.args.links.now) (g.T.Ticker.state c.args.ticker.now) in
     let after = outside_of (g.F.Files.state c.serve.new.files) (g.K.Sink.state c.serve.new.out) (g.N.Links.state c.serve.new.links) (g.T.Ticker.state c.serve.new.ticker) in
-    in_service _ _ before after c.serve.result.played c.serve.result.ended served.0 served.1
+    in_service _ _ before after c.serve.result served.0 served.1
 
 pub returns-in-Some-clause-usage : goal.returns-in-Some-clause-usage
 returns-in-Some-clause-usage g c =

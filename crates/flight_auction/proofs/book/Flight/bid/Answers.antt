@@ -6,7 +6,8 @@ use Rattle.tac_base.specs.declared.calls.Call.TheVariants.{Bid}
 use Rattle.tac_base.specs.Bids.{size_of}
 use Rattle.auction_rules.specs.Effects.{bought}
 use Rattle.auction_rules.specs.Refusals.{sells}
-use Rattle.flight_auction.specs.Book.{FlightBook, StandsFor, others_than, owned_by, sales, unsold}
+use Rattle.auction_rules.specs.FlightSales.{owned_by}
+use Rattle.flight_auction.specs.Book.{FlightBook, StandsFor, others_than, sales, unsold}
 use Rattle.flight_auction.proofs.Keeping.{book_of, follows_on_closed, follows_seller, follows_taken}
 use Rattle.flight_auction.proofs.Limits.{sound_placed, sound_unsold, few_of_all, few_bought, placed_is, length-placed}
 use Rattle.flight_auction.proofs.Paying.{bid_paid}

@@ -1,6 +1,6 @@
 use Rattle.std.proofs.Common.{ℕ, ◌≤◌, List, ap, ◌∙◌, length, arith}
 use Rattle.tac_base.specs.Bids.{left_fault}
-use Rattle.flight_auction.specs.declared.sales.StandingPoint.{StandingPoint}
+use Rattle.auction_rules.specs.declared.units.StandingPoint.{StandingPoint}
 use Rattle.flight_auction.specs.Book.{FlightBook, StandsFor, agents_points}
 use Rattle.flight_auction.proofs.Keeping.{book_of, owns}
 use Rattle.flight_auction.proofs.Limits.{few_points}

@@ -1,0 +1,149 @@
+-- A session's end, said of its text as a whole and of its last turn: the same as by its pieces, for all sessions.
+use Rattle.std.proofs.Common.{◌≡◌, ℕ, ◌+◌, ◌-◌, ◌<◌, List, [], ◌∷◌, ◌++◌, map, length, true, false, refl, sym, ap, ◌∙◌, subst, arith, inl, inr, length-append}
+use Rattle.std.specs.Prelude.{◌⊎◌}
+use Rattle.std.specs.List.{concat, flat_map}
+use Rattle.std.proofs.lemmas.List.{map-append}
+use Rattle.std.proofs.lemmas.List.Concat.{concat_is}
+use Rattle.std.proofs.lemmas.List.Folds.{flat_map-map}
+use Rattle.tac_base.specs.declared.limits.TheConstants.{SESSION_LINES}
+use Rattle.tac_io.specs.States.{LinkState}
+use Rattle.tac_io.specs.Known.{known_then, IsAtEnd, TakesSome}
+use Rattle.tac_io.specs.declared.line_got.LineGot.{LineGot}
+use Rattle.tac_io.specs.declared.line_got.LineGot.TheVariants as gots
+use Rattle.tac_io.proofs.KnownPieces.{known_then-nothing}
+use Rattle.line_protocol.specs.declared.saying.Said.{Said}
+use Rattle.line_protocol.specs.declared.admission.Cause.{Cause}
+use Rattle.line_protocol.specs.declared.admission.Cause.TheVariants as causes
+use Rattle.agent_gate.specs.Served.{Session, reply_line, SendsAll, IsCutOff, ComesTo, IsUsedUp, EndsBy}
+use Rattle.agent_gate.specs.Sessions.{lines_of}
+use Rattle.agent_gate.specs.Turns.{Turn, has_left}
+
+-- ---- the text as a whole
+
+-- what is sent in a session of these turns
+abbrev pub session_text : (Said → List ℕ) → List ℕ → List Turn → List ℕ
+session_text text welcome turns = welcome ++ flat_map (reply_line text) turns
+
+-- the session's text was sent whole, and each turn's line is counted
+abbrev pub IsWhole : (Said → List ℕ) → List ℕ → List Turn → LinkState → LinkState → ℕ → Type 0
+IsWhole text welcome turns before after lines = (after.sent ≡ known_then before.sent (session_text text welcome turns)) × (lines ≡ length turns)
+
+-- a write failed: in the welcome, so nothing was asked; or in the line of the last turn
+abbrev pub IsInterrupted : (Said → List ℕ) → List ℕ → List Turn → LinkState → LinkState → ℕ → Type 0
+IsInterrupted text welcome turns before after lines =
+    ((turns ≡ []) × TakesSome before.sent after.sent welcome × (lines ≡ 0))
+    ⊎ ((answered : List Turn) × (last : Turn) × (turns ≡ answered ++ last ∷ [])
+    × TakesSome (known_then before.sent (session_text text welcome answered)) after.sent (reply_line text last) × (lines ≡ length answered))
+
+-- the causes of a session's end
+abbrev pub EndsFor : Cause → (Said → List ℕ) → List ℕ → List Turn → List (LineGot × List ℕ) → LinkState → LinkState → ℕ → Type 0
+EndsFor causes.Quit text welcome turns rest before after lines = (has_left turns ≡ true) × IsWhole text welcome turns before after lines
+EndsFor causes.End text welcome turns rest before after lines =
+    (has_left turns ≡ false) × (length turns < SESSION_LINES) × (rest ≡ (gots.End, []) ∷ []) × IsAtEnd after.left × IsWhole text welcome turns before after lines
+EndsFor causes.ReadFault text welcome turns rest before after lines =
+    (has_left turns ≡ false) × (length turns < SESSION_LINES) × (rest ≡ (gots.End, []) ∷ []) × IsWhole text welcome turns before after lines
+EndsFor causes.WriteFault text welcome turns rest before after lines = IsInterrupted text welcome turns before after lines
+EndsFor causes.Budget text welcome turns rest before after lines =
+    (has_left turns ≡ false) × ((length turns ≡ SESSION_LINES) ⊎ ((length turns < SESSION_LINES) × (rest ≡ (gots.Budget, []) ∷ []))) × IsWhole text welcome turns before after lines
+
+-- ---- from pieces to the text and back
+
+-- the pieces of a list that end so are those of a list that ends so
+maps_end : {X Y : Type 0} (f : X → Y) (xs : List X) (ys : List Y) (y : Y) → map f xs ≡ ys ++ y ∷ [] → (first : List X) × (last : X) × (xs ≡ first ++ last ∷ []) × (map f first ≡ ys) × (f last ≡ y)
+maps_end f [] [] y is = absurd (cc)
+maps_end f [] (z ∷ ys) y is = absurd (cc)
+maps_end f (x ∷ []) [] y is = ([], x, refl, refl, cc)
+maps_end f (x ∷ w ∷ xs) [] y is = absurd (cc)
+maps_end f (x ∷ xs) (z ∷ ys) y is =
+    let rest : map f xs ≡ ys ++ y ∷ [] = cc in
+    let first : f x ≡ z = cc in
+    let more = maps_end f xs ys y rest in
+    (x ∷ more.0, more.1, ap (λ l. x ∷ l) more.2, (λ i. first i ∷ more.3 i), more.4)
+
+module _ (text : Said → List ℕ) (session : Session) where
+  abbrev welcome : List ℕ
+  welcome = session.welcome
+
+  abbrev turns : List Turn
+  turns = session.turns
+
+  abbrev EndsSo : Cause → ℕ → Type 0
+  EndsSo cause lines = EndsFor cause text welcome turns session.rest session.before session.after lines
+
+  joined : (some : List Turn) → concat (welcome ∷ map (reply_line text) some) ≡ session_text text welcome some
+  joined some = ap (λ l. welcome ++ l) (concat_is (map (reply_line text) some) ∙ flat_map-map (λ x. x) (reply_line text) some)
+
+  all_sent : session.after.sent ≡ known_then session.before.sent (session_text text welcome turns) → SendsAll text session
+  all_sent whole = whole ∙ ap (known_then session.before.sent) (sym (joined turns))
+
+  whole_sent : SendsAll text session → session.after.sent ≡ known_then session.before.sent (session_text text welcome turns)
+  whole_sent all = all ∙ ap (known_then session.before.sent) (joined turns)
+
+  cut_off : (lines : ℕ) → IsInterrupted text welcome turns session.before session.after lines → IsCutOff text session × (lines ≡ length turns - 1)
+  cut_off lines (inl h) = (
+    record {
+      whole = [];
+      last = welcome;
+      pieces = ap (λ some. welcome ∷ map (reply_line text) some) h.0;
+      cut = subst (λ sent. TakesSome sent session.after.sent welcome) (sym (known_then-nothing session.before.sent)) h.1;
+    },
+    h.2 ∙ ap (λ some. length some - 1) (sym h.0),
+  )
+  cut_off lines (inr h) = (
+    record {
+      whole = welcome ∷ map (reply_line text) h.0;
+      last = reply_line text h.1;
+      pieces = ap (λ some. welcome ∷ map (reply_line text) some) h.2 ∙ ap (λ l. welcome ∷ l) (map-append (reply_line text) h.0 (h.1 ∷ []));
+      cut = subst (λ sent. TakesSome (known_then session.before.sent sent) session.after.sent (reply_line text h.1)) (sym (joined h.0)) h.3;
+    },
+    omega (arith, h.4, length-append h.0 (h.1 ∷ []), ap length h.2),
+  )
+
+  interrupted : IsCutOff text session → IsInterrupted text welcome turns session.before session.after (length turns - 1)
+  interrupted cut = by_pieces cut.whole cut.pieces cut.cut
+    where
+      by_pieces : (whole : List (List ℕ)) → welcome ∷ map (reply_line text) turns ≡ whole ++ cut.last ∷ [] → TakesSome (known_then session.before.sent (concat whole)) session.after.sent cut.last
+          → IsInterrupted text welcome turns session.before session.after (length turns - 1)
+      by_pieces [] pieces some =
+          let none : map (reply_line text) turns ≡ [] = cc in
+          let first : cut.last ≡ welcome = cc in
+          let empty = nothing turns none in
+          inl (empty, subst (λ last. TakesSome session.before.sent session.after.sent last) first (subst (λ sent. TakesSome sent session.after.sent cut.last) (known_then-nothing session.before.sent) some), ap (λ l. length l - 1) empty)
+        where
+          nothing : (some : List Turn) → map (reply_line text) some ≡ [] → some ≡ []
+          nothing [] is = refl
+          nothing (turn ∷ more) is = absurd (cc)
+      by_pieces (piece ∷ whole) pieces some =
+          let rest : map (reply_line text) turns ≡ whole ++ cut.last ∷ [] = cc in
+          let first : piece ≡ welcome = cc in
+          let parts = maps_end (reply_line text) turns whole cut.last rest in
+          let sent : concat (piece ∷ whole) ≡ session_text text welcome parts.0 = (λ i. first i ++ concat (sym parts.3 i)) ∙ joined parts.0 in
+          inr (
+            parts.0,
+            parts.1,
+            parts.2,
+            subst (λ last. TakesSome (known_then session.before.sent (session_text text welcome parts.0)) session.after.sent last) (sym parts.4)
+                (subst (λ taken. TakesSome (known_then session.before.sent taken) session.after.sent cut.last) sent some),
+            omega (arith, length-append parts.0 (parts.1 ∷ []), ap length parts.2),
+          )
+
+  -- ---- why a session ends
+
+  pub ends_by : (cause : Cause) (lines : ℕ) → EndsSo cause lines → EndsBy cause text session × (lines ≡ lines_of cause turns)
+  ends_by causes.Quit lines h = ((h.0, all_sent h.1.0), h.1.1)
+  ends_by causes.End lines h = (((h.0, h.1, h.2), h.3, all_sent h.4.0), h.4.1)
+  ends_by causes.ReadFault lines h = (((h.0, h.1, h.2), all_sent h.3.0), h.3.1)
+  ends_by causes.WriteFault lines h = cut_off lines h
+  ends_by causes.Budget lines h = ((used_up h.1, all_sent h.2.0), h.2.1)
+    where
+      used_up : (length turns ≡ SESSION_LINES) ⊎ ((length turns < SESSION_LINES) × (session.rest ≡ (gots.Budget, []) ∷ [])) → IsUsedUp session ⊎ ComesTo gots.Budget session
+      used_up (inl full) = inl (h.0, full)
+      used_up (inr over) = inr (h.0, over.0, over.1)
+
+  pub ends_for : (cause : Cause) → EndsBy cause text session → EndsSo cause (lines_of cause turns)
+  ends_for causes.Quit h = (h.0, (whole_sent h.1, refl))
+  ends_for causes.End h = (h.0.0, h.0.1, h.0.2, h.1, (whole_sent h.2, refl))
+  ends_for causes.ReadFault h = (h.0.0, h.0.1, h.0.2, (whole_sent h.1, refl))
+  ends_for causes.WriteFault h = interrupted h
+  ends_for causes.Budget (inl full, sent) = (full.0, inl full.1, (whole_sent sent, refl))
+  ends_for causes.Budget (inr over, sent) = (over.0, inr (over.1, over.2), (whole_sent sent, refl))

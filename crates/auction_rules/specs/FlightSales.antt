@@ -1,0 +1,52 @@
+-- What the house sells in a flight: of the points that stand, those at or above the price, each whole and in one trade.
+use Rattle.std.specs.Prelude.{ℕ, ◌==◌, ◌&&◌, Bool, not, nat_lt, nat_le, List, ◌++◌, length, map, filter, Some}
+use Rattle.std.specs.List.{filter_map, flat_map, range_with_len}
+use Rattle.tac_base.specs.declared.bids.Point.{Point}
+use Rattle.tac_base.specs.declared.calls.Trade.{Trade}
+use Rattle.tac_base.specs.declared.calls.Call.{Call}
+use Rattle.tac_base.specs.declared.calls.Call.TheVariants.{Bid}
+use Rattle.tac_base.specs.Bids.{size_of}
+use Rattle.tac_base.specs.Goods.{agents, house}
+use Rattle.auction_rules.specs.declared.units.BidUnit.{BidUnit}
+use Rattle.auction_rules.specs.declared.units.Placed.{Placed}
+use Rattle.auction_rules.specs.declared.units.StandingPoint.{StandingPoint}
+use Rattle.auction_rules.specs.declared.rules.Rules.{Rules}
+use Rattle.auction_rules.specs.History.{Entry, last_bid}
+use Rattle.auction_rules.specs.Standing.{stand, left_of}
+
+-- the last bids of those agents that have one
+abbrev pub placed_bids : List Entry → List Placed
+placed_bids past = filter_map (λ agent. last_bid agent past) agents
+
+-- the bids made below a position, by their position
+abbrev pub by_position : List Placed → ℕ → List Placed
+by_position bids end = flat_map (λ position. filter (λ bid. bid.position == position) bids) (range_with_len 0 end)
+
+-- the points of an agent, each with the agent
+abbrev pub owned_by : ℕ → List Point → List StandingPoint
+owned_by agent points = map (λ point. record { agent = agent; point = point }) points
+
+-- the points of a bid that stand, if these units stand
+abbrev pub standing_of : List BidUnit → Placed → List StandingPoint
+standing_of units bid = owned_by bid.agent (left_of units (Some bid))
+
+-- the points that stand after a past, by the position of their bid and then in the order of the bid
+abbrev pub standing_points : Rules → List Entry → List StandingPoint
+standing_points rules past = flat_map (standing_of (stand rules past)) (by_position (placed_bids past) (length past))
+
+-- the points that a call looks at: those that stand, but for the caller of a bid its new ones, which come last
+abbrev pub points_looked_at : List StandingPoint → ℕ → Call → List StandingPoint
+points_looked_at standing caller (Bid points) = filter (λ s. not (s.agent == caller)) standing ++ owned_by caller points
+points_looked_at standing caller call = standing
+
+-- whether a point is sold: it has units, and its price is at or above the current one
+abbrev pub is_sold : ℕ → StandingPoint → Bool
+is_sold current s = nat_lt 0 (size_of s.point) && nat_le current s.point.price
+
+-- the sale of a whole point at the current price
+abbrev pub sale : ℕ → ℕ → StandingPoint → Trade
+sale good current s = record { buyer = s.agent; seller = house; good = good; units = size_of s.point; price = current }
+
+-- one trade for each of these points that is sold
+abbrev pub flight_trades : ℕ → ℕ → List StandingPoint → List Trade
+flight_trades good current points = map (sale good current) (filter (is_sold current) points)

@@ -1,0 +1,55 @@
+-- What holds of each link in turn holds of each by its index, and the other way round.
+use Rattle.std.proofs.Common.{zero, suc, ◌≡◌, ℕ, List, [], ◌∷◌, fold, length, take, refl, ap, subst, Some}
+use Rattle.std.specs.Prelude.{slice_get}
+use Rattle.game_text.specs.Games.{GameFile}
+use Rattle.tac_io.specs.States.{LinkState}
+use Rattle.line_protocol.specs.declared.admission.Verdict.{Verdict}
+use Rattle.agent_gate.specs.Gates.{Seats, seats_after}
+use Rattle.game_run.specs.Admission.{free_seats, AreAdmitted, CameTo}
+use Rattle.game_run.specs.Arriving.{HoldsInTurn}
+
+module _ {A B : Type 0} (Holds : Seats → Verdict → A → B → Type 0) where
+  -- the n-th holds by the seats after the first n verdicts
+  abbrev HoldsAt : Seats → List A → List Verdict → List B → Type 0
+  HoldsAt seats xs vs ys = (n : ℕ) (x : A) (v : Verdict) (y : B) → slice_get xs n ≡ Some x → slice_get vs n ≡ Some v → slice_get ys n ≡ Some y → Holds (fold seats_after seats (take n vs)) v x y
+
+  as_long : (seats : Seats) (xs : List A) (vs : List Verdict) (ys : List B) → HoldsInTurn Holds seats xs vs ys → (length xs ≡ length vs) × (length ys ≡ length vs)
+  as_long seats [] [] [] all = (refl, refl)
+  as_long seats [] [] (y ∷ ys) all = absurd all
+  as_long seats [] (v ∷ vs) ys all = absurd all
+  as_long seats (x ∷ xs) [] ys all = absurd all
+  as_long seats (x ∷ xs) (v ∷ vs) [] all = absurd all
+  as_long seats (x ∷ xs) (v ∷ vs) (y ∷ ys) all = let more = as_long (seats_after seats v) xs vs ys all.1 in (ap suc more.0, ap suc more.1)
+
+  at_index : (seats : Seats) (xs : List A) (vs : List Verdict) (ys : List B) → HoldsInTurn Holds seats xs vs ys → HoldsAt seats xs vs ys
+  at_index seats [] [] [] all n x v y is_x is_v is_y = absurd (cc)
+  at_index seats [] [] (b ∷ ys) all n x v y is_x is_v is_y = absurd all
+  at_index seats [] (w ∷ vs) ys all n x v y is_x is_v is_y = absurd all
+  at_index seats (a ∷ xs) [] ys all n x v y is_x is_v is_y = absurd all
+  at_index seats (a ∷ xs) (w ∷ vs) [] all n x v y is_x is_v is_y = absurd all
+  at_index seats (a ∷ xs) (w ∷ vs) (b ∷ ys) all zero x v y is_x is_v is_y =
+      let same_x : a ≡ x = cc in let same_v : w ≡ v = cc in let same_y : b ≡ y = cc in
+      subst (λ (l : Verdict × A × B). Holds seats l.0 l.1 l.2) (λ i. (same_v i, same_x i, same_y i)) all.0
+  at_index seats (a ∷ xs) (w ∷ vs) (b ∷ ys) all (suc n) x v y is_x is_v is_y = at_index (seats_after seats w) xs vs ys all.1 n x v y is_x is_v is_y
+
+  in_turn : (seats : Seats) (xs : List A) (vs : List Verdict) (ys : List B) → length xs ≡ length vs → length ys ≡ length vs → HoldsAt seats xs vs ys → HoldsInTurn Holds seats xs vs ys
+  in_turn seats [] [] [] few many each = tt
+  in_turn seats [] [] (y ∷ ys) few many each = absurd (cc)
+  in_turn seats [] (v ∷ vs) ys few many each = absurd (cc)
+  in_turn seats (x ∷ xs) [] ys few many each = absurd (cc)
+  in_turn seats (x ∷ xs) (v ∷ vs) [] few many each = absurd (cc)
+  in_turn seats (x ∷ xs) (v ∷ vs) (y ∷ ys) few many each =
+      (each 0 x v y refl refl refl, in_turn (seats_after seats v) xs vs ys (cc) (cc) (λ n a w b is_a is_w is_b. each (suc n) a w b is_a is_w is_b))
+
+-- ---- admission
+
+module _ (game : GameFile) (Sits : Seats → ℕ → LinkState → LinkState → Type 0) (befores : List LinkState) (verdicts : List Verdict) (afters : List LinkState) where
+  pub admitted : HoldsInTurn (CameTo Sits) (free_seats game) befores verdicts afters → AreAdmitted game Sits befores verdicts afters
+  admitted all = let long = as_long (CameTo Sits) (free_seats game) befores verdicts afters all in record {
+    came = long.0;
+    left = long.1;
+    each = at_index (CameTo Sits) (free_seats game) befores verdicts afters all;
+  }
+
+  pub admitted_in_turn : AreAdmitted game Sits befores verdicts afters → HoldsInTurn (CameTo Sits) (free_seats game) befores verdicts afters
+  admitted_in_turn all = in_turn (CameTo Sits) (free_seats game) befores verdicts afters all.came all.left all.each

@@ -1,0 +1,13 @@
+-- A game as it is hosted: what is fixed before its links come.
+use Rattle.std.specs.Prelude.{ℕ}
+use Rattle.game_text.specs.Games.{GameFile}
+use Rattle.agent_gate.specs.Dialects.{Dialect}
+
+-- the game, the form of its agents' lines, and the port at which its links are asked to listen
+pub record HostedGame : Type 1 where
+  pub game : GameFile
+  pub dialect : Dialect
+  pub port : ℕ
+
+abbrev pub hosted_game : GameFile → Dialect → ℕ → HostedGame
+hosted_game game dialect port = record { game = game; dialect = dialect; port = port }
