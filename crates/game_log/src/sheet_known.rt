@@ -51,7 +51,8 @@ fn score_known(scored: &AgentScore) -> bool
 {
     packages_known(&scored.solved.allocation);
     cert_known(&scored.solved.cert);
-    let _numbers = (u64::from(scored.best), u64::from(scored.short), scored.cash, scored.score);
+    let _counts = (u64::from(scored.best), u64::from(scored.short));
+    let _dollars = (scored.cash, scored.score);
     true
 }
 

@@ -1,4 +1,4 @@
-use Rattle.std.proofs.Common.{rules, ◌<◌, ◌^◌, sym, subst, arith}
+use Rattle.std.proofs.Common.{rules, ◌<◌, ◌^◌, sym, subst}
 use Rattle.std.specs.Prelude.{⊤}
 use Rattle.std.specs.List.{AllByRecursion}
 use Rattle.std.proofs.lemmas.Iterator.{cases_from_all, YieldsList-from_slice}
