@@ -31,8 +31,10 @@ final class Launcher {
     try {
       new Launcher(words).run(words);
       status = 0;
-    } catch (IOException | UncheckedIOException | IllegalArgumentException e) {
+    } catch (IOException | IllegalArgumentException e) {
       System.err.println("agent: " + e.getMessage());
+    } catch (UncheckedIOException e) { // of a request
+      System.err.println("agent: " + e.getCause().getMessage());
     } catch (InterruptedException e) {
       System.err.println("agent: interrupted");
     }
@@ -76,8 +78,11 @@ final class Launcher {
 
   private static AgentImpl load(String name) {
     try {
-      return (AgentImpl) Class.forName(name).getDeclaredConstructor().newInstance();
-    } catch (ReflectiveOperationException | ClassCastException | LinkageError e) {
+      Class<?> found = Class.forName(name);
+      return found.asSubclass(AgentImpl.class).getDeclaredConstructor().newInstance();
+    } catch (ClassCastException e) {
+      throw new IllegalArgumentException("the class " + name + " does not extend AgentImpl");
+    } catch (ReflectiveOperationException | LinkageError e) {
       throw new IllegalArgumentException("no agent of the class " + name + ": " + e);
     }
   }

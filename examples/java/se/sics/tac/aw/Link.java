@@ -27,14 +27,15 @@ final class Link {
     to = socket.getOutputStream();
   }
 
+  /** Connects. While the server refuses, it may still be starting. */
   static Link connect(String host, int port) throws IOException, InterruptedException {
     long deadline = System.nanoTime() + PATIENCE * 1_000_000L;
     while (true) {
       try {
         return new Link(new Socket(host, port));
-      } catch (ConnectException e) {
-        if (System.nanoTime() > deadline) {
-          throw e;
+      } catch (IOException | IllegalArgumentException e) { // the latter of a port out of range
+        if (!(e instanceof ConnectException) || System.nanoTime() > deadline) {
+          throw new IOException("no link to " + host + " at port " + port + ": " + e.getMessage());
         }
         Thread.sleep(BETWEEN_TRIES);
       }
