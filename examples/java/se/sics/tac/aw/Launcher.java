@@ -42,13 +42,11 @@ final class Launcher {
   }
 
   private void run(String[] words) throws IOException, InterruptedException {
-    // Scripts that start agents put HOST PORT WORD last.
-    String[] last = Arrays.copyOfRange(words, Math.max(0, words.length - 3), words.length);
-    boolean plain = last.length == 3 && last[1].matches("[0-9]+")
-        && !last[0].startsWith("-") && !last[2].startsWith("-");
-    String host = plain ? last[0] : option("host", "localhost");
-    int port = number("port", plain ? last[1] : option("port", "7000"));
-    String word = plain ? last[2] : option("agent", "seat0");
+    int place = plain(words);
+    boolean plain = place >= 0;
+    String host = plain ? words[place] : option("host", "localhost");
+    int port = number("port", plain ? words[place + 1] : option("port", "7000"));
+    String word = plain ? words[place + 2] : option("agent", "seat0");
     int pace = number("pace", option("pace", "0"));
     int games = number("games", option("games", "1"));
     AgentImpl impl = load(option("agentimpl", "se.sics.tac.aw.DummyAgent"));
@@ -57,6 +55,20 @@ final class Launcher {
     for (int game = 0; game < games; game++) {
       play(impl, host, port, word, pace);
     }
+  }
+
+  /**
+   * Where HOST PORT WORD stand in a row, as scripts that start agents give them; below 0 if they do
+   * not. Options may stand before and after them.
+   */
+  private static int plain(String[] words) {
+    for (int place = words.length - 3; place >= 0; place--) {
+      boolean isOption = words[place].startsWith("-") || words[place + 2].startsWith("-");
+      if (!isOption && words[place + 1].matches("[0-9]+")) {
+        return place;
+      }
+    }
+    return -1;
   }
 
   private void play(AgentImpl impl, String host, int port, String word, int pace)

@@ -29,13 +29,19 @@ final class Link {
 
   /** Connects. While the server refuses, it may still be starting. */
   static Link connect(String host, int port) throws IOException, InterruptedException {
+    String place = host + " at port " + port;
     long deadline = System.nanoTime() + PATIENCE * 1_000_000L;
+    boolean told = false;
     while (true) {
       try {
         return new Link(new Socket(host, port));
       } catch (IOException | IllegalArgumentException e) { // the latter of a port out of range
         if (!(e instanceof ConnectException) || System.nanoTime() > deadline) {
-          throw new IOException("no link to " + host + " at port " + port + ": " + e.getMessage());
+          throw new IOException("no link to " + place + ": " + e.getMessage());
+        }
+        if (!told) {
+          System.err.println("agent: nobody listens on " + place + " yet; two minutes of tries");
+          told = true;
         }
         Thread.sleep(BETWEEN_TRIES);
       }

@@ -330,8 +330,8 @@ public class TACAgent extends Auctions {
    * publication each unit above it is won, and each below is lost; only for units exactly at it an
    * order decides. Then, or if it is not sure that the bid stood, a bid that is sure to be refused
    * asks: its NEED is the count, except that 1 is told for 0 as well. That 1 counts as 1 if quotes
-   * are live, where a unit at the price is almost always the agent's own last one, and else as 0,
-   * so that an agent raises its bid.
+   * are live, where the unit at the price is most often the agent's own last one, so that it does
+   * not outbid itself; and else as 0, so that it raises its bid.
    *
    * @param line the number of the last request line that surely came before the publication
    * @param asks whether to ask in any case
