@@ -20,7 +20,7 @@ import subprocess
 import sys
 import tempfile
 from pathlib import Path
-from typing import Dict, Iterator, List
+from typing import Iterator
 
 TOP = Path(__file__).resolve().parent.parent
 sys.path.insert(0, str(TOP / "examples"))
@@ -33,12 +33,13 @@ FEW_ROOMS = TOP / "examples/few_rooms.game"
 PACE = 250  # milliseconds
 PATIENCE = 120  # seconds that a game may take beyond its ticks, on a busy machine
 LINGER = 20  # seconds that agents have to end after their game
-JVM = ["-Xmx64m", "-XX:+UseSerialGC", "-XX:TieredStopAtLevel=1"]  # eight of them on one machine
+NO_FILE = "-XX:-UsePerfData"  # otherwise a JVM leaves a file in the folder of temporary ones
+JVM = ["-Xmx64m", "-XX:+UseSerialGC", "-XX:TieredStopAtLevel=1", NO_FILE]  # eight on one machine
 PYTHON = ("planner", "trader", "planner", "trader")  # at the odd seats
 PURPOSE = "thrown on purpose"  # of an exception by which the test tries the layer
 
 
-def run(words: List[str]) -> str:
+def run(words: list[str]) -> str:
     """What a command prints.
 
     Raises:
@@ -54,7 +55,8 @@ def run(words: List[str]) -> str:
 def build(classes: Path) -> None:
     """Compiles the layer, its agent and its tests."""
     sources = [LAYER / "TripAgent.java", *sorted(TESTS.glob("*.java"))]
-    run(["javac", "-d", str(classes), "-sourcepath", str(LAYER), *map(str, sources)])
+    options = [f"-J{NO_FILE}", "-d", str(classes), "-sourcepath", str(LAYER)]
+    run(["javac", *options, *map(str, sources)])
 
 
 class Game:
@@ -64,13 +66,13 @@ class Game:
         place.mkdir()
         self.children, self.place, self.classes, self.game = children, place, classes, game
         self.port = free_port()
-        self.agents: Dict[str, subprocess.Popen] = {}
+        self.agents: dict[str, subprocess.Popen] = {}
         self.log = place / "log"
         words = [PROGRAM, "serve", str(game), str(self.port), str(PACE)]
         with self.log.open("wb") as log:
             self.server = children.start(words, stdout=log)
 
-    def start(self, word: str, words: List[str]) -> None:
+    def start(self, word: str, words: list[str]) -> None:
         """Starts an agent, which prints into a file that has the name of its seat word."""
         with (self.place / word).open("wb") as out:
             child = self.children.start(words, stdout=out, stderr=subprocess.STDOUT)
@@ -85,7 +87,7 @@ class Game:
         self.start(f"seat{seat}", [sys.executable, str(TOP / f"examples/agents/{name}.py"),
                                    "localhost", str(self.port), f"seat{seat}", "--pause", "0.1"])
 
-    def faults(self, java: List[int]) -> Iterator[str]:
+    def faults(self, java: list[int]) -> Iterator[str]:
         """Waits until the game and its agents have ended, and yields what is wrong.
 
         Args:
@@ -120,7 +122,6 @@ class Game:
                 thrown = "Exception" in line and PURPOSE not in line
                 if thrown or line.startswith("fault: "):
                     yield f"seat{seat}: {line}"
-        self.said = {seat: (self.place / f"seat{seat}").read_text() for seat in java}
 
 
 def play(children: Children, place: Path) -> Iterator[str]:
@@ -141,7 +142,8 @@ def play(children: Children, place: Path) -> Iterator[str]:
     tested = Game(children, place / "tested", classes, made)
     tested.start_java(0, "LayerTest")
     yield from (f"the layer's test: {fault}" for fault in tested.faults([0]))
-    if ", 0 faults" not in (place / "tested/seat0").read_text():
+    told = (place / "tested/seat0").read_text()
+    if not re.search(r"^\d+ tests, \d+ faults$", told, re.MULTILINE):
         yield "the layer's test did not end"
 
 
@@ -154,7 +156,8 @@ def main() -> int:
     if not shutil.which(PROGRAM):
         print(f"java: skipped, there is no program {PROGRAM}")
         return 0
-    signal.signal(signal.SIGTERM, signal.default_int_handler)
+    for number in (signal.SIGTERM, signal.SIGHUP):
+        signal.signal(number, signal.default_int_handler)
     children = Children()
     count = 0
     try:

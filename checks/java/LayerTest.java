@@ -218,15 +218,18 @@ public class LayerTest extends AgentImpl {
       return;
     }
     Bid standing = agent.getBid(ROOM);
+    if (!quote.hasHQW(standing)) {
+      return; // on a busy machine the bids may have missed the publication
+    }
     if (quote.getAskPrice() == 40 && !tried) {
       tried = true;
-      check(quote.hasHQW(standing) && quote.getHQW() == 1 && agent.getProbableOwn(ROOM) == 1,
+      check(quote.getHQW() == 1 && agent.getProbableOwn(ROOM) == 1,
           "winning units beside a tie: " + quote);
       check(bid(ROOM, 4, 40).getRejectReason() == Bid.PRICE_NOT_BEAT
           && agent.getBid(ROOM) == standing, "a bid below the quote leaves the earlier one");
       bid(ROOM, 4, 120);
       check(!agent.getQuote(ROOM).hasHQW(agent.getBid(ROOM)), "a new bid is not counted yet");
-    } else if (tried && quote.hasHQW(standing)) {
+    } else if (tried) {
       check(quote.getHQW() == 4, "winning units at the next publication: " + quote);
     }
   }
@@ -241,7 +244,7 @@ public class LayerTest extends AgentImpl {
   @Override
   protected void gameStopped() {
     check(agent.getGameTime() == 540000 && !agent.isGameActive(), "time at the end");
-    check(tried, "the room's night was published before it closed");
+    check(tried, "the winning units of a bid in a hotel were counted");
     check(agent.getOwn(ticket) == 0 && heard.contains("updated " + ticket + " " + Bid.TRANSACTED),
         "a standing bid's trade was noticed");
     check(heard.contains("error 16 " + TACAgent.BAD_BIDSTRING_FORMAT)

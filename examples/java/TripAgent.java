@@ -9,8 +9,8 @@ import se.sics.tac.util.ArgEnumerator;
  * tickets at prices that move over the game.
  */
 public class TripAgent extends AgentImpl {
-  private static final int[] ROOM = {60, 120, 120, 60}; // guessed prices in the cheap hotel, by night
-  private static final int BETTER = 60; // dollars more in the good one
+  private static final int[] ROOM = {60, 120, 120, 60}; // dollars, guessed, in the cheap hotel
+  private static final int BETTER = 60; // more in the good one
   private static final float SEAT = 600; // the most dollars for a seat
   private static final float FIRST_BID = 75; // dollars for a room
   private static final int RAISE = 50; // dollars above the quote
