@@ -87,7 +87,8 @@ public class TACAgent extends Auctions {
   /** Units held, and those of a hotel bid that would be won by the last count. */
   public synchronized int getProbableOwn(int auction) {
     Quote quote = quotes[auction];
-    boolean counted = !quote.isAuctionClosed() && quote.hasHQW(getBid(auction));
+    boolean counted =
+        quote != null && !quote.isAuctionClosed() && quote.hasHQW(getBid(auction));
     return own[auction] + (counted ? quote.getHQW() : 0);
   }
 
