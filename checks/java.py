@@ -52,11 +52,19 @@ def run(words: list[str]) -> str:
     return done.stdout
 
 
-def build(classes: Path) -> None:
-    """Compiles the layer, its agent and its tests."""
+def build(children: Children, classes: Path) -> None:
+    """Compiles the layer, its agent and its tests.
+
+    Raises:
+        RuntimeError: they are refused.
+    """
     sources = [LAYER / "TripAgent.java", *sorted(TESTS.glob("*.java"))]
     options = [f"-J{NO_FILE}", "-d", str(classes), "-sourcepath", str(LAYER)]
-    run(["javac", *options, *map(str, sources)])
+    compiler = children.start(["javac", *options, *map(str, sources)], stdout=subprocess.PIPE,
+                              stderr=subprocess.STDOUT, text=True)
+    said = compiler.communicate()[0]
+    if children.end(compiler):
+        raise RuntimeError(f"javac: {said.strip().splitlines()[0] if said else 'no message'}")
 
 
 class Game:
@@ -127,7 +135,7 @@ class Game:
 def play(children: Children, place: Path) -> Iterator[str]:
     """Builds, plays all games one after another, and yields what is wrong."""
     classes, made = place / "classes", place / "made.game"
-    build(classes)
+    build(children, classes)
     made.write_text(run([PROGRAM, "make", "42"]))
     alone = Game(children, place / "alone", classes, made)
     for seat in range(8):
