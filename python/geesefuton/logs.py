@@ -175,13 +175,13 @@ _KNOWN = frozenset(PACKAGES)
 class _Reader:
     """Goes through the lines of a text."""
 
-    def __init__(self, text: Union[str, bytes], first: int = 1) -> None:
+    def __init__(self, text: Union[str, bytes]) -> None:
         if isinstance(text, bytes):
             text = text.decode("latin-1")  # so that a byte is a character, and a bad one is seen
         if len(text) > MOST_BYTES:
             raise LogError(1, f"the text has more than {MOST_BYTES:,} bytes, so it is no log")
         self.lines = text.split("\n")
-        self.place = first - 1
+        self.place = 0
 
     @property
     def number(self) -> int:
@@ -257,6 +257,20 @@ def read_played(text: Union[str, bytes]) -> Played:
     return Played(tuple(replies), _read_log(reader))
 
 
+def read_scores(text: Union[str, bytes]) -> Tuple[Score, ...]:
+    """Reads the sheet of a log alone, which takes a hundredth of the time of the whole.
+
+    Raises:
+        LogError: The text has no line `sheet`, or no sheet after it.
+    """
+    reader = _Reader(text)
+    try:
+        reader.place = reader.lines.index("sheet")
+    except ValueError:
+        raise LogError(len(reader.lines), "the text ends where the line `sheet` is due") from None
+    return _read_sheet(reader)
+
+
 def _read_log(reader: _Reader) -> Log:
     reader.exact("taclog 1")
     kind = reader.take("`play` or `serve`")
@@ -272,12 +286,7 @@ def _read_log(reader: _Reader) -> Log:
     if reader.look() == "memory":
         reader.take("the line `sheet`")
         reader.fail("memory was refused for the scores, so the log has none")
-    reader.exact("sheet")
-    scores = tuple(_read_score(reader, agent) for agent in range(8))
-    reader.exact("end")
-    if reader.left or reader.lines[-1]:
-        reader.place += 1
-        reader.fail("a line follows the end of the log")
+    scores = _read_sheet(reader)
     return Log(kind, tuple(links), tuple(ends), missed, histories, cash, scores)
 
 
@@ -386,6 +395,16 @@ def _read_cash(reader: _Reader) -> Tuple[Union[Post, Reading], ...]:
                      for word in post[4].split())
         entries.append(Post(int(post[1]), good, position, nets))
     return tuple(entries)
+
+
+def _read_sheet(reader: _Reader) -> Tuple[Score, ...]:
+    reader.exact("sheet")
+    scores = tuple(_read_score(reader, agent) for agent in range(8))
+    reader.exact("end")
+    if reader.left or reader.lines[-1]:
+        reader.place += 1
+        reader.fail("a line follows the end of the log")
+    return scores
 
 
 def _read_score(reader: _Reader, agent: int) -> Score:
