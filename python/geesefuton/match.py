@@ -84,6 +84,9 @@ class Result:
 
 Message = Union[events.Event, Note, Result]
 
+# What runs it. As a module's main program its types would have other names here and there.
+PROGRAM = "import sys; from geesefuton.match import main; sys.exit(main())"
+
 
 @dataclass(frozen=True)
 class Exit:
@@ -271,6 +274,11 @@ class Match:
             file.write_bytes(f"[{size - MOST_KEPT} bytes are left out]\n".encode() + last)
 
 
+def main() -> int:
+    """The body of the process; its one word is the number of the connection's file."""
+    return command("match", _main)
+
+
 def _main() -> int:
     with closing(Connection(int(sys.argv[1]))) as parent, Children() as children:
         job: Job = parent.recv()
@@ -281,7 +289,3 @@ def _main() -> int:
             result = Result(fault=where + why(fault))
         parent.send(result)
     return 0
-
-
-if __name__ == "__main__":
-    sys.exit(command("match", _main))

@@ -20,6 +20,7 @@ the signal's number if a signal stopped it.
 
 import argparse
 import os
+import shutil
 import subprocess
 import sys
 import time
@@ -27,13 +28,14 @@ from collections import deque
 from dataclasses import dataclass, field
 from multiprocessing.connection import Connection, Pipe, wait
 from pathlib import Path
-from typing import Callable, Deque, Dict, List, Optional, Sequence, Tuple
+from typing import Deque, Dict, List, Optional, Sequence, Tuple
 
 from geesefuton import events, program
+from geesefuton.arguments import Parser, seconds, whole
 from geesefuton.deals import (MOST_SEED, DealError, Rule, Table, read_rooms, seated, tables)
 from geesefuton.entrants import PACKAGE, Entrant, EntrantError, read_entrants, seat_words
 from geesefuton.luck import worths_of
-from geesefuton.match import Job, Note, Result
+from geesefuton.match import PROGRAM, Job, Note, Result
 from geesefuton.processes import Children, Output, Stopped, command, tell, why
 from geesefuton.results import HEAD, ResultsError, Row, csv_of, read_rows, text_of
 from geesefuton.summary import FORMS, Summary, as_text, summarize
@@ -81,6 +83,7 @@ class Running:
     number: int
     table: Table
     entrants: List[Entrant]
+    folder: Path
     connection: Connection
     process: "subprocess.Popen[bytes]"
     deadline: float
@@ -138,6 +141,8 @@ class Tournament:
                     children.end(game.process)
                     game.connection.close()
                     self._finish(game)
+                    if plan.keep is None:
+                        shutil.rmtree(game.folder, ignore_errors=True)
         finally:
             self._write(plan.games)
 
@@ -151,7 +156,7 @@ class Tournament:
         ours, theirs = Pipe()
         path = os.pathsep.join(filter(None, [str(PACKAGE), os.environ.get("PYTHONPATH")]))
         process = children.start(
-            [sys.executable, "-m", "geesefuton.match", str(theirs.fileno())],
+            [sys.executable, "-c", PROGRAM, str(theirs.fileno())],
             pass_fds=[theirs.fileno()], stdin=subprocess.DEVNULL, stdout=subprocess.DEVNULL,
             env={**os.environ, "PYTHONPATH": path})
         theirs.close()
@@ -160,7 +165,8 @@ class Tournament:
         except OSError:
             pass  # it has ended, which is seen when its messages are read
         seconds = plan.start + 54 * plan.pace / 1000 + plan.linger + MARGIN
-        return Running(number, table, entrants, ours, process, time.monotonic() + seconds)
+        return Running(number, table, entrants, folder, ours, process,
+                       time.monotonic() + seconds)
 
     def _hear(self, running: Sequence[Running]) -> None:
         """Takes the messages that the games send."""
@@ -271,26 +277,6 @@ def _join(names: Sequence[Path], summaries: Sequence[Path]) -> int:
     return 1 if failed else 0
 
 
-def _whole(least: int, most: int = 1 << 30) -> Callable[[str], int]:
-    def read(text: str) -> int:
-        if not (text.isascii() and text.isdigit()) or not least <= int(text) <= most:
-            raise argparse.ArgumentTypeError(
-                f"a number from {least} to {most} is due, not {text}" if most < 1 << 30
-                else f"a number of {least} or more is due, not {text}")
-        return int(text)
-    return read
-
-
-def _seconds(text: str) -> float:
-    try:
-        value = float(text)
-    except ValueError:
-        value = -1.0
-    if not 0 <= value <= 1e6:
-        raise argparse.ArgumentTypeError(f"a number of seconds is due, not {text}")
-    return value
-
-
 def _rooms(text: str) -> Tuple[int, int]:
     try:
         return read_rooms(text)
@@ -304,15 +290,14 @@ def _summary_file(text: str) -> Path:
     return Path(text)
 
 
-def _parser() -> argparse.ArgumentParser:
-    parser = argparse.ArgumentParser(prog="tournament", description=__doc__, allow_abbrev=False,
-                                     formatter_class=argparse.RawDescriptionHelpFormatter)
+def _parser() -> Parser:
+    parser = Parser("tournament", __doc__)
     add = parser.add_argument
     add("agents", nargs="*", metavar="AGENT",
         help="default: planner, trader and watcher of examples/agents, in a clone")
-    add("--games", type=_whole(1), default=4, metavar="N",
+    add("--games", type=whole(1), default=4, metavar="N",
         help="how many games; 4. With swapped seats a multiple of the number of agents")
-    add("--seed", type=_whole(0, MOST_SEED), default=1, metavar="N",
+    add("--seed", type=whole(0, MOST_SEED), default=1, metavar="N",
         help="the seed of the first deal; 1")
     add("--swap", action=argparse.BooleanOptionalAction, default=None,
         help="play each deal once for each agent, with other seats each time; on for two agents")
@@ -320,13 +305,13 @@ def _parser() -> argparse.ArgumentParser:
         help="the rooms of each hotel night, drawn by the seed, as 3..6; default: 16")
     add("--live", action="store_true", help="hotel prices move with each bid")
     add("--game", type=Path, metavar="FILE", help="play this game file in place of made games")
-    add("--at-once", type=_whole(1), default=2, metavar="N", help="how many games at a time; 2")
-    add("--pace", type=_whole(1, 60000), default=100, metavar="MILLISECONDS",
+    add("--at-once", type=whole(1), default=2, metavar="N", help="how many games at a time; 2")
+    add("--pace", type=whole(1, 60000), default=100, metavar="MILLISECONDS",
         help="from tick to tick; 100")
     add("--json", action="store_true", help="agents speak JSON objects in place of words")
-    add("--start", type=_seconds, default=20.0, metavar="SECONDS",
+    add("--start", type=seconds, default=20.0, metavar="SECONDS",
         help="how long a game waits for its agents; 20")
-    add("--after", type=_seconds, default=5.0, metavar="SECONDS",
+    add("--after", type=seconds, default=5.0, metavar="SECONDS",
         help="how long after the last tick links are ended; 5")
     add("--keep", type=Path, metavar="FOLDER",
         help="where to keep game files, logs, events and what agents printed")
@@ -337,14 +322,14 @@ def _parser() -> argparse.ArgumentParser:
     return parser
 
 
-def _default_agents(parser: argparse.ArgumentParser) -> List[str]:
+def _default_agents(parser: Parser) -> List[str]:
     clone = program.top()
     if clone is None:
         parser.error("which agents? Each is a Python file, a program, or a command in quotes")
     return [f"'{clone / 'examples' / 'agents' / name}.py'" for name in AGENTS]
 
 
-def _plan(parser: argparse.ArgumentParser, given: argparse.Namespace) -> Plan:
+def _plan(parser: Parser, given: argparse.Namespace) -> Plan:
     if given.game and (given.rooms or given.live):
         parser.error("--rooms and --live are for made games, not for a game file")
     try:
@@ -366,7 +351,7 @@ def _plan(parser: argparse.ArgumentParser, given: argparse.Namespace) -> Plan:
                 given.summary)
 
 
-def _open_folder(parser: argparse.ArgumentParser, folder: Path) -> None:
+def _open_folder(parser: Parser, folder: Path) -> None:
     """Makes the folder for what is kept. Files of earlier games are never written over."""
     try:
         folder.mkdir(parents=True, exist_ok=True)
