@@ -1,11 +1,14 @@
 """What the tests share: games and logs that are kept as data, and the program if it is there."""
 
+import contextlib
+import importlib
 import os
 import subprocess
 import sys
 import unittest
 from pathlib import Path
-from typing import Any, Dict, List, Optional
+from typing import Any, Dict, List, Optional, Tuple
+from unittest import mock
 
 from geesefuton import program
 from geesefuton.games import Game, read_game
@@ -47,6 +50,20 @@ def run(module: str, *words: object, env: Optional[Dict[str, str]] = None,
     how.setdefault("stdout", subprocess.PIPE)
     return subprocess.run(python(code, *words), stdin=subprocess.DEVNULL, stderr=subprocess.PIPE,
                           text=True, timeout=50, check=False, env=variables(env), **how)
+
+
+def refusal(module: str, *words: object) -> Tuple[int, str]:
+    """Runs a command of the package in this process, where it is to be refused: its status, and
+    what it tells."""
+    told: List[str] = []
+    command = importlib.import_module(f"geesefuton.{module}")
+    with contextlib.ExitStack() as stack:
+        patch = stack.enter_context
+        patch(mock.patch("sys.argv", [module, *map(str, words)]))
+        patch(mock.patch("geesefuton.processes.stop_on_signals"))
+        for place in (module, "processes", "arguments"):
+            patch(mock.patch(f"geesefuton.{place}.tell", lambda text: told.append(text + "\n")))
+        return command.main(), "".join(told)
 
 
 def python(code: str, *words: object) -> List[str]:
