@@ -38,6 +38,7 @@ from geesefuton.games import TICKS
 from geesefuton.journal import Journal
 from geesefuton.processes import Children, command, free_port, tell, why
 from geesefuton.relay import Relay, Session
+from geesefuton.seats import SILENCE
 
 HINT = "an empty line begins the game, and `without WORD` waits for that agent no longer"
 STOPPED = 130  # the exit status of a game that was ended before its time
@@ -66,6 +67,8 @@ class LobbySettings:
         start: The seconds until the game begins without those who are missing; None waits.
         linger: The seconds after the last tick until the links that are left are ended.
         patience: The seconds that a link has for its first line.
+        silence: The seconds without a word after which an agent's link gives way to another one
+            with its word.
         journal: The journal, a new file. A copy of the log is written beside it.
         page: The port of the live page; None for no page.
         late: By how many ticks the page shows later what agents cannot ask.
@@ -80,6 +83,7 @@ class LobbySettings:
     start: Optional[float] = None
     linger: float = 30.0
     patience: float = 30.0
+    silence: float = SILENCE
     journal: Optional[Path] = None
     page: Optional[int] = None
     late: int = 6
@@ -137,7 +141,8 @@ class Lobby:
             journal = self._open_journal(folder)
             if journal:
                 stack.callback(journal.close)
-            relay = Relay(self.words, self._listener, self._emit, journal, self.settings.patience)
+            relay = Relay(self.words, self._listener, self._emit, journal, self.settings.patience,
+                          self.settings.silence)
             stack.callback(relay.close)
             relay.attend(self._wake, lambda: bool(self._wake.recv(4096)))
             reader = _Orders(self.settings.orders, self._orders)
@@ -504,6 +509,9 @@ def _arguments(words: Optional[Sequence[str]]) -> argparse.Namespace:
                         help="how long after the last tick links are ended; 30")
     parser.add_argument("--patience", type=float, default=30, metavar="SECONDS",
                         help="how long to wait for the first line of a link; 30")
+    parser.add_argument("--silence", type=float, default=SILENCE, metavar="SECONDS",
+                        help="how long an agent's link says nothing before it gives way to another "
+                             f"one with its word; {SILENCE:g}")
     parser.add_argument("--journal", type=Path, metavar="FILE",
                         help="the journal, a new file; by default GAME-DATE.journal beside the log")
     parser.add_argument("--page", type=int, metavar="PORT",
@@ -518,7 +526,7 @@ def _arguments(words: Optional[Sequence[str]]) -> argparse.Namespace:
         parser.error("the port of the page is 1 to 65535")
     if not 0 <= given.late <= TICKS:
         parser.error(f"--late is 0 to {TICKS}")
-    for name in ("start", "after", "patience"):
+    for name in ("start", "after", "patience", "silence"):
         value = getattr(given, name)
         if value is not None and not 0 <= value <= 1e9:
             parser.error(f"--{name} is a number of seconds, 0 or more")
@@ -597,8 +605,8 @@ def _main() -> int:
     settings = LobbySettings(
         game=given.game, port=given.port, pace=given.pace, form=given.form or "words",
         log=sys.stdout.buffer if has_output and sys.stdout else None, start=given.start,
-        linger=given.after, patience=given.patience, journal=given.journal, page=given.page,
-        late=given.late, orders=sys.stdin)
+        linger=given.after, patience=given.patience, silence=given.silence,
+        journal=given.journal, page=given.page, late=given.late, orders=sys.stdin)
     try:
         lobby = Lobby(settings)
         teller = Teller(lobby.words)

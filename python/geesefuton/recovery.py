@@ -12,8 +12,8 @@ then a history has one position more than the clock's calls fill. It is put wher
 quotes come out as they were told. Nobody can know whether those left out were made: with --pending
 they are asked after all others, and the command tells for whom that changes a score.
 
-Each reply and each quote is compared with what `tac play` answers. A difference is told, and the
-exit status is then 1. Readings of cash are put near where they were.
+Each reply is compared with what `tac play` answers. A difference is told, and the exit status is
+then 1. Readings of cash are put near where they were, and are not compared.
 """
 
 from __future__ import annotations
@@ -37,6 +37,7 @@ MOST_TRIES = 300  # places of requests without a reply that are tried in an auct
 FEW = 3  # so many are tried at all places
 
 Guess = List[Tuple[int, Call]]
+Way = Tuple[Sequence[int], Sequence[int]]  # positions, and the agents whose requests are there
 
 
 class RecoveryError(Exception):
@@ -116,17 +117,24 @@ class Auction:
         known = sum(at in self.calls for at in range(self.length()))
         self.calls[max(self.length(), known + self._schedule.most(self.good, tick))] = call
 
-    def items(self) -> Iterator[Tuple[int, Call]]:
-        """The calls in order, each with the tick after which it stands."""
+    def items(self, quotes: bool) -> Iterator[Tuple[int, Call]]:
+        """The calls in order, each with the tick after which it stands; with or without quotes."""
+        asked: Dict[int, List[Call]] = defaultdict(list)
+        for quote in self.quotes if quotes else ():
+            assert quote.at is not None
+            asked[quote.at].append(quote)
         clocks = at_most = 0
-        for at in range(self.length()):
-            call = self.calls.get(at)
-            if call is None:
-                clocks += 1
-                continue
+        for at in range(self.length() + 1):
             low, high = self._schedule.span(self.good, clocks)
-            at_most = min(max(low, call.tick, at_most), high)
-            yield at_most, call
+            here = asked[at] + ([self.calls[at]] if at in self.calls else [])
+            for call in here:
+                at_most = min(max(low, call.tick, at_most), high)
+                yield at_most, call
+            if at < self.length() and at not in self.calls:
+                clocks += 1
+                if clocks > len(self._ticks):
+                    raise RecoveryError(f"position {at} of good {self.good} is neither the "
+                                        "clock's nor in a reply")
 
     def settle(self, tick: int, player: Player, game: str) -> None:
         """Finds which requests without a reply were made, if the replies show that any was.
@@ -152,32 +160,11 @@ class Auction:
     def holds(self, player: Player, game: str) -> bool:
         """Whether all replies and quotes come out as they were told, in this auction alone."""
         try:
-            lines = self._script()
-            told, _ = player.play(game, "".join(text + "\n" for text, _ in lines))
+            script = script_of(self.items(quotes=True))
+            told, _ = player.play(game, script.text)
         except RecoveryError:
             return False
-        due = [(text[:2], reply) for text, reply in lines if text != "tick"]
-        return all(reply is None or agent + reply == line
-                   for (agent, reply), line in zip(due, told))
-
-    def _script(self) -> List[Tuple[str, Optional[str]]]:
-        """The lines of a script of this auction, each with the reply that was told."""
-        quotes = defaultdict(list)
-        for quote in self.quotes:
-            quotes[quote.at].append(quote)
-        lines: List[Tuple[str, Optional[str]]] = []
-        clocks = ticks = 0
-        for at in range(self.length() + 1):
-            lines += [_line(quote) for quote in quotes[at]]
-            if at in self.calls:
-                lines.append(_line(self.calls[at]))
-            elif at < self.length():
-                if clocks == len(self._ticks):
-                    raise RecoveryError(f"position {at} of good {self.good} is neither the "
-                                        "clock's nor in a reply")
-                lines += [("tick", None)] * (self._ticks[clocks] - ticks)
-                ticks, clocks = self._ticks[clocks], clocks + 1
-        return lines
+        return not differences(script, told)
 
     # Where requests without a reply may have been.
 
@@ -191,7 +178,7 @@ class Auction:
         gaps = [at for at in gaps if at >= first]
         most = min(sum(map(len, least.values())), len(gaps))
         for count in range(fewest, most + 1):
-            ways = self._all(gaps, least, count) if count <= FEW else _blocks(gaps, least, count)
+            ways = _all(gaps, least, count) if count <= FEW else _blocks(gaps, least, count)
             yield from self._fitting(ways, least)
         for count in range(max(fewest, FEW + 1), most + 1):
             yield from self._fitting(_mixed_blocks(gaps, least, count), least)
@@ -204,13 +191,7 @@ class Auction:
                   if quote.at is not None and quote.answered < call.order]
         return max(told + quoted, default=0)
 
-    def _all(self, gaps: Sequence[int], least: Dict[int, List[int]],
-             count: int) -> Iterable["Way"]:
-        """All ways to fill so many gaps with agents' requests."""
-        return itertools.product(itertools.combinations(gaps, count),
-                                 itertools.product(least, repeat=count))
-
-    def _fitting(self, ways: Iterable["Way"], least: Dict[int, List[int]]) -> Iterator[Guess]:
+    def _fitting(self, ways: Iterable[Way], least: Dict[int, List[int]]) -> Iterator[Guess]:
         """The ways in which each request comes after what was known when it was sent."""
         for places, agents in ways:
             taken: Dict[int, int] = defaultdict(int)
@@ -225,7 +206,10 @@ class Auction:
                 yield guess
 
 
-Way = Tuple[Sequence[int], Sequence[int]]  # positions, and the agents whose requests are there
+def _all(gaps: Sequence[int], agents: Iterable[int], count: int) -> Iterable[Way]:
+    """All ways to fill so many gaps with agents' requests."""
+    return itertools.product(itertools.combinations(gaps, count),
+                             itertools.product(agents, repeat=count))
 
 
 def _starts(gaps: List[int], count: int) -> List[List[int]]:
@@ -245,10 +229,6 @@ def _mixed_blocks(gaps: List[int], least: Iterable[int], count: int) -> Iterable
     agents = [(one,) * first + (other,) * (count - first)
               for one, other in itertools.permutations(least, 2) for first in range(1, count)]
     return itertools.product(_starts(gaps, count), agents)
-
-
-def _line(call: Call) -> Tuple[str, Optional[str]]:
-    return f"{call.agent} {request(call).text}", call.reply
 
 
 def _in_order(items: Iterable[Tuple[int, Call]]) -> Iterator[Tuple[int, List[Call]]]:
@@ -274,6 +254,27 @@ class Script(NamedTuple):
 
     text: str
     calls: List[Call]
+
+
+def script_of(items: Iterable[Tuple[int, Call]]) -> Script:
+    """The script of calls, each with the tick after which it stands."""
+    lines: List[str] = []
+    calls: List[Call] = []
+    for tick, asked in _in_order(items):
+        lines += (["tick"] if tick else []) + [f"{call.agent} {request(call).text}"
+                                               for call in asked]
+        calls += asked
+    while lines and lines[-1] == "tick":
+        lines.pop()  # the clock makes the remaining ones
+    return Script("".join(line + "\n" for line in lines), calls)
+
+
+def differences(script: Script, told: Sequence[str]) -> List[str]:
+    """A text for each reply of a script that is not as it was told. Readings of cash are left
+    out, since the calls of a tick are not all at once in a served game."""
+    return [f"{call.agent} {request(call).text}: it was told {call.reply}, and now {line[2:]}"
+            for call, line in zip(script.calls, told)
+            if request(call).keyword != "cash" and call.reply not in (None, line[2:])]
 
 
 class Recovery:
@@ -313,35 +314,20 @@ class Recovery:
         if pending:
             self._append(list(self.left))
 
-    def script(self) -> Script:
-        """The script."""
-        items = [item for auction in self._auctions for item in auction.items()]
+    def script(self, quotes: bool = True) -> Script:
+        """The script, with or without quotes, which are in no history."""
+        items = [item for auction in self._auctions for item in auction.items(quotes)]
         tick = 0
         for call in sorted(self._readings, key=lambda call: call.at or 0):
             tick = max(tick, call.tick)
             items.append((tick, call))
-        lines: List[str] = []
-        calls: List[Call] = []
-        for tick, asked in _in_order(items):
-            lines += (["tick"] if tick else []) + [_line(call)[0] for call in asked]
-            calls += asked
-        while lines and lines[-1] == "tick":
-            lines.pop()  # the clock makes the remaining ones
-        return Script("".join(line + "\n" for line in lines), calls)
+        return script_of(items)
 
     def log(self) -> Tuple[str, List[str]]:
         """The log, and a text for each reply that is not as it was told."""
         script = self.script()
         told, log = self._player.play(self._reader.text, script.text)
-        return log, [f"{call.agent} {request(call).text}: it was told {call.reply}, and now "
-                     f"{line[2:]}" for call, line in zip(script.calls, told)
-                     if request(call).keyword != "cash" and call.reply not in (None, line[2:])]
-
-    def check_quotes(self) -> List[str]:
-        """A text for each auction in which a quote is not as it was told."""
-        return [f"good {auction.good}: a quote is not as it was told"
-                for auction in self._auctions
-                if auction.length() and not auction.holds(self._player, self._reader.text)]
+        return log, differences(script, told)
 
     def _place(self, call: Call) -> None:
         asked = request(call)
@@ -394,8 +380,6 @@ def _arguments() -> argparse.Namespace:
                         help="requests without a reply are asked too, after all others")
     parser.add_argument("--script", type=Path, metavar="FILE", help="write the script here, too")
     parser.add_argument("--game", type=Path, metavar="FILE", help="write the game file here, too")
-    parser.add_argument("--quotes", action="store_true",
-                        help="check the quotes that agents were told as well; it takes longer")
     return parser.parse_args()
 
 
@@ -443,8 +427,6 @@ def _main() -> int:
         try:
             recovery = Recovery(reader, player, given.pending)
             log, faults = recovery.log()
-            if given.quotes:
-                faults += recovery.check_quotes()
             tell(_summary(reader))
             _tell_pending(reader, recovery, player, log)
         except RecoveryError as fault:

@@ -120,6 +120,7 @@ class Relay:
         emit: Is told what happens.
         journal: Where it is written, if anywhere.
         patience: The seconds that a link has for its first line.
+        silence: The seconds without a word after which a link gives way to another.
 
     Attributes:
         started: When the welcome came, by `time.monotonic`.
@@ -127,8 +128,8 @@ class Relay:
 
     def __init__(self, words: Sequence[str], listener: socket.socket,
                  emit: Callable[[Event], None], journal: Optional[Journal],
-                 patience: float) -> None:
-        self.seats, self.sessions = Seats(words), list[Session]()
+                 patience: float, silence: float) -> None:
+        self.seats, self.sessions = Seats(words, silence), list[Session]()
         self.started: Optional[float] = None
         self._emit, self.journal, self._patience = emit, journal, patience
         self._links: Dict[int, OuterLink] = {}
