@@ -46,7 +46,7 @@ FULL = 4  # the exit status if the output takes no more
 TAKEN = 5  # the server's exit status if its port is taken
 TRIES = 3  # ports that the server is given
 TURN = 0.2  # seconds between two looks at what has waited too long
-ENDING = 2.0  # seconds that links have to end after the server
+ENDING = 1.0  # seconds that links have to end after the server
 SHOWING = 20.0  # seconds that the page has to show the last scores
 
 
@@ -196,14 +196,15 @@ class Lobby:
               reader: "_Orders") -> int:
         self._gather(relay, reader)
         if self._is_stopped:
-            return self._stop(relay, journal)
+            return self._stop(journal)
         game = folder / "game"
         game.write_text(self._text, encoding="ascii")
         server = self._begin(children, game, relay)
         self.is_playing = True
         self._play(relay, server, reader)
         if self._is_stopped:
-            return self._stop(relay, journal)
+            children.end(server)
+            return self._stop(journal)
         status = server.wait()
         relay.settle()
         self._end_links(relay)
@@ -246,6 +247,7 @@ class Lobby:
             assert server.stdout is not None
             links = _enter(server, port, self.words)
             if len(links) < len(self.words) and server.wait() == TAKEN and number + 1 < TRIES:
+                server.stdout.close()
                 continue
             os.set_blocking(server.stdout.fileno(), False)
             relay.attend(server.stdout, lambda: self._hear_log(relay, server))
@@ -306,7 +308,7 @@ class Lobby:
 
     # The end.
 
-    def _stop(self, relay: Relay, journal: Optional[Journal]) -> int:
+    def _stop(self, journal: Optional[Journal]) -> int:
         text = "stopped: there is no log"
         if journal and self.settings.journal and self.is_playing:
             text += f"; this makes one of the journal: {recovery_line(journal.file)}"

@@ -27,7 +27,7 @@ MOST_SAID = 65536  # bytes of an agent's lines that are kept; it is not read whi
 MOST_HELD = 65536  # bytes for an agent that does not read; nothing is asked for it beyond these
 MOST_STRANGERS = 200  # links that have not sent a first line
 ADMISSION = 10  # lines of a welcome
-PARTING = 2.0  # seconds that a link has to end its side after it was sent its last line
+PARTING = 1.0  # seconds that a link has to end its side after it was sent its last line
 KEEPALIVE = {"TCP_KEEPIDLE": 5, "TCP_KEEPINTVL": 3, "TCP_KEEPCNT": 3}  # seconds, seconds, probes
 
 
