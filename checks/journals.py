@@ -28,7 +28,7 @@ TOP = Path(__file__).resolve().parent.parent
 sys.path.insert(0, str(TOP / "python"))
 
 from geesefuton import program
-from geesefuton.dialects import reply_of, request_of
+from geesefuton.dialects import asked_by, reply_of
 from geesefuton.processes import Children, command, free_port
 
 LOBBY, RECOVER = TOP / "tools/lobby", TOP / "tools/recover"
@@ -204,13 +204,13 @@ def check_notes(game: Game) -> "tuple[int, int]":
             except ValueError:
                 continue  # the agent was killed while it wrote
             told = reply_of(reply, game.form)
-            request = request_of(asked, game.form) if told.startswith("@") else None
-            if request is None or request.keyword in ("quote", "cash"):
+            call = asked_by(asked, game.form) if told.startswith("@") else None
+            if call is None or call.keyword in ("quote", "cash"):
                 continue
             at, rest = told[1:].split(" ", 1)
-            call = request.text.replace(f" {request.good}", "", 1)
+            words = call.text.replace(f" {call.good}", "", 1)
             noted += 1
-            if entries[request.good][int(at):int(at) + 1] != [f"{agent} {call} = {rest}"]:
+            if entries[call.good][int(at):int(at) + 1] != [f"{agent} {words} = {rest}"]:
                 missing += 1
     return noted, missing
 

@@ -21,16 +21,16 @@ from __future__ import annotations
 import argparse
 import heapq
 import itertools
-import re
 import sys
 from collections import defaultdict
 from pathlib import Path
 from typing import Dict, Iterable, Iterator, List, NamedTuple, Optional, Sequence, Tuple
 
 from geesefuton import program
-from geesefuton.dialects import CASH, Request
+from geesefuton.dialects import CASH, Asked
 from geesefuton.games import GOODS, SEATS, TICKS
 from geesefuton.journal import Call, JournalError, JournalReader, Schedule, read_journal
+from geesefuton.logs import read_scores
 from geesefuton.processes import Children, Output, command, tell, why
 
 MOST_TRIES = 300  # places of requests without a reply that are tried in an auction
@@ -66,10 +66,10 @@ class Player:
         return text[:start].splitlines(), text[start:]
 
 
-def request(call: Call) -> Request:
-    """The request of a call of an auction."""
-    assert call.request is not None
-    return call.request
+def asked_of(call: Call) -> Asked:
+    """What a call that has a position asks."""
+    assert call.asked is not None
+    return call.asked
 
 
 class Auction:
@@ -236,7 +236,7 @@ def _in_order(items: Iterable[Tuple[int, Call]]) -> Iterator[Tuple[int, List[Cal
     eldest first."""
     by_tick: List[Dict[int, List[Call]]] = [defaultdict(list) for _ in range(TICKS + 1)]
     for tick, call in items:
-        by_tick[tick][request(call).good].append(call)
+        by_tick[tick][asked_of(call).good].append(call)
     for tick, goods in enumerate(by_tick):
         asked: List[Call] = []
         heap = [(calls[0].order, good, 0) for good, calls in goods.items()]
@@ -261,7 +261,7 @@ def script_of(items: Iterable[Tuple[int, Call]]) -> Script:
     lines: List[str] = []
     calls: List[Call] = []
     for tick, asked in _in_order(items):
-        lines += (["tick"] if tick else []) + [f"{call.agent} {request(call).text}"
+        lines += (["tick"] if tick else []) + [f"{call.agent} {asked_of(call).text}"
                                                for call in asked]
         calls += asked
     while lines and lines[-1] == "tick":
@@ -272,9 +272,9 @@ def script_of(items: Iterable[Tuple[int, Call]]) -> Script:
 def differences(script: Script, told: Sequence[str]) -> List[str]:
     """A text for each reply of a script that is not as it was told. Readings of cash are left
     out, since the calls of a tick are not all at once in a served game."""
-    return [f"{call.agent} {request(call).text}: it was told {call.reply}, and now {line[2:]}"
+    return [f"{call.agent} {asked_of(call).text}: it was told {call.reply}, and now {line[2:]}"
             for call, line in zip(script.calls, told)
-            if request(call).keyword != "cash" and call.reply not in (None, line[2:])]
+            if asked_of(call).keyword != "cash" and call.reply not in (None, line[2:])]
 
 
 class Recovery:
@@ -330,7 +330,7 @@ class Recovery:
         return log, differences(script, told)
 
     def _place(self, call: Call) -> None:
-        asked = request(call)
+        asked = asked_of(call)
         if asked.good == CASH:
             self._readings.append(call)
         elif asked.keyword == "quote":
@@ -345,7 +345,7 @@ class Recovery:
 
     def _settle(self) -> None:
         for call in self.left:
-            self._auctions[request(call).good].pending[call.agent].append(call)
+            self._auctions[asked_of(call).good].pending[call.agent].append(call)
         for auction in self._auctions:
             auction.settle(self._tick(), self._player, self._reader.text)
             self.made += auction.used
@@ -358,15 +358,10 @@ class Recovery:
 
     def _append(self, calls: List[Call]) -> None:
         for call in sorted(calls, key=lambda call: call.order):
-            self._auctions[request(call).good].append(call, self._reader.tick)
+            self._auctions[asked_of(call).good].append(call, self._reader.tick)
             self.left.remove(call)
             self.made.append(call)
 
-
-def scores_of(log: str) -> List[int]:
-    """The eight scores of a log, in dollars."""
-    return [int(words.split(" ")[-1])
-            for words in re.findall(r"^score .*$", log[log.rindex("\nsheet\n"):], re.MULTILINE)]
 
 
 # The command.
@@ -385,7 +380,7 @@ def _arguments() -> argparse.Namespace:
 
 def _summary(reader: JournalReader) -> str:
     assert reader.game is not None
-    calls = sum(call.at is not None and request(call).keyword != "quote" for call in reader.calls)
+    calls = sum(call.at is not None and asked_of(call).keyword != "quote" for call in reader.calls)
     if reader.status in (program.OK, program.CLOCK):
         return f"the game came to its end; {calls} calls"
     if not reader.has_begun:
@@ -395,18 +390,22 @@ def _summary(reader: JournalReader) -> str:
             "game in which nobody asks anything more")
 
 
+def _scores_of(log: str) -> List[int]:
+    return [row.score for row in read_scores(log)]
+
+
 def _tell_pending(reader: JournalReader, recovery: Recovery, player: Player, log: str) -> None:
     """Tells which requests without a reply are in the log, and what the others would change."""
     assert reader.game is not None
     words = reader.game.words
     for calls, what in ((recovery.made, "in the log"), (recovery.left, "left out")):
         for call in calls:
-            tell(f"  without a reply, {what}: {words[call.agent]}: {request(call).text}")
+            tell(f"  without a reply, {what}: {words[call.agent]}: {asked_of(call).text}")
     if not recovery.left:
         return
     other, _ = Recovery(reader, player, pending=True).log()
     changed = [f"{word} {there - here:+}"
-               for word, here, there in zip(words, scores_of(log), scores_of(other))
+               for word, here, there in zip(words, _scores_of(log), _scores_of(other))
                if here != there]
     tell("  nobody can know whether those left out were made; with them (--pending) "
          + (f"scores change: {', '.join(changed)}" if changed else "no score changes"))
