@@ -72,6 +72,7 @@ class LobbySettings:
         journal: The journal, a new file. A copy of the log is written beside it.
         page: The port of the live page; None for no page.
         late: By how many ticks the page shows later what agents cannot ask.
+        names: Whether the page calls agents by their seat words, which are passwords.
         orders: The host's commands.
     """
 
@@ -87,6 +88,7 @@ class LobbySettings:
     journal: Optional[Path] = None
     page: Optional[int] = None
     late: int = 6
+    names: bool = False
     orders: Optional[TextIO] = None
 
 
@@ -188,7 +190,7 @@ class Lobby:
         _listen(given.page).close()  # tells whether the port is free
         path = [str(Path(__file__).resolve().parents[1]), os.environ.get("PYTHONPATH", "")]
         words = [sys.executable, "-m", "geesefuton.live", str(journal.file), str(given.page),
-                 "--late", str(given.late), "--until-over"]
+                 "--late", str(given.late), "--until-over"] + ["--names"] * given.names
         return children.start(words, stdin=subprocess.DEVNULL, stdout=subprocess.DEVNULL,
                               env={**os.environ, "PYTHONPATH": os.pathsep.join(filter(None, path))})
 
@@ -521,6 +523,8 @@ def _arguments(words: Optional[Sequence[str]]) -> argparse.Namespace:
     parser.add_argument("--late", type=int, default=6, metavar="TICKS",
                         help="how many ticks later the page shows what agents cannot ask: scores, "
                              "trades, standing bids; 6, and 54 is after the game, 0 at once")
+    parser.add_argument("--names", action="store_true",
+                        help="the page calls agents by their seat words, which are passwords")
     given = parser.parse_intermixed_args(words)  # `json` may stand after an option too
     if not 1 <= given.port <= 65535 or not 1 <= given.pace <= 60000:
         parser.error("PORT is 1 to 65535, PACE 1 to 60000")
@@ -608,7 +612,8 @@ def _main() -> int:
         game=given.game, port=given.port, pace=given.pace, form=given.form or "words",
         log=sys.stdout.buffer if has_output and sys.stdout else None, start=given.start,
         linger=given.after, patience=given.patience, silence=given.silence,
-        journal=given.journal, page=given.page, late=given.late, orders=sys.stdin)
+        journal=given.journal, page=given.page, late=given.late, names=given.names,
+        orders=sys.stdin)
     try:
         lobby = Lobby(settings)
         teller = Teller(lobby.words)
