@@ -17,9 +17,9 @@ import time
 from pathlib import Path
 
 HERE = Path(__file__).resolve().parent
-sys.path.insert(0, str(HERE.parent / "examples"))
+sys.path.insert(0, str(HERE.parent / "python"))
 
-from children import free_port  # noqa: E402
+from geesefuton.processes import free_port  # noqa: E402
 
 LINES = 42000  # of each agent: 1,000 calls in each auction, of at most 1,024
 

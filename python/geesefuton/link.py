@@ -86,15 +86,22 @@ class Link:
         stream = _connect(host, port)
         stream.setsockopt(socket.IPPROTO_TCP, socket.TCP_NODELAY, 1)
         link = cls(stream, stream.makefile("rb"), word, form)
-        first = link._exchange(f"hello {word}").split()
-        if first[:1] != ["welcome"]:
-            raise LinkError(f"{word}: {' '.join(first)}")
-        link.agent = int(first[1])
-        link.endow = [int(units) for units in link.line().split()[2:]]
-        for _ in range(8):
-            arrive, depart, premium, *values = map(int, link.line().split()[3:])
-            link.clients.append(Client(arrive, depart, premium, (values[0], values[1], values[2])))
+        try:
+            link._take_welcome()
+        except LinkError:
+            link.close()
+            raise
         return link
+
+    def _take_welcome(self) -> None:
+        first = self._exchange(f"hello {self.word}").split()
+        if first[:1] != ["welcome"]:
+            raise LinkError(f"{self.word}: {' '.join(first)}")
+        self.agent = int(first[1])
+        self.endow = [int(units) for units in self.line().split()[2:]]
+        for _ in range(8):
+            arrive, depart, premium, *values = map(int, self.line().split()[3:])
+            self.clients.append(Client(arrive, depart, premium, (values[0], values[1], values[2])))
 
     def line(self) -> str:
         """The next line that the server sends, without its line end.
@@ -173,20 +180,26 @@ class Link:
     def quit(self) -> None:
         """Ends the session."""
         self.send(Request("quit"))
+        self.close()
+
+    def close(self) -> None:
+        """Ends the link without a word."""
         self.lines.close()
         self.stream.close()
 
 
 def _connect(host: str, port: int) -> socket.socket:
     """A connection to the server, which may still be starting."""
+    if not 1 <= port <= 65535:  # otherwise the system takes the rest of a division by 65536
+        raise LinkError(f"no link to {host} at port {port}: ports are 1 to 65535")
     deadline = time.monotonic() + PATIENCE
     while True:
         try:
             return socket.create_connection((host, port))
-        except (OSError, OverflowError) as fault:
+        except OSError as fault:
             if not isinstance(fault, ConnectionRefusedError) or time.monotonic() > deadline:
-                why = getattr(fault, "strerror", None) or fault
-                raise LinkError(f"no link to {host} at port {port}: {why}") from None
+                raise LinkError(f"no link to {host} at port {port}: {fault.strerror or fault}") \
+                    from None
         time.sleep(0.2)
 
 

@@ -35,7 +35,7 @@ class Heading:
 
 
 def is_idle(log: Log, agent: int) -> bool:
-    """Whether an agent asked nothing that counts: it made no call, and did not say `quit`."""
+    """Whether nobody may have played a seat: it made no call, and did not say `quit`."""
     return log.calls_of(agent) == 0 and log.end_of(agent) != "quit"
 
 
@@ -55,7 +55,7 @@ def why_nothing(log: Log, events: Sequence[Event], score: Score) -> str:
     if agent not in log.seats():
         return "no link had the seat"
     if log.calls_of(agent) == 0:
-        return "asked nothing that counts" if is_idle(log, agent) else "made no call"
+        return "made no call"
     held: Dict[str, int] = defaultdict(int)
     for event in events:
         if event.agent == agent and event.units:
@@ -66,7 +66,7 @@ def why_nothing(log: Log, events: Sequence[Event], score: Score) -> str:
     missing = [name for name, units in (("seats in", held["Flights in"]),
                                         ("seats out", held["Flights out"]), ("rooms", rooms))
                if not units]
-    return f"has no {' and no '.join(missing)}" if missing else "its goods make no trip"
+    return f"no {', no '.join(missing)}" if missing else "its goods make no trip"
 
 
 def table(heads: Sequence[str], rows: Iterable[Sequence[Cell]], text: Sequence[int] = ()) -> str:
@@ -103,9 +103,9 @@ def _scores(game: Game, log: Log, events: Sequence[Event]) -> str:
                      f"<b>{score.score}</b>", bar(score.score, low, high), score.best, score.cash,
                      f"{home} of {CLIENTS}", score.short,
                      _code("; ".join(filter(None, told)))])
-    heads = ["", "team", "score", "", "trips", "cash", "left home", "short", "how it went"]
+    heads = ["", "team", "score", "", "trips", "cash", "left home", "tickets<br>short", "how it went"]
     note = ("A score is what the trips are worth, plus the cash, less 200 for each ticket short. "
-            "Equal scores share a rank; a seat that asked nothing and did not quit has none.")
+            "Equal scores share a rank; a seat that made no call and did not quit has none.")
     return f"<h2>Scores</h2>{table(heads, rows, (1, 8))}<p>{note}</p>"
 
 

@@ -84,6 +84,7 @@ class Children:
         with self._guard.stdout as told:
             place = told.readline().decode().rstrip("\n")
         if not place:
+            self.close()
             raise OSError(errno.ENOSPC, "no folder can be made", tempfile.gettempdir())
         self._groups = Path(place, "groups")
         self._files = Path(place, "files")

@@ -164,6 +164,10 @@ def _number(value: Optional[Estimate]) -> str:
     return f"{value.mean:.0f} +- {half}"
 
 
+def _count(number: int, what: str) -> str:
+    return f"{number} {what}" if number == 1 else f"{number} {what}s"
+
+
 def _columns(rows: Sequence[Sequence[str]]) -> List[str]:
     """Lines with the cells of each column one below the other, the first aligned left."""
     widths = [max(map(len, column)) for column in zip(*rows)]
@@ -180,18 +184,19 @@ def _reasons(standing: Standing) -> str:
 
 def as_text(summary: Summary) -> str:
     """The summary in lines for a reader."""
-    lines = [f"{summary.games} games of {summary.deals} deals; dollars with 95 % intervals by "
-             "deals (Student's t)", ""]
+    lines = [f"{_count(summary.games, 'game')} of {_count(summary.deals, 'deal')}; dollars with "
+             "95 % intervals by deals (Student's t)", ""]
     rows = [["agent", "mean", "luck", "mean adjusted for luck", "did not play"]]
     rows += [[standing.agent, _number(standing.score),
               "-" if standing.luck is None else f"{standing.luck:.0f}",
               _number(standing.adjusted), _reasons(standing)] for standing in summary.standings]
     lines += _columns(rows)
-    if summary.differences:
+    pairs = [pair for pair in summary.differences if pair.score]
+    if pairs:
         how = "by clients that both had" if summary.swapped else "by games"
         rows = [[f"difference, {how}", "mean", "adjusted for luck", "deals"]]
         rows += [[f"{pair.first} less {pair.second}", _number(pair.score), _number(pair.adjusted),
-                  str(pair.score.count if pair.score else 0)] for pair in summary.differences]
+                  str(pair.score.count)] for pair in pairs if pair.score]
         lines += ["", *_columns(rows)]
     lines += ["", *summary.lost] if summary.lost else []
     return "\n".join(lines) + "\n"
