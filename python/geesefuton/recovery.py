@@ -79,7 +79,7 @@ class Auction:
         calls: The calls by their positions.
         quotes: The quotes, by the time of their replies.
         pending: The requests without a reply, each agent's in order.
-        used: Those of them that were made.
+        used: Those of them that are taken for made.
     """
 
     def __init__(self, good: int, schedule: Schedule) -> None:
@@ -136,41 +136,28 @@ class Auction:
                     raise RecoveryError(f"position {at} of good {self.good} is neither the "
                                         "clock's nor in a reply")
 
-    def settle(self, tick: int, player: Player, game: str) -> None:
-        """Finds which requests without a reply were made, if the replies show that any was.
-
-        Raises:
-            RecoveryError: No way was found by which all replies come out as they were told.
-        """
-        if not self.pending:
-            return
-        known = dict(self.calls)
+    def guesses(self, tick: int) -> Iterator[Guess]:
+        """Ways in which requests without a reply may have been made, the likeliest first, if the
+        clock has called until a tick."""
         # The lobby's clock may be behind: then all ticks are tried.
         guesses = itertools.chain(self._guesses(tick), self._guesses(TICKS))
-        for guess in itertools.islice(guesses, MOST_TRIES):
-            self.calls = {**known, **dict(guess)}
-            if self.holds(player, game):
-                self.used = [call for _, call in guess]
-                return
-        self.calls = known
-        count = sum(map(len, self.pending.values()))
-        raise RecoveryError(f"good {self.good}: no way was found to place the {count} requests "
-                            "without a reply")
+        return itertools.islice(guesses, MOST_TRIES)
 
-    def holds(self, player: Player, game: str) -> bool:
-        """Whether all replies and quotes come out as they were told, in this auction alone."""
-        try:
-            script = script_of(self.items(quotes=True))
-            told, _ = player.play(game, script.text)
-        except RecoveryError:
-            return False
-        return not differences(script, told)
+    def guess(self, known: Dict[int, Call], guess: Guess) -> bool:
+        """Takes a guess beside the calls that are known. Returns whether the positions that are
+        left can be the clock's."""
+        self.calls, self.used = {**known, **dict(guess)}, [call for _, call in guess]
+        return len(self._gaps()) <= len(self._ticks)
+
+    def _gaps(self) -> List[int]:
+        """The positions that no call has."""
+        return [at for at in range(self.length()) if at not in self.calls]
 
     # Where requests without a reply may have been.
 
     def _guesses(self, tick: int) -> Iterator[Guess]:
         """Ways to fill the gaps that the clock leaves until a tick, those with few first."""
-        gaps = [at for at in range(self.length()) if at not in self.calls]
+        gaps = self._gaps()
         fewest = max(0, len(gaps) - self._schedule.most(self.good, tick))
         least = {agent: [self._least(call) for call in calls[:len(gaps)]]
                  for agent, calls in self.pending.items()}
@@ -269,11 +256,10 @@ def script_of(items: Iterable[Tuple[int, Call]]) -> Script:
     return Script("".join(line + "\n" for line in lines), calls)
 
 
-def differences(script: Script, told: Sequence[str]) -> List[str]:
-    """A text for each reply of a script that is not as it was told. Readings of cash are left
-    out, since the calls of a tick are not all at once in a served game."""
-    return [f"{call.agent} {asked_of(call).text}: it was told {call.reply}, and now {line[2:]}"
-            for call, line in zip(script.calls, told)
+def differences(script: Script, told: Sequence[str]) -> List[Tuple[Call, str]]:
+    """The calls of a script whose replies are not as they were told, and the replies now. Readings
+    of cash are left out, since the calls of a tick are not all at once in a served game."""
+    return [(call, line[2:]) for call, line in zip(script.calls, told)
             if asked_of(call).keyword != "cash" and call.reply not in (None, line[2:])]
 
 
@@ -327,7 +313,8 @@ class Recovery:
         """The log, and a text for each reply that is not as it was told."""
         script = self.script()
         told, log = self._player.play(self._reader.text, script.text)
-        return log, differences(script, told)
+        return log, [f"{call.agent} {asked_of(call).text}: it was told {call.reply}, and now {line}"
+                     for call, line in differences(script, told)]
 
     def _place(self, call: Call) -> None:
         asked = asked_of(call)
@@ -346,15 +333,32 @@ class Recovery:
     def _settle(self) -> None:
         for call in self.left:
             self._auctions[asked_of(call).good].pending[call.agent].append(call)
-        for auction in self._auctions:
-            auction.settle(self._tick(), self._player, self._reader.text)
-            self.made += auction.used
+        self._search([auction for auction in self._auctions if auction.pending])
+        self.made = [call for auction in self._auctions for call in auction.used]
         self.left = [call for call in self.left if call not in self.made]
         # A session makes its calls in order: what an agent sent before one that was made was
         # made, too.
         last = {agent: max((call.order for call in self.made if call.agent == agent), default=0)
                 for agent in range(SEATS)}
         self._append([call for call in self.left if call.order < last[call.agent]])
+
+    def _search(self, auctions: List[Auction]) -> None:
+        """Finds which requests without a reply were made, and where: so that all replies and quotes
+        come out as they were told. Auctions do not touch one another, so one play tries a guess in
+        each of them."""
+        known = {auction.good: dict(auction.calls) for auction in auctions}
+        guesses = {auction.good: auction.guesses(self._tick()) for auction in auctions}
+        while auctions:
+            for auction in auctions:
+                calls = known[auction.good]
+                if not any(auction.guess(calls, guess) for guess in guesses[auction.good]):
+                    count = sum(map(len, auction.pending.values()))
+                    raise RecoveryError(f"good {auction.good}: no way was found to place the "
+                                        f"{count} requests without a reply")
+            script = script_of(item for auction in auctions for item in auction.items(quotes=True))
+            told, _ = self._player.play(self._reader.text, script.text)
+            wrong = {asked_of(call).good for call, _ in differences(script, told)}
+            auctions = [auction for auction in auctions if auction.good in wrong]
 
     def _append(self, calls: List[Call]) -> None:
         for call in sorted(calls, key=lambda call: call.order):
