@@ -28,6 +28,7 @@ from geesefuton.processes import Children, command, free_port
 
 MARK = "LEFT_OVER_MARK"
 GRACE = 4.0  # seconds that processes and folders have to end after their script
+MOST = 300.0  # seconds that a script may take to end
 MOMENTS = (0.2, 1.5, 4.0)  # seconds after its start at which a script is ended
 ENDS = (None, signal.SIGINT, signal.SIGTERM, signal.SIGHUP, signal.SIGKILL)
 HANGER = """import signal, socket, sys, time
@@ -96,7 +97,7 @@ def end(script: "subprocess.Popen[bytes]", number: Optional[signal.Signals]) -> 
         time.sleep(0.3)
         if number == signal.SIGINT and script.poll() is None:
             tell(script, number)
-    script.wait(180)
+    script.wait(MOST)
 
 
 def what_is_left(run: Run, place: Path) -> List[str]:
@@ -114,7 +115,10 @@ def what_is_left(run: Run, place: Path) -> List[str]:
                               cwd=place, stdin=subprocess.DEVNULL, stdout=subprocess.DEVNULL,
                               stderr=subprocess.DEVNULL, start_new_session=True)
     time.sleep(run.moment)
-    end(script, run.number)
+    try:
+        end(script, run.number)
+    except subprocess.TimeoutExpired:
+        pass  # it is among the processes that are left
     deadline = time.monotonic() + GRACE
     while True:
         processes, folders = list(left(mark)), sorted(temporary.iterdir())
