@@ -13,6 +13,7 @@ their 54 ticks, and how many of the logs are sound. It takes 54 times the pace a
 
 import asyncio
 import os
+import resource
 import statistics
 import subprocess
 import sys
@@ -151,6 +152,9 @@ def main() -> int:
     if not 0 < given.rate <= 1000:
         parser.error("--rate is above 0, and at most 1000")
     seconds = TICKS * given.pace / 1000
+    # Each agent is an open file here, and a game needs a few more.
+    least, most = resource.getrlimit(resource.RLIMIT_NOFILE)
+    resource.setrlimit(resource.RLIMIT_NOFILE, (max(least, min(most, 20 * given.games + 200)), most))
     with tempfile.TemporaryDirectory() as folder, Children() as children:
         servers = [start(tac, children, Path(folder), number, given.pace)
                    for number in range(given.games)]
