@@ -30,7 +30,7 @@ from collections import deque
 from dataclasses import dataclass
 from pathlib import Path
 from types import FrameType
-from typing import Callable, Deque, List, Optional, Sequence, Set, TextIO
+from typing import Callable, Deque, Dict, List, Optional, Sequence, Set, TextIO
 
 from geesefuton import events, log_files, program
 from geesefuton.events import End, Event
@@ -47,6 +47,7 @@ TAKEN = 5  # the server's exit status if its port is taken
 TRIES = 3  # ports that the server is given
 TURN = 0.2  # seconds between two looks at what has waited too long
 ENDING = 1.0  # seconds that links have to end after the server
+AGAIN = 10.0  # seconds in which the same refusal is told once
 SHOWING = 20.0  # seconds that the page has to show the last scores
 
 
@@ -432,6 +433,7 @@ class Teller:
     def __init__(self, words: Sequence[str]) -> None:
         self._words = list(words)
         self._here: Set[str] = set()
+        self._refused: Dict[str, float] = {}  # when a refusal was told
         self._lines: "queue.SimpleQueue[Optional[str]]" = queue.SimpleQueue()
         self._thread = threading.Thread(target=self._write, daemon=True)
         self._thread.start()
@@ -468,7 +470,11 @@ class Teller:
             self._here.discard(event.word)
             return [f"{event.word} went away, and may come again"]
         if isinstance(event, events.Refused):
-            return [f"refused {event.answer} to {event.source}, which said {event.line!r}"]
+            text = f"refused {event.answer} to {event.source}, which said {event.line!r}"
+            if event.at - self._refused.get(text, 0.0) < AGAIN:
+                return []
+            self._refused[text] = event.at
+            return [text]
         if isinstance(event, events.Waived):
             return [f"{event.word} is not waited for"]
         if isinstance(event, events.Began):
@@ -482,6 +488,8 @@ class Teller:
         if isinstance(event, events.Ended):
             return [f"{event.word} {ENDS[event.reason]}, {event.lines} lines"]
         if isinstance(event, events.Finished):
+            if event.status == STOPPED:
+                return []  # it was told as a warning
             meaning = program.MEANINGS.get(event.status, "")
             more = f": {meaning}" if meaning else ""
             log = f"; the log is in {event.log}" if event.log else ""
