@@ -153,8 +153,10 @@ def main() -> int:
         parser.error("--rate is above 0, and at most 1000")
     seconds = TICKS * given.pace / 1000
     # Each agent is an open file here, and a game needs a few more.
-    least, most = resource.getrlimit(resource.RLIMIT_NOFILE)
-    resource.setrlimit(resource.RLIMIT_NOFILE, (max(least, min(most, 20 * given.games + 200)), most))
+    now, most = resource.getrlimit(resource.RLIMIT_NOFILE)
+    due = min(most, 20 * given.games + 200) if most != resource.RLIM_INFINITY else \
+        20 * given.games + 200
+    resource.setrlimit(resource.RLIMIT_NOFILE, (max(now, due), most))
     with tempfile.TemporaryDirectory() as folder, Children() as children:
         servers = [start(tac, children, Path(folder), number, given.pace)
                    for number in range(given.games)]

@@ -1,4 +1,4 @@
-"""What the benches share: runs with their processor time, what they need, and errors in one line."""
+"""What the benches share: runs with their processor time, what they need, errors in one line."""
 
 import resource
 import shutil
@@ -41,7 +41,8 @@ def run(words: Sequence[Word], allowed: Sequence[int] = (0,)) -> Ran:
     text = done.stdout.decode("ascii", "replace")
     if done.returncode not in allowed:
         told = " ".join(map(str, words))[:120]
-        raise ProgramError(f"`{told}` ended with exit status {done.returncode}: {text[:60].strip()}")
+        raise ProgramError(f"`{told}` ended with exit status {done.returncode}: "
+                           f"{text[:60].strip()}")
     spent = after.ru_utime + after.ru_stime - before.ru_utime - before.ru_stime
     return Ran(text, spent, wall)
 

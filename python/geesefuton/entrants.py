@@ -91,7 +91,8 @@ def seat_words(entrants: Sequence[Entrant]) -> List[str]:
     met: Counter[str] = Counter()
     words = []
     for entrant in entrants:
-        words.append(entrant.root + ("" if not met[entrant.root] else "abcdefgh"[met[entrant.root]]))
+        seats = met[entrant.root]
+        words.append(entrant.root + ("abcdefgh"[seats] if seats else ""))
         met[entrant.root] += 1
     return words
 

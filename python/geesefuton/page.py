@@ -103,7 +103,8 @@ def _scores(game: Game, log: Log, events: Sequence[Event]) -> str:
                      f"<b>{score.score}</b>", bar(score.score, low, high), score.best, score.cash,
                      f"{home} of {CLIENTS}", score.short,
                      _code("; ".join(filter(None, told)))])
-    heads = ["", "team", "score", "", "trips", "cash", "left home", "tickets<br>short", "how it went"]
+    heads = ["", "team", "score", "", "trips", "cash", "left home", "tickets<br>short",
+             "how it went"]
     note = ("A score is what the trips are worth, plus the cash, less 200 for each ticket short. "
             "Equal scores share a rank; a seat that made no call and did not quit has none.")
     return f"<h2>Scores</h2>{table(heads, rows, (1, 8))}<p>{note}</p>"

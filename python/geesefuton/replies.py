@@ -12,7 +12,7 @@ from typing import Any, List, Optional, Sequence, Tuple, Union
 Points = Tuple[Tuple[int, int], ...]  # units, below 0 for selling, and dollars for each
 
 NUMBER = r"(?:0|[1-9][0-9]{0,9})"
-SIGNED = rf"(?:0|-?[1-9][0-9]{{0,17}})"
+SIGNED = r"(?:0|-?[1-9][0-9]{{0,17}})"
 POINTS = rf"\((?:\({SIGNED} {NUMBER}\)(?: \({SIGNED} {NUMBER}\))*)?\)"
 
 CLOSING_REASONS = ("closed", "wrongcall", "nobid", "sell", "selfcross")  # have an entry
@@ -277,7 +277,8 @@ def _read_json_refusal(value: Any, at: Optional[int]) -> No:
     if at is not None and reason in CLOSING_REASONS and not rest:
         return No(at, reason)
     if at is not None and reason == "belowquote" and rest == {"need", "price", "offered"}:
-        return No(at, reason, 0, Below(*(_whole(value[key]) for key in ("need", "price", "offered"))))
+        below = [_whole(value[key]) for key in ("need", "price", "offered")]
+        return No(at, reason, 0, Below(*below))
     if at is None and reason in LINE_REASONS and not rest:
         return No(None, reason)
     if at is None and reason == "bid" and rest == {"fault"}:

@@ -236,7 +236,8 @@ class Tournament:
             rest = Output(file)
             rest.write(csv_of([HEAD]) + text_of(self._unwritten))
             rest.close()
-            text += f", and are in {file}" if rest.fault is None else f", nor to {file}: {rest.fault}"
+            text += (f", and are in {file}" if rest.fault is None
+                     else f", nor to {file}: {rest.fault}")
         self.report.lose(text)
 
 

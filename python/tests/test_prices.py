@@ -84,7 +84,8 @@ class Whole(unittest.TestCase):
 
     def test_hotels_close_at_their_tick_and_sell_at_that_price(self) -> None:
         for good in HOTELS:
-            closes = [event for event in self.events if event.good == good and event.what == "close"]
+            closes = [event for event in self.events
+                      if event.good == good and event.what == "close"]
             self.assertEqual(len(closes), 1)
             self.assertEqual(closes[0].tick, self.game.hotels[good - 8].closes)
             for event in self.events:

@@ -167,7 +167,8 @@ class Commands(unittest.TestCase):
     def test_errors_are_one_line_and_a_status(self) -> None:
         for body, status, told in (
                 ("return 0", 0, ""), ("return 3", 3, ""), ("sys.exit(2)", 2, ""),
-                ("sys.exit()", 0, ""), ("raise ProgramError('no program')", 1, "name: no program\n"),
+                ("sys.exit()", 0, ""),
+                ("raise ProgramError('no program')", 1, "name: no program\n"),
                 ("raise OSError(13, 'x', 'my.file')", 1, "name: my.file: x\n"),
                 ("open('/nowhere/x')", 1, "name: /nowhere/x: No such file or directory\n"),
                 ("raise BrokenPipeError(32, 'x')", 1, "name: its reader has gone\n")):
