@@ -179,10 +179,10 @@ def clauses_of(file: str, call: str) -> Dict[str, List[Target]]:
             for clause in re.finditer(pattern, body, re.S)}
 
 
-def line_of(file: str, pattern: str) -> Optional[int]:
-    """The number of the first line of a file that a pattern matches at its beginning."""
+def line_of(file: str, pattern: str, after: int = 0) -> Optional[int]:
+    """The number of the first line of a file, behind a given one, that a pattern matches at its beginning."""
     with open(file, encoding="utf-8") as source:
         for number, line in enumerate(source, 1):
-            if re.match(pattern, line):
+            if number > after and re.match(pattern, line):
                 return number
     return None

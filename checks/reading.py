@@ -16,9 +16,11 @@ import sys
 from typing import Dict, Iterable, List, Tuple
 
 from definitions import CRATES, LIMITS, ROOT, Definitions, Target, clauses_of, line_of
+from rules import rules_page
 from reading_words import APART, CHAPTERS, HOW_TO_READ, INTRODUCTION, LIBRARY, NOTATION, SENTENCES, TRUTHS
 
 PAGE = os.path.join(ROOT, "docs", "READING.md")
+RULES_PAGE = os.path.join(ROOT, "docs", "RULES.md")
 TOP = os.path.join(CRATES, "tacd", "src", "top.rt")
 Rows = Dict[str, List[str]]  # the names that are used of each module
 
@@ -243,7 +245,8 @@ def main() -> int:
     parser.add_argument("--write", action="store_true", help="write the pages")
     options = parser.parse_args()
     text, faults, figures = page(Definitions())
-    faults += compare(PAGE, text, options.write)
+    rules, wrong_rules = rules_page()
+    faults += wrong_rules + compare(PAGE, text, options.write) + compare(RULES_PAGE, rules, options.write)
     for fault in faults:
         print(f"reading.py: {fault}")
     print(f"reading.py: {figures}; {f'{len(faults)} faults' if faults else 'as the page says'}")
