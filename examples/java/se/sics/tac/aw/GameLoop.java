@@ -22,7 +22,7 @@ final class GameLoop {
   private final boolean[] told = new boolean[Auctions.AUCTIONS]; // closings
   private final int[] moves = new int[Auctions.HOTELS]; // ticks that each flight's price shows
   private int closings; // of hotels
-  private int roundsSinceClosing = 1;
+  private int roundsSinceClosing = ROUNDS + 1;
   private int openAt; // the request line after which no new closing of a hotel was seen
   private int published; // that of `openAt` before the last closing
   private boolean live; // quotes, not only published by the clock
@@ -70,10 +70,10 @@ final class GameLoop {
     }
     int before = closings;
     if (lookAtHotels() && closings == before) {
-      // A price was published. If the clock did it, a closing came before, which is seen now, or
-      // was seen in the last round.
+      // A price was published. If the clock did it, a closing came before: it is seen now, or was
+      // seen less than a tick ago, if the machine is busy.
       lookAtHotels();
-      live |= closings == before && roundsSinceClosing > 0;
+      live |= closings == before && roundsSinceClosing > ROUNDS;
     }
     roundsSinceClosing++;
     if (closings > before) {
