@@ -19,14 +19,11 @@ import sys
 from pathlib import Path
 from typing import Dict, Iterator, List
 
-TOP = Path(__file__).resolve().parent.parent
-sys.path.insert(0, str(TOP / "python"))
+from trying import TOP, Parser, ProgramError
 
-from geesefuton import program  # noqa: E402
-from geesefuton.arguments import Parser  # noqa: E402
-from geesefuton.games import TICKS  # noqa: E402
-from geesefuton.processes import Children, command, free_port  # noqa: E402
-from geesefuton.program import ProgramError  # noqa: E402
+from geesefuton import program
+from geesefuton.games import TICKS
+from geesefuton.processes import Children, command, free_port
 
 LAYER = TOP / "examples/java"
 TESTS = TOP / "checks/java"

@@ -1,4 +1,4 @@
-"""What happens while a game is hosted, as values. A `Lobby` passes them on in the order in which they happen."""
+"""What happens while a game is hosted, as values: a `Lobby` passes them on as it happens."""
 
 from __future__ import annotations
 

@@ -28,10 +28,11 @@ from dataclasses import dataclass, field
 from pathlib import Path
 from typing import Any, Callable, Deque, Dict, List, Optional, Tuple
 
-from geesefuton.dialects import CASH, MOST_LINE, Request, is_refusal, position_of, reply_of
-from geesefuton.dialects import request_of
+from geesefuton.dialects import CASH, MOST_LINE, Asked, asked_by, is_refusal, position_of
+from geesefuton.dialects import reply_of
 from geesefuton.games import GOODS, HOTELS, SEATS, TICKS, Game, GameError, read_game
 from geesefuton.processes import why
+from geesefuton.replies import ReplyError
 
 VERSION = 1
 SYNC = 1.0  # seconds between two requests to put what was written onto the disk
@@ -139,7 +140,7 @@ class Call:
 
     Attributes:
         agent: Who asked.
-        request: What the server took it for; None if it was refused or is no request.
+        asked: What the server took it for; None if it was refused, or has no position.
         order: The number of its line in the journal.
         tick: The tick that was the last when it was passed on.
         reply: Its reply.
@@ -149,7 +150,7 @@ class Call:
     """
 
     agent: int
-    request: Optional[Request]
+    asked: Optional[Asked]
     order: int
     tick: int
     reply: Optional[str] = None
@@ -239,7 +240,7 @@ class JournalReader:
                     raise ValueError("the first line, and no other, says `journal`")
                 self._add(what)
             except (ValueError, KeyError, IndexError, TypeError, AttributeError,
-                    GameError) as fault:
+                    GameError, ReplyError) as fault:
                 raise JournalError(f"line {self.lines} is none of a journal: {fault}") from None
 
     def copy(self) -> "JournalReader":
@@ -254,9 +255,9 @@ class JournalReader:
         calls = []
         for number, agent in enumerate(self.agents):
             for order, tick, line in agent.waiting:
-                request = request_of(line, self.form)
-                if request and request.good != CASH and request.keyword != "quote":
-                    calls.append(Call(number, request, order, tick))
+                asked = asked_by(line, self.form)
+                if asked and asked.good != CASH and asked.keyword != "quote":
+                    calls.append(Call(number, asked, order, tick))
         return calls
 
     def _add(self, what: Dict[str, Any]) -> None:
@@ -299,14 +300,14 @@ class JournalReader:
         agent = self.agents[number]
         if not agent.waiting:
             raise ValueError("the reply has no request")
-        order, tick, asked = agent.waiting.popleft()
+        order, tick, asking = agent.waiting.popleft()
         reply = reply_of(line, self.form)
         call = Call(number, None, order, tick, reply, position_of(reply), now, self.lines)
         agent.answered += 1
         agent.refused += is_refusal(line.encode("latin-1"))
         if call.at is not None:
-            call.request = request_of(asked, self.form)
-            if call.request is None:
+            call.asked = asked_by(asking, self.form)
+            if call.asked is None:
                 raise ValueError("a line that asks nothing has a reply with a position")
         self.calls.append(call)
 

@@ -30,7 +30,7 @@ from collections import deque
 from dataclasses import dataclass
 from pathlib import Path
 from types import FrameType
-from typing import Callable, Deque, List, Optional, Sequence, Set, TextIO
+from typing import Callable, Deque, Dict, List, Optional, Sequence, Set, TextIO
 
 from geesefuton import events, log_files, program
 from geesefuton.events import End, Event
@@ -38,6 +38,7 @@ from geesefuton.games import TICKS
 from geesefuton.journal import Journal
 from geesefuton.processes import Children, command, free_port, tell, why
 from geesefuton.relay import Relay, Session
+from geesefuton.seats import SILENCE
 
 HINT = "an empty line begins the game, and `without WORD` waits for that agent no longer"
 STOPPED = 130  # the exit status of a game that was ended before its time
@@ -45,7 +46,8 @@ FULL = 4  # the exit status if the output takes no more
 TAKEN = 5  # the server's exit status if its port is taken
 TRIES = 3  # ports that the server is given
 TURN = 0.2  # seconds between two looks at what has waited too long
-ENDING = 2.0  # seconds that links have to end after the server
+ENDING = 1.0  # seconds that links have to end after the server
+AGAIN = 10.0  # seconds in which the same refusal is told once
 SHOWING = 20.0  # seconds that the page has to show the last scores
 
 
@@ -66,9 +68,12 @@ class LobbySettings:
         start: The seconds until the game begins without those who are missing; None waits.
         linger: The seconds after the last tick until the links that are left are ended.
         patience: The seconds that a link has for its first line.
+        silence: The seconds without a word after which an agent's link gives way to another one
+            with its word.
         journal: The journal, a new file. A copy of the log is written beside it.
         page: The port of the live page; None for no page.
         late: By how many ticks the page shows later what agents cannot ask.
+        names: Whether the page calls agents by their seat words, which are passwords.
         orders: The host's commands.
     """
 
@@ -80,9 +85,11 @@ class LobbySettings:
     start: Optional[float] = None
     linger: float = 30.0
     patience: float = 30.0
+    silence: float = SILENCE
     journal: Optional[Path] = None
     page: Optional[int] = None
     late: int = 6
+    names: bool = False
     orders: Optional[TextIO] = None
 
 
@@ -137,7 +144,8 @@ class Lobby:
             journal = self._open_journal(folder)
             if journal:
                 stack.callback(journal.close)
-            relay = Relay(self.words, self._listener, self._emit, journal, self.settings.patience)
+            relay = Relay(self.words, self._listener, self._emit, journal, self.settings.patience,
+                          self.settings.silence)
             stack.callback(relay.close)
             relay.attend(self._wake, lambda: bool(self._wake.recv(4096)))
             reader = _Orders(self.settings.orders, self._orders)
@@ -183,7 +191,7 @@ class Lobby:
         _listen(given.page).close()  # tells whether the port is free
         path = [str(Path(__file__).resolve().parents[1]), os.environ.get("PYTHONPATH", "")]
         words = [sys.executable, "-m", "geesefuton.live", str(journal.file), str(given.page),
-                 "--late", str(given.late), "--until-over"]
+                 "--late", str(given.late), "--until-over"] + ["--names"] * given.names
         return children.start(words, stdin=subprocess.DEVNULL, stdout=subprocess.DEVNULL,
                               env={**os.environ, "PYTHONPATH": os.pathsep.join(filter(None, path))})
 
@@ -191,14 +199,15 @@ class Lobby:
               reader: "_Orders") -> int:
         self._gather(relay, reader)
         if self._is_stopped:
-            return self._stop(relay, journal)
+            return self._stop(journal)
         game = folder / "game"
         game.write_text(self._text, encoding="ascii")
         server = self._begin(children, game, relay)
         self.is_playing = True
         self._play(relay, server, reader)
         if self._is_stopped:
-            return self._stop(relay, journal)
+            children.end(server)
+            return self._stop(journal)
         status = server.wait()
         relay.settle()
         self._end_links(relay)
@@ -241,6 +250,7 @@ class Lobby:
             assert server.stdout is not None
             links = _enter(server, port, self.words)
             if len(links) < len(self.words) and server.wait() == TAKEN and number + 1 < TRIES:
+                server.stdout.close()
                 continue
             os.set_blocking(server.stdout.fileno(), False)
             relay.attend(server.stdout, lambda: self._hear_log(relay, server))
@@ -301,7 +311,7 @@ class Lobby:
 
     # The end.
 
-    def _stop(self, relay: Relay, journal: Optional[Journal]) -> int:
+    def _stop(self, journal: Optional[Journal]) -> int:
         text = "stopped: there is no log"
         if journal and self.settings.journal and self.is_playing:
             text += f"; this makes one of the journal: {recovery_line(journal.file)}"
@@ -423,6 +433,7 @@ class Teller:
     def __init__(self, words: Sequence[str]) -> None:
         self._words = list(words)
         self._here: Set[str] = set()
+        self._refused: Dict[str, float] = {}  # when a refusal was told
         self._lines: "queue.SimpleQueue[Optional[str]]" = queue.SimpleQueue()
         self._thread = threading.Thread(target=self._write, daemon=True)
         self._thread.start()
@@ -459,7 +470,11 @@ class Teller:
             self._here.discard(event.word)
             return [f"{event.word} went away, and may come again"]
         if isinstance(event, events.Refused):
-            return [f"refused {event.answer} to {event.source}, which said {event.line!r}"]
+            text = f"refused {event.answer} to {event.source}, which said {event.line!r}"
+            if event.at - self._refused.get(text, 0.0) < AGAIN:
+                return []
+            self._refused[text] = event.at
+            return [text]
         if isinstance(event, events.Waived):
             return [f"{event.word} is not waited for"]
         if isinstance(event, events.Began):
@@ -473,6 +488,8 @@ class Teller:
         if isinstance(event, events.Ended):
             return [f"{event.word} {ENDS[event.reason]}, {event.lines} lines"]
         if isinstance(event, events.Finished):
+            if event.status == STOPPED:
+                return []  # it was told as a warning
             meaning = program.MEANINGS.get(event.status, "")
             more = f": {meaning}" if meaning else ""
             log = f"; the log is in {event.log}" if event.log else ""
@@ -504,6 +521,9 @@ def _arguments(words: Optional[Sequence[str]]) -> argparse.Namespace:
                         help="how long after the last tick links are ended; 30")
     parser.add_argument("--patience", type=float, default=30, metavar="SECONDS",
                         help="how long to wait for the first line of a link; 30")
+    parser.add_argument("--silence", type=float, default=SILENCE, metavar="SECONDS",
+                        help="how long an agent's link says nothing before it gives way to another "
+                             f"one with its word; {SILENCE:g}")
     parser.add_argument("--journal", type=Path, metavar="FILE",
                         help="the journal, a new file; by default GAME-DATE.journal beside the log")
     parser.add_argument("--page", type=int, metavar="PORT",
@@ -511,6 +531,8 @@ def _arguments(words: Optional[Sequence[str]]) -> argparse.Namespace:
     parser.add_argument("--late", type=int, default=6, metavar="TICKS",
                         help="how many ticks later the page shows what agents cannot ask: scores, "
                              "trades, standing bids; 6, and 54 is after the game, 0 at once")
+    parser.add_argument("--names", action="store_true",
+                        help="the page calls agents by their seat words, which are passwords")
     given = parser.parse_intermixed_args(words)  # `json` may stand after an option too
     if not 1 <= given.port <= 65535 or not 1 <= given.pace <= 60000:
         parser.error("PORT is 1 to 65535, PACE 1 to 60000")
@@ -518,7 +540,7 @@ def _arguments(words: Optional[Sequence[str]]) -> argparse.Namespace:
         parser.error("the port of the page is 1 to 65535")
     if not 0 <= given.late <= TICKS:
         parser.error(f"--late is 0 to {TICKS}")
-    for name in ("start", "after", "patience"):
+    for name in ("start", "after", "patience", "silence"):
         value = getattr(given, name)
         if value is not None and not 0 <= value <= 1e9:
             parser.error(f"--{name} is a number of seconds, 0 or more")
@@ -597,8 +619,9 @@ def _main() -> int:
     settings = LobbySettings(
         game=given.game, port=given.port, pace=given.pace, form=given.form or "words",
         log=sys.stdout.buffer if has_output and sys.stdout else None, start=given.start,
-        linger=given.after, patience=given.patience, journal=given.journal, page=given.page,
-        late=given.late, orders=sys.stdin)
+        linger=given.after, patience=given.patience, silence=given.silence,
+        journal=given.journal, page=given.page, late=given.late, names=given.names,
+        orders=sys.stdin)
     try:
         lobby = Lobby(settings)
         teller = Teller(lobby.words)

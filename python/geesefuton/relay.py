@@ -27,7 +27,7 @@ MOST_SAID = 65536  # bytes of an agent's lines that are kept; it is not read whi
 MOST_HELD = 65536  # bytes for an agent that does not read; nothing is asked for it beyond these
 MOST_STRANGERS = 200  # links that have not sent a first line
 ADMISSION = 10  # lines of a welcome
-PARTING = 2.0  # seconds that a link has to end its side after it was sent its last line
+PARTING = 1.0  # seconds that a link has to end its side after it was sent its last line
 KEEPALIVE = {"TCP_KEEPIDLE": 5, "TCP_KEEPINTVL": 3, "TCP_KEEPCNT": 3}  # seconds, seconds, probes
 
 
@@ -120,6 +120,7 @@ class Relay:
         emit: Is told what happens.
         journal: Where it is written, if anywhere.
         patience: The seconds that a link has for its first line.
+        silence: The seconds without a word after which a link gives way to another.
 
     Attributes:
         started: When the welcome came, by `time.monotonic`.
@@ -127,8 +128,8 @@ class Relay:
 
     def __init__(self, words: Sequence[str], listener: socket.socket,
                  emit: Callable[[Event], None], journal: Optional[Journal],
-                 patience: float) -> None:
-        self.seats, self.sessions = Seats(words), list[Session]()
+                 patience: float, silence: float) -> None:
+        self.seats, self.sessions = Seats(words, silence), list[Session]()
         self.started: Optional[float] = None
         self._emit, self.journal, self._patience = emit, journal, patience
         self._links: Dict[int, OuterLink] = {}

@@ -20,7 +20,6 @@ from typing import List, Optional, Sequence, Tuple, Union
 from .events import End
 
 SILENCE = 10.0  # seconds without a word after which a link gives way to another with its word
-MOST_LINE = 512  # bytes of a line before its end
 
 GREETING = re.compile(rb"hello ([a-z0-9]{1,16})")
 
@@ -70,17 +69,28 @@ Action = Union[Give, Refuse, Close, Over]
 
 @dataclass
 class Seat:
-    """One seat. `holder` is the link that has it, and `heir` one that waits for it."""
+    """One seat.
+
+    Attributes:
+        silence: The seconds without a word after which its link gives way to another.
+        holder: The link that has it.
+        heir: A link that waits for it.
+        heard: When the holder spoke last, in seconds.
+        played: Whether an agent had it in the game.
+        playing: Whether the game has begun.
+        kept: Whether it waits for its agent while no link has it.
+    """
 
     number: int
     word: str
+    silence: float = SILENCE
     state: State = State.FREE
     holder: Optional[int] = None
     heir: Optional[int] = None
-    heard: float = 0.0  # when the holder spoke last, in seconds
-    played: bool = False  # whether an agent had the seat in the game
-    playing: bool = False  # whether the game has begun
-    kept: bool = True  # whether a seat without a link waits for its agent
+    heard: float = 0.0
+    played: bool = False
+    playing: bool = False
+    kept: bool = True
 
     def come(self, link: int, now: float) -> List[Action]:
         """A link says the word of the seat."""
@@ -89,7 +99,7 @@ class Seat:
         if self.state is State.CLOSING:
             return self._replace(link, now)
         if self.state is State.HELD and self.playing:
-            if now - self.heard >= SILENCE:
+            if now - self.heard >= self.silence:
                 return self._replace(link, now)
             self.state, self.heir = State.CLAIMED, link
             return []
@@ -128,7 +138,7 @@ class Seat:
 
     def wait(self, now: float) -> List[Action]:
         """Time passes."""
-        if self.state is State.CLAIMED and now - self.heard >= SILENCE:
+        if self.state is State.CLAIMED and now - self.heard >= self.silence:
             return self._replace(self.heir, now)
         return []
 
@@ -202,10 +212,12 @@ class Seats:
     """The eight seats of a game, in the order of their agents."""
 
     words: Sequence[str]
+    silence: float = SILENCE
     seats: List[Seat] = field(init=False)
 
     def __post_init__(self) -> None:
-        self.seats = [Seat(number, word) for number, word in enumerate(self.words)]
+        self.seats = [Seat(number, word, self.silence)
+                      for number, word in enumerate(self.words)]
 
     def admit(self, line: bytes) -> Tuple[Optional[Seat], str]:
         """The seat that a first line asks for, or None and the refusal that is due."""
