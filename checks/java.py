@@ -12,20 +12,18 @@ It ends with 0 if all is as it should be and with 1 if not; without a program or
 a line, and ends with 0.
 """
 
-import argparse
 import re
 import shutil
-import signal
 import subprocess
 import sys
-import tempfile
 from pathlib import Path
-from typing import Iterator
+from typing import Dict, Iterator, List
 
-TOP = Path(__file__).resolve().parent.parent
-sys.path.insert(0, str(TOP / "examples"))
+from trying import TOP, Parser, ProgramError
 
-from children import PROGRAM, TICKS, Children, free_port
+from geesefuton import program
+from geesefuton.games import TICKS
+from geesefuton.processes import Children, command, free_port
 
 LAYER = TOP / "examples/java"
 TESTS = TOP / "checks/java"
@@ -39,24 +37,11 @@ PYTHON = ("planner", "trader", "planner", "trader")  # at the odd seats
 PURPOSE = "thrown on purpose"  # of an exception by which the test tries the layer
 
 
-def run(words: list[str]) -> str:
-    """What a command prints.
-
-    Raises:
-        RuntimeError: it ended with another status than 0.
-    """
-    done = subprocess.run(words, stdout=subprocess.PIPE, stderr=subprocess.STDOUT, text=True)
-    if done.returncode:
-        last = done.stdout.strip().splitlines()[-1:] or ["nothing"]
-        raise RuntimeError(f"{Path(words[0]).name} ended with {done.returncode}: {last[0]}")
-    return done.stdout
-
-
 def build(children: Children, classes: Path) -> None:
     """Compiles the layer, its agent and its tests.
 
     Raises:
-        RuntimeError: they are refused.
+        ProgramError: They are refused.
     """
     sources = [LAYER / "TripAgent.java", *sorted(TESTS.glob("*.java"))]
     options = [f"-J{NO_FILE}", "-d", str(classes), "-sourcepath", str(LAYER)]
@@ -64,23 +49,23 @@ def build(children: Children, classes: Path) -> None:
                               stderr=subprocess.STDOUT, text=True)
     said = compiler.communicate()[0]
     if children.end(compiler):
-        raise RuntimeError(f"javac: {said.strip().splitlines()[0] if said else 'no message'}")
+        raise ProgramError(f"javac: {said.strip().splitlines()[0] if said else 'no message'}")
 
 
 class Game:
     """A served game, whose files are in a folder of its own."""
 
-    def __init__(self, children: Children, place: Path, classes: Path, game: Path):
+    def __init__(self, children: Children, place: Path, classes: Path, game: Path) -> None:
         place.mkdir()
         self.children, self.place, self.classes, self.game = children, place, classes, game
         self.port = free_port()
-        self.agents: dict[str, subprocess.Popen] = {}
+        self.agents: Dict[str, "subprocess.Popen[bytes]"] = {}
         self.log = place / "log"
-        words = [PROGRAM, "serve", str(game), str(self.port), str(PACE)]
+        words = [program.find(), "serve", str(game), str(self.port), str(PACE)]
         with self.log.open("wb") as log:
             self.server = children.start(words, stdout=log)
 
-    def start(self, word: str, words: list[str]) -> None:
+    def start(self, word: str, words: List[str]) -> None:
         """Starts an agent, which prints into a file that has the name of its seat word."""
         with (self.place / word).open("wb") as out:
             child = self.children.start(words, stdout=out, stderr=subprocess.STDOUT)
@@ -95,7 +80,7 @@ class Game:
         self.start(f"seat{seat}", [sys.executable, str(TOP / f"examples/agents/{name}.py"),
                                    "localhost", str(self.port), f"seat{seat}", "--pause", "0.1"])
 
-    def faults(self, java: list[int]) -> Iterator[str]:
+    def faults(self, java: List[int]) -> Iterator[str]:
         """Waits until the game and its agents have ended, and yields what is wrong.
 
         Args:
@@ -116,7 +101,7 @@ class Game:
                 yield f"{word} had not ended"
             if agent.returncode:
                 yield f"{word} ended with {agent.returncode}"
-        audit = run([PROGRAM, "audit", str(self.game), str(self.log)]).strip()
+        audit = program.audit(self.game, self.log)
         if audit != "sound":
             yield f"the log is {audit}"
         scores = re.findall(r"^score (\d) \d+ (-?\d+) ", self.log.read_text(), re.MULTILINE)
@@ -136,7 +121,7 @@ def play(children: Children, place: Path) -> Iterator[str]:
     """Builds, plays all games one after another, and yields what is wrong."""
     classes, made = place / "classes", place / "made.game"
     build(children, classes)
-    made.write_text(run([PROGRAM, "make", "42"]))
+    made.write_text(program.make(42))
     alone = Game(children, place / "alone", classes, made)
     for seat in range(8):
         alone.start_java(seat, "TripAgent")
@@ -156,34 +141,23 @@ def play(children: Children, place: Path) -> Iterator[str]:
 
 
 def main() -> int:
-    argparse.ArgumentParser(description=__doc__,
-                            formatter_class=argparse.RawDescriptionHelpFormatter).parse_args()
+    Parser("java", __doc__).parse_args()
     if not shutil.which("javac") or not shutil.which("java"):
         print("java: skipped, there is no JDK")
         return 0
-    if not shutil.which(PROGRAM):
-        print(f"java: skipped, there is no program {PROGRAM}")
-        return 0
-    for number in (signal.SIGTERM, signal.SIGHUP):
-        signal.signal(number, signal.default_int_handler)
-    children = Children()
-    count = 0
     try:
-        with tempfile.TemporaryDirectory(prefix="java") as place:
-            for fault in play(children, Path(place)):
-                count += 1
-                print(f"java: {fault}", flush=True)
-            children.close()
-    except RuntimeError as fault:
-        count += 1
-        print(f"java: {fault}")
-    except KeyboardInterrupt:
-        return 130
-    finally:
-        children.close()
+        program.find()
+    except ProgramError as fault:
+        print(f"java: skipped, {fault}")
+        return 0
+    count = 0
+    with Children() as children:
+        for fault in play(children, children.folder("java")):
+            count += 1
+            print(f"java: {fault}", flush=True)
     print("java: four games as they should be" if not count else f"java: {count} faults")
     return 1 if count else 0
 
 
 if __name__ == "__main__":
-    sys.exit(main())
+    sys.exit(command("java", main))
