@@ -110,6 +110,8 @@ class Lobby:
         self.settings = settings
         self._text = program.show(settings.game)
         self.words = self._text.split("\n")[1].split()[1:]
+        if settings.page is not None:
+            _listen(settings.page).close()  # tells whether the port is free
         self._listener = _listen(settings.port)
         self.port: int = self._listener.getsockname()[1]
         self.is_playing = False
@@ -120,6 +122,7 @@ class Lobby:
         self._wake.setblocking(False)
         self._waker.setblocking(False)
         self._log: List[bytes] = []
+        self._page: Optional["subprocess.Popen[bytes]"] = None
 
     def run(self, on_event: Callable[[Event], None]) -> int:
         """Plays the game.
@@ -150,11 +153,12 @@ class Lobby:
             relay.attend(self._wake, lambda: bool(self._wake.recv(4096)))
             reader = _Orders(self.settings.orders, self._orders)
             reader.attach(relay)
-            page = self._start_page(children, journal) if journal else None
+            if journal and self.settings.page is not None:
+                self._page = self._start_page(children, journal)
             status = self._host(children, folder, relay, journal, reader)
-            if page is not None and not self._is_stopped:
+            if self._page is not None and not self._is_stopped:
                 with contextlib.suppress(subprocess.TimeoutExpired):
-                    page.wait(SHOWING)
+                    self._page.wait(SHOWING)
             return status
 
     def interrupt(self) -> None:
@@ -183,12 +187,8 @@ class Lobby:
         journal.head(given.pace, given.form, self._text)
         return journal
 
-    def _start_page(self, children: Children,
-                    journal: Journal) -> Optional["subprocess.Popen[bytes]"]:
+    def _start_page(self, children: Children, journal: Journal) -> "subprocess.Popen[bytes]":
         given = self.settings
-        if given.page is None:
-            return None
-        _listen(given.page).close()  # tells whether the port is free
         path = [str(Path(__file__).resolve().parents[1]), os.environ.get("PYTHONPATH", "")]
         words = [sys.executable, "-m", "geesefuton.live", str(journal.file), str(given.page),
                  "--late", str(given.late), "--until-over"] + ["--names"] * given.names
@@ -300,7 +300,14 @@ class Lobby:
                 looked = now
                 relay.pass_time(now)
                 reader.look(relay)
+                self._look_at_page()
             self._obey(relay)
+
+    def _look_at_page(self) -> None:
+        if self._page is not None and self._page.poll() is not None:
+            self._warn(f"the page has ended, exit status {self._page.returncode}; "
+                       "the game goes on without it")
+            self._page = None
 
     def _end_links(self, relay: Relay) -> None:
         """Sends to agents what they still get, for a while."""

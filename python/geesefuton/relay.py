@@ -170,7 +170,9 @@ class Relay:
         self._deliver()
 
     def pass_time(self, now: float) -> None:
-        """Ends what has waited too long."""
+        """Ends what has waited too long, and writes what the journal keeps."""
+        if self.journal:
+            self.journal.flush()
         if self._deaf_until is not None and now > self._deaf_until:
             self._deaf_until = None
             self.attend(self._listener, self._accept)

@@ -54,7 +54,8 @@ class Serving(unittest.TestCase):
         deadline = time.monotonic() + 10
         while True:
             try:
-                with urllib.request.urlopen(f"http://127.0.0.1:{self.port}{path}", timeout=5) as got:
+                address = f"http://127.0.0.1:{self.port}{path}"
+                with urllib.request.urlopen(address, timeout=5) as got:
                     return got.read(), got.headers["Content-Security-Policy"]
             except urllib.error.HTTPError:
                 raise
