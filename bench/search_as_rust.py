@@ -1,21 +1,27 @@
 #!/usr/bin/env python3
-"""Builds the search for the best allocation as plain Rust, without contracts and proofs, so that a change of it can be tried in seconds.
+"""Builds the search for the best allocation as plain Rust, without contracts and proofs, so that a
+change of it can be tried in seconds.
 
-    bench/search_as_rust.py FOLDER            writes FOLDER/src and builds FOLDER/solve by rustc
-    FOLDER/solve solve ACCOUNT                prints the lines `total` and `cert` that `tac solve` prints, so bench/climb.py --tac takes it
-    FOLDER/solve ACCOUNT ..                   a line each: total, lines and leaves of the certificate, milliseconds
-    FOLDER/solve plain ACCOUNT ..             the same, and the leaves of plain branching, which starts with the best total and splits by the
-                                              greatest branching priority whatever part's relaxation is worth more
+    bench/search_as_rust.py FOLDER     writes FOLDER/src and builds FOLDER/solve by rustc
+    FOLDER/solve solve ACCOUNT         prints the lines `total` and `cert` that `tac solve` prints,
+                                       so bench/climb.py --tac takes it
+    FOLDER/solve ACCOUNT ..            a line each: total, lines and leaves of the certificate,
+                                       milliseconds
+    FOLDER/solve plain ACCOUNT ..      the same, and the leaves of plain branching, which starts
+                                       with the best total and splits by the greatest branching
+                                       priority whatever part's relaxation is worth more
 
-It takes `packages`, `relaxation`, `dual_bound` and `allocator` from crates/, leaves out what only proofs need, and writes small stand-ins for the crates
-below them. The certificates have the same lines as the proved program's. Edit FOLDER/src and call rustc again to try a change.
+It takes `packages`, `relaxation`, `dual_bound` and `allocator` from crates/, leaves out what only
+proofs need, and writes small stand-ins for the crates below them. The certificates have the same
+lines as the proved program's. Edit FOLDER/src and call rustc again to try a change.
 """
 
-import argparse
 import re
 import shutil
-import subprocess
+import sys
 from pathlib import Path
+
+from running import Parser, command, need, run
 
 TOP = Path(__file__).resolve().parent.parent / "crates"
 CRATES = ("packages", "relaxation", "dual_bound", "allocator")
@@ -108,7 +114,7 @@ fn main() {
 }
 
 
-def after_block(text, start):
+def after_block(text: str, start: int) -> int:
     """The place after the brace that closes the next one that opens."""
     depth, place = 0, text.index("{", start)
     while True:
@@ -118,35 +124,46 @@ def after_block(text, start):
             return place
 
 
-def without(pattern, text):
-    """The text without what begins so, up to the brace that closes it and a comma or semicolon of a ghost item after that."""
+def without(pattern: str, text: str) -> str:
+    """The text without what begins so, up to the brace that closes it and a comma or semicolon of a
+    ghost item after that."""
     while found := re.search(pattern, text, re.M):
         end = after_block(text, found.start())
-        is_item = "ghost" in found.group(0) and text[end : end + 1] in (",", ";")
-        text = text[: found.start()].rstrip(" \n") + ("\n" if is_item else "") + text[end + is_item :]
+        is_item = "ghost" in found.group(0) and text[end:end + 1] in (",", ";")
+        line_end = "\n" if is_item else ""
+        text = text[:found.start()].rstrip(" \n") + line_end + text[end + is_item:]
     return text
 
 
-def as_rust(text, crate):
+def as_rust(text: str, crate: str) -> str:
+    """A module of a crate without what only proofs need."""
+    def derived(found: "re.Match[str]") -> str:
+        names = found.group(1).split(", ")
+        return f"derive({', '.join(name for name in names if name not in ('Drop', 'Debug'))})"
+
     text = "\n".join(line for line in text.split("\n") if not line.strip().startswith("//"))
     text = re.sub(r"^\s*ghost use [^;]*;\n", "", text, flags=re.M)
     text = re.sub(r"^\s*#!?\[(tactic|cycle)[^\n]*\n", "", text, flags=re.M)
-    for pattern in (r"^[ \t]*ghost ", r"^[ \t]*(requires|ensures)\b", r"^impl(<[^>]*>)? Model for"):
+    for pattern in (r"^[ \t]*ghost ", r"^[ \t]*(requires|ensures)\b",
+                    r"^impl(<[^>]*>)? Model for"):
         text = without(pattern, text)
     text = re.sub(r"use std::(marker::Model|alloc::[^;]*|num::saturating_f64_to_u16);\n", "", text)
     text = re.sub(r"\bsaturating_f64_to_u16\(", "(|number: f64| number as u16)(", text)
-    text = re.sub(r"derive\(([^)]*)\)", lambda found: "derive(" + ", ".join(name for name in found.group(1).split(", ") if name not in ("Drop", "Debug")) + ")", text)
+    text = re.sub(r"derive\(([^)]*)\)", derived, text)
     text = re.sub(r"\balloc: Global,|\balloc,", "", text)
-    text = text.replace("Vec::new(alloc)", "Vec::new()").replace("children.push(child)?", "children.push(child)")
+    text = text.replace("Vec::new(alloc)", "Vec::new()")
+    text = text.replace("children.push(child)?", "children.push(child)")
     text = text.replace("crate::", f"crate::{crate}::").replace("pub(crate)", "pub")
     text = re.sub(r"\b(AllocError|AllocFailed)\b", r"crate::tac_base::\1", text)
-    return re.sub(rf"\buse ({'|'.join(CRATES)}|tac_base|game_text|bound_cert)::", r"use crate::\1::", text)
+    return re.sub(rf"\buse ({'|'.join(CRATES)}|tac_base|game_text|bound_cert)::",
+                  r"use crate::\1::", text)
 
 
-def main():
-    parser = argparse.ArgumentParser(description=__doc__, formatter_class=argparse.RawDescriptionHelpFormatter)
+def main() -> int:
+    parser = Parser("search_as_rust", __doc__)
     parser.add_argument("folder", type=Path)
     folder = parser.parse_args().folder
+    need("rustc")
     source = folder / "src"
     shutil.rmtree(source, ignore_errors=True)
     for crate in CRATES:
@@ -157,11 +174,13 @@ def main():
                 text = re.sub(r"mod printing;|pub use printing[^;]*;", "", text)
             elif file.stem == "printing":
                 continue
-            (source / crate / ("mod.rs" if file.stem == "lib" else file.stem + ".rs")).write_text(text)
+            name = "mod.rs" if file.stem == "lib" else file.stem + ".rs"
+            (source / crate / name).write_text(text)
     for name, text in STANDINS.items():
         (source / name).write_text(text)
-    subprocess.run(["rustc", "--edition", "2021", "-O", source / "main.rs", "-o", folder / "solve"], check=True)
+    run(["rustc", "--edition", "2021", "-O", source / "main.rs", "-o", folder / "solve"])
+    return 0
 
 
 if __name__ == "__main__":
-    main()
+    sys.exit(command("search_as_rust", main))

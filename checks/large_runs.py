@@ -1,54 +1,76 @@
 #!/usr/bin/env python3
-"""Runs the program on inputs larger than those of the tests: a long script, its log, a table of 64 games, and a served game with live quotes.
+"""Runs the program on inputs larger than those of the tests: a long script, its log, a table of 64
+games, and a served game with live quotes.
 
-A contract allows the status 7 and the line `memory` wherever memory may be refused, so a program that says so without cause meets its
-contracts; these runs have enough memory, and 7 is wrong in each. It runs after `rt ci`, which leaves the program at crates/tacd/out/tacd. It
-ends with 0 if each run ended as expected, with 1 if one did not, and prints nothing and ends with 0 if there is no program."""
-import argparse
-import pathlib
+A contract allows the status 7 and the line `memory` wherever memory may be refused, so a program
+that says so without cause meets its contracts; these runs have enough memory, and 7 is wrong in
+each. It ends with 0 if each run ended as expected, and with 1 if one did not, or there is no
+program.
+"""
+
 import subprocess
 import sys
 import tempfile
+from pathlib import Path
+from typing import Callable, Iterator, List, Tuple, Union
 
-from eight_agents import EightAgents, free_port
+from trying import TOP, EightAgents, parser_with_program, program_of
 
-TOP = pathlib.Path(__file__).resolve().parent.parent
+from geesefuton.processes import command, free_port
+from geesefuton.program import ProgramError
+
 GAME = str(TOP / "examples" / "first.game")
 GAME_BYTES = 1_048_576  # that a game file may have
 TEXT_BYTES = 67_108_864  # that a script, a log or an account may have
 CALLS = 1024  # that an agent may make in one auction
+MOST = 120  # seconds of a run
+
+Word = Union[str, Path]
 
 
-def long_script():
+def long_script() -> str:
     """All requests that eight agents can make in 28 auctions, without any trade: 229,376."""
-    return "".join(f"{agent} own {good}\n" for _ in range(CALLS) for good in range(28) for agent in range(8))
+    return "".join(f"{agent} own {good}\n" for _ in range(CALLS) for good in range(28)
+                   for agent in range(8))
 
 
-def lines_of(seat):
+def lines_of(seat: int) -> str:
     """The lines of an agent that bids in each hotel and asks for its quotes."""
-    return f"hello seat{seat}\n" + "".join(f"bid {good} ((1 {100 + seat}))\nquote {good}\n" for good in range(8, 16)) + "quit\n"
+    bids = (f"bid {good} ((1 {100 + seat}))\nquote {good}\n" for good in range(8, 16))
+    return f"hello seat{seat}\n" + "".join(bids) + "quit\n"
 
 
-def ran(program, words):
-    return subprocess.run([program, *words], stdin=subprocess.DEVNULL, stdout=subprocess.PIPE, timeout=120)
+def ran(program: str, words: List[Word]) -> "subprocess.CompletedProcess[bytes]":
+    """A run of the program.
+
+    Raises:
+        ProgramError: It took too long.
+    """
+    try:
+        return subprocess.run([program, *words], stdin=subprocess.DEVNULL, stdout=subprocess.PIPE,
+                              timeout=MOST, check=False)
+    except subprocess.TimeoutExpired:
+        raise ProgramError(f"tac {words[0]} took longer than {MOST} seconds") from None
 
 
-def served(program, game):
-    """A served game of eight agents: how the program ended, and whether each agent was sent its last line."""
+def served(program: str, game: Path) -> "Tuple[subprocess.CompletedProcess[bytes], bool]":
+    """A served game of eight agents: how the program ended, and whether each agent was sent its
+    last line."""
     port = free_port()
     with EightAgents(port, lines_of) as agents:
         done = ran(program, ["serve", game, str(port), "5"])
     return done, all(agents.sent.get(seat, b"").endswith(b"bye\n") for seat in range(8))
 
 
-def log_in(text):
-    """The log at the end of the output of `play`."""
-    return text[text.index(b"taclog 1\n"):]
+def log_in(text: bytes) -> bytes:
+    """The log at the end of the output of `play`; empty if there is none."""
+    return text[text.index(b"taclog 1\n"):] if b"taclog 1\n" in text else b""
 
 
-def shown(program, folder):
+def shown(program: str, folder: Path) -> Iterator[Tuple[str, bool]]:
     """Each run by its name, and whether it ended as expected."""
-    script, log, other, live, long = (folder / name for name in ("script", "log", "other", "live", "long"))
+    script, log, other, live, long = (folder / name
+                                      for name in ("script", "log", "other", "live", "long"))
     script.write_text(long_script())
     played = ran(program, ["play", GAME, script])
     yield "a script of 229,376 requests", played.returncode == 0
@@ -65,8 +87,11 @@ def shown(program, folder):
     yield "a served game with live quotes", done.returncode == 0 and are_heard
     log.write_bytes(done.stdout)
     yield "the audit of its log", ran(program, ["audit", live, log]).stdout == b"sound\n"
-    game = pathlib.Path(GAME).read_bytes()
-    for size, is_due in ((GAME_BYTES, lambda done: done.returncode == 0), (GAME_BYTES + 1, lambda done: (done.returncode, done.stdout) == (2, b"game too long\n"))):
+    game = Path(GAME).read_bytes()
+    is_due: Callable[["subprocess.CompletedProcess[bytes]"], bool]
+    for size, is_due in ((GAME_BYTES, lambda done: done.returncode == 0),
+                         (GAME_BYTES + 1, lambda done: (done.returncode, done.stdout)
+                          == (2, b"game too long\n"))):
         long.write_bytes(b"#".ljust(size - len(game) - 1, b"-") + b"\n" + game)
         yield f"a game of {size} bytes", is_due(ran(program, ["show", long]))
     long.write_bytes(bytes(TEXT_BYTES + 1))
@@ -74,14 +99,10 @@ def shown(program, folder):
     yield "an account that is too long", (done.returncode, done.stdout) == (8, b"text too long\n")
 
 
-def main():
-    parser = argparse.ArgumentParser(description=__doc__, formatter_class=argparse.RawDescriptionHelpFormatter)
-    parser.add_argument("program", nargs="?", type=pathlib.Path, default=TOP / "crates" / "tacd" / "out" / "tacd")
-    program = parser.parse_args().program
-    if not program.exists():
-        return 0
+def main() -> int:
+    program = program_of(parser_with_program("large_runs", __doc__).parse_args().program)
     with tempfile.TemporaryDirectory() as folder:
-        runs = list(shown(program.resolve(), pathlib.Path(folder)))
+        runs = list(shown(program, Path(folder)))
     for name, is_due in runs:
         if not is_due:
             print(f"{name}: not as due")
@@ -90,4 +111,4 @@ def main():
 
 
 if __name__ == "__main__":
-    sys.exit(main())
+    sys.exit(command("large_runs", main))

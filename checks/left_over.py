@@ -1,30 +1,36 @@
 #!/usr/bin/env python3
-"""Ends each script around the server in several ways, and checks whether a process that it started is left.
+"""Ends each script around the server in several ways, and checks whether a process that it started
+or a folder that it made is left.
 
     checks/left_over.py
 
-Each script runs to its end, and is ended by SIGINT, SIGTERM, SIGHUP and SIGKILL at three moments; in the tournament an agent hangs, and ignores every
-signal that can be ignored. All that a script starts inherits an environment variable, by which it is found in /proc, so this needs Linux. It takes some
-three minutes, is not part of `rt ci`, and ends with 0 if nothing is left, and with 1 if something is.
+Each script runs to its end, and is ended by SIGINT, SIGTERM, SIGHUP and SIGKILL at three moments;
+in the tournament an agent hangs, and ignores every signal that can be ignored. All that a script
+starts inherits an environment variable, by which it is found in /proc, so this needs Linux; its
+temporary files stand in a folder of its own. It takes some three minutes, and ends with 0 if
+nothing is left, and with 1 if something is, or there is no program.
 """
 
-import argparse
 import os
 import signal
 import subprocess
 import sys
-import tempfile
 import time
+from concurrent.futures import ThreadPoolExecutor
 from pathlib import Path
+from typing import Iterator, List, NamedTuple, Optional
 
-TOP = Path(__file__).resolve().parent.parent
-sys.path.insert(0, str(TOP / "examples"))
+from trying import TOP, Parser
 
-from children import PROGRAM, free_port
+from geesefuton import program
+from geesefuton.arguments import whole
+from geesefuton.processes import Children, command, free_port
 
 MARK = "LEFT_OVER_MARK"
-GRACE = 3  # seconds that processes have to end after their script
-ENDS = [None, signal.SIGINT, signal.SIGTERM, signal.SIGHUP, signal.SIGKILL]
+GRACE = 4.0  # seconds that processes and folders have to end after their script
+MOST = 300.0  # seconds that a script may take to end
+MOMENTS = (0.2, 1.5, 4.0)  # seconds after its start at which a script is ended
+ENDS = (None, signal.SIGINT, signal.SIGTERM, signal.SIGHUP, signal.SIGKILL)
 HANGER = """import signal, socket, sys, time
 for number in (signal.SIGTERM, signal.SIGINT, signal.SIGHUP):
     signal.signal(number, signal.SIG_IGN)
@@ -35,73 +41,119 @@ while True:
 """
 
 
-def scripts(place):
-    """Each script's name and its words; the lobby comes twice, waiting for its agents and running a game."""
+class Run(NamedTuple):
+    """A script that is ended in one way: by a signal after some seconds, or by itself."""
+
+    name: str
+    words: List[str]
+    number: Optional[signal.Signals]
+    moment: float
+
+    @property
+    def how(self) -> str:
+        """The way, in words."""
+        if self.number is None:
+            return "its own end"
+        return f"{self.number.name} after {self.moment:g} s"
+
+
+def scripts(hanger: str) -> Iterator[List[str]]:
+    """Each script's name and its words; the lobby comes twice, waiting for its agents and running
+    a game."""
     game = str(TOP / "examples" / "first.game")
-    hanger = Path(place, "hanger.py")
-    hanger.write_text(HANGER)
-    planner = TOP / "examples/agents/planner.py"
-    yield "quickstart", ["quickstart"]
-    yield "tournament", ["examples/tournament", "--games", "3", "--pace", "40", "--after", "1", str(hanger), str(planner)]
-    yield "lobby, waiting", ["examples/lobby", game, str(free_port()), "100", "--start", "4", "--after", "1"]
-    yield "lobby, game", ["examples/lobby", game, str(free_port()), "100", "--start", "0.1", "--after", "1"]
-    yield "learner", ["examples/learner.py", "2"]
+    planner = str(TOP / "examples" / "agents" / "planner.py")
+    yield ["quick start", "quickstart"]
+    yield ["tournament", "tools/tournament", "--games", "3", "--pace", "40", "--after", "1",
+           hanger, planner]
+    yield ["lobby, waiting", "tools/lobby", game, "PORT", "100", "--start", "4", "--after", "1"]
+    yield ["lobby, game", "tools/lobby", game, "PORT", "100", "--start", "0.1", "--after", "1"]
+    yield ["learner", "examples/learner.py", "2"]
 
 
-def left(mark):
+def left(mark: str) -> Iterator["tuple[int, str]"]:
     """The processes that have the mark, each with its words."""
     for place in Path("/proc").glob("[0-9]*"):
         try:
             if f"{MARK}={mark}".encode() in (place / "environ").read_bytes().split(b"\0"):
-                yield int(place.name), (place / "cmdline").read_bytes().replace(b"\0", b" ").decode(errors="replace")
+                words = (place / "cmdline").read_bytes().replace(b"\0", b" ")
+                yield int(place.name), words.decode(errors="replace")
         except OSError:
             pass  # it has ended, or is another user's
 
 
-def tell(script, number):
+def tell(script: "subprocess.Popen[bytes]", number: signal.Signals) -> None:
+    """Sends a signal to a script that may have ended."""
     try:
-        os.kill(script.pid, number)
+        script.send_signal(number)
     except ProcessLookupError:
-        pass  # it has ended
+        pass
 
 
-def end(script, number):
-    """Ends a script. Ctrl-C comes twice, since the lobby only warns at the first one."""
+def end(script: "subprocess.Popen[bytes]", number: Optional[signal.Signals]) -> None:
+    """Ends a script. Ctrl-C comes twice, since the lobby only warns at the first one; and the
+    lobby lets a game go on when its terminal closes."""
     if number:
         tell(script, number)
         time.sleep(0.3)
         if number == signal.SIGINT and script.poll() is None:
             tell(script, number)
-    script.wait(120)
+    script.wait(MOST)
 
 
-def main():
-    argparse.ArgumentParser(description=__doc__, formatter_class=argparse.RawDescriptionHelpFormatter).parse_args()
-    if not Path(PROGRAM).exists():
-        sys.exit(f"left_over: there is no program {PROGRAM}")
-    count = bad = 0
-    with tempfile.TemporaryDirectory() as place:
-        for name, words in scripts(place):
-            for number in ENDS:
-                for moment in ((0.2, 1.5, 4) if number else (0,)):
-                    count += 1
-                    mark = f"{os.getpid()}.{count}"
-                    script = subprocess.Popen([sys.executable, TOP / words[0], *words[1:]], env=os.environ | {MARK: mark}, stdin=subprocess.DEVNULL,
-                                              stdout=subprocess.DEVNULL, stderr=subprocess.DEVNULL, start_new_session=True)
-                    time.sleep(moment)
-                    end(script, number)
-                    deadline = time.monotonic() + GRACE
-                    while (processes := list(left(mark))) and time.monotonic() < deadline:
-                        time.sleep(0.05)
-                    how = f"{signal.Signals(number).name} after {moment} s" if number else "its own end"
-                    bad += bool(processes)
-                    for process, what in processes:
-                        print(f"{name}, {how}: {process} is left: {what[:100]}", flush=True)
-                        os.kill(process, signal.SIGKILL)
-            print(f"{name}: done", flush=True)
-    print(f"{count - bad} of {count} leave nothing")
+def what_is_left(run: Run, place: Path) -> List[str]:
+    """Ends a script, and gives what is left: processes, which are ended now, and folders.
+
+    Args:
+        run: The script, and how it ends.
+        place: A folder for its files.
+    """
+    mark, temporary = place.name, place / "temporary"
+    temporary.mkdir()
+    words = [word if word != "PORT" else str(free_port()) for word in run.words]
+    variables = {**os.environ, MARK: mark, "TMPDIR": str(temporary), "TAC": program.find()}
+    script = subprocess.Popen([sys.executable, str(TOP / words[0]), *words[1:]], env=variables,
+                              cwd=place, stdin=subprocess.DEVNULL, stdout=subprocess.DEVNULL,
+                              stderr=subprocess.DEVNULL, start_new_session=True)
+    time.sleep(run.moment)
+    try:
+        end(script, run.number)
+    except subprocess.TimeoutExpired:
+        pass  # it is among the processes that are left
+    deadline = time.monotonic() + GRACE
+    while True:
+        processes, folders = list(left(mark)), sorted(temporary.iterdir())
+        if not processes and not folders or time.monotonic() > deadline:
+            break
+        time.sleep(0.05)
+    for process, _ in processes:
+        os.kill(process, signal.SIGKILL)
+    return ([f"process {process}: {what[:100]}" for process, what in processes]
+            + [f"folder {folder.name}" for folder in folders])
+
+
+def main() -> int:
+    parser = Parser("left_over", __doc__)
+    parser.add_argument("--at-once", type=whole(1, 16), default=2, metavar="N",
+                        help="how many scripts at a time; 2")
+    given = parser.parse_args()
+    program.find()
+    with Children() as children:
+        hanger = children.folder("agent") / "hanger.py"
+        hanger.write_text(HANGER)
+        runs = [Run(name, words, number, moment) for name, *words in scripts(str(hanger))
+                for number in ENDS for moment in (MOMENTS if number else (0.0,))]
+        bad = 0
+        with ThreadPoolExecutor(given.at_once) as pool:
+            found = pool.map(lambda run: what_is_left(run, children.folder("run")), runs)
+            for run, rest in zip(runs, found):
+                bad += bool(rest)
+                for what in rest:
+                    print(f"{run.name}, {run.how}: left: {what}", flush=True)
+                if run == [other for other in runs if other.name == run.name][-1]:
+                    print(f"{run.name}: done", flush=True)
+    print(f"{len(runs) - bad} of {len(runs)} leave nothing")
     return 1 if bad else 0
 
 
 if __name__ == "__main__":
-    sys.exit(main())
+    sys.exit(command("left_over", main))

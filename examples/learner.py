@@ -6,7 +6,9 @@ import random
 import sys
 from collections import Counter
 
-from step import Game
+from step import Game  # first: it finds the package
+
+from geesefuton.program import ProgramError
 
 
 def requests(clients, observation, most):
@@ -42,6 +44,6 @@ for count in range(given.games):
     most = max(50, best[1] + random.choice([-100, -50, 0, 50, 100]))
     try:
         best = max(best, (play(game, 1, most), most))
-    except FileNotFoundError as fault:
+    except ProgramError as fault:
         sys.exit(f"learner.py: {fault}")
     print(f"game {count}: at most {most} dollars; the best score so far is {best[0]}, with {best[1]}", flush=True)

@@ -17,33 +17,24 @@ Each step plays the script so far again: 5 milliseconds of a processor, and some
 eight agents have asked all that a script may have. The file of tac is crates/tacd/out/tacd, or the one that the variable TAC names.
 """
 
-import subprocess
-import tempfile
+import sys
 from pathlib import Path
 
-from children import ABSENT, PROGRAM, TICKS
+sys.path.insert(0, str(Path(__file__).resolve().parent.parent / "python"))
 
-GOODS = 28
-
-
-def run(*words):
-    """The output of tac. A refusal raises an error with its text."""
-    try:
-        done = subprocess.run([PROGRAM, *map(str, words)], stdout=subprocess.PIPE, text=True)
-    except FileNotFoundError:
-        raise FileNotFoundError(ABSENT) from None
-    if done.returncode:
-        raise ValueError(f"tac {words[0]} ended with exit status {done.returncode}: {done.stdout.strip()[:100]}")
-    return done.stdout
+from geesefuton.games import GOODS, TICKS  # noqa: E402
+from geesefuton.processes import Children  # noqa: E402
+from geesefuton.program import run  # noqa: E402
 
 
 class Game:
     metadata = {"name": "geesefuton_v1"}
 
     def __init__(self, file=None):
-        self.place = tempfile.TemporaryDirectory()
-        self.script = Path(self.place.name, "script")
-        self.file = Path(file) if file else Path(self.place.name, "game")
+        self.children = Children()
+        place = self.children.folder("step")
+        self.script = place / "script"
+        self.file = Path(file) if file else place / "game"
         self.given = file is not None
         self.possible_agents = self.shown()[1][1:] if self.given else [f"seat{seat}" for seat in range(8)]
         self.agents = []
@@ -89,9 +80,9 @@ class Game:
 
     def observe(self, askers):
         """The replies to the requests of this step, and the quotes of all goods; asking for quotes changes nothing."""
-        quotes = [f"0 quote {good}" for good in range(GOODS)]
+        quotes = [f"0 quote {good}" for good in GOODS]
         self.script.write_text("".join(line + "\n" for line in self.lines + quotes))
-        told = run("play", self.file, self.script).split("\n", self.replies + len(askers) + GOODS)
+        told = run("play", self.file, self.script).split("\n", self.replies + len(askers) + len(GOODS))
         replies = [line.split(" ", 1)[1] for line in told[self.replies:-1]]
         self.replies += len(askers)
         self.log = told[-1]
@@ -101,4 +92,4 @@ class Game:
                 for agent in self.agents}
 
     def close(self):
-        self.place.cleanup()
+        self.children.close()

@@ -1,0 +1,167 @@
+#!/usr/bin/env python3
+"""Measures what the lobby adds to a request and its reply, and what it costs.
+
+    bench/lobby_cost.py
+
+One agent asks a quote every millisecond, or eight agents every two, in lock step with their
+replies: of the server itself, through the lobby with its journal, with the page, and with 50
+viewers of the page and one that hangs. The ways are taken in turn. It writes for each the
+microseconds of a request (median, 90th and 99th of 100), and the microseconds of a processor that
+the lobby spent for a request; at the end the size of the last journal.
+"""
+
+import argparse
+import contextlib
+import json
+import os
+import socket
+import statistics
+import subprocess
+import sys
+import threading
+import time
+from pathlib import Path
+from typing import Dict, List
+
+TOP = Path(__file__).resolve().parent.parent
+sys.path.insert(0, str(TOP / "python"))
+
+from geesefuton import program
+from geesefuton.processes import Children, command, free_port
+
+PACE = 500  # milliseconds
+WAYS = ["server alone", "lobby", "lobby and page", "and 50 viewers"]
+PROBE = """
+import json, socket, sys, time
+port, word, count, gap = int(sys.argv[1]), sys.argv[2], int(sys.argv[3]), float(sys.argv[4])
+for _ in range(200):
+    try:
+        link = socket.create_connection(("127.0.0.1", port))
+        break
+    except OSError:
+        time.sleep(0.05)
+link.setsockopt(socket.IPPROTO_TCP, socket.TCP_NODELAY, 1)
+lines = link.makefile("rb")
+link.sendall(f"hello {word}\\n".encode())
+for _ in range(10):
+    lines.readline()
+time.sleep(0.3)
+times = []
+for number in range(count):
+    line = b"own 20\\n" if number % 8 == 0 and number < 7000 else b"quote 20\\n"
+    start = time.perf_counter()
+    link.sendall(line)
+    lines.readline()
+    times.append(time.perf_counter() - start)
+    time.sleep(gap)
+link.sendall(b"quit\\n")
+lines.readline()
+print(json.dumps(times))
+"""
+
+
+class Meter(threading.Thread):
+    """Notes the processor time of a process, in seconds, until it has ended."""
+
+    def __init__(self, number: int) -> None:
+        super().__init__(daemon=True)
+        self.number, self.spent = number, 0.0
+
+    def run(self) -> None:
+        with contextlib.suppress(OSError, IndexError):
+            while True:
+                words = Path(f"/proc/{self.number}/stat").read_text().rsplit(")", 1)[1].split()
+                spent = (int(words[11]) + int(words[12])) / os.sysconf("SC_CLK_TCK")
+                self.spent = max(self.spent, spent)
+                time.sleep(0.05)
+
+
+def view(port: int, is_reading: bool) -> None:
+    """A viewer of the page, or one that hangs."""
+    for _ in range(100):
+        with contextlib.suppress(OSError):
+            with socket.create_connection(("127.0.0.1", port)) as link:
+                link.sendall(b"GET /events HTTP/1.1\r\nHost: x\r\n\r\n")
+                while is_reading and link.recv(65536):
+                    pass
+                time.sleep(0 if is_reading else 60)
+                return
+        time.sleep(0.1)
+
+
+def measure(way: str, agents: int, count: int, folder: Path) -> "Dict[str, float]":
+    """One round: microseconds of requests, and of the lobby's processor for one."""
+    game, port, page = folder / "game", free_port(), free_port()
+    game.write_text(program.make(42))
+    journal = folder / f"{time.monotonic_ns()}.journal"
+    with Children() as children:
+        if way == WAYS[0]:
+            words = program.served_words(game, port, PACE)
+        else:
+            words = [sys.executable, str(TOP / "tools/lobby"), str(game), str(port), str(PACE),
+                     "--start", "2", "--after", "0", "--journal", str(journal)]
+            words += ["--page", str(page)] if way != WAYS[1] else []
+        host = children.start(words, stdin=subprocess.DEVNULL, stdout=subprocess.DEVNULL,
+                              stderr=subprocess.DEVNULL)
+        meter = Meter(host.pid)
+        meter.start()
+        if way == WAYS[3]:
+            for number in range(51):
+                threading.Thread(target=view, args=(page, number > 0), daemon=True).start()
+        probes = [children.start(
+            [sys.executable, "-c", PROBE, str(port), f"seat{number}", str(count),
+             str(0.001 if agents == 1 else 0.002)], stdout=subprocess.PIPE)
+            for number in range(agents)]
+        others: List[socket.socket] = []
+        if way == WAYS[0]:
+            others = [leave(port, f"seat{number}") for number in range(agents, 8)]
+        times = sorted(number for probe in probes for number in json.loads(probe.communicate()[0]))
+        for other in others:
+            other.close()
+        part = 1e6 / len(times)
+        return {"median": statistics.median(times) * 1e6, "p90": times[len(times) * 9 // 10] * 1e6,
+                "p99": times[len(times) * 99 // 100] * 1e6,
+                "processor": meter.spent * part if way != WAYS[0] else 0,
+                "journal": journal.stat().st_size if journal.exists() else 0}
+
+
+def leave(port: int, word: str) -> socket.socket:
+    """Takes a seat at the server, and leaves it."""
+    while True:
+        try:
+            link = socket.create_connection(("127.0.0.1", port))
+            break
+        except OSError:
+            time.sleep(0.05)
+    link.sendall(f"hello {word}\n".encode())
+    link.shutdown(socket.SHUT_WR)
+    return link
+
+
+def main() -> int:
+    parser = argparse.ArgumentParser(description=__doc__,
+                                     formatter_class=argparse.RawDescriptionHelpFormatter)
+    parser.add_argument("--rounds", type=int, default=3, metavar="N", help="of each way; 3")
+    parser.add_argument("--requests", type=int, default=5000, metavar="N",
+                        help="of each agent in a round; 5000")
+    given = parser.parse_args()
+    size = 0.0
+    with Children() as children:
+        folder = children.folder("lobby_cost")
+        for agents in (1, 8):
+            rows: Dict[str, List[Dict[str, float]]] = {way: [] for way in WAYS}
+            for _ in range(given.rounds):
+                for way in WAYS:
+                    rows[way].append(measure(way, agents, given.requests, folder))
+                    size = rows[way][-1]["journal"] or size
+            for way in WAYS:
+                line = [f"{key} {min(row[key] for row in rows[way]):.0f} to "
+                        f"{max(row[key] for row in rows[way]):.0f}"
+                        for key in ("median", "p90", "p99", "processor")]
+                print(f"{agents} agents, {way}: {', '.join(line)}", flush=True)
+    print(f"the last journal: {size:,.0f} bytes for {8 * given.requests:,} requests")
+    return 0
+
+
+if __name__ == "__main__":
+    sys.exit(command("lobby_cost", main))

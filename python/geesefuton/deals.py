@@ -1,0 +1,140 @@
+"""The deals of a tournament, and which agent has which seat.
+
+A deal is what is fixed before a game: clients, tickets, flights, and the order of the hotels. Where
+seats are swapped, each deal is played as often as there are agents, and each time every agent has
+the next seat. So each agent plays each client of the deal once.
+"""
+
+import hashlib
+from dataclasses import dataclass
+from pathlib import Path
+from typing import Iterator, List, Optional, Sequence, Tuple, TypeVar
+
+from geesefuton import program
+from geesefuton.games import MOST_ROOMS, SEATS, Game, GameError, read_game
+
+MOST_SEED = 18446744073709551615
+Item = TypeVar("Item")
+
+
+class DealError(Exception):
+    """A deal that cannot be made, or words that name none."""
+
+
+@dataclass(frozen=True)
+class Rule:
+    """How the deals are made.
+
+    Attributes:
+        seed: The seed of the first one.
+        file: A game file that is played each time in place of made games.
+        rooms: The least and the most rooms of a hotel night; None for 16.
+        live: Whether each admitted bid publishes a hotel's price.
+    """
+
+    seed: int = 1
+    file: Optional[Path] = None
+    rooms: Optional[Tuple[int, int]] = None
+    live: bool = False
+
+
+@dataclass(frozen=True)
+class Deal:
+    """A deal.
+
+    Attributes:
+        name: Its seed, or the name of its file and a number.
+        shift: By how many places the agents are shifted in its first game.
+        game: Its game, with the seat words of the file or of made games.
+    """
+
+    name: str
+    shift: int
+    game: Game
+
+
+@dataclass(frozen=True)
+class Table:
+    """A game that is to be played: a deal, and which of the deal's games it is."""
+
+    deal: Deal
+    rotation: int
+
+    @property
+    def name(self) -> str:
+        """A name for its files."""
+        return f"{self.deal.name}.{self.rotation}"
+
+
+def read_rooms(text: str) -> Tuple[int, int]:
+    """Reads `4` or `3..6`, the numbers of rooms that a hotel night may have.
+
+    Raises:
+        DealError: The text is neither, or a number is not from 1 to 64.
+    """
+    ends = text.split("..")
+    if not all(end.isascii() and end.isdigit() for end in ends) or len(ends) > 2:
+        raise DealError(f"rooms are a number or two with `..` between, as 3..6, not {text!r}")
+    low, high = int(ends[0]), int(ends[-1])
+    if not 1 <= low <= high <= MOST_ROOMS:
+        raise DealError(f"rooms are from 1 to {MOST_ROOMS}, the least first, not {text}")
+    return low, high
+
+
+def drawn_rooms(seed: int, low: int, high: int) -> List[int]:
+    """How many rooms each of the eight nights has in the made game of a seed.
+
+    The numbers are those of SHA-256 of the text `rooms SEED NIGHT`, so they are the same anywhere.
+    """
+    def drawn(night: int) -> int:
+        digest = hashlib.sha256(f"rooms {seed} {night}".encode()).digest()
+        return low + int.from_bytes(digest[:8], "big") % (high - low + 1)
+
+    return [drawn(night) for night in range(8)]
+
+
+def made_deal(rule: Rule, number: int) -> Deal:
+    """The deal of a number, from 0.
+
+    Raises:
+        DealError: The file cannot be read, or is no game file.
+        ProgramError: `tac make` refused.
+    """
+    if rule.file is not None:
+        return Deal(f"{rule.file.stem}-{number + 1}", number, _read(rule.file))
+    seed = rule.seed + number
+    game = read_game(program.make(seed))
+    if rule.rooms is not None or rule.live:
+        rooms = drawn_rooms(seed, *rule.rooms) if rule.rooms else game.rooms
+        game = game.with_rooms(rooms, rule.live)
+    return Deal(str(seed), seed, game)
+
+
+def _read(file: Path) -> Game:
+    try:
+        return read_game(file.read_bytes().decode("latin-1"))
+    except OSError as fault:
+        raise DealError(f"{file}: {fault.strerror}") from None
+    except GameError as fault:
+        raise DealError(f"{file}: {fault}") from None
+
+
+def tables(rule: Rule, games: int, rotations: int) -> Iterator[Table]:
+    """The games of a tournament in order, all games of a deal one after the other.
+
+    Args:
+        rule: How the deals are made.
+        games: How many games there are in all.
+        rotations: How many there are of each deal.
+    """
+    deal: Optional[Deal] = None
+    for number in range(games):
+        if deal is None or number % rotations == 0:
+            deal = made_deal(rule, number // rotations)
+        yield Table(deal, number % rotations)
+
+
+def seated(items: Sequence[Item], table: Table) -> List[Item]:
+    """Which of the agents has each of the eight seats."""
+    shift = table.deal.shift + table.rotation
+    return [items[(shift + seat) % len(items)] for seat in range(SEATS)]

@@ -1,0 +1,103 @@
+"""The agents of a tournament: what runs them, and their names."""
+
+import os
+import re
+import shlex
+import shutil
+import sys
+from collections import Counter
+from dataclasses import dataclass, replace
+from pathlib import Path
+from typing import Dict, List, Sequence, Tuple
+
+PACKAGE = Path(__file__).resolve().parents[1]  # the folder that the package is imported from
+
+
+class EntrantError(Exception):
+    """A command that cannot be run."""
+
+
+@dataclass(frozen=True)
+class Entrant:
+    """An agent that takes part.
+
+    Attributes:
+        command: As it was given: a Python file, a program, or a command in quotes.
+        words: The words that run it, before HOST PORT WORD.
+        name: Its name in results.
+        root: The beginning of its seat words.
+    """
+
+    command: str
+    words: Tuple[str, ...]
+    name: str
+    root: str
+
+
+def read_entrant(command: str) -> Entrant:
+    """Reads an agent's command.
+
+    Raises:
+        EntrantError: It is no command, or its program is not there.
+    """
+    try:
+        words = shlex.split(command)
+    except ValueError as fault:
+        raise EntrantError(f"{command}: {str(fault).lower()}") from None
+    if not words:
+        raise EntrantError("an agent is a file or a command, not an empty word")
+    first = words[0]
+    if first.endswith(".py"):
+        if not Path(first).is_file():
+            raise EntrantError(f"there is no file {first}")
+        run = [sys.executable, os.path.abspath(first)]
+    else:
+        found = shutil.which(first)
+        if found is None and Path(first).is_file():
+            raise EntrantError(f"{first} is no program: chmod +x it, or say what runs it, "
+                               f"as 'java -jar {first}'")
+        if found is None:
+            raise EntrantError(f"there is no program {first}")
+        run = [os.path.abspath(found)]
+    stem = Path(words[-1]).stem
+    root = re.sub("[^a-z0-9]", "", stem.lower())[:12] or "agent"
+    return Entrant(command, tuple(run + words[1:]), stem, root)
+
+
+def read_entrants(commands: Sequence[str]) -> List[Entrant]:
+    """Reads the agents' commands. Different agents of one name get their commands as names.
+
+    Raises:
+        EntrantError: One of them cannot be run.
+    """
+    entrants = [read_entrant(command) for command in commands]
+    different = {entrant.command: entrant for entrant in entrants}  # one may be given twice
+    names = Counter(entrant.name for entrant in different.values())
+    roots: Dict[str, List[str]] = {}
+    for entrant in different.values():
+        roots.setdefault(entrant.root, []).append(entrant.command)
+    apart = []
+    for entrant in entrants:
+        alike = roots[entrant.root]
+        root = entrant.root + (str(alike.index(entrant.command) + 1) if len(alike) > 1 else "")
+        name = entrant.command if names[entrant.name] > 1 else entrant.name
+        apart.append(replace(entrant, name=name, root=root))
+    return apart
+
+
+def seat_words(entrants: Sequence[Entrant]) -> List[str]:
+    """Different words for the seats of a game: an agent's root, with a letter from its second
+    seat on."""
+    met: Counter[str] = Counter()
+    words = []
+    for entrant in entrants:
+        seats = met[entrant.root]
+        words.append(entrant.root + ("abcdefgh"[seats] if seats else ""))
+        met[entrant.root] += 1
+    return words
+
+
+def environment(tac: str) -> Dict[str, str]:
+    """The variables of an agent's process: it finds the package, and the program."""
+    path = os.pathsep.join(filter(None, [str(PACKAGE), os.environ.get("PYTHONPATH")]))
+    return {**os.environ, "PYTHONUNBUFFERED": "1", "PYTHONPATH": path, "TAC": tac}

@@ -1,0 +1,114 @@
+"""What happens while a game is hosted, as values: a `Lobby` passes them on as it happens."""
+
+from __future__ import annotations
+
+import enum
+from dataclasses import dataclass
+from typing import Optional, Tuple, Union
+
+
+class End(enum.Enum):
+    """Why an agent's part in a game was over."""
+
+    LEFT = "left"  # it asked to quit, or ended its link after the last tick
+    GONE = "gone"  # its link ended during the game, and it did not come again
+    HUNG = "hung"  # it still had its link when the lobby ended all links
+    ABSENT = "absent"  # it never came
+    REFUSED = "refused"  # it sent lines, and each of them was refused
+
+
+@dataclass(frozen=True)
+class Arrived:
+    """An agent has its seat for the first time, before or during the game."""
+
+    at: float  # seconds since 1970, as in every event
+    seat: int
+    word: str
+    source: str  # the address that the link comes from
+
+
+@dataclass(frozen=True)
+class Departed:
+    """The link of a seated agent has ended. Until the game is over the agent may come again."""
+
+    at: float
+    seat: int
+    word: str
+
+
+@dataclass(frozen=True)
+class Refused:
+    """A link is refused by its first line."""
+
+    at: float
+    source: str
+    answer: str  # `syntax`, `wrongword` or `taken`
+    line: str  # the beginning of the line
+
+
+@dataclass(frozen=True)
+class Waived:
+    """The host does not wait for an agent any longer."""
+
+    at: float
+    word: str
+
+
+@dataclass(frozen=True)
+class Began:
+    """The game begins."""
+
+    at: float
+    seats: Tuple[int, ...]  # those that have an agent
+
+
+@dataclass(frozen=True)
+class Ticked:
+    """A tick has come, by the clock of the lobby."""
+
+    at: float
+    tick: int  # 1 to 54
+    lines: Tuple[int, ...] = ()  # how many lines each of the eight agents has sent so far
+
+
+@dataclass(frozen=True)
+class Rejoined:
+    """An agent that had lost its link has a new one, and goes on in the game."""
+
+    at: float
+    seat: int
+    word: str
+    source: str
+
+
+@dataclass(frozen=True)
+class Ended:
+    """A seat's part in the game is over. It comes once for each of the eight seats."""
+
+    at: float
+    seat: int
+    word: str
+    reason: End
+    lines: int  # how many lines the agent sent
+
+
+@dataclass(frozen=True)
+class Finished:
+    """The server has ended."""
+
+    at: float
+    status: int  # the exit status that `Lobby.run` gives
+    log: Optional[str]  # the file that has the log
+
+
+@dataclass(frozen=True)
+class Warned:
+    """Something that the host should know."""
+
+    at: float
+    text: str
+
+
+Event = Union[
+    Arrived, Departed, Refused, Waived, Began, Ticked, Rejoined, Ended, Finished, Warned
+]

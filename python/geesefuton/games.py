@@ -1,0 +1,326 @@
+"""Game files of both versions, and the numbers and names of auctions, clients and trips."""
+
+from dataclasses import dataclass, field, replace
+from itertools import product
+from typing import Iterator, List, NamedTuple, Optional, Sequence, Tuple
+
+TICKS = 54
+SEATS = 8
+CLIENTS = 8
+HOUSE = 8  # as a party of a trade; as a caller it is the clock
+CLOCK = 8
+
+INBOUND = range(0, 4)  # inbound seats on the days 1 to 4
+OUTBOUND = range(4, 8)  # outbound seats on the days 2 to 5
+FLIGHTS = range(0, 8)
+HOTELS = range(8, 16)  # Shoreline Shanties, nights 1 to 4, and then Tampa Towers
+TICKETS = range(16, 28)  # alligator wrestling, amusement park, museum, nights 1 to 4 of each
+GOODS = range(0, 28)
+
+ROOMS = 16  # of each hotel night in a game of version 1
+MOST_ROOMS = 64
+DRAWS = 53  # of a flight, one for each tick but the last
+MOST_BYTES = 1 << 20  # of a game file
+
+
+class Auction(NamedTuple):
+    """One of the 28 auctions: its number, its group, its day or night, and its name."""
+
+    number: int
+    group: str
+    day: int
+    name: str
+
+
+def _auctions() -> Iterator[Auction]:
+    groups = (("Flights in", "in, day", 1), ("Flights out", "out, day", 2),
+              ("Shoreline Shanties", "Shanties, night", 1), ("Tampa Towers", "Towers, night", 1),
+              ("Alligator wrestling", "alligators, night", 1), ("Amusement park", "park, night", 1),
+              ("Museum", "museum, night", 1))
+    for place, (group, name, first) in enumerate(groups):
+        for number in range(4):
+            yield Auction(4 * place + number, group, first + number, f"{name} {first + number}")
+
+
+AUCTIONS: Tuple[Auction, ...] = tuple(_auctions())
+
+
+def name_of(good: int) -> str:
+    """The name of an auction's good, such as `Towers, night 2`."""
+    return AUCTIONS[good].name
+
+
+def inbound(day: int) -> int:
+    """The inbound seat on a day, 1 to 4."""
+    return day - 1
+
+
+def outbound(day: int) -> int:
+    """The outbound seat on a day, 2 to 5."""
+    return day + 2
+
+
+def room(hotel: int, night: int) -> int:
+    """A night, 1 to 4, of a hotel: 0 is Shoreline Shanties, 1 is Tampa Towers."""
+    return 8 + 4 * hotel + night - 1
+
+
+def ticket(kind: int, night: int) -> int:
+    """A night, 1 to 4, of a ticket: 0 alligator wrestling, 1 amusement park, 2 museum."""
+    return 16 + 4 * kind + night - 1
+
+
+class GameError(Exception):
+    """A text that is no game file.
+
+    Attributes:
+        line: The number of its first bad line, from 1.
+    """
+
+    def __init__(self, line: int, why: str) -> None:
+        super().__init__(f"line {line}: {why}")
+        self.line = line
+
+
+@dataclass(frozen=True)
+class Package:
+    """A trip: its hotel (0 or 1), its days, and the night of each ticket type, 0 for none."""
+
+    hotel: int
+    arrive: int
+    depart: int
+    nights: Tuple[int, int, int]
+
+    def goods(self) -> List[int]:
+        """The goods of which it uses one unit each."""
+        stay = range(self.arrive, self.depart)
+        return [inbound(self.arrive), outbound(self.depart),
+                *(room(self.hotel, night) for night in stay),
+                *(ticket(kind, night) for kind, night in enumerate(self.nights) if night)]
+
+
+def _packages() -> Iterator[Package]:
+    for hotel, arrive, depart in product(range(2), range(1, 5), range(2, 6)):
+        stay = range(arrive, depart)
+        for first, second, third in product([0, *stay], repeat=3):
+            used = [night for night in (first, second, third) if night]
+            if stay and len(used) == len(set(used)):
+                yield Package(hotel, arrive, depart, (first, second, third))
+
+
+PACKAGES: Tuple[Package, ...] = tuple(_packages())  # all 392, without staying at home
+
+
+@dataclass(frozen=True)
+class Client:
+    """What a client wants: its days, its premium for Tampa Towers, and its values of the three
+    ticket types, in dollars."""
+
+    arrive: int
+    depart: int
+    premium: int
+    values: Tuple[int, int, int]
+
+    def nights(self) -> range:
+        """The nights between its preferred days."""
+        return range(self.arrive, self.depart)
+
+    def worth(self, package: Optional[Package]) -> int:
+        """What a trip is worth to it, in dollars; 0 for staying at home."""
+        if package is None:
+            return 0
+        late = abs(package.arrive - self.arrive) + abs(package.depart - self.depart)
+        tickets = sum(value for value, night in zip(self.values, package.nights) if night)
+        return 1000 - 100 * late + self.premium * package.hotel + tickets
+
+
+@dataclass(frozen=True)
+class Flight:
+    """A flight's first price in dollars, its bound, and the draws of the ticks 1 to 53."""
+
+    first: int
+    bound: int
+    draws: Tuple[int, ...]
+
+    def next_price(self, price: int, tick: int, draw: int) -> int:
+        """The price in dollars after the update of a tick with a draw."""
+        limit = 10 + tick * (self.bound - 10) // TICKS
+        low, high = (-10, limit) if limit > 0 else (limit, 10) if limit < 0 else (-10, 10)
+        return min(800, max(150, price + low + draw % (high - low + 1)))
+
+    def prices(self) -> List[int]:
+        """Its prices in dollars, before the first tick and after each of the ticks 1 to 53."""
+        prices = [self.first]
+        for tick, draw in enumerate(self.draws, 1):
+            prices.append(self.next_price(prices[-1], tick, draw))
+        return prices
+
+
+@dataclass(frozen=True)
+class Hotel:
+    """A hotel night: how many rooms it has, and the tick at which it closes."""
+
+    rooms: int
+    closes: int
+
+
+@dataclass(frozen=True)
+class Game:
+    """What is fixed of a game before it begins.
+
+    Attributes:
+        words: The seat words of the eight agents.
+        flights: The flights 0 to 7.
+        closing: The hotel nights 8 to 15 in the order in which they close.
+        endow: For each agent its tickets of the goods 16 to 27.
+        clients: For each agent its eight clients.
+        rooms: The rooms of the hotel nights 8 to 15.
+        live: Whether each admitted bid publishes a hotel's price, too.
+        version: Of its form: 1, or 2 where rooms and quotes can be set.
+    """
+
+    words: Tuple[str, ...]
+    flights: Tuple[Flight, ...]
+    closing: Tuple[int, ...]
+    endow: Tuple[Tuple[int, ...], ...]
+    clients: Tuple[Tuple[Client, ...], ...]
+    rooms: Tuple[int, ...] = (ROOMS,) * 8
+    live: bool = False
+    version: int = 1
+    hotels: Tuple[Hotel, ...] = field(init=False)  # by good, 8 to 15
+
+    def __post_init__(self) -> None:
+        hotels = tuple(Hotel(rooms, 6 * (self.closing.index(good) + 1))
+                       for good, rooms in zip(HOTELS, self.rooms))
+        object.__setattr__(self, "hotels", hotels)
+
+    def named(self, words: Sequence[str]) -> "Game":
+        """The same game with other seat words."""
+        return replace(self, words=tuple(words))
+
+    def with_rooms(self, rooms: Sequence[int], live: bool) -> "Game":
+        """The same game in version 2 with these rooms and quotes."""
+        return replace(self, rooms=tuple(rooms), live=live, version=2)
+
+    def text(self) -> str:
+        """Its canonical text."""
+        lines = [f"tac {self.version}", "words " + " ".join(self.words)]
+        for good, flight in enumerate(self.flights):
+            lines.append(_line("flight", good, flight.first, flight.bound, *flight.draws))
+        lines.append(_line("close", *self.closing))
+        if self.version == 2:
+            lines += [_line("rooms", *self.rooms), "quotes " + ("live" if self.live else "minute")]
+        lines += [_line("endow", agent, *units) for agent, units in enumerate(self.endow)]
+        for agent, clients in enumerate(self.clients):
+            for number, client in enumerate(clients):
+                lines.append(_line("client", agent, number, client.arrive, client.depart,
+                                   client.premium, *client.values))
+        return "\n".join([*lines, "end", ""])
+
+
+def _line(*words: object) -> str:
+    return " ".join(map(str, words))
+
+
+class _Lines:
+    """The lines of a game file that count, with their numbers."""
+
+    def __init__(self, text: str) -> None:
+        lines = text.split("\n")
+        self.last = len(lines)
+        self.whole = lines[-1] == ""
+        self.rest = [(number, line) for number, line in enumerate(lines[:-1], 1)
+                     if line and not line.startswith("#")]
+        self.place = 0
+        self.number = 0
+
+    def take(self, word: str, count: int) -> List[str]:
+        """The further words of the next line, which has to begin with this word."""
+        if self.place == len(self.rest):
+            raise GameError(self.last, f"the text ends where a line `{word}` is due")
+        self.number, line = self.rest[self.place]
+        self.place += 1
+        first, *words = line.split(" ")
+        if first != word:
+            raise GameError(self.number, f"a line `{word}` is due, not {line[:40]!r}")
+        if len(words) != count:
+            raise GameError(self.number, f"`{word}` has {count} words after it, not {len(words)}")
+        return words
+
+    def numbers(self, word: str, ranges: Sequence[Tuple[int, int]]) -> List[int]:
+        """The numbers of the next line, each in its range."""
+        return [self._number(text, low, high)
+                for text, (low, high) in zip(self.take(word, len(ranges)), ranges)]
+
+    def _number(self, text: str, low: int, high: int) -> int:
+        plain = text[1:] if low < 0 and text.startswith("-") else text
+        is_one = plain.isascii() and plain.isdigit() and (plain == "0" or plain[0] != "0")
+        if not is_one or text == "-0" or len(plain) > 10:
+            raise GameError(self.number, f"{text[:40]!r} is not a number in its one spelling")
+        if not low <= int(text) <= high:
+            raise GameError(self.number, f"{text} is not from {low} to {high}")
+        return int(text)
+
+    def different(self, items: Sequence[object]) -> None:
+        """Refuses the line if two of its items are equal."""
+        if len(set(items)) != len(items):
+            raise GameError(self.number, "two of the words are equal")
+
+
+def _is_seat_word(word: str) -> bool:
+    letters = set("abcdefghijklmnopqrstuvwxyz0123456789")
+    return 1 <= len(word) <= 16 and set(word) <= letters
+
+
+def read_game(text: str) -> Game:
+    """Reads the text of a game file, of version 1 or 2, in the form that `tac` accepts.
+
+    Raises:
+        GameError: The text is no game file; the error names its first bad line.
+    """
+    if len(text) > MOST_BYTES:
+        raise GameError(1, f"the text has more than {MOST_BYTES:,} bytes, so it is no game file")
+    lines = _Lines(text)
+    version = lines.take("tac", 1)[0]
+    if version not in ("1", "2"):
+        raise GameError(lines.number, f"version {version[:20]!r} is neither 1 nor 2")
+    words = lines.take("words", 8)
+    for word in words:
+        if not _is_seat_word(word):
+            raise GameError(lines.number, f"{word[:40]!r} is no seat word")
+    lines.different(words)
+    flights = [_read_flight(lines, good) for good in FLIGHTS]
+    closing = lines.numbers("close", [(8, 15)] * 8)
+    lines.different(closing)
+    rooms, live = [ROOMS] * 8, False
+    if version == "2":
+        rooms = lines.numbers("rooms", [(1, MOST_ROOMS)] * 8)
+        quotes = lines.take("quotes", 1)[0]
+        if quotes not in ("minute", "live"):
+            raise GameError(lines.number, f"quotes are `minute` or `live`, not {quotes[:20]!r}")
+        live = quotes == "live"
+    endow = [lines.numbers("endow", [(agent, agent)] + [(0, 16)] * 12)[1:]
+             for agent in range(SEATS)]
+    clients = [[_read_client(lines, agent, number) for number in range(CLIENTS)]
+               for agent in range(SEATS)]
+    lines.take("end", 0)
+    if lines.place < len(lines.rest):
+        raise GameError(lines.rest[lines.place][0], "a line follows `end`")
+    if not lines.whole:
+        raise GameError(lines.last, "the last line has no line end")
+    return Game(tuple(words), tuple(flights), tuple(closing), tuple(map(tuple, endow)),
+                tuple(map(tuple, clients)), tuple(rooms), live, int(version))
+
+
+def _read_flight(lines: _Lines, good: int) -> Flight:
+    draws = [(0, 4294967295)] * DRAWS
+    _, first, bound, *rest = lines.numbers("flight", [(good, good), (250, 400), (-10, 30), *draws])
+    return Flight(first, bound, tuple(rest))
+
+
+def _read_client(lines: _Lines, agent: int, number: int) -> Client:
+    ranges = [(agent, agent), (number, number), (1, 4), (2, 5), (50, 150)] + [(0, 200)] * 3
+    _, _, arrive, depart, premium, *values = lines.numbers("client", ranges)
+    if depart <= arrive:
+        raise GameError(lines.number, f"the departure {depart} is not after the arrival {arrive}")
+    return Client(arrive, depart, premium, (values[0], values[1], values[2]))

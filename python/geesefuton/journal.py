@@ -1,0 +1,328 @@
+"""The journal of a game: what the lobby writes while the game runs, so that nothing is lost.
+
+A journal is a text of JSON objects, one a line (docs/FORMATS.md, "The journal of a game").
+
+    {"journal":1,"at":SECONDS,"pace":MS,"form":"words","game":TEXT}   the first line
+    {"here":A,"from":SOURCE}   {"gone":A}   {"without":A}             links come and go
+    {"begin":[A,..]}                                                  these have an agent
+    {"tick":N,"t":MS}                                                 0 is the welcome
+    {"a":A,"q":LINE}   {"a":A,"r":LINE,"t":MS}                        a line, and a reply
+    {"end":A,"why":WHY,"t":MS}                                        a session is over
+    {"over":STATUS,"t":MS}                                            the server has ended
+
+A reply is written before it is passed on, with all lines before it. So whoever knows a reply finds
+it here, and each line that had a part in it before it. What a process has written survives its end
+by SIGKILL; what a machine had written a second before survives a loss of power.
+"""
+
+from __future__ import annotations
+
+import contextlib
+import copy
+import json
+import os
+import threading
+import time
+from collections import deque
+from dataclasses import dataclass, field
+from pathlib import Path
+from typing import Any, Callable, Deque, Dict, List, Optional, Tuple
+
+from geesefuton.dialects import CASH, MOST_LINE, Asked, asked_by, is_refusal, position_of
+from geesefuton.dialects import reply_of
+from geesefuton.games import GOODS, HOTELS, SEATS, TICKS, Game, GameError, read_game
+from geesefuton.processes import why
+from geesefuton.replies import ReplyError
+
+VERSION = 1
+SYNC = 1.0  # seconds between two requests to put what was written onto the disk
+
+
+class Journal:
+    """Writes a journal. Lines are kept until `flush`, or until a line that `tell` writes.
+
+    Once the file takes no more, `warn` is called and nothing more is written.
+
+    Args:
+        file: A new file.
+        warn: Is told why the file takes no more.
+
+    Raises:
+        OSError: The file is there already, or cannot be made.
+    """
+
+    def __init__(self, file: Path, warn: Callable[[str], None]) -> None:
+        self.file, self._warn = file, warn
+        self._held: List[str] = []
+        self._zero: Optional[float] = None
+        # It has the seat words, which are passwords.
+        how = os.O_WRONLY | os.O_CREAT | os.O_EXCL | os.O_APPEND
+        self._number: Optional[int] = os.open(file, how, 0o600)
+        self._is_dirty, self._closed = False, threading.Event()
+        self._syncing = threading.Thread(target=self._sync, args=(self._number,), daemon=True)
+        self._syncing.start()
+
+    def head(self, pace: int, form: str, game: str) -> None:
+        """Writes the first line; `game` is the canonical text of the game file."""
+        self.tell(journal=VERSION, at=int(time.time()), pace=pace, form=form, game=game)
+
+    def begin_time(self) -> None:
+        """Times are counted from now on: the welcome is being sent."""
+        self._zero = time.monotonic()
+
+    def now(self) -> int:
+        """Milliseconds since the welcome."""
+        return 0 if self._zero is None else int((time.monotonic() - self._zero) * 1000)
+
+    def request(self, agent: int, line: bytes) -> None:
+        """An agent's line that is about to be passed on."""
+        text = json.dumps(line[:MOST_LINE + 1].decode("latin-1"))
+        self._held.append(f'{{"a":{agent},"q":{text}}}')
+
+    def reply(self, agent: int, line: bytes) -> None:
+        """A reply that came for an agent. It may be passed on after the next `flush`."""
+        text = json.dumps(line.decode("latin-1"))
+        self._held.append(f'{{"a":{agent},"r":{text},"t":{self.now()}}}')
+
+    def tell(self, **what: Any) -> None:
+        """Writes an object."""
+        self._held.append(json.dumps(what, separators=(",", ":")))
+        self.flush()
+
+    def timed(self, **what: Any) -> None:
+        """Writes an object with its time, if the game has begun."""
+        self.tell(**what, **({} if self._zero is None else {"t": self.now()}))
+
+    def flush(self) -> None:
+        """Writes all lines that are kept."""
+        if not self._held:
+            return
+        data = memoryview(("\n".join(self._held) + "\n").encode("ascii"))
+        self._held = []
+        while data and self._number is not None:
+            try:
+                data = data[os.write(self._number, data):]
+            except OSError as fault:
+                self._give_up(fault)
+        self._is_dirty = True
+
+    def close(self) -> None:
+        """Writes all that is kept, waits until it is on the disk, and closes the file."""
+        self.flush()
+        self._closed.set()
+        self._syncing.join()
+
+    def _give_up(self, fault: OSError) -> None:
+        self._number = None
+        self._warn(f"the journal {self.file} takes no more ({why(fault)}): the game goes on "
+                   "without it")
+
+    def _sync(self, number: int) -> None:
+        while not self._closed.wait(SYNC):
+            self._put(number)
+        self._put(number)
+        os.close(number)
+
+    def _put(self, number: int) -> None:
+        if self._is_dirty:
+            self._is_dirty = False
+            with contextlib.suppress(OSError):  # a pipe or the like
+                os.fsync(number)
+
+
+class JournalError(Exception):
+    """A text that is no journal; the error names the line."""
+
+
+@dataclass
+class Call:
+    """A request, and its reply in words once that has come.
+
+    Attributes:
+        agent: Who asked.
+        asked: What the server took it for; None if it was refused, or has no position.
+        order: The number of its line in the journal.
+        tick: The tick that was the last when it was passed on.
+        reply: Its reply.
+        at: The position in the reply.
+        time: When the reply came, in milliseconds since the welcome.
+        answered: The number of the reply's line in the journal.
+    """
+
+    agent: int
+    asked: Optional[Asked]
+    order: int
+    tick: int
+    reply: Optional[str] = None
+    at: Optional[int] = None
+    time: int = 0
+    answered: int = 0
+
+
+class Schedule:
+    """The clock's calls of a game: at which ticks it calls each auction."""
+
+    def __init__(self, game: Game) -> None:
+        def ticks_of(good: int) -> List[int]:
+            if good in HOTELS:
+                return list(range(6, game.hotels[good - 8].closes + 1, 6))
+            return list(range(1, TICKS + 1)) if good < 8 else [TICKS]
+
+        self.ticks = [ticks_of(good) for good in GOODS]
+
+    def most(self, good: int, tick: int) -> int:
+        """How many calls of an auction the clock has made until a tick."""
+        return sum(at <= tick for at in self.ticks[good])
+
+    def span(self, good: int, clocks: int) -> Tuple[int, int]:
+        """Between which ticks an entry stands that has so many calls of the clock before it."""
+        ticks = self.ticks[good]
+        least = ticks[clocks - 1] if clocks else 0
+        return least, ticks[clocks] - 1 if clocks < len(ticks) else TICKS
+
+
+@dataclass
+class Agent:
+    """What a journal says of one agent."""
+
+    is_here: bool = False  # whether a link has the seat
+    is_waived: bool = False
+    has_played: bool = False  # whether a link had the seat in the game
+    end: Optional[str] = None  # why its session is over
+    asked: int = 0  # lines
+    answered: int = 0
+    refused: int = 0  # replies that refuse a line before any auction was asked
+    last: int = 0  # the tick of its last line, or of its link's beginning
+    waiting: Deque[Tuple[int, int, str]] = field(default_factory=deque)
+
+    def copy(self) -> "Agent":
+        """As it is now."""
+        other = copy.copy(self)
+        other.waiting = self.waiting.copy()
+        return other
+
+
+class JournalReader:
+    """What a journal says. Lines may be added while they are written.
+
+    Attributes:
+        text: The canonical text of the game file, and `game` what it says.
+        calls: The requests that were answered, in the order of their replies.
+        agents: The eight agents.
+        tick: The last tick, and `time` the last time, in milliseconds since the welcome.
+        has_begun: Whether the welcome was sent.
+        status: The exit status of the server; None while it runs, or if the journal breaks off.
+    """
+
+    def __init__(self) -> None:
+        self.text, self.form, self.pace, self.at = "", "words", 0, 0
+        self.game: Optional[Game] = None
+        self.schedule: Optional[Schedule] = None
+        self.calls: List[Call] = []
+        self.agents = [Agent() for _ in range(SEATS)]
+        self.is_playing, self.has_begun = False, False
+        self.tick, self.time, self.lines = 0, 0, 0
+        self.status: Optional[int] = None
+
+    def read(self, text: str) -> None:
+        """Adds a piece of a journal that ends with a line.
+
+        Raises:
+            JournalError: A line is none of a journal.
+        """
+        for line in text.split("\n"):
+            if not line:
+                continue
+            self.lines += 1
+            try:
+                what = json.loads(line)
+                if (self.lines == 1) != ("journal" in what):
+                    raise ValueError("the first line, and no other, says `journal`")
+                self._add(what)
+            except (ValueError, KeyError, IndexError, TypeError, AttributeError,
+                    GameError, ReplyError) as fault:
+                raise JournalError(f"line {self.lines} is none of a journal: {fault}") from None
+
+    def copy(self) -> "JournalReader":
+        """What is known now, for a reader that works while more is added."""
+        other = copy.copy(self)
+        other.calls = self.calls[:]
+        other.agents = [agent.copy() for agent in self.agents]
+        return other
+
+    def pending(self) -> List[Call]:
+        """The calls of auctions that were passed on and have no reply, each agent's in order."""
+        calls = []
+        for number, agent in enumerate(self.agents):
+            for order, tick, line in agent.waiting:
+                asked = asked_by(line, self.form)
+                if asked and asked.good != CASH and asked.keyword != "quote":
+                    calls.append(Call(number, asked, order, tick))
+        return calls
+
+    def _add(self, what: Dict[str, Any]) -> None:
+        if "q" in what:
+            agent = self.agents[what["a"]]
+            agent.asked, agent.last = agent.asked + 1, self.tick
+            agent.waiting.append((self.lines, self.tick, what["q"]))
+        elif "r" in what:
+            self._answer(what["a"], what["r"], what["t"])
+        elif "tick" in what:
+            self.tick, self.has_begun = what["tick"], True
+        elif "here" in what:
+            agent = self.agents[what["here"]]
+            agent.is_here, agent.is_waived, agent.last = True, False, self.tick
+            agent.has_played = agent.has_played or self.is_playing
+        elif "gone" in what:
+            self.agents[what["gone"]].is_here = False
+        elif "without" in what:
+            self.agents[what["without"]].is_waived = True
+        elif "begin" in what:
+            self.is_playing = True
+            for number in what["begin"]:
+                self.agents[number].has_played = True
+        elif "end" in what:
+            self.agents[what["end"]].end = what["why"]
+        elif "over" in what:
+            self.status = what["over"]
+        elif "journal" in what:
+            self._head(what)
+        self.time = max(self.time, what.get("t", 0))
+
+    def _head(self, what: Dict[str, Any]) -> None:
+        if what["journal"] != VERSION:
+            raise ValueError(f"the form's version is {what['journal']}, not {VERSION}")
+        self.text, self.game = what["game"], read_game(what["game"])
+        self.schedule = Schedule(self.game)
+        self.form, self.pace, self.at = what["form"], what["pace"], what["at"]
+
+    def _answer(self, number: int, line: str, now: int) -> None:
+        agent = self.agents[number]
+        if not agent.waiting:
+            raise ValueError("the reply has no request")
+        order, tick, asking = agent.waiting.popleft()
+        reply = reply_of(line, self.form)
+        call = Call(number, None, order, tick, reply, position_of(reply), now, self.lines)
+        agent.answered += 1
+        agent.refused += is_refusal(line.encode("latin-1"))
+        if call.at is not None:
+            call.asked = asked_by(asking, self.form)
+            if call.asked is None:
+                raise ValueError("a line that asks nothing has a reply with a position")
+        self.calls.append(call)
+
+
+def read_journal(file: Path) -> JournalReader:
+    """Reads a journal file. A last line without its end is left out: nothing of it was passed on.
+
+    Raises:
+        JournalError: It is no journal.
+        OSError: It cannot be read.
+    """
+    reader = JournalReader()
+    text = file.read_bytes().decode("latin-1")
+    reader.read(text[:text.rfind("\n") + 1])
+    if reader.game is None:
+        raise JournalError("it has no first line of a journal")
+    return reader
+

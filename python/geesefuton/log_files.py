@@ -1,0 +1,89 @@
+"""Where the log of a game goes: to the output that was asked for, and to a file beside the journal,
+so that a full disk or a pipe whose reader has gone does not lose it."""
+
+from __future__ import annotations
+
+import os
+from dataclasses import dataclass
+from pathlib import Path
+from typing import BinaryIO, Optional, Union
+
+from geesefuton.processes import Output, why
+
+Target = Union[BinaryIO, Path, None]
+
+
+@dataclass(frozen=True)
+class Kept:
+    """What became of a log.
+
+    Attributes:
+        fault: Why the output took no more, in a few words; None if it has all.
+        file: A file that has the whole log, if there is one.
+    """
+
+    fault: Optional[str]
+    file: Optional[Path]
+
+
+def free_name(file: Path) -> Path:
+    """The file, or if that is there already, one beside it with a number in its name."""
+    name, number = file, 1
+    while os.path.lexists(name):
+        number += 1
+        name = file.with_name(f"{file.stem}-{number}{file.suffix}")
+    return name
+
+
+def keep(log: bytes, target: Target, beside: Optional[Path]) -> Kept:
+    """Writes a log.
+
+    Args:
+        log: Its text.
+        target: The output; None if there is none.
+        beside: A file for a second copy. Where it is there already another name is taken, and if
+            it is the output itself there is no copy.
+    """
+    copy = None
+    if beside is not None and not _is_same(target, beside):
+        copy = free_name(beside)
+        if _write(log, copy) is not None:
+            copy = None
+    fault = "there is none" if target is None else _write(log, target)
+    if fault is None and isinstance(target, Path):
+        return Kept(None, target)
+    return Kept(fault, copy)
+
+
+def _write(log: bytes, target: Union[BinaryIO, Path]) -> Optional[str]:
+    """Writes a log, and gives the fault if there is one."""
+    if not isinstance(target, Path) and not _has_number(target):
+        try:
+            target.write(log)
+            target.flush()
+        except OSError as fault:
+            return why(fault)
+        return None
+    output = Output(target if isinstance(target, Path) else target.fileno())
+    output.write(log)
+    output.close()
+    return output.fault
+
+
+def _has_number(file: BinaryIO) -> bool:
+    try:
+        file.fileno()
+    except OSError:  # also of a stream in memory
+        return False
+    return True
+
+
+def _is_same(target: Target, file: Path) -> bool:
+    try:
+        if target is None:
+            return False
+        known = os.stat(target if isinstance(target, Path) else target.fileno())
+        other = os.stat(file)
+    except OSError:
+        return False
+    return (known.st_dev, known.st_ino) == (other.st_dev, other.st_ino)

@@ -1,0 +1,291 @@
+"""One game of a tournament, in a process of its own.
+
+The process is started with the number of a connection's file: it is sent a `Job` there, and sends
+back events of the lobby, notes, and in the end a `Result`. It hosts the game with a `Lobby`, and
+starts the agents, each in a process group of its own that ends with it.
+"""
+
+import os
+import re
+import subprocess
+import sys
+import threading
+import time
+from contextlib import closing
+from dataclasses import dataclass
+from multiprocessing.connection import Connection
+from pathlib import Path
+from typing import Callable, Dict, List, Optional, Tuple, Union
+
+from geesefuton import events, program
+from geesefuton.entrants import Entrant, environment
+from geesefuton.events import End
+from geesefuton.lobby import Lobby, LobbyError, LobbySettings
+from geesefuton.logs import LogError, read_scores
+from geesefuton.processes import Children, command, why
+from geesefuton.results import Outcome
+
+LOOK = 0.02  # seconds between two looks at the agents' processes
+LEAVE = 2.0  # seconds that an agent has to end after its game
+MOST_KEPT = 1 << 20  # bytes that are kept of what an agent prints
+MOST_PRINTED = 131072  # blocks of 512 bytes that an agent may print, as `ulimit -f` counts
+PATIENCE = 30.0  # seconds for the first line of a link
+
+
+@dataclass(frozen=True)
+class Job:
+    """A game that is to be played.
+
+    Attributes:
+        name: The name of its files.
+        folder: Where they are written: NAME.game, NAME.log, NAME.events, and NAME.WORD with what
+            an agent printed.
+        game: The text of the game file.
+        entrants: The agents of the eight seats.
+        words: Their seat words.
+        form: What they speak, `words` or `json`.
+        pace: The milliseconds from tick to tick.
+        start: The seconds that the game waits for its agents.
+        linger: The seconds after the last tick until the links that are left are ended.
+    """
+
+    name: str
+    folder: Path
+    game: str
+    entrants: Tuple[Entrant, ...]
+    words: Tuple[str, ...]
+    form: str = "words"
+    pace: int = 100
+    start: float = 20.0
+    linger: float = 5.0
+
+
+@dataclass(frozen=True)
+class Note:
+    """Something that is told to whoever runs the tournament."""
+
+    text: str
+
+
+@dataclass(frozen=True)
+class Result:
+    """What a game came to.
+
+    Attributes:
+        scores: The scores of the eight seats in dollars; none if the game was lost.
+        outcomes: How each seat's game went.
+        fault: Why the game was lost; "" if it was not.
+    """
+
+    scores: Tuple[int, ...] = ()
+    outcomes: Tuple[Outcome, ...] = ()
+    fault: str = ""
+
+
+Message = Union[events.Event, Note, Result]
+
+# What runs it. As a module's main program its types would have other names here and there.
+PROGRAM = "import sys; from geesefuton.match import main; sys.exit(main())"
+
+
+@dataclass(frozen=True)
+class Exit:
+    """How an agent's process ended: its status (negative for a signal), and whether the game was
+    over and it had to be stopped."""
+
+    status: int
+    is_stopped: bool = False
+
+
+def outcome_of(reason: End, exited: Exit, was_refused: bool) -> Outcome:
+    """How an agent's game went.
+
+    Args:
+        reason: Why its part in the game was over.
+        exited: How its process ended.
+        was_refused: Whether a first line of it was refused.
+    """
+    if reason is End.ABSENT:
+        if was_refused:
+            return Outcome.REFUSED
+        failed = exited.status != 0 and not exited.is_stopped
+        return Outcome.CRASHED if failed else Outcome.ABSENT
+    if reason is End.REFUSED:
+        return Outcome.REFUSED
+    if reason is End.HUNG or (reason is End.GONE and exited.is_stopped):
+        return Outcome.HUNG
+    if reason is End.GONE and exited.status != 0:
+        return Outcome.CRASHED
+    return Outcome.PLAYED  # what its process did after the game changes nothing
+
+
+def _how(exited: Exit, reason: Optional[End]) -> str:
+    """How an agent ended, if that is to be told; else ""."""
+    if exited.is_stopped:
+        return f"was still running {LEAVE:g} seconds after its game, and was stopped"
+    if exited.status < 0:
+        return f"was ended by signal {-exited.status}"
+    if exited.status:
+        return f"ended with status {exited.status}"
+    if reason is End.GONE:
+        return "left before the last tick, without `quit`"
+    return "ended without taking its seat" if reason is End.ABSENT else ""
+
+
+class Match:
+    """A game with its agents."""
+
+    def __init__(self, job: Job, children: Children, send: Callable[[Message], None]) -> None:
+        self._job, self._children, self._send = job, children, send
+        self._running: Dict[int, "subprocess.Popen[bytes]"] = {}
+        self._exits: Dict[int, Exit] = {}
+        self._ends: Dict[int, End] = {}
+        self._refused: List[events.Refused] = []
+        self._game = job.folder / f"{job.name}.game"
+        self._log = job.folder / f"{job.name}.log"
+        self._events = (job.folder / f"{job.name}.events").open("w", encoding="utf-8")
+
+    def play(self) -> Result:
+        """Plays the game.
+
+        Raises:
+            OSError: A file cannot be written, or a process not be started.
+        """
+        job = self._job
+        self._game.write_text(job.game, encoding="ascii")
+        reading, writing = os.pipe()
+        with open(reading, encoding="ascii") as orders, open(writing, "wb", 0) as self._orders, \
+                self._events:
+            try:
+                lobby = Lobby(LobbySettings(
+                    game=self._game, port=0, pace=job.pace, log=self._log, form=job.form,
+                    start=job.start, linger=job.linger, patience=max(job.start, PATIENCE),
+                    orders=orders))
+                self._start_agents(lobby.port)
+                over = threading.Event()
+                watcher = threading.Thread(target=self._watch, args=(over,), daemon=True)
+                watcher.start()
+                try:
+                    status = lobby.run(self._take)
+                finally:
+                    over.set()
+                    watcher.join()
+            except (LobbyError, program.ProgramError) as fault:
+                return Result(fault=str(fault))
+        return self._result(status)
+
+    def _take(self, event: events.Event) -> None:
+        """Takes an event of the lobby."""
+        if isinstance(event, events.Ended):
+            self._ends[event.seat] = event.reason
+        if isinstance(event, events.Refused):
+            self._refused.append(event)
+        self._events.write(f"{event}\n")
+        self._send(event)
+
+    def _start_agents(self, port: int) -> None:
+        job, variables = self._job, environment(program.find())
+        limited = ["sh", "-c", f'ulimit -f {MOST_PRINTED}; exec "$@"', "agent"]
+        for seat, (entrant, word) in enumerate(zip(job.entrants, job.words)):
+            words = [*limited, *entrant.words, "localhost", str(port), word, "--pause",
+                     str(job.pace / 1000)]
+            with self._printed(seat).open("wb") as out:
+                self._running[seat] = self._children.start(
+                    words, stdin=subprocess.DEVNULL, stdout=out, stderr=subprocess.STDOUT,
+                    env=variables)
+
+    def _printed(self, seat: int) -> Path:
+        return self._job.folder / f"{self._job.name}.{self._job.words[seat]}"
+
+    def _watch(self, over: threading.Event) -> None:
+        """Watches the agents' processes, and a little after the game ends those that are left."""
+        deadline = None
+        while self._running:
+            for seat in [seat for seat, agent in self._running.items() if agent.poll() is not None]:
+                self._exits[seat] = Exit(self._children.end(self._running.pop(seat)))
+                self._order(f"without {self._job.words[seat]}")
+            if over.is_set():
+                deadline = deadline or time.monotonic() + LEAVE
+                if time.monotonic() > deadline:
+                    break
+            time.sleep(LOOK)
+        for seat in list(self._running):
+            status = self._children.end(self._running.pop(seat))
+            self._exits[seat] = Exit(status, is_stopped=True)
+
+    def _order(self, line: str) -> None:
+        """Tells the lobby that an agent is not waited for."""
+        try:
+            self._orders.write(f"{line}\n".encode("ascii"))
+        except OSError:
+            pass  # the lobby has ended
+
+    def _result(self, status: int) -> Result:
+        job = self._job
+        try:
+            text = self._log.read_bytes() if self._log.exists() else b""
+            if status not in (program.OK, program.CLOCK):
+                first = text.split(b"\n", 1)[0][:60].decode("ascii", "replace")
+                meaning = program.MEANINGS.get(status, first or "the log is empty")
+                return Result(fault=f"exit status {status} ({meaning})")
+            said = program.audit(self._game, self._log)
+            if said != "sound":
+                return Result(fault=f"the audit of its log says `{said}`")
+            scores = tuple(score.score for score in read_scores(text))
+        except (LogError, program.ProgramError) as fault:
+            return Result(fault=f"its log: {fault}")
+        outcomes = []
+        for seat in range(len(job.words)):
+            reason, exited = self._ends.get(seat, End.ABSENT), self._exits[seat]
+            outcomes.append(outcome_of(reason, exited, self._was_refused(seat)))
+            self._tell(seat, exited, reason, outcomes[-1])
+            self._shorten(seat)
+        return Result(scores, tuple(outcomes))
+
+    def _was_refused(self, seat: int) -> bool:
+        """Whether a refused first line has the agent's word.
+
+        The lobby knows links and no processes, so a refused line that has nobody's word is told,
+        and blamed on nobody.
+        """
+        return any(self._job.words[seat] in re.findall("[a-z0-9]+", refused.line)
+                   for refused in self._refused)
+
+    def _tell(self, seat: int, exited: Exit, reason: End, outcome: Outcome) -> None:
+        how = _how(exited, reason)
+        if not how and outcome is Outcome.PLAYED:
+            return
+        job = self._job
+        text = f"{job.entrants[seat].name} at seat {seat} ({job.words[seat]}) "
+        told = [f"counts as {outcome.value}" if outcome is not Outcome.PLAYED else "", how]
+        text += ": ".join(part for part in told if part)
+        printed = self._printed(seat).read_bytes()[-2000:].decode("utf-8", "replace").strip()
+        last = printed.split("\n")[-1][:120]
+        self._send(Note(text + (f"; it printed last: {last}" if last else "")))
+
+    def _shorten(self, seat: int) -> None:
+        """Keeps only the last bytes of what an agent printed, if it is much."""
+        file = self._printed(seat)
+        size = file.stat().st_size
+        if size > MOST_KEPT:
+            with file.open("rb") as printed:
+                printed.seek(size - MOST_KEPT)
+                last = printed.read()
+            file.write_bytes(f"[{size - MOST_KEPT} bytes are left out]\n".encode() + last)
+
+
+def main() -> int:
+    """The body of the process; its one word is the number of the connection's file."""
+    return command("match", _main)
+
+
+def _main() -> int:
+    with closing(Connection(int(sys.argv[1]))) as parent, Children() as children:
+        job: Job = parent.recv()
+        try:
+            result = Match(job, children, parent.send).play()
+        except OSError as fault:
+            where = f"{fault.filename}: " if fault.filename is not None else ""
+            result = Result(fault=where + why(fault))
+        parent.send(result)
+    return 0

@@ -1,0 +1,285 @@
+"""The page of a played game: HTML that stands alone, for a projector and for a telephone."""
+
+import html
+from collections import defaultdict
+from dataclasses import dataclass
+from pathlib import Path
+from typing import Dict, Iterable, Iterator, List, Optional, Sequence, Tuple, Union
+
+from geesefuton.games import (AUCTIONS, CLIENTS, FLIGHTS, GOODS, HOTELS, ROOMS, SEATS, TICKETS,
+                              TICKS, Game, Package, name_of)
+from geesefuton.logs import Log, Score, trades_of
+from geesefuton.prices import Event
+
+STYLE = Path(__file__).with_name("report.css")
+Cell = Union[str, int]
+KINDS: Tuple[Tuple[str, range], ...] = (("flights", FLIGHTS), ("Shanties", range(8, 12)),
+                                        ("Towers", range(12, 16)), ("tickets", TICKETS))
+ENDS = {"quit": "quit", "end": "left without `quit`", "readfault": "lost its link",
+        "writefault": "lost its link", "budget": "used up its lines"}
+
+
+@dataclass(frozen=True)
+class Heading:
+    """What stands at the head of the page.
+
+    Attributes:
+        game: The name of the game file.
+        written: When the log was written, in words.
+        warning: Why the page may be wrong; "" if the log is sound.
+    """
+
+    game: str
+    written: str
+    warning: str = ""
+
+
+def is_idle(log: Log, agent: int) -> bool:
+    """Whether nobody may have played a seat: it made no call, and did not say `quit`."""
+    return log.calls_of(agent) == 0 and log.end_of(agent) != "quit"
+
+
+def ranks(log: Log) -> Dict[int, int]:
+    """The rank of each agent that played: 1 plus how many of them have a greater score."""
+    scores = {score.agent: score.score for score in log.scores
+              if score.agent in log.seats() and not is_idle(log, score.agent)}
+    return {agent: 1 + sum(other > score for other in scores.values())
+            for agent, score in scores.items()}
+
+
+def why_nothing(log: Log, events: Sequence[Event], score: Score) -> str:
+    """Why an agent's trips are worth nothing; "" if they are worth something."""
+    agent = score.agent
+    if score.best:
+        return ""
+    if agent not in log.seats():
+        return "no link had the seat"
+    if log.calls_of(agent) == 0:
+        return "made no call"
+    held: Dict[str, int] = defaultdict(int)
+    for event in events:
+        if event.agent == agent and event.units:
+            held[AUCTIONS[event.good].group] += event.units
+    if not held:
+        return "bought nothing"
+    rooms = held["Shoreline Shanties"] + held["Tampa Towers"]
+    missing = [name for name, units in (("seats in", held["Flights in"]),
+                                        ("seats out", held["Flights out"]), ("rooms", rooms))
+               if not units]
+    return f"no {', no '.join(missing)}" if missing else "its goods make no trip"
+
+
+def table(heads: Sequence[str], rows: Iterable[Sequence[Cell]], text: Sequence[int] = ()) -> str:
+    """A table that scrolls in itself. Cells are HTML; the columns in `text` are aligned left."""
+    def mark(column: int) -> str:
+        return ' class="t"' if column in text else ""
+
+    head = "".join(f"<th{mark(column)}>{name}</th>" for column, name in enumerate(heads))
+    body = "".join("<tr>" + "".join(f"<td{mark(column)}>{cell}</td>"
+                                    for column, cell in enumerate(row)) + "</tr>" for row in rows)
+    return f'<div class="wide"><table><tr>{head}</tr>{body}</table></div>'
+
+
+def bar(value: int, low: int, high: int) -> str:
+    """A bar from 0 to a value, on a scale from `low`, at most 0, to `high`, above 0."""
+    scale = 100 / (high - low)
+    left = (min(value, 0) - low) * scale
+    side = " less" if value < 0 else ""
+    return (f'<span class="bar"><i class="zero" style="left:{-low * scale:.1f}%"></i>'
+            f'<i class="fill{side}" style="left:{left:.1f}%;width:{abs(value) * scale:.1f}%"></i>'
+            "</span>")
+
+
+def _scores(game: Game, log: Log, events: Sequence[Event]) -> str:
+    place = ranks(log)
+    low = min([0, *(score.score for score in log.scores)])
+    high = max([1, *(score.score for score in log.scores)])
+    rows: List[List[Cell]] = []
+    order = sorted(log.scores, key=lambda score: (score.agent not in place, -score.score))
+    for score in order:
+        home = sum(package is None for package in score.packages)
+        told = [why_nothing(log, events, score), ENDS.get(log.end_of(score.agent), "")]
+        rows.append([place.get(score.agent, "–"), _word(game, score.agent),
+                     f"<b>{score.score}</b>", bar(score.score, low, high), score.best, score.cash,
+                     f"{home} of {CLIENTS}", score.short,
+                     _code("; ".join(filter(None, told)))])
+    heads = ["", "team", "score", "", "trips", "cash", "left home", "tickets<br>short",
+             "how it went"]
+    note = ("A score is what the trips are worth, plus the cash, less 200 for each ticket short. "
+            "Equal scores share a rank; a seat that made no call and did not quit has none.")
+    return f"<h2>Scores</h2>{table(heads, rows, (1, 8))}<p>{note}</p>"
+
+
+def _word(game: Game, agent: int) -> str:
+    return html.escape(game.words[agent])
+
+
+def _code(text: str) -> str:
+    return html.escape(text.replace("`quit`", "quit"))
+
+
+def _spending(game: Game, log: Log, events: Sequence[Event]) -> str:
+    """What each agent paid and earned, by kind of goods."""
+    sums: Dict[Tuple[int, str, bool], int] = defaultdict(int)
+    kind_of = {good: kind for kind, goods in KINDS for good in goods}
+    for event in events:
+        if event.agent is not None and event.units:
+            sold = event.units < 0
+            sums[event.agent, kind_of[event.good], sold] += abs(event.units) * event.dollars
+    rows = []
+    for agent in range(SEATS):
+        paid = [sums[agent, kind, False] for kind, _ in KINDS]
+        earned = sums[agent, "tickets", True]
+        rows.append([_word(game, agent), *paid, earned, earned - sum(paid)])
+    heads = ["team", *(kind for kind, _ in KINDS), "tickets sold", "cash"]
+    return f"<h2>What each team paid and earned</h2>{table(heads, rows, (0,))}"
+
+
+def _tickets(events: Sequence[Event]) -> str:
+    """The prices of each ticket."""
+    rows: List[List[Cell]] = []
+    for good in TICKETS:
+        trades = [(event.units, event.dollars) for event in events
+                  if event.good == good and event.units and event.units > 0]
+        units = sum(count for count, _ in trades)
+        if units:
+            mean = sum(count * dollars for count, dollars in trades) / units
+            prices = [dollars for _, dollars in trades]
+            rows.append([name_of(good), units, min(prices), f"{mean:.0f}", max(prices)])
+        else:
+            rows.append([name_of(good), 0, "–", "–", "–"])
+    return ("<h2>Ticket prices</h2>"
+            + table(["ticket", "traded", "lowest", "mean", "highest"], rows, (0,)))
+
+
+Path2 = List[Tuple[int, int]]  # ticks and dollars
+
+
+def _round_up(number: int, step: int) -> int:
+    return -(-number // step) * step
+
+
+def _chart(title: str, points: Path2, low: int, high: int, steps: bool) -> str:
+    """A small chart of one price over the ticks, with its labels in HTML, so that they keep their
+    size."""
+    def y(dollars: int) -> float:
+        return 100 - 100 * (dollars - low) / (high - low)
+
+    path = f"M{points[0][0]} {y(points[0][1]):.1f}"
+    for tick, dollars in points[1:]:
+        path += f"H{tick}V{y(dollars):.1f}" if steps else f"L{tick} {y(dollars):.1f}"
+    grid = "".join(f"M0 {level}H{TICKS}" for level in (0, 50, 100))
+    grid += "".join(f"M{tick} 0V100" for tick in range(0, TICKS + 1, 18))
+    last, dollars = points[-1]
+    dot = (f'<i class="dot" style="left:{last * 100 / TICKS:.1f}%;top:{y(dollars):.1f}%"></i>'
+           if steps else "")
+    return (f'<figure><figcaption>{title}</figcaption><div class="plot">'
+            f'<svg viewBox="0 0 {TICKS} 100" preserveAspectRatio="none" aria-hidden="true">'
+            f'<path class="grid" d="{grid}"/><path class="line" d="{path}"/></svg>{dot}'
+            f'<span class="top">{high}</span><span class="low">{low}</span></div></figure>')
+
+
+def _price_rows(game: Game, events: Sequence[Event]) -> Iterator[str]:
+    paths: Dict[int, Path2] = defaultdict(list)
+    for event in events:
+        if event.what in ("price", "close") and event.tick is not None:
+            paths[event.good].append((event.tick, event.dollars))
+    for good in FLIGHTS:
+        paths[good].append((TICKS, paths[good][-1][1]))
+    for goods, step in ((FLIGHTS, 50), (HOTELS, 100)):
+        top = max([step, *(dollars for good in goods for _, dollars in paths[good])])
+        high = _round_up(top, step)
+        low = 0
+        if goods is FLIGHTS:
+            low = min(dollars for good in goods for _, dollars in paths[good]) // step * step
+            high = max(high, low + step)
+        for group in (goods[:4], goods[4:]):
+            charts = []
+            for good in group:
+                auction = AUCTIONS[good]
+                title = f"{'day' if good in FLIGHTS else 'night'} {auction.day}"
+                last = paths[good][-1][1]
+                closes = (f"{last} at tick {game.hotels[good - 8].closes}" if good in HOTELS
+                          else f"{paths[good][0][1]} to {last}")
+                charts.append(_chart(f"{title}: <b>{closes}</b>", paths[good], low, high,
+                                     good in HOTELS))
+            yield f'<h3>{AUCTIONS[group[0]].group}</h3><div class="charts">{"".join(charts)}</div>'
+
+
+def _prices(game: Game, events: Sequence[Event]) -> str:
+    live = " In this game they publish with each bid, too." if game.live else ""
+    note = ("Dollars from tick 0 at the left to tick 54. Flights change at each tick. Every six "
+            f"ticks hotels publish, and one closes, at the dot.{live}")
+    return f"<h2>Prices</h2><p>{note}</p>" + "".join(_price_rows(game, events))
+
+
+def _client_rows(game: Game, score: Score) -> Iterator[List[Cell]]:
+    for number, (client, package) in enumerate(zip(game.clients[score.agent], score.packages)):
+        asked: List[Cell] = [number, f"{client.arrive}–{client.depart}", client.premium,
+                             *client.values]
+        yield asked + _trip(package) + [client.worth(package)]
+
+
+def _trip(package: Optional[Package]) -> List[Cell]:
+    if package is None:
+        return ["stays at home", "", "", "", ""]
+    return [("Shanties", "Towers")[package.hotel], f"{package.arrive}–{package.depart}",
+            *(night or "" for night in package.nights)]
+
+
+def _trade_rows(events: Sequence[Event], agent: int) -> Iterator[List[Cell]]:
+    """An agent's trades by good: units bought and sold, and the dollars paid and earned."""
+    sums: Dict[int, List[int]] = {good: [0, 0, 0, 0] for good in GOODS}
+    for event in events:
+        if event.agent == agent and event.units:
+            side = 0 if event.units > 0 else 2
+            sums[event.good][side] += abs(event.units)
+            sums[event.good][side + 1] += abs(event.units) * event.dollars
+    for good, (bought, paid, sold, earned) in sums.items():
+        if bought or sold:
+            yield [name_of(good), bought or "", paid if bought else "", sold or "",
+                   earned if sold else "", earned - paid]
+
+
+def _teams(game: Game, log: Log, events: Sequence[Event]) -> Iterator[str]:
+    best = max(score.score for score in log.scores)
+    clients = ["client", "days", "Towers", "alligators", "park", "museum", "got", "days",
+               "alligators", "park", "museum", "worth"]
+    trades = ["good", "bought", "for", "sold", "for", "cash"]
+    for score in sorted(log.scores, key=lambda score: -score.score):
+        yield (f'<details{" open" if score.score == best else ""}><summary>'
+               f"<b>{_word(game, score.agent)}</b>: trips worth {score.best}, cash {score.cash}, "
+               f"score {score.score}</summary><h3>What each client wanted, and got on which nights"
+               f"</h3>{table(clients, _client_rows(game, score), (6,))}<h3>Trades</h3>"
+               f"{table(trades, _trade_rows(events, score.agent), (0,))}</details>")
+
+
+def _head(game: Game, log: Log, heading: Heading) -> str:
+    how = "over links" if log.kind == "serve" else "from a script"
+    rooms = "" if game.rooms == (ROOMS,) * 8 else \
+        f" Rooms: Shanties {' '.join(map(str, game.rooms[:4]))}, " \
+        f"Towers {' '.join(map(str, game.rooms[4:]))}."
+    missed = f" {log.missed} ticks lapsed." if log.missed else ""
+    warning = f'<p class="warning">{html.escape(heading.warning)}</p>' if heading.warning else ""
+    return (f"<h1>A game of TAC Classic</h1><p>{html.escape(heading.game)}, played {how}; the log "
+            f"was written {html.escape(heading.written)}. {trades_of(log.histories)} trades.{rooms}"
+            f"{missed} All prices are in dollars.</p>{warning}")
+
+
+def page(game: Game, log: Log, events: Sequence[Event], heading: Heading) -> str:
+    """The page of a game.
+
+    Args:
+        game: The game.
+        log: Its log.
+        events: The prices and trades of all auctions (`prices.all_events`).
+        heading: What stands at its head.
+    """
+    words = ", ".join(_word(game, agent) for agent in range(SEATS))
+    parts = ['<!doctype html><html lang="en"><meta charset="utf-8">'
+             '<meta name="viewport" content="width=device-width, initial-scale=1">'
+             f"<title>A game of {words}</title><style>{STYLE.read_text(encoding='ascii')}</style>",
+             _head(game, log, heading), _scores(game, log, events), _spending(game, log, events),
+             _prices(game, events), _tickets(events), "<h2>Teams</h2>",
+             *_teams(game, log, events)]
+    return "\n".join(parts) + "</html>\n"

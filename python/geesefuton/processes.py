@@ -1,0 +1,223 @@
+"""Processes and folders that are gone once the script that made them has ended, however it ends;
+signals; and output that tells closed pipes and full disks."""
+
+import errno
+import os
+import signal
+import socket
+import subprocess
+import sys
+import tempfile
+from pathlib import Path
+from types import FrameType, TracebackType
+from typing import Any, Callable, Optional, Sequence, Type, Union
+
+from geesefuton.program import ProgramError
+
+# The guard is a shell that makes a folder, and waits until the pipe to it closes: then the script
+# has ended, even by SIGKILL. Each process writes its number into the folder `groups` before it
+# executes its program. The guard moves that folder away, so that nothing more begins, and ends the
+# process group of each number in it: by SIGTERM first, so that they can end what they started
+# elsewhere, and a second later by SIGKILL. Then it removes the whole folder.
+GUARD = """
+trap '' INT TERM HUP PIPE
+place=$(mktemp -d "$0/geesefuton.XXXXXX") || exit
+mkdir "$place/groups" "$place/files" && echo "$place"
+read -r end
+mv "$place/groups" "$place/ended" && cd "$place/ended" || exit
+left=
+for group in *; do kill -s TERM -- "-$group" 2> /dev/null && left=yes; done
+[ -z "$left" ] || sleep 1
+for group in *; do kill -s KILL -- "-$group" 2> /dev/null; done
+cd / && rm -rf "$place"
+"""
+START = ': > "$0/$$" && exec "$@"'
+
+
+class Stopped(BaseException):
+    """A signal asked the script to stop.
+
+    Attributes:
+        status: The exit status that is due, 128 plus the number of the signal.
+    """
+
+    def __init__(self, number: int) -> None:
+        super().__init__(f"stopped by {signal.Signals(number).name}")
+        self.status = 128 + number
+
+
+def stop_on_signals() -> None:
+    """Lets SIGINT, SIGTERM and SIGHUP raise `Stopped` in the main thread.
+
+    A signal that is ignored, as SIGHUP is under `nohup`, stays ignored.
+    """
+    def stop(number: int, _: Optional[FrameType]) -> None:
+        raise Stopped(number)
+
+    for number in (signal.SIGINT, signal.SIGTERM, signal.SIGHUP):
+        if signal.getsignal(number) is not signal.SIG_IGN:
+            signal.signal(number, stop)
+
+
+def free_port() -> int:
+    """A port on which no program listens now."""
+    with socket.socket() as probe:
+        probe.bind(("127.0.0.1", 0))
+        port: int = probe.getsockname()[1]
+        return port
+
+
+class Children:
+    """Processes and temporary folders that end with the script that made them.
+
+    Each process is the leader of a process group of its own, so that what it starts ends with it.
+
+    Raises:
+        OSError: No folder can be made where temporary files stand.
+    """
+
+    def __init__(self) -> None:
+        self._guard = subprocess.Popen(
+            ["sh", "-c", GUARD, tempfile.gettempdir()], stdin=subprocess.PIPE,
+            stdout=subprocess.PIPE, stderr=subprocess.DEVNULL, start_new_session=True)
+        assert self._guard.stdout is not None
+        with self._guard.stdout as told:
+            place = told.readline().decode().rstrip("\n")
+        if not place:
+            self.close()
+            raise OSError(errno.ENOSPC, "no folder can be made", tempfile.gettempdir())
+        self._groups = Path(place, "groups")
+        self._files = Path(place, "files")
+
+    def start(self, words: Sequence[Union[str, "os.PathLike[str]"]],
+              **how: Any) -> "subprocess.Popen[bytes]":
+        """Starts a process; `how` is passed on to `subprocess.Popen`."""
+        shell = ["sh", "-c", START, str(self._groups), *map(str, words)]
+        return subprocess.Popen(shell, start_new_session=True, **how)
+
+    def folder(self, name: str = "files") -> Path:
+        """A new empty folder, which is removed in the end."""
+        return Path(tempfile.mkdtemp(prefix=f"{name}.", dir=self._files))
+
+    def end(self, child: "subprocess.Popen[bytes]") -> int:
+        """Kills what is left of a process's group, and gives its exit status."""
+        try:
+            os.killpg(child.pid, signal.SIGKILL)
+        except (ProcessLookupError, PermissionError):
+            pass  # it has ended already
+        try:
+            os.remove(self._groups / str(child.pid))  # before another process may get its number
+        except FileNotFoundError:
+            pass  # it had not begun
+        return child.wait()
+
+    def close(self) -> None:
+        """Ends all that is left, and removes the folders."""
+        assert self._guard.stdin is not None
+        self._guard.stdin.close()
+        self._guard.wait()
+
+    def __enter__(self) -> "Children":
+        return self
+
+    def __exit__(self, kind: Optional[Type[BaseException]], fault: Optional[BaseException],
+                 trace: Optional[TracebackType]) -> None:
+        self.close()
+
+
+def why(fault: OSError) -> str:
+    """A fault of the system in a few words, such as `No space left on device`."""
+    if isinstance(fault, BrokenPipeError):
+        return "its reader has gone"
+    return fault.strerror or str(fault)
+
+
+class Output:
+    """A file that is written at once, and keeps the first fault instead of raising it.
+
+    After a fault nothing more is written, so that what stands there is a beginning of the text.
+
+    Attributes:
+        name: What it is called in messages, such as `standard output`.
+        fault: Why it takes no more, in a few words; None while it does.
+    """
+
+    def __init__(self, target: Union[int, "os.PathLike[str]", str], name: str = "") -> None:
+        self.name = name or ("standard output" if target == 1 else str(target))
+        self.fault: Optional[str] = None
+        self._number: Optional[int] = None
+        self._is_own = not isinstance(target, int)
+        try:
+            if isinstance(target, int):
+                os.fstat(target)
+                self._number = target
+            else:
+                self._number = os.open(target, os.O_WRONLY | os.O_CREAT | os.O_TRUNC, 0o666)
+        except OSError as fault:
+            self.fault = why(fault)
+
+    def write(self, text: Union[str, bytes]) -> bool:
+        """Writes a text, and returns whether all of it, and all before it, was taken."""
+        rest = memoryview(text.encode() if isinstance(text, str) else text)
+        while rest and self.fault is None:
+            assert self._number is not None
+            try:
+                rest = rest[os.write(self._number, rest):]
+            except OSError as fault:
+                self.fault = why(fault)
+        return self.fault is None
+
+    def close(self) -> None:
+        """Closes a file that it opened; some systems tell a full disk only then."""
+        if self._is_own and self._number is not None:
+            try:
+                os.close(self._number)
+            except OSError as fault:
+                self.fault = self.fault or why(fault)
+            self._number = None
+
+
+def tell(what: str) -> None:
+    """Writes a line to standard error, if there is one that takes it."""
+    try:
+        os.write(2, (what + "\n").encode("utf-8", "replace"))
+    except OSError:
+        pass  # nobody can be told
+
+
+def command(name: str, main: Callable[[], int]) -> int:
+    """Runs the body of a command, and turns what stops it into a line and an exit status.
+
+    Args:
+        name: The name of the command, which begins its messages.
+        main: Its body, which gives the exit status.
+
+    Returns:
+        The exit status: 128 plus the number of a signal that stopped it, 1 for an error.
+    """
+    stop_on_signals()
+    status = 1
+    try:
+        status = main()
+    except SystemExit as asked:  # by argparse, which has told why
+        status = asked.code if isinstance(asked.code, int) else int(asked.code is not None)
+    except Stopped as stopped:
+        status = stopped.status
+    except ProgramError as fault:
+        tell(f"{name}: {fault}")
+    except OSError as fault:
+        where = f"{fault.filename}: " if fault.filename is not None else ""
+        tell(f"{name}: {where}{why(fault)}")
+    return max(status, _flush(name))
+
+
+def _flush(name: str) -> int:
+    """Writes what Python still keeps for standard output, such as a help text."""
+    try:
+        if sys.stdout is not None:
+            sys.stdout.flush()
+    except OSError as fault:
+        tell(f"{name}: standard output: {why(fault)}")
+        os.dup2(os.open(os.devnull, os.O_WRONLY), 1)  # so that Python's own flush does not fail
+        return 1
+    return 0

@@ -1,0 +1,154 @@
+"""The file of tac, and its commands as calls.
+
+The file is the one that the environment variable TAC names, and otherwise crates/tacd/out/tacd of
+the clone that this package stands in.
+"""
+
+import os
+import shutil
+import subprocess
+from pathlib import Path
+from typing import List, Optional, Sequence, Tuple, Union
+
+__all__ = [
+    "MEANINGS", "OK", "CLOCK", "UNSOUND", "ProgramError", "audit", "find", "make", "play", "run",
+    "served_words", "show", "solve", "table", "top", "upgrade", "worth",
+]
+
+Word = Union[str, int, "os.PathLike[str]"]
+
+OK, CLOCK, UNSOUND = 0, 6, 9  # exit statuses
+MEANINGS = {
+    1: "the words are no command",
+    2: "the game file is refused",
+    3: "a file is missing or cannot be read",
+    4: "the output took no more",
+    5: "its port is taken, or may not be used",
+    6: "a tick lapsed; the scores stand",
+    7: "memory was refused",
+    8: "a script, an account or a log is refused",
+    9: "the log is not sound",
+}
+
+
+class ProgramError(Exception):
+    """A command of tac that ended otherwise than asked, or a program that is not there.
+
+    Attributes:
+        status: The exit status, negative for a signal; None if no program ran.
+        line: The first line of its output, without its line end; "" if there is none.
+    """
+
+    def __init__(self, message: str, status: Optional[int] = None, line: str = "") -> None:
+        super().__init__(message)
+        self.status = status
+        self.line = line
+
+
+def top() -> Optional[Path]:
+    """The top folder of the clone that this package stands in; None if it was installed."""
+    folder = Path(__file__).resolve().parents[2]
+    return folder if (folder / "crates" / "tacd").is_dir() else None
+
+
+def find() -> str:
+    """The file of tac.
+
+    Raises:
+        ProgramError: There is no such file, or it is no program.
+    """
+    clone = top()
+    built = str(clone / "crates" / "tacd" / "out" / "tacd") if clone else None
+    name = os.environ.get("TAC") or built
+    if name is None:
+        raise ProgramError("there is no program: set the variable TAC to the file of tac")
+    file = shutil.which(name)
+    if file is None:
+        if os.path.isfile(name):
+            raise ProgramError(f"{name} is no program: chmod +x it, or set TAC to the file of tac")
+        raise ProgramError(f"there is no program {name}: build it (README, The proved program), "
+                           "or set TAC to the file of tac")
+    # A name with a slash is taken from here, so that it holds in any folder.
+    return os.path.abspath(file)
+
+
+def run(command: str, *words: Word, allowed: Sequence[int] = (OK,),
+        timeout: Optional[float] = None) -> str:
+    """Runs a command of tac, and gives its output.
+
+    Args:
+        command: The first word, such as `make`.
+        words: The further words; files and numbers are put into text.
+        allowed: The exit statuses that are no error.
+        timeout: The seconds that it may take; None for no limit.
+
+    Raises:
+        ProgramError: There is no program, it ended with another status, or took too long.
+    """
+    try:
+        done = subprocess.run([find(), command, *map(str, words)], stdin=subprocess.DEVNULL,
+                              stdout=subprocess.PIPE, timeout=timeout, check=False)
+    except subprocess.TimeoutExpired:
+        raise ProgramError(f"tac {command} took longer than {timeout:g} seconds") from None
+    except OSError as fault:
+        raise ProgramError(f"the file of tac cannot be run: {fault.strerror}") from None
+    text = done.stdout.decode("ascii", "replace")
+    if done.returncode not in allowed:
+        line = text.split("\n", 1)[0]
+        meaning = MEANINGS.get(done.returncode, "")
+        told = ": ".join(part for part in (meaning, line[:100]) if part)
+        raise ProgramError(f"tac {command} ended with exit status {done.returncode}"
+                           + (f" ({told})" if told else ""), done.returncode, line)
+    return text
+
+
+def make(seed: int) -> str:
+    """The text of the game made from a seed, 0 to 18446744073709551615."""
+    return run("make", seed)
+
+
+def show(game: Word) -> str:
+    """The canonical text of a game file."""
+    return run("show", game)
+
+
+def upgrade(game: Word) -> str:
+    """The text of the game of a file in version 2."""
+    return run("upgrade", game)
+
+
+def play(game: Word, script: Word) -> str:
+    """The reply lines of a script's requests, and then the log."""
+    return run("play", game, script)
+
+
+def audit(game: Word, log: Word) -> str:
+    """What the audit says of a log: `sound`, or its first flaw, such as `unsound score 0`."""
+    return run("audit", game, log, allowed=(OK, UNSOUND)).rstrip("\n")
+
+
+def table(pairs: Sequence[Tuple[Word, Word]]) -> str:
+    """The standings over games, each a game file and its log."""
+    return run("table", *(word for pair in pairs for word in pair))
+
+
+def solve(account: Word) -> str:
+    """A best allocation of an account file's goods, with its certificate."""
+    return run("solve", account)
+
+
+def worth(account: Word) -> str:
+    """What one unit more and one less of each good of an account file changes."""
+    return run("worth", account)
+
+
+def served_words(game: Word, port: int, pace: int, form: str = "words") -> List[str]:
+    """The words that start a server.
+
+    Args:
+        game: The game file.
+        port: The port, 1 to 65535.
+        pace: The milliseconds from tick to tick, 1 to 60000.
+        form: What agents speak, `words` or `json`.
+    """
+    return [find(), "serve", str(game), str(port), str(pace)] + (["json"] if form == "json" else [])

@@ -1,0 +1,553 @@
+"""Passes lines on between agents and the server, all in one thread.
+
+An agent's lines go to the server one at a time: the next one once the one before is answered. So at
+any moment at most one line of each agent has no reply, and a journal that breaks off leaves little
+to guess. Replies are always read, written into the journal, and then sent to the link whose line
+they answer, or to nobody if that has ended: never to another link that has the seat by now. A line
+without its end is not passed on, and of one that is too long only as much as makes it too long.
+"""
+
+from __future__ import annotations
+
+import contextlib
+import itertools
+import selectors
+import socket
+import time
+from collections import deque
+from typing import Any, Callable, Deque, Dict, List, Optional, Sequence
+
+from geesefuton import events
+from geesefuton.dialects import MOST_LINE, is_bye, is_refusal
+from geesefuton.events import End, Event
+from geesefuton.journal import Journal
+from geesefuton.seats import Action, Close, Give, Over, Refuse, Seat, Seats, State
+
+MOST_SAID = 65536  # bytes of an agent's lines that are kept; it is not read while there are more
+MOST_HELD = 65536  # bytes for an agent that does not read; nothing is asked for it beyond these
+MOST_STRANGERS = 200  # links that have not sent a first line
+ADMISSION = 10  # lines of a welcome
+PARTING = 1.0  # seconds that a link has to end its side after it was sent its last line
+KEEPALIVE = {"TCP_KEEPIDLE": 5, "TCP_KEEPINTVL": 3, "TCP_KEEPCNT": 3}  # seconds, seconds, probes
+
+
+class OuterLink:
+    """A link from outside: a stranger until its first line, and then the link of a seat.
+
+    Attributes:
+        number: By which `Seats` knows it.
+        seat: The seat that it has, or waits for.
+        said: What it sent and was not passed on.
+        held: What is still to be sent to it.
+        owed: How many of its lines were passed on and are not answered.
+        has_ended: Whether it sends nothing more.
+        parting: When it is closed at the latest; None while it is in use.
+    """
+
+    def __init__(self, number: int, link: socket.socket, source: str) -> None:
+        self.number, self.socket, self.source = number, link, source
+        self.since = time.monotonic()
+        self.seat: Optional[Seat] = None
+        self.said, self.held = bytearray(), bytearray()
+        self.owed = 0
+        self.has_ended, self.is_open, self.wants = False, True, 0
+        self.parting: Optional[float] = None
+        self._is_skipping = False  # whether the rest of a line that is too long is coming
+        tune(link)
+
+    def feed(self, data: bytes) -> None:
+        """Keeps what came, of a line that is too long only the beginning."""
+        if self._is_skipping:
+            cut = data.find(b"\n")
+            if cut < 0:
+                return
+            data, self._is_skipping = data[cut:], False
+        self.said += data
+        length = len(self.said) - self.said.rfind(b"\n") - 1
+        if length > MOST_LINE + 1:
+            del self.said[MOST_LINE + 1 - length:]
+            self._is_skipping = True
+
+    def has_line(self) -> bool:
+        """Whether a whole line is there."""
+        return b"\n" in self.said
+
+    def take(self) -> bytes:
+        """Takes the first line away, without its end."""
+        cut = self.said.find(b"\n")
+        line = bytes(self.said[:cut])
+        del self.said[:cut + 1]
+        return line
+
+
+class Session:
+    """The link to the server that is kept for a seat.
+
+    Attributes:
+        welcome: The lines of the welcome that have come.
+        asked: The links whose lines were passed on and are not answered.
+        lines: How many lines agents have sent for it.
+        answered: How many replies came, and `refused` how many of them refuse a line.
+    """
+
+    def __init__(self, seat: Seat, link: socket.socket) -> None:
+        self.seat, self.socket = seat, link
+        self.welcome: List[bytes] = []
+        self.asked: Deque[OuterLink] = deque()
+        self.held = bytearray()
+        self.lines = self.answered = self.refused = 0
+        self.has_ended, self.wants = False, 0
+        self._tail = b""
+        link.setblocking(False)
+        link.setsockopt(socket.IPPROTO_TCP, socket.TCP_NODELAY, 1)
+
+    def feed(self, data: bytes) -> List[bytes]:
+        """The lines that are whole now, without their ends."""
+        *lines, self._tail = (self._tail + data).split(b"\n")
+        return lines
+
+    def reason(self, reason: End) -> End:
+        """The reason of its end, in view of what was answered."""
+        return End.REFUSED if self.refused and self.refused == self.answered else reason
+
+
+class Relay:
+    """The links of a game, and which of them has which seat.
+
+    Args:
+        words: The seat words.
+        listener: Where links come in.
+        emit: Is told what happens.
+        journal: Where it is written, if anywhere.
+        patience: The seconds that a link has for its first line.
+        silence: The seconds without a word after which a link gives way to another.
+
+    Attributes:
+        started: When the welcome came, by `time.monotonic`.
+    """
+
+    def __init__(self, words: Sequence[str], listener: socket.socket,
+                 emit: Callable[[Event], None], journal: Optional[Journal],
+                 patience: float, silence: float) -> None:
+        self.seats, self.sessions = Seats(words, silence), list[Session]()
+        self.started: Optional[float] = None
+        self._emit, self.journal, self._patience = emit, journal, patience
+        self._links: Dict[int, OuterLink] = {}
+        self._numbers = itertools.count()
+        self._due: Dict[int, OuterLink] = {}
+        self._select = selectors.DefaultSelector()
+        self._listener = listener
+        self._deaf_until: Optional[float] = None  # no link is taken until then
+        listener.setblocking(False)
+        self.attend(listener, self._accept)
+
+    # The selector.
+
+    def attend(self, file: Any, handler: Callable[[], None]) -> None:
+        """Calls a handler whenever a file or socket can be read."""
+        self._select.register(file, selectors.EVENT_READ, (handler, None))
+
+    def forget(self, file: Any) -> None:
+        """Does so no longer."""
+        with contextlib.suppress(KeyError, ValueError):
+            self._select.unregister(file)
+
+    def turn(self, timeout: float) -> None:
+        """Waits until something comes, for some seconds at most, and passes it on."""
+        for key, mask in self._select.select(timeout):
+            handler, link = key.data
+            if link is None:
+                handler()
+                continue
+            try:
+                if mask & selectors.EVENT_WRITE:
+                    self._write(link)
+                if mask & selectors.EVENT_READ:
+                    self._read(link)
+            except Exception as fault:  # it costs one agent its link, and not all of them the game
+                self._warn(f"a link is ended after an error: {fault!r}")
+                self._fail(link)
+        self._deliver()
+
+    def pass_time(self, now: float) -> None:
+        """Ends what has waited too long, and writes what the journal keeps."""
+        if self.journal:
+            self.journal.flush()
+        if self._deaf_until is not None and now > self._deaf_until:
+            self._deaf_until = None
+            self.attend(self._listener, self._accept)
+        for seat in self.seats.seats:
+            self._do(seat, seat.wait(now))
+        silent = []
+        for link in list(self._links.values()):
+            if link.parting is not None and now > link.parting:
+                self._drop(link)
+            elif link.seat is None and link.parting is None and now - link.since > self._patience:
+                silent.append(link.source)
+                self._drop(link)
+        if silent:
+            sources = " ".join(sorted(set(silent)))
+            self._warn(f"{len(silent)} of the links from {sources} sent no line for "
+                       f"{self._patience:g} seconds, and are let go")
+        self._deliver()
+
+    def _watch(self, link: OuterLink | Session) -> None:
+        """Sets what the selector waits for."""
+        if isinstance(link, Session):
+            reads = not link.has_ended
+        elif not link.is_open:
+            return
+        else:
+            reads = not link.has_ended and len(link.said) < MOST_SAID
+        wants = selectors.EVENT_READ if reads else 0
+        if link.held:
+            wants |= selectors.EVENT_WRITE
+        known, link.wants = link.wants, wants
+        if wants == known:
+            return
+        if not wants:
+            self._select.unregister(link.socket)
+        elif not known:
+            self._select.register(link.socket, wants, (None, link))
+        else:
+            self._select.modify(link.socket, wants, (None, link))
+
+    # Links from outside.
+
+    def _accept(self) -> None:
+        try:
+            link, where = self._listener.accept()
+        except (BlockingIOError, ConnectionError):
+            return
+        except OSError:  # no more files may be opened
+            self.forget(self._listener)
+            self._deaf_until = time.monotonic() + 0.5
+            return
+        strangers = [other for other in self._links.values()
+                     if other.seat is None and other.parting is None]
+        if len(strangers) >= MOST_STRANGERS:
+            self._warn(f"{strangers[0].source} is let go: {MOST_STRANGERS} links have sent no line")
+            self._drop(strangers[0])
+        guest = OuterLink(next(self._numbers), link, str(where[0]).removeprefix("::ffff:"))
+        self._links[guest.number] = guest
+        self._watch(guest)
+
+    def _read(self, link: OuterLink | Session) -> None:
+        if isinstance(link, Session):
+            return self._read_session(link)
+        if not link.is_open:
+            return None
+        try:
+            data = link.socket.recv(MOST_SAID)
+        except BlockingIOError:
+            return None
+        except OSError:
+            return self._fail(link)
+        if not data:
+            return self._end_side(link)
+        if link.parting is not None:
+            return None  # what a refused link sends is not read
+        link.feed(data)
+        if link.seat is None:
+            if link.has_line() or len(link.said) > MOST_LINE:
+                self._greet(link)
+        elif link.seat.holder == link.number:
+            self._hear(link, data.count(b"\n"))
+        return self._watch(link)
+
+    def _greet(self, link: OuterLink) -> None:
+        """Seats or refuses a link by its first line."""
+        is_line = link.has_line()
+        line = link.take() if is_line else bytes(link.said)
+        seat, answer = self.seats.admit(line) if is_line else (None, "syntax")
+        if seat is None:
+            return self._refuse(link, answer, line)
+        link.seat = seat
+        return self._do(seat, seat.come(link.number, time.monotonic()))
+
+    def _hear(self, link: OuterLink, lines: int) -> None:
+        """The holder of a seat has sent something."""
+        seat = link.seat
+        assert seat is not None
+        self._do(seat, seat.speak(time.monotonic()))
+        if self.sessions:
+            self.sessions[seat.number].lines += lines
+            self._pass_on(self.sessions[seat.number])
+
+    def _end_side(self, link: OuterLink) -> None:
+        """A link sends nothing more. What it sent before is still asked."""
+        link.has_ended = True
+        seat = link.seat
+        if link.parting is not None:
+            return self._watch(link) if link.held else self._drop(link)
+        if seat is None:
+            self._warn(f"{link.source} went away without a line")
+            return self._drop(link)
+        if seat.holder == link.number and (link.has_line() or link.owed or link.held):
+            self._do(seat, seat.stop(time.monotonic()))
+            return self._watch(link)
+        return self._fail(link)
+
+    def _fail(self, link: OuterLink | Session) -> None:
+        """A link has ended, or failed."""
+        if isinstance(link, Session):
+            return self._end_session(link)
+        if not link.is_open:
+            return None
+        seat = link.seat
+        self._drop(link)
+        if seat is None:
+            return None
+        was_holder = seat.holder == link.number and seat.state is not State.OVER
+        actions = seat.go(link.number, time.monotonic())
+        if was_holder and seat.state is not State.OVER:
+            if self.journal:
+                self.journal.timed(gone=seat.number)
+            self._emit(events.Departed(time.time(), seat.number, seat.word))
+        return self._do(seat, actions)
+
+    def _drop(self, link: OuterLink) -> None:
+        """Closes a link."""
+        if link.is_open:
+            link.is_open = False
+            if link.wants:
+                self._select.unregister(link.socket)
+            link.socket.close()
+            del self._links[link.number]
+            self._due.pop(link.number, None)
+
+    def _part(self, link: OuterLink, last: bytes = b"") -> None:
+        """Sends a link what it still gets, and closes it once it has ended its side."""
+        if link.is_open and link.parting is None:
+            link.parting = time.monotonic() + PARTING
+            link.seat = None
+            link.said.clear()
+            self._owe(link, last)
+
+    def _refuse(self, link: OuterLink, answer: str, line: bytes) -> None:
+        text = line[:40].decode("ascii", "replace")
+        self._emit(events.Refused(time.time(), link.source, answer, text))
+        self._part(link, f"refused {answer}\n".encode("ascii"))
+
+    def _do(self, seat: Seat, actions: Sequence[Action]) -> None:
+        """Does what a seat asks for."""
+        for action in actions:
+            if isinstance(action, Give):
+                self._give(seat, self._links[action.link], action.again)
+            elif isinstance(action, Refuse):
+                self._refuse(self._links[action.link], "taken", f"hello {seat.word}".encode())
+            elif isinstance(action, Close):
+                self._drop(self._links[action.link])
+            elif isinstance(action, Over):
+                self._finish_session(self.sessions[seat.number], action.reason)
+
+    def _give(self, seat: Seat, link: OuterLink, again: bool) -> None:
+        if self.journal:
+            self.journal.timed(here=seat.number, **{"from": link.source})
+        kind = events.Rejoined if again else events.Arrived
+        self._emit(kind(time.time(), seat.number, seat.word, link.source))
+        if self.sessions:
+            session = self.sessions[seat.number]
+            session.lines += link.said.count(b"\n")
+            if len(session.welcome) == ADMISSION:
+                self._owe(link, b"".join(session.welcome))
+                self._pass_on(session)
+
+    # Sending.
+
+    def _owe(self, link: OuterLink, data: bytes) -> None:
+        """Is to be sent at the end of this turn, after the journal is written."""
+        link.held += data
+        self._due[link.number] = link
+
+    def _deliver(self) -> None:
+        while self._due:
+            if self.journal:
+                self.journal.flush()
+            due, self._due = self._due, {}
+            for link in due.values():
+                if link.is_open:
+                    self._write(link)
+
+    def _write(self, link: OuterLink | Session) -> None:
+        if isinstance(link, OuterLink) and not link.is_open:
+            return None
+        try:
+            while link.held:
+                del link.held[:link.socket.send(link.held)]
+        except BlockingIOError:
+            pass
+        except OSError:
+            return self._fail(link)
+        if isinstance(link, OuterLink) and not link.held:
+            if link.parting is not None:
+                return self._shut(link)
+            if link.seat is not None and link.seat.holder == link.number and self.sessions:
+                self._pass_on(self.sessions[link.seat.number])
+                if link.has_ended and not (link.owed or link.has_line()):
+                    return self._fail(link)
+        return self._watch(link)
+
+    def _shut(self, link: OuterLink) -> None:
+        if link.has_ended:
+            return self._drop(link)
+        with contextlib.suppress(OSError):  # it may have ended
+            link.socket.shutdown(socket.SHUT_WR)
+        return self._watch(link)
+
+    # Sessions at the server.
+
+    def begin(self, sessions: Sequence[Session]) -> None:
+        """The game begins with one link to the server for each seat."""
+        self.sessions = list(sessions)
+        if self.journal:
+            here = [seat.number for seat in self.seats.seats if seat.holder is not None]
+            self.journal.tell(begin=here)
+        for session in sessions:
+            link = self._holder(session.seat)
+            if link is not None:
+                session.lines = link.said.count(b"\n")
+            self._watch(session)
+        for session in sessions:
+            self._do(session.seat, session.seat.begin(time.monotonic()))
+
+    def release(self) -> None:
+        """The last tick has passed: seats without a link are not kept any longer."""
+        for seat in self.seats.seats:
+            self._do(seat, seat.release())
+
+    def waive(self, word: str) -> bool:
+        """The host does not wait for an agent. Returns whether a seat has its word."""
+        seat = self.seats.by_word(word)
+        if seat is None:
+            return False
+        if self.journal:
+            self.journal.timed(without=seat.number)
+        self._emit(events.Waived(time.time(), word))
+        self._do(seat, seat.waive())
+        return True
+
+    def finish(self) -> None:
+        """Ends all links."""
+        for seat in self.seats.seats:
+            self._do(seat, seat.finish())
+        for link in list(self._links.values()):
+            self._part(link)
+        self._deliver()
+
+    def settle(self) -> None:
+        """The server has ended: what is left of seats and links is over."""
+        for seat in self.seats.seats:
+            self._do(seat, seat.finish() if seat.holder is None else seat.leave())
+        self.finish()
+
+    def is_done(self) -> bool:
+        """Whether no link is left, to agents or to the server."""
+        return not self._links and all(session.has_ended for session in self.sessions)
+
+    def close(self) -> None:
+        """Closes all that is open."""
+        for link in list(self._links.values()):
+            self._drop(link)
+        for session in self.sessions:
+            session.socket.close()
+        self._select.close()
+
+    def _pass_on(self, session: Session) -> None:
+        """Sends the next line of the seat's agent to the server, if none waits for its reply."""
+        seat, link = session.seat, self._holder(session.seat)
+        if session.asked or link is None or len(session.welcome) < ADMISSION:
+            return
+        if seat.state is State.OVER:
+            link.said.clear()
+            return
+        if len(link.held) > MOST_HELD or not link.has_line():
+            return
+        line = link.take()
+        if self.journal:
+            self.journal.request(seat.number, line)
+        session.asked.append(link)
+        link.owed += 1
+        session.held += line + b"\n"
+        self._write(session)
+        self._watch(link)
+
+    def _read_session(self, session: Session) -> None:
+        try:
+            data = session.socket.recv(MOST_SAID)
+        except BlockingIOError:
+            return
+        except OSError:
+            data = b""
+        if not data:
+            self._end_session(session)
+            return
+        lines = session.feed(data)
+        if len(session.welcome) < ADMISSION:
+            missing = ADMISSION - len(session.welcome)
+            session.welcome += [line + b"\n" for line in lines[:missing]]
+            lines = lines[missing:]
+            if len(session.welcome) == ADMISSION:
+                self._welcome(session)
+        for line in lines:
+            self._reply(session, line)
+        self._pass_on(session)
+
+    def _welcome(self, session: Session) -> None:
+        if self.started is None:
+            self.started = time.monotonic()
+            if self.journal:
+                self.journal.begin_time()
+                self.journal.tell(tick=0, t=0)
+            here = [seat.number for seat in self.seats.seats if seat.holder is not None]
+            self._emit(events.Began(time.time(), tuple(here)))
+        link = self._holder(session.seat)
+        if link is not None:
+            self._owe(link, b"".join(session.welcome))
+
+    def _reply(self, session: Session, line: bytes) -> None:
+        if self.journal:
+            self.journal.reply(session.seat.number, line)
+        session.answered += not is_bye(line)
+        session.refused += is_refusal(line)
+        link = session.asked.popleft()
+        link.owed -= 1
+        if is_bye(line):
+            self._do(session.seat, session.seat.leave())
+        if link.is_open:
+            self._owe(link, line + b"\n")
+
+    def _finish_session(self, session: Session, reason: End) -> None:
+        """Tells the server that an agent sends nothing more. What it still sends is read."""
+        seat, reason = session.seat, session.reason(reason)
+        with contextlib.suppress(OSError):  # it may have ended
+            session.socket.shutdown(socket.SHUT_WR)
+        if self.journal:
+            self.journal.timed(end=seat.number, why=reason.value)
+        self._emit(events.Ended(time.time(), seat.number, seat.word, reason, session.lines))
+
+    def _end_session(self, session: Session) -> None:
+        """The server has ended its side: the game is over, or has failed."""
+        session.has_ended = True
+        session.held.clear()
+        self._watch(session)
+        link = self._holder(session.seat)
+        if link is not None:
+            self._part(link)
+
+    def _holder(self, seat: Seat) -> Optional[OuterLink]:
+        return None if seat.holder is None else self._links.get(seat.holder)
+
+    def _warn(self, text: str) -> None:
+        self._emit(events.Warned(time.time(), text))
+
+
+def tune(link: socket.socket) -> None:
+    """Sets up a link: nothing waits for it, small pieces are sent at once, and one whose machine
+    has gone is noticed after some ten seconds, where the system can do so."""
+    link.setblocking(False)
+    link.setsockopt(socket.IPPROTO_TCP, socket.TCP_NODELAY, 1)
+    link.setsockopt(socket.SOL_SOCKET, socket.SO_KEEPALIVE, 1)
+    for name, value in KEEPALIVE.items():
+        if hasattr(socket, name):
+            link.setsockopt(socket.IPPROTO_TCP, getattr(socket, name), value)

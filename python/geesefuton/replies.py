@@ -1,0 +1,322 @@
+"""Requests and replies as values, and their two forms on a link: lines of words, and JSON.
+
+A reply has the position of its entry where a link sends it. In a log the position is the entry's
+place, and lines have none.
+"""
+
+import json
+import re
+from dataclasses import dataclass
+from typing import Any, List, Optional, Sequence, Tuple, Union
+
+Points = Tuple[Tuple[int, int], ...]  # units, below 0 for selling, and dollars for each
+
+NUMBER = r"(?:0|[1-9][0-9]{0,9})"
+SIGNED = r"(?:0|-?[1-9][0-9]{0,17})"
+POINTS = rf"\((?:\({SIGNED} {NUMBER}\)(?: \({SIGNED} {NUMBER}\))*)?\)"
+
+CLOSING_REASONS = ("closed", "wrongcall", "nobid", "sell", "selfcross")  # have an entry
+LINE_REASONS = ("spent", "syntax", "auction", "memory", "toolong")  # have none
+
+
+class ReplyError(Exception):
+    """A line that is no reply, or an object that is none."""
+
+
+@dataclass(frozen=True)
+class Taken:
+    """A bid was admitted, and at once bought and sold so many units."""
+
+    at: Optional[int]
+    bought: int
+    sold: int
+
+
+@dataclass(frozen=True)
+class Done:
+    """A withdrawal was admitted, or a call of the clock."""
+
+    at: Optional[int]
+
+
+@dataclass(frozen=True)
+class Sold:
+    """A hotel has closed: units sold, at so many dollars each."""
+
+    at: Optional[int]
+    units: int
+    price: int
+
+
+@dataclass(frozen=True)
+class Own:
+    """What the agent holds of a good, and its standing points."""
+
+    at: Optional[int]
+    holding: int
+    points: Points
+
+
+@dataclass(frozen=True)
+class Cash:
+    """What the agent earned so far less what it paid, in dollars."""
+
+    at: Optional[int]
+    dollars: int
+
+
+@dataclass(frozen=True)
+class Quote:
+    """A board: how many entries it shows, the highest bid, the lowest ask or the price in dollars,
+    and whether the auction is closed."""
+
+    count: int
+    bid: int
+    ask: int
+    closed: bool
+
+
+@dataclass(frozen=True)
+class Below:
+    """What a refused bid in a hotel has to offer: NEED units at PRICE dollars or more."""
+
+    need: int
+    price: int
+    offered: int
+
+
+@dataclass(frozen=True)
+class No:
+    """A refusal.
+
+    Attributes:
+        at: The position of its entry; None if there is none.
+        reason: One word, such as `closed`, `belowquote`, `bid` or `syntax`.
+        fault: The fault of a bid's points, 1 to 5; 0 for other reasons.
+        below: For `belowquote` what was due.
+    """
+
+    at: Optional[int]
+    reason: str
+    fault: int = 0
+    below: Optional[Below] = None
+
+
+@dataclass(frozen=True)
+class Bye:
+    """The session has ended."""
+
+
+Reply = Union[Taken, Done, Sold, Own, Cash, Quote, No, Bye]
+
+
+@dataclass(frozen=True)
+class Request:
+    """What an agent asks: `bid`, `withdraw`, `own`, `quote`, `cash` or `quit`."""
+
+    do: str
+    auction: Optional[int] = None
+    points: Points = ()
+
+
+def text_of_points(points: Sequence[Tuple[int, int]]) -> str:
+    """Points as a bid string, such as `((2 70) (1 65))`."""
+    return "(" + " ".join(f"({units} {price})" for units, price in points) + ")"
+
+
+def read_points(text: str) -> Points:
+    """The points of a text that the pattern POINTS matches."""
+    numbers = [int(word) for word in re.findall(r"-?[0-9]+", text)]
+    return tuple(zip(numbers[::2], numbers[1::2]))
+
+
+# The forms of a reply without its position. The names of the groups say what is read from them.
+_FORMS = re.compile(
+    rf"taken (?P<bought>{NUMBER}) (?P<sells>{NUMBER})|(?P<done>done)"
+    rf"|sold (?P<sold>{NUMBER}) (?P<price>{NUMBER})"
+    rf"|own (?P<own>{SIGNED}) (?P<points>{POINTS})|cash (?P<cash>{SIGNED})"
+    rf"|quote (?P<bid>{NUMBER}) (?P<ask>{NUMBER}) (?P<state>open|closed)"
+    rf"|no (?P<reason>{'|'.join(CLOSING_REASONS)})"
+    rf"|no belowquote (?P<need>{NUMBER}) (?P<least>{NUMBER}) (?P<offered>{NUMBER})")
+_PLACED = re.compile(rf"@({NUMBER}) (.*)")
+_PLAIN = re.compile(rf"no (?:({'|'.join(LINE_REASONS)})|bid ([1-5]))")
+
+
+def read_entry_reply(text: str, at: Optional[int] = None) -> Reply:
+    """Reads the reply of an entry, without its position.
+
+    Args:
+        text: The text, such as `taken 1 0`.
+        at: The position that the value gets.
+
+    Raises:
+        ReplyError: The text is no such reply.
+    """
+    found = _FORMS.fullmatch(text)
+    if found is None:
+        raise ReplyError(f"{text[:60]!r} is no reply")
+    kind = found.lastgroup
+    number = {name: int(word) for name, word in found.groupdict().items()
+              if word is not None and name not in ("done", "points", "state", "reason")}
+    if kind == "sells":
+        return Taken(at, number["bought"], number["sells"])
+    if kind == "done":
+        return Done(at)
+    if kind == "price":
+        return Sold(at, number["sold"], number["price"])
+    if kind == "points":
+        return Own(at, number["own"], read_points(found["points"]))
+    if kind == "cash":
+        return Cash(at, number["cash"])
+    if kind == "state":
+        return Quote(at or 0, number["bid"], number["ask"], found["state"] == "closed")
+    if kind == "reason":
+        return No(at, found["reason"])
+    return No(at, "belowquote", 0, Below(number["need"], number["least"], number["offered"]))
+
+
+def read_words(line: str) -> Reply:
+    """Reads a reply line of words, without its line end.
+
+    Raises:
+        ReplyError: The line is no reply.
+    """
+    placed = _PLACED.fullmatch(line)
+    if placed is not None:
+        return read_entry_reply(placed[2], int(placed[1]))
+    if line == "bye":
+        return Bye()
+    found = _PLAIN.fullmatch(line)
+    if found is None:
+        raise ReplyError(f"{line[:60]!r} is no reply")
+    return No(None, found[1] or "bid", int(found[2] or 0))
+
+
+def entry_words(reply: Reply) -> str:
+    """The words of a reply without its position, as a log has them."""
+    if isinstance(reply, Taken):
+        return f"taken {reply.bought} {reply.sold}"
+    if isinstance(reply, Done):
+        return "done"
+    if isinstance(reply, Sold):
+        return f"sold {reply.units} {reply.price}"
+    if isinstance(reply, Own):
+        return f"own {reply.holding} {text_of_points(reply.points)}"
+    if isinstance(reply, Cash):
+        return f"cash {reply.dollars}"
+    if isinstance(reply, Quote):
+        return f"quote {reply.bid} {reply.ask} {'closed' if reply.closed else 'open'}"
+    if isinstance(reply, Bye):
+        return "bye"
+    if reply.below is not None:
+        return f"no belowquote {reply.below.need} {reply.below.price} {reply.below.offered}"
+    return f"no bid {reply.fault}" if reply.reason == "bid" else f"no {reply.reason}"
+
+
+def words_of(reply: Reply) -> str:
+    """The line of words of a reply, without a line end."""
+    at = reply.count if isinstance(reply, Quote) else getattr(reply, "at", None)
+    return entry_words(reply) if at is None else f"@{at} {entry_words(reply)}"
+
+
+def _is_whole(value: Any) -> bool:
+    return isinstance(value, int) and not isinstance(value, bool)
+
+
+def _whole(value: Any) -> int:
+    if not _is_whole(value):
+        raise ReplyError(f"{value!r} is no whole number")
+    number: int = value
+    return number
+
+
+def _pair(value: Any) -> Tuple[int, int]:
+    if not isinstance(value, list) or len(value) != 2:
+        raise ReplyError(f"{value!r} is no pair")
+    return _whole(value[0]), _whole(value[1])
+
+
+def read_json(line: str) -> Reply:
+    """Reads a reply in JSON.
+
+    Raises:
+        ReplyError: The line is no reply.
+    """
+    try:
+        value = json.loads(line)
+    except ValueError:
+        raise ReplyError(f"{line[:60]!r} is no JSON") from None
+    if not isinstance(value, dict):
+        raise ReplyError(f"{line[:60]!r} is no object")
+    keys = set(value)
+    at = _whole(value["at"]) if "at" in value else None
+    if keys == {"bye"}:
+        return Bye()
+    if "no" in keys and isinstance(value["no"], str):
+        return _read_json_refusal(value, at)
+    if at is None:
+        raise ReplyError(f"{line[:60]!r} is no reply")
+    if keys == {"at", "taken"}:
+        return Taken(at, *_pair(value["taken"]))
+    if keys == {"at", "done"}:
+        return Done(at)
+    if keys == {"at", "sold"}:
+        return Sold(at, *_pair(value["sold"]))
+    if keys == {"at", "own", "points"} and isinstance(value["points"], list):
+        return Own(at, _whole(value["own"]), tuple(map(_pair, value["points"])))
+    if keys == {"at", "cash"}:
+        return Cash(at, _whole(value["cash"]))
+    if keys == {"at", "quote", "open"} and isinstance(value["open"], bool):
+        bid, ask = _pair(value["quote"])
+        return Quote(at, bid, ask, not value["open"])
+    raise ReplyError(f"{line[:60]!r} is no reply")
+
+
+def _read_json_refusal(value: Any, at: Optional[int]) -> No:
+    reason, rest = value["no"], set(value) - {"no", "at"}
+    if at is not None and reason in CLOSING_REASONS and not rest:
+        return No(at, reason)
+    if at is not None and reason == "belowquote" and rest == {"need", "price", "offered"}:
+        below = [_whole(value[key]) for key in ("need", "price", "offered")]
+        return No(at, reason, 0, Below(*below))
+    if at is None and reason in LINE_REASONS and not rest:
+        return No(None, reason)
+    if at is None and reason == "bid" and rest == {"fault"}:
+        return No(None, reason, _whole(value["fault"]))
+    raise ReplyError(f"{json.dumps(value)[:60]!r} is no refusal")
+
+
+def request_words(request: Request) -> str:
+    """The line of words that asks this, without a line end."""
+    words: List[str] = [request.do]
+    if request.auction is not None:
+        words.append(str(request.auction))
+    if request.do == "bid":
+        words.append(text_of_points(request.points))
+    return " ".join(words)
+
+
+def request_json(request: Request) -> str:
+    """The JSON object that asks this, without a line end."""
+    value: dict[str, Any] = {"do": request.do}
+    if request.auction is not None:
+        value["auction"] = request.auction
+    if request.do == "bid":
+        value["points"] = [list(point) for point in request.points]
+    return json.dumps(value, separators=(",", ":"))
+
+
+_REQUEST = re.compile(rf"(?P<plain>cash|quit)|(?P<one>withdraw|own|quote) (?P<good>{NUMBER})"
+                      rf"|bid (?P<auction>{NUMBER}) (?P<points>{POINTS})")
+
+
+def read_request(line: str) -> Optional[Request]:
+    """What a line of words asks; None if it has none of the forms."""
+    found = _REQUEST.fullmatch(line)
+    if found is None:
+        return None
+    if found["plain"]:
+        return Request(found["plain"])
+    if found["one"]:
+        return Request(found["one"], int(found["good"]))
+    return Request("bid", int(found["auction"]), read_points(found["points"]))

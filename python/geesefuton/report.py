@@ -1,0 +1,135 @@
+"""Shows a played game: scores, what was paid, prices over the ticks, trips, and trades.
+
+    report my.game my.log > page.html          a page that stands alone, for a projector
+    report --csv my.game my.log > rows.csv     lines `what,tick,good,position,agent,units,dollars`
+
+The log is that of `tac serve` or `tac play`, whose reply lines may stand before it. It is audited
+first, and if it is not sound the report says why and makes no page. With --unaudited it makes one
+all the same, which says so.
+
+In the CSV `price` is the published price from that entry on, `close` that of a hotel's closing,
+`trade` what an agent bought (units above 0) or sold (below 0), with the dollars for each unit, and
+`score` a score. A log has no times: a call has the tick of the clock's last call in its auction,
+so trades of tickets have none.
+"""
+
+import sys
+import tempfile
+import time
+from pathlib import Path
+from typing import Tuple
+
+from geesefuton import program
+from geesefuton.arguments import Parser
+from geesefuton.games import Game, GameError, read_game
+from geesefuton.logs import Log, LogError, read_log
+from geesefuton.page import Heading, page
+from geesefuton.prices import Event, all_events
+from geesefuton.processes import Output, command, tell
+from geesefuton.results import csv_of
+
+START = b"taclog 1\n"
+
+
+class ReportError(Exception):
+    """A game and a log of which no report is made."""
+
+
+def log_in(text: bytes) -> bytes:
+    """The log of what `tac play` wrote, without the reply lines before it."""
+    if text.startswith(START):
+        return text
+    place = text.find(b"\n" + START)
+    return text if place < 0 else text[place + 1:]
+
+
+def flaw_of(game: Path, log: bytes) -> str:
+    """Why a log is not sound; "" if it is.
+
+    Raises:
+        ProgramError: There is no program.
+    """
+    with tempfile.NamedTemporaryFile(prefix="report.") as file:
+        file.write(log)
+        file.flush()
+        try:
+            said = program.audit(game, file.name)
+        except program.ProgramError as fault:
+            if fault.status is None:
+                raise
+            return str(fault)
+    return "" if said == "sound" else f"`tac audit` says `{said}`"
+
+
+def read_both(game_file: Path, log_file: Path) -> Tuple[Game, Log, bytes]:
+    """Reads a game file, and a log with its text.
+
+    Raises:
+        ReportError: One of them is not that.
+        OSError: One of them cannot be read.
+    """
+    try:
+        game = read_game(game_file.read_bytes().decode("latin-1"))
+    except GameError as fault:
+        raise ReportError(f"{game_file} is no game file: {fault}") from None
+    whole = log_file.read_bytes()
+    text = log_in(whole)
+    before = whole[:len(whole) - len(text)].count(b"\n")
+    try:
+        return game, read_log(text), text
+    except LogError as fault:
+        where = f", counted after {before} lines" if before else ""
+        raise ReportError(f"{log_file} is no whole log: {fault}{where}") from None
+
+
+def csv_text(game: Game, log: Log) -> str:
+    """The prices, trades and scores as CSV."""
+    lines = [Event._fields, *all_events(game, log)]
+    scores = [("score", "", "", "", score.agent, "", score.score) for score in log.scores]
+    return csv_of([*lines, *scores])
+
+
+def _main() -> int:
+    parser = Parser("report", __doc__)
+    parser.add_argument("--csv", action="store_true", help="write CSV in place of the page")
+    parser.add_argument("--unaudited", action="store_true",
+                        help="show a log that is not sound, or was not audited, too")
+    parser.add_argument("game", type=Path, help="the game file")
+    parser.add_argument("log", type=Path, help="the log")
+    given = parser.parse_args()
+    try:
+        game, log, text = read_both(given.game, given.log)
+        warning = "This log was not audited." if given.unaudited else ""
+        try:
+            flaw = flaw_of(given.game, text)
+            warning = f"This log is not that of a game by the rules: {flaw}." if flaw else ""
+        except program.ProgramError as fault:
+            if not given.unaudited:
+                raise ReportError(f"{fault}; the log has to be audited, or --unaudited given") \
+                    from None
+        if warning and not given.unaudited:
+            raise ReportError(f"{given.log} is not sound by {given.game}: {flaw}; with --unaudited "
+                              "it is shown all the same")
+    except ReportError as fault:
+        tell(f"report: {fault}")
+        return 1
+    out = Output(1)
+    if given.csv:
+        out.write(csv_text(game, log))
+    else:
+        written = time.strftime("%Y-%m-%d at %H:%M", time.localtime(given.log.stat().st_mtime))
+        heading = Heading(given.game.name, written, warning)
+        out.write(page(game, log, all_events(game, log), heading))
+    if out.fault is not None:
+        tell(f"report: {out.name}: {out.fault}")
+        return 1
+    return 0
+
+
+def main() -> int:
+    """The command `report`."""
+    return command("report", _main)
+
+
+if __name__ == "__main__":
+    sys.exit(main())

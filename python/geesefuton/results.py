@@ -1,0 +1,88 @@
+"""The rows of a tournament: one for each seat of each game, and their form in CSV."""
+
+import csv
+import enum
+import io
+from dataclasses import astuple, dataclass, fields
+from typing import Iterable, List, Sequence
+
+
+class Outcome(enum.Enum):
+    """How an agent's game went."""
+
+    PLAYED = "played"
+    ABSENT = "absent"  # it took no seat
+    CRASHED = "crashed"  # it ended with an error, or without a word
+    HUNG = "hung"  # it had to be ended when the game was over
+    REFUSED = "refused"  # its first line was refused, or every line that it sent
+
+
+@dataclass(frozen=True)
+class Row:
+    """What a seat of a game came to.
+
+    Attributes:
+        deal: The seed of the made game, or the name of the game's file and a number.
+        rotation: Which of the deal's games it is, from 0; in each the agents have other seats.
+        seat: The seat, 0 to 7.
+        agent: The agent's name.
+        score: In dollars.
+        end: How it went.
+        luck: What the seat's clients are worth at fixed prices, in dollars (`luck.worth_of`).
+        kind: How the game was played: `served`, by a clock, or `turns`.
+    """
+
+    deal: str
+    rotation: int
+    seat: int
+    agent: str
+    score: int
+    end: Outcome
+    luck: int
+    kind: str = "served"
+
+
+HEAD = [field.name for field in fields(Row)]
+
+
+class ResultsError(Exception):
+    """A text that has no rows of a tournament."""
+
+
+def csv_of(lines: Iterable[Sequence[object]]) -> str:
+    """Lines of CSV, each ended by a line feed."""
+    text = io.StringIO()
+    csv.writer(text, lineterminator="\n").writerows(lines)
+    return text.getvalue()
+
+
+def text_of(rows: Iterable[Row]) -> str:
+    """The rows as lines of CSV, without a head."""
+    return csv_of([*astuple(row)[:5], row.end.value, row.luck, row.kind] for row in rows)
+
+
+def read_rows(text: str, name: str) -> List[Row]:
+    """Reads the CSV of one or more tournaments, each with its head.
+
+    Args:
+        text: The text.
+        name: What it is called in an error, such as the name of its file.
+
+    Raises:
+        ResultsError: A line is neither a head nor a row.
+    """
+    rows: List[Row] = []
+    lines = list(csv.reader(text.splitlines()))
+    if not lines or lines[0] != HEAD:
+        raise ResultsError(f"{name}: line 1 is not the head of a tournament's CSV")
+    for number, words in enumerate(lines, 1):
+        if words == HEAD:
+            continue
+        try:
+            deal, rotation, seat, agent, score, end, luck, kind = words
+            rows.append(Row(deal, int(rotation), int(seat), agent, int(score), Outcome(end),
+                            int(luck), kind))
+        except ValueError:
+            raise ResultsError(f"{name}: line {number} is no row: {','.join(words)[:60]!r}") \
+                from None
+    return rows

@@ -1,0 +1,237 @@
+"""Who may have which seat: admission, coming again, and the end of a seat, without sockets.
+
+A link is known by a number. Each thing that happens to a seat is a method, which gives back what
+is to be done about it; `Seat` is a small machine whose states are those of `State`.
+
+Before the game an agent whose link ends leaves its seat free. In the game its session at the
+server is kept, so the agent may come again with the same word until the last tick, and a seat
+whose agent never came waits for it. A link that has gone silent without an end, as when a machine
+loses its network, cannot be told from one that thinks. So a second link with its word waits: if
+the first one speaks, the second is refused, and if not, it takes the seat.
+"""
+
+from __future__ import annotations
+
+import enum
+import re
+from dataclasses import dataclass, field
+from typing import List, Optional, Sequence, Tuple, Union
+
+from .events import End
+
+SILENCE = 10.0  # seconds without a word after which a link gives way to another with its word
+
+GREETING = re.compile(rb"hello ([a-z0-9]{1,16})")
+
+
+class State(enum.Enum):
+    """What is known of a seat."""
+
+    FREE = "no link has it, and its agent may come"
+    WAIVED = "no link has it, and the game does not wait for its agent"
+    HELD = "a link has it"
+    CLOSING = "a link has it that sends nothing more, and is still being answered"
+    CLAIMED = "a link has it, and another with its word waits"
+    OVER = "its session is over"
+
+
+@dataclass(frozen=True)
+class Give:
+    """The link has the seat from now on."""
+
+    link: int
+    again: bool  # whether the seat had an agent in this game before
+
+
+@dataclass(frozen=True)
+class Refuse:
+    """The link is answered `refused taken`."""
+
+    link: int
+
+
+@dataclass(frozen=True)
+class Close:
+    """The link has lost its seat and is closed."""
+
+    link: int
+
+
+@dataclass(frozen=True)
+class Over:
+    """The session of the seat is to be ended."""
+
+    reason: End
+
+
+Action = Union[Give, Refuse, Close, Over]
+
+
+@dataclass
+class Seat:
+    """One seat.
+
+    Attributes:
+        silence: The seconds without a word after which its link gives way to another.
+        holder: The link that has it.
+        heir: A link that waits for it.
+        heard: When the holder spoke last, in seconds.
+        played: Whether an agent had it in the game.
+        playing: Whether the game has begun.
+        kept: Whether it waits for its agent while no link has it.
+    """
+
+    number: int
+    word: str
+    silence: float = SILENCE
+    state: State = State.FREE
+    holder: Optional[int] = None
+    heir: Optional[int] = None
+    heard: float = 0.0
+    played: bool = False
+    playing: bool = False
+    kept: bool = True
+
+    def come(self, link: int, now: float) -> List[Action]:
+        """A link says the word of the seat."""
+        if self.state in (State.FREE, State.WAIVED):
+            return self._give(link, now)
+        if self.state is State.CLOSING:
+            return self._replace(link, now)
+        if self.state is State.HELD and self.playing:
+            if now - self.heard >= self.silence:
+                return self._replace(link, now)
+            self.state, self.heir = State.CLAIMED, link
+            return []
+        return [Refuse(link)]
+
+    def speak(self, now: float) -> List[Action]:
+        """The holder sends something."""
+        self.heard = now
+        return self._refuse_heir() if self.state is State.CLAIMED else []
+
+    def stop(self, now: float) -> List[Action]:
+        """The holder ends its side, and something that it sent has no answer yet."""
+        if self.state is State.CLAIMED:
+            return self._replace(self.heir, now)
+        if self.state is State.HELD:
+            self.state = State.CLOSING
+        return []
+
+    def go(self, link: int, now: float) -> List[Action]:
+        """A link that has the seat, or waits for it, has ended."""
+        if link == self.heir:
+            self.state, self.heir = State.HELD, None
+            return []
+        if link != self.holder:
+            return []
+        self.holder = None
+        if self.state is State.CLAIMED:
+            heir, self.heir = self.heir, None
+            return self._give(heir, now)
+        if self.state is State.OVER:
+            return []
+        if not self.kept:
+            return self._end(End.LEFT)
+        self.state = State.FREE
+        return []
+
+    def wait(self, now: float) -> List[Action]:
+        """Time passes."""
+        if self.state is State.CLAIMED and now - self.heard >= self.silence:
+            return self._replace(self.heir, now)
+        return []
+
+    def waive(self) -> List[Action]:
+        """The host does not wait for the agent. If it is here nothing changes."""
+        if self.state is State.FREE and self.playing:
+            return self._end(self._missing())
+        if self.state is State.FREE:
+            self.state = State.WAIVED
+        return []
+
+    def begin(self, now: float) -> List[Action]:
+        """The game begins."""
+        self.playing, self.heard = True, now
+        if self.state is State.WAIVED:
+            return self._end(End.ABSENT)
+        self.played = self.holder is not None
+        return []
+
+    def leave(self) -> List[Action]:
+        """The agent has quit. Its link stays until it ends."""
+        if self.state is State.OVER:
+            return []
+        actions = self._refuse_heir()
+        return actions + self._end(End.LEFT)
+
+    def release(self) -> List[Action]:
+        """The last tick has passed: a seat without a link waits for its agent no longer."""
+        self.kept = False
+        return self._end(self._missing()) if self.state is State.FREE else []
+
+    def finish(self) -> List[Action]:
+        """All links are ended."""
+        if self.state is State.OVER:
+            return []
+        actions = self._refuse_heir()
+        if self.holder is None:
+            return actions + self._end(self._missing())
+        holder, self.holder = self.holder, None
+        return actions + [Close(holder)] + self._end(End.HUNG)
+
+    def _give(self, link: Optional[int], now: float) -> List[Action]:
+        assert link is not None
+        again = self.played
+        self.state, self.holder, self.heard = State.HELD, link, now
+        self.played = self.playing
+        return [Give(link, again)]
+
+    def _replace(self, link: Optional[int], now: float) -> List[Action]:
+        assert self.holder is not None
+        holder, self.holder, self.heir = self.holder, None, None
+        return [Close(holder), *self._give(link, now)]
+
+    def _refuse_heir(self) -> List[Action]:
+        if self.heir is None:
+            return []
+        heir, self.heir = self.heir, None
+        self.state = State.HELD
+        return [Refuse(heir)]
+
+    def _end(self, reason: End) -> List[Action]:
+        self.state = State.OVER
+        return [Over(reason)]
+
+    def _missing(self) -> End:
+        return End.GONE if self.played else End.ABSENT
+
+
+@dataclass
+class Seats:
+    """The eight seats of a game, in the order of their agents."""
+
+    words: Sequence[str]
+    silence: float = SILENCE
+    seats: List[Seat] = field(init=False)
+
+    def __post_init__(self) -> None:
+        self.seats = [Seat(number, word, self.silence)
+                      for number, word in enumerate(self.words)]
+
+    def admit(self, line: bytes) -> Tuple[Optional[Seat], str]:
+        """The seat that a first line asks for, or None and the refusal that is due."""
+        greeting = GREETING.fullmatch(line)
+        if not greeting:
+            return None, "syntax"
+        word = greeting[1].decode("ascii")
+        seat = self.by_word(word)
+        return (seat, "") if seat else (None, "wrongword")
+
+    def by_word(self, word: str) -> Optional[Seat]:
+        """The seat of a word, or None."""
+        return next((seat for seat in self.seats if seat.word == word), None)
+
+    def missing(self) -> List[str]:
+        """The words of those that the game waits for."""
+        return [seat.word for seat in self.seats if seat.state is State.FREE]

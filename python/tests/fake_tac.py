@@ -1,0 +1,77 @@
+#!/usr/bin/env python3
+"""A stand-in for the program in tests of the lobby: it admits links and answers lines, by no rules.
+
+`own N` is answered `@N own 0 ()`, `bid N ..` after a while by `@N taken 0 0`, and any other line is
+refused. The log has a line for each line that was asked. FAKE_STATUS is the exit status of `serve`,
+and the file FAKE_TAKEN makes it end as if its port were taken, once.
+"""
+
+import os
+import socket
+import sys
+import threading
+import time
+from typing import List
+
+SLOW = 0.25  # seconds until a bid is answered
+
+
+def answer(line: bytes) -> bytes:
+    """The reply to a line."""
+    words = line.split(b" ")
+    if len(line) > 512:
+        return b"no toolong"
+    if words[0] == b"own" and len(words) == 2:
+        return b"@%s own 0 ()" % words[1]
+    if words[0] == b"bid":
+        time.sleep(SLOW)
+        return b"@%s taken 0 0" % words[1]
+    return b"bye" if line == b"quit" else b"no syntax"
+
+
+def session(agent: int, link: socket.socket, welcome: bytes, asked: List[str]) -> None:
+    """Answers an agent's lines until its link ends."""
+    link.sendall(welcome)
+    for line in link.makefile("rb"):
+        if not line.endswith(b"\n"):
+            break
+        asked.append(f"{agent} {line[:-1].decode('latin-1')}")
+        reply = answer(line[:-1])
+        link.sendall(reply + b"\n")
+        if reply == b"bye":
+            break
+
+
+def serve(game: str, port: int, pace: int) -> int:
+    """Plays a game, and writes its log."""
+    taken = os.environ.get("FAKE_TAKEN")
+    if taken and os.path.exists(taken):
+        os.remove(taken)
+        return 5
+    lines = [line.split() for line in open(game, encoding="ascii")]
+    words = lines[1][1:]
+    listener = socket.create_server(("127.0.0.1", port))
+    links, threads, asked = [], [], []
+    for agent, word in enumerate(words):
+        link, _ = listener.accept()
+        assert link.makefile("rb").readline() == f"hello {word}\n".encode()
+        links.append(link)
+    for agent, link in enumerate(links):
+        own = [" ".join(line) for line in lines if line[0] in ("endow", "client")
+               and line[1] == str(agent)]
+        welcome = "\n".join([f"welcome {agent}", *own, ""]).encode()
+        threads.append(threading.Thread(target=session, args=(agent, link, welcome, asked)))
+        threads[-1].start()
+    time.sleep(54 * pace / 1000)
+    for thread in threads:
+        thread.join()
+    print("taclog 1", *asked, "end", sep="\n", flush=True)
+    return int(os.environ.get("FAKE_STATUS", "0"))
+
+
+if __name__ == "__main__":
+    if sys.argv[1] == "show":
+        print(*(line for line in open(sys.argv[2], encoding="ascii") if line[0] not in "#\n"),
+              sep="", end="")
+        sys.exit(0)
+    sys.exit(serve(sys.argv[2], int(sys.argv[3]), int(sys.argv[4])))

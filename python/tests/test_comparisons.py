@@ -1,0 +1,74 @@
+import math
+import unittest
+
+from geesefuton.comparisons import (Estimate, adjusted, estimate, incomplete_beta, mean_of,
+                                    student_quantile)
+
+# Bounds of Student's t for 95 %, from printed tables.
+TABLE = [(1, 12.7062), (2, 4.3027), (3, 3.1824), (4, 2.7764), (5, 2.5706), (9, 2.2622),
+         (10, 2.2281), (19, 2.0930), (30, 2.0423), (60, 2.0003), (120, 1.9799), (1000, 1.9623)]
+
+
+class Student(unittest.TestCase):
+    def test_bounds_are_those_of_tables(self) -> None:
+        for freedom, bound in TABLE:
+            self.assertAlmostEqual(student_quantile(freedom), bound, delta=5.1e-5)
+        self.assertAlmostEqual(student_quantile(4, 0.99), 4.6041, delta=5.1e-5)
+        self.assertAlmostEqual(student_quantile(7, 0.5), 0.7111, delta=5.1e-5)
+
+    def test_the_incomplete_beta(self) -> None:
+        self.assertEqual((incomplete_beta(2, 3, 0.0), incomplete_beta(2, 3, 1.0)), (0.0, 1.0))
+        for x in (0.05, 0.3, 0.5, 0.9):
+            self.assertAlmostEqual(incomplete_beta(1, 1, x), x, places=12)
+            self.assertAlmostEqual(incomplete_beta(2, 1, x), x * x, places=12)
+            self.assertAlmostEqual(incomplete_beta(1, 3, x), 1 - (1 - x) ** 3, places=12)
+            arc = 2 / math.pi * math.asin(math.sqrt(x))
+            self.assertAlmostEqual(incomplete_beta(0.5, 0.5, x), arc, places=10)
+
+
+class Means(unittest.TestCase):
+    def test_an_interval_by_hand(self) -> None:
+        # Mean 4, sum of squares 8, variance 8 / 2 = 4, error sqrt(4 / 3), bound 4.3027.
+        got = estimate([2.0, 4.0, 6.0])
+        self.assertEqual((got.mean, got.count), (4.0, 3))
+        assert got.half is not None
+        self.assertAlmostEqual(got.half, 4.30265 * math.sqrt(4 / 3), places=4)
+
+    def test_one_value_has_no_interval(self) -> None:
+        self.assertEqual(estimate([7.0]), Estimate(7.0, None, 1))
+
+    def test_equal_values_have_an_interval_of_no_width(self) -> None:
+        self.assertEqual(estimate([3.0] * 4), Estimate(3.0, 0.0, 4))
+
+    def test_a_mean(self) -> None:
+        self.assertEqual(mean_of([1.0, 2.0, 6.0]), 3.0)
+
+
+class Adjustment(unittest.TestCase):
+    def test_points_on_a_line_are_adjusted_along_it(self) -> None:
+        got = adjusted([10.0, 12.0, 16.0], [0.0, 1.0, 3.0], 2.0)
+        assert got is not None and got.half is not None
+        self.assertAlmostEqual(got.mean, 14.0)
+        self.assertAlmostEqual(got.half, 0.0, places=6)
+        self.assertEqual(got.count, 3)
+
+    def test_an_interval_by_hand(self) -> None:
+        # y = 1, 3, 2, 6 at x = 0, 1, 2, 3: slope 1.4, mean 3; at 1.5 the line has 3, and the
+        # residuals 0.1, 0.7, -1.7, 0.9 have the squares 4.2, so the error is sqrt(2.1 / 4).
+        got = adjusted([1.0, 3.0, 2.0, 6.0], [0.0, 1.0, 2.0, 3.0], 1.5)
+        assert got is not None and got.half is not None
+        self.assertAlmostEqual(got.mean, 3.0)
+        self.assertAlmostEqual(got.half, 4.30265 * math.sqrt(2.1 / 4), places=4)
+        got = adjusted([1.0, 3.0, 2.0, 6.0], [0.0, 1.0, 2.0, 3.0], 3.0)
+        assert got is not None and got.half is not None
+        self.assertAlmostEqual(got.mean, 5.1)
+        self.assertAlmostEqual(got.half, 4.30265 * math.sqrt(2.1 * (1 / 4 + 2.25 / 5)), places=4)
+
+    def test_nothing_is_told_of_two_values_or_equal_covariates(self) -> None:
+        self.assertIsNone(adjusted([1.0, 2.0], [0.0, 1.0], 0.5))
+        self.assertIsNone(adjusted([1.0, 2.0, 3.0], [5.0, 5.0, 5.0], 5.0))
+        self.assertIsNotNone(adjusted([1.0, 2.0, 4.0], [5.0, 5.0, 6.0], 5.0))
+
+
+if __name__ == "__main__":
+    unittest.main()

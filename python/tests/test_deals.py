@@ -1,0 +1,134 @@
+import tempfile
+import unittest
+from pathlib import Path
+from typing import List
+from unittest import mock
+
+from geesefuton import deals, luck
+from geesefuton.deals import Deal, DealError, Rule, Table, read_rooms, seated, tables
+from geesefuton.games import PACKAGES, Client
+from tests.helpers import SERVED_GAME, served_game
+
+MADE = SERVED_GAME.read_text()
+
+
+def made(seed: int) -> str:
+    """A stand-in for `tac make`, which tells its seed by the first flight."""
+    lines = MADE.split("\n")
+    words = lines[2].split(" ")
+    words[2] = str(250 + seed)
+    lines[2] = " ".join(words)
+    return "\n".join(lines)
+
+
+@mock.patch("geesefuton.program.make", made)
+class Tables(unittest.TestCase):
+    def test_each_deal_is_played_as_often_as_there_are_rotations(self) -> None:
+        played = list(tables(Rule(seed=7), 6, 2))
+        self.assertEqual([(table.deal.name, table.rotation) for table in played],
+                         [("7", 0), ("7", 1), ("8", 0), ("8", 1), ("9", 0), ("9", 1)])
+        self.assertEqual([table.name for table in played[:3]], ["7.0", "7.1", "8.0"])
+        self.assertEqual([table.deal.game.flights[0].first for table in played],
+                         [257, 257, 258, 258, 259, 259])
+
+    def test_every_agent_has_each_seat_of_a_swapped_deal_once(self) -> None:
+        for count in range(1, 9):
+            for seed in (1, 2, 13):
+                met: List[List[int]] = [[] for _ in range(8)]
+                for table in tables(Rule(seed=seed), count, count):
+                    for seat, agent in enumerate(seated(range(count), table)):
+                        met[seat].append(agent)
+                self.assertTrue(all(sorted(agents) == list(range(count)) for agents in met))
+
+    def test_without_swapping_the_seats_go_round_by_the_seed(self) -> None:
+        first, second = tables(Rule(seed=4), 2, 1)
+        self.assertEqual(seated("abc", first), list("bcabcabc"))
+        self.assertEqual(seated("abc", second), list("cabcabca"))
+
+    def test_a_tournament_in_parts_is_the_same_one(self) -> None:
+        whole = list(tables(Rule(seed=5), 4, 1))
+        parts = [*tables(Rule(seed=5), 2, 1), *tables(Rule(seed=7), 2, 1)]
+        self.assertEqual(whole, parts)
+
+    def test_rooms_and_quotes(self) -> None:
+        game = deals.made_deal(Rule(seed=3, rooms=(3, 6), live=True), 0).game
+        self.assertEqual((game.version, game.live), (2, True))
+        self.assertEqual(list(game.rooms), deals.drawn_rooms(3, 3, 6))
+        other = deals.made_deal(Rule(seed=3, live=True), 0).game
+        self.assertEqual(other.rooms, served_game().rooms)
+        quiet = deals.made_deal(Rule(seed=3, rooms=(4, 4)), 0).game
+        self.assertEqual((quiet.rooms, quiet.live), ((4,) * 8, False))
+
+    def test_a_game_file(self) -> None:
+        rule = Rule(file=SERVED_GAME)
+        played = list(tables(rule, 4, 2))
+        self.assertEqual([table.name for table in played],
+                         ["served-1.0", "served-1.1", "served-2.0", "served-2.1"])
+        self.assertEqual(played[3].deal.game, served_game())
+        self.assertNotEqual(seated("abc", played[0]), seated("abc", played[2]))
+
+    def test_files_that_are_none(self) -> None:
+        with tempfile.TemporaryDirectory() as folder:
+            file = Path(folder, "my.game")
+            with self.assertRaisesRegex(DealError, "my.game: No such file"):
+                deals.made_deal(Rule(file=file), 0)
+            file.write_bytes(MADE.encode().replace(b"tac 2", b"tac 9"))
+            with self.assertRaisesRegex(DealError, "my.game: line 1: version '9'"):
+                deals.made_deal(Rule(file=file), 0)
+
+
+class Rooms(unittest.TestCase):
+    def test_numbers(self) -> None:
+        self.assertEqual([read_rooms(text) for text in ("4", "3..6", "1..64", "5..5")],
+                         [(4, 4), (3, 6), (1, 64), (5, 5)])
+        for text in ("", "0..3", "3..65", "6..3", "3-6", "3..", "..6", "3..4..5", "x", "-1", "1.5"):
+            with self.assertRaises(DealError, msg=text):
+                read_rooms(text)
+
+    def test_draws_are_fixed_in_range_and_reach_every_number(self) -> None:
+        self.assertEqual(deals.drawn_rooms(1, 3, 6), deals.drawn_rooms(1, 3, 6))
+        drawn = [rooms for seed in range(40) for rooms in deals.drawn_rooms(seed, 3, 6)]
+        self.assertEqual(set(drawn), {3, 4, 5, 6})
+        self.assertNotEqual(deals.drawn_rooms(1, 1, 64), deals.drawn_rooms(2, 1, 64))
+        # The draw of a seed is the same on every machine and in every version.
+        self.assertEqual(deals.drawn_rooms(1, 3, 6), [6, 3, 4, 3, 4, 5, 5, 6])
+
+
+class Lucks(unittest.TestCase):
+    def test_a_best_trip_by_hand(self) -> None:
+        # Two nights in Shanties, and one in Towers; no ticket is worth its price.
+        seats = 2 * luck.SEAT
+        plain = Client(1, 3, 50, (10, 20, 30))
+        self.assertEqual(luck.best_trip(plain), 1000 - seats - 2 * luck.SHANTIES)
+        towers = Client(1, 2, 150, (0, 0, 0))
+        self.assertEqual(luck.best_trip(towers), 1150 - seats - luck.TOWERS)
+        tickets = Client(2, 4, 50, (200, 0, 180))
+        self.assertEqual(luck.best_trip(tickets),
+                         1380 - seats - 2 * luck.SHANTIES - 2 * luck.TICKET)
+
+    def test_it_is_the_best_of_all_trips(self) -> None:
+        for clients in served_game().clients:
+            for client in clients:
+                gains = [client.worth(package) - sum(luck.PRICES[good] for good in package.goods())
+                         for package in PACKAGES]
+                self.assertEqual(luck.best_trip(client), max(0, *gains))
+
+    def test_a_seat_has_its_clients(self) -> None:
+        game = served_game()
+        for seat in range(8):
+            trips = sum(luck.best_trip(client) for client in game.clients[seat])
+            self.assertEqual(luck.worth_of(game, seat), trips)
+        self.assertEqual(luck.worths_of(game), [luck.worth_of(game, seat) for seat in range(8)])
+
+    def test_each_good_has_its_price(self) -> None:
+        prices = [luck.SEAT] * 8 + [luck.SHANTIES] * 4 + [luck.TOWERS] * 4 + [luck.TICKET] * 12
+        self.assertEqual(list(luck.PRICES), prices)
+
+
+class Names(unittest.TestCase):
+    def test_a_table_is_named_by_deal_and_rotation(self) -> None:
+        self.assertEqual(Table(Deal("x", 0, served_game()), 3).name, "x.3")
+
+
+if __name__ == "__main__":
+    unittest.main()

@@ -1,0 +1,77 @@
+import os
+import shutil
+import sys
+import tempfile
+import unittest
+from pathlib import Path
+
+from geesefuton.entrants import EntrantError, environment, read_entrant, read_entrants, seat_words
+from tests.helpers import PACKAGE
+
+
+class Entrants(unittest.TestCase):
+    def setUp(self) -> None:
+        folder = tempfile.TemporaryDirectory()
+        self.addCleanup(folder.cleanup)
+        self.place = Path(folder.name).resolve()
+
+    def file(self, name: str, mode: int = 0o644) -> str:
+        file = self.place / name
+        file.parent.mkdir(exist_ok=True)
+        file.write_text("#!/bin/sh\n")
+        file.chmod(mode)
+        return str(file)
+
+    def test_a_python_file_is_run_by_this_python(self) -> None:
+        entrant = read_entrant(os.path.relpath(self.file("My-Agent 2.py")).replace(" ", "\\ "))
+        self.assertEqual(entrant.words, (sys.executable, str(self.place / "My-Agent 2.py")))
+        self.assertEqual((entrant.name, entrant.root), ("My-Agent 2", "myagent2"))
+
+    def test_a_command_keeps_its_words(self) -> None:
+        program = self.file("run", 0o755)
+        entrant = read_entrant(f"{program} -x 'two words' their.jar")
+        self.assertEqual(entrant.words, (program, "-x", "two words", "their.jar"))
+        self.assertEqual((entrant.name, entrant.root), ("their", "their"))
+        self.assertEqual(read_entrant("sh -c true").words, (shutil.which("sh"), "-c", "true"))
+
+    def test_what_cannot_be_run_is_told(self) -> None:
+        for command, told in (("", "not an empty word"), ("  ", "not an empty word"),
+                              ("mine 'theirs", "no closing quotation"),
+                              ("none.py", "there is no file none.py"),
+                              ("no-such-program x", "there is no program no-such-program"),
+                              (self.file("theirs.jar"), r"is no program: chmod \+x it, or say")):
+            with self.assertRaisesRegex(EntrantError, told):
+                read_entrant(command)
+
+    def test_roots_are_seat_words(self) -> None:
+        self.assertEqual(read_entrant(self.file("---.py")).root, "agent")
+        self.assertEqual(read_entrant(self.file("abcdefghijklmnopq.py")).root, "abcdefghijkl")
+
+    def test_different_agents_of_one_name_are_told_apart(self) -> None:
+        first, second = self.file("one/mine.py"), self.file("two/mine.py")
+        other = self.file("other.py")
+        entrants = read_entrants([first, other, second, first])
+        self.assertEqual([entrant.name for entrant in entrants], [first, "other", second, first])
+        self.assertEqual([entrant.root for entrant in entrants],
+                         ["mine1", "other", "mine2", "mine1"])
+
+    def test_seat_words_are_eight_different_ones(self) -> None:
+        entrants = read_entrants([self.file("a.py"), self.file("b.py")])
+        self.assertEqual(seat_words(entrants * 4),
+                         ["a", "b", "ab", "bb", "ac", "bc", "ad", "bd"])
+        self.assertEqual(len(set(seat_words(entrants[:1] * 8))), 8)
+        long = read_entrants([self.file("abcdefghijklmnop.py"), self.file("x/abcdefghijklmnop.py")])
+        words = seat_words(long * 4)
+        self.assertEqual(len(set(words)), 8)
+        self.assertTrue(all(len(word) <= 16 for word in words))
+
+    def test_an_agent_finds_the_package_and_the_program(self) -> None:
+        variables = environment("/some/tac")
+        self.assertEqual(variables["TAC"], "/some/tac")
+        self.assertEqual(variables["PYTHONPATH"].split(os.pathsep)[0], str(PACKAGE))
+        self.assertEqual(variables["PYTHONUNBUFFERED"], "1")
+        self.assertEqual(variables["PATH"], os.environ["PATH"])
+
+
+if __name__ == "__main__":
+    unittest.main()

@@ -1,0 +1,231 @@
+import contextlib
+import os
+import socket
+import tempfile
+import threading
+import unittest
+from pathlib import Path
+from typing import Iterator, List, Sequence, Tuple
+from unittest import mock
+
+from geesefuton import link
+from geesefuton.games import Client
+from geesefuton.link import Link, LinkError
+from geesefuton.replies import No, Own, Quote, Request, Taken
+from tests.helpers import TOP, fake_program, needs_program
+
+WELCOME = ["welcome 3", "endow 3 0 1 1 2 2 0 2 2 2 0 1 1",
+           *(f"client 3 {number} {1 + number % 4} 5 {50 + number} 1 2 {number}"
+             for number in range(8))]
+
+
+class Server:
+    """A server of one link: it answers each line with the next of its answers, each some lines,
+    and then closes. `heard` has what it was sent."""
+
+    def __init__(self, answers: Sequence[Sequence[str]]) -> None:
+        self.heard: List[str] = []
+        self._answers = answers
+        self._listener = socket.create_server(("127.0.0.1", 0))
+        self.port: int = self._listener.getsockname()[1]
+        self._thread = threading.Thread(target=self._serve, daemon=True)
+        self._thread.start()
+
+    def _serve(self) -> None:
+        with self._listener:
+            stream, _ = self._listener.accept()
+        with stream, stream.makefile("rwb") as lines:
+            for answer in self._answers:
+                line = lines.readline()
+                if not line:
+                    break
+                self.heard.append(line.decode())
+                lines.write("".join(f"{text}\n" for text in answer).encode())
+                lines.flush()
+
+    def join(self) -> None:
+        self._thread.join(5)
+
+
+@contextlib.contextmanager
+def seated(*answers: str, form: str = "words") -> Iterator[Tuple[Link, Server]]:
+    """A link that has its seat, and its server, which answers each line with the next of these."""
+    server = Server([WELCOME, *([answer] for answer in answers)])
+    made = Link.greet("127.0.0.1", server.port, "red", form)
+    try:
+        yield made, server
+    finally:
+        made.close()
+        server.join()
+
+
+class Greeting(unittest.TestCase):
+    def test_a_seat_with_its_tickets_and_clients(self) -> None:
+        for form in ("words", "json"):
+            with seated(form=form) as (agent, server):
+                self.assertEqual((agent.agent, agent.word), (3, "red"))
+                self.assertEqual(agent.endow, [0, 1, 1, 2, 2, 0, 2, 2, 2, 0, 1, 1])
+                self.assertEqual(len(agent.clients), 8)
+                self.assertEqual(agent.clients[2], Client(3, 5, 52, (1, 2, 2)))
+                self.assertEqual(server.heard, ["hello red\n"])
+
+    def test_a_refusal_ends_the_agent_with_the_answer(self) -> None:
+        server = Server([["refused taken"]])
+        with self.assertRaises(LinkError) as caught:
+            Link.greet("127.0.0.1", server.port, "red")
+        self.assertEqual(caught.exception.code, "red: refused taken")
+        self.assertIsInstance(caught.exception, SystemExit)
+
+    def test_a_link_that_closes_ends_the_agent(self) -> None:
+        for answers in ([], [WELCOME[:1]], [WELCOME[:5]]):
+            server = Server(answers)
+            with self.assertRaises(LinkError) as caught:
+                Link.greet("127.0.0.1", server.port, "red")
+            self.assertEqual(caught.exception.code, "red: the link was closed")
+
+    def test_no_server(self) -> None:
+        with socket.socket() as probe:
+            probe.bind(("127.0.0.1", 0))
+            port = probe.getsockname()[1]
+        with mock.patch("geesefuton.link.PATIENCE", 0.0):
+            with self.assertRaises(LinkError) as caught:
+                Link.greet("127.0.0.1", port, "red")
+        self.assertEqual(caught.exception.code,
+                         f"no link to 127.0.0.1 at port {port}: Connection refused")
+        with self.assertRaisesRegex(LinkError, "no link to nowhere.invalid"):
+            Link.greet("nowhere.invalid", 7000, "red")
+        with self.assertRaisesRegex(LinkError, "no link to 127.0.0.1 at port 70000"):
+            Link.greet("127.0.0.1", 70000, "red")
+
+    def test_a_server_that_still_starts_is_waited_for(self) -> None:
+        with socket.socket() as probe:
+            probe.bind(("127.0.0.1", 0))
+            port = probe.getsockname()[1]
+
+        def serve() -> None:
+            with socket.create_server(("127.0.0.1", port)) as listener:
+                stream, _ = listener.accept()
+                with stream:
+                    stream.sendall("".join(f"{line}\n" for line in WELCOME).encode())
+                    stream.recv(100)
+
+        timer = threading.Timer(0.3, serve)
+        timer.start()
+        agent = Link.greet("127.0.0.1", port, "red")
+        self.assertEqual(agent.agent, 3)
+        agent.close()
+        timer.join(5)
+
+
+class Words(unittest.TestCase):
+    def test_each_call_sends_its_line_and_gives_the_answer(self) -> None:
+        answers = ["@7 taken 1 0", "@8 done", "@9 quote 70 0 open", "@10 own -2 ((1 70))",
+                   "@11 own 4 ()", "@31 cash -660", "no syntax", "bye"]
+        with seated(*answers) as (agent, server):
+            self.assertEqual(agent.bid(24, (2, 70), (-1, 65)), "@7 taken 1 0")
+            self.assertEqual(agent.withdraw(24), "@8 done")
+            self.assertEqual(agent.quote(24), Quote(9, 70, 0, False))
+            self.assertEqual(agent.holding(24), Own(10, -2, ((1, 70),)))
+            self.assertEqual(agent.own(5), 4)
+            self.assertEqual(agent.cash(), -660)
+            self.assertEqual(agent.ask("buy 5"), "no syntax")
+            agent.quit()
+        self.assertEqual(server.heard[1:], ["bid 24 ((2 70) (-1 65))\n", "withdraw 24\n",
+                                            "quote 24\n", "own 24\n", "own 5\n", "cash\n",
+                                            "buy 5\n", "quit\n"])
+
+    def test_a_reading_that_is_refused_ends_the_agent(self) -> None:
+        for call, line, told in (("cash", "no spent", "red: cash: no spent"),
+                                 ("own", "no spent", "red: own 3: no spent"),
+                                 ("quote", "no auction", "red: quote 3: no auction"),
+                                 ("own", "hm", "red: 'hm' is no reply")):
+            with seated(line) as (agent, _):
+                with self.assertRaises(LinkError) as caught:
+                    agent.cash() if call == "cash" else getattr(agent, call)(3)
+                self.assertEqual(caught.exception.code, told)
+
+    def test_a_server_that_is_gone(self) -> None:
+        with seated() as (agent, server):
+            server.join()
+            for _ in range(2):
+                with self.assertRaisesRegex(LinkError, "the link was closed"):
+                    agent.ask("cash")
+
+
+class Json(unittest.TestCase):
+    def test_each_call_sends_its_object_and_gives_the_same_answer(self) -> None:
+        answers = ['{"at":7,"taken":[1,0]}', '{"at":9,"quote":[70,0],"open":true}',
+                   '{"at":10,"own":2,"points":[[1,70]]}', '{"at":31,"cash":-660}', '{"bye":true}']
+        with seated(*answers, form="json") as (agent, server):
+            self.assertEqual(agent.bid(24, (2, 70)), "@7 taken 1 0")
+            self.assertEqual(agent.quote(24), Quote(9, 70, 0, False))
+            self.assertEqual(agent.own(24), 2)
+            self.assertEqual(agent.cash(), -660)
+            self.assertEqual(agent.ask("buy 5"), "no syntax")
+            agent.quit()
+        self.assertEqual(server.heard[1:], ['{"do":"bid","auction":24,"points":[[2,70]]}\n',
+                                            '{"do":"quote","auction":24}\n',
+                                            '{"do":"own","auction":24}\n', '{"do":"cash"}\n',
+                                            '{"do":"quit"}\n'])
+
+    def test_a_line_for_which_there_was_no_memory_is_sent_again(self) -> None:
+        with seated('{"no":"memory"}', '{"no":"memory"}', '{"at":0,"taken":[1,0]}',
+                    form="json") as (agent, server):
+            self.assertEqual(agent.send(Request("bid", 0, ((1, 400),))), Taken(0, 1, 0))
+        self.assertEqual(len(server.heard), 4)
+        self.assertEqual(len(set(server.heard[1:])), 1)
+
+    def test_other_refusals_are_given(self) -> None:
+        with seated('{"no":"auction"}', form="json") as (agent, _):
+            self.assertEqual(agent.send(Request("own", 28)), No(None, "auction"))
+
+
+class Solving(unittest.TestCase):
+    CLIENTS = [Client(1, 3, 50 + number, (1, 2, 3)) for number in range(8)]
+
+    def test_the_account_of_the_program(self) -> None:
+        with tempfile.TemporaryDirectory() as folder:
+            copy = Path(folder, "copy")
+            tac = fake_program(Path(folder), f'cp "$2" "{copy}"; echo total 1234; echo end')
+            with mock.patch.dict(os.environ, {"TAC": tac}):
+                self.assertEqual(link.solve(range(28), self.CLIENTS), 1234)
+            lines = copy.read_text().splitlines()
+        self.assertEqual(lines[0:2], ["account", "hold " + " ".join(map(str, range(28)))])
+        self.assertEqual(lines[2], "client 0 1 3 50 1 2 3")
+        self.assertEqual(lines[9:], ["client 7 1 3 57 1 2 3", "end"])
+
+    def test_without_a_program_nothing_is_known(self) -> None:
+        with mock.patch.dict(os.environ, {"TAC": "/nowhere/tac"}):
+            self.assertIsNone(link.solve([0] * 28, self.CLIENTS))
+            self.assertIsNone(link.program())
+
+    def test_a_refusal_is_no_total(self) -> None:
+        with tempfile.TemporaryDirectory() as folder:
+            tac = fake_program(Path(folder), "echo text 1 1; exit 8")
+            with mock.patch.dict(os.environ, {"TAC": tac}):
+                self.assertIsNone(link.solve([0] * 28, self.CLIENTS))
+
+    @needs_program
+    def test_the_real_program(self) -> None:
+        holdings = [1 if good in (0, 5, 8, 9) else 0 for good in range(28)]
+        self.assertEqual(link.solve(holdings, self.CLIENTS), 1000)
+
+
+class Arguments(unittest.TestCase):
+    def test_an_agent_gets_host_port_word_and_pause(self) -> None:
+        with mock.patch("sys.argv", ["mine.py", "there", "7000", "red", "--pause", "0.5"]):
+            self.assertEqual(link.arguments("what"), ("there", 7000, "red", 0.5))
+        with mock.patch("sys.argv", ["mine.py", "there", "7000", "red"]):
+            self.assertEqual(link.arguments("what")[3], 2.0)
+
+    def test_agents_of_the_clone_get_the_same_link(self) -> None:
+        text = (TOP / "examples" / "agents" / "link.py").read_text()
+        self.assertIn("from geesefuton.link import *", text)
+        for name in ("Link", "Client", "Quote", "HOTELS", "TICKETS", "INBOUND", "OUTBOUND",
+                     "arguments", "inbound", "outbound", "room", "ticket", "solve", "program"):
+            self.assertIn(name, link.__all__)
+            self.assertTrue(hasattr(link, name))
+
+
+if __name__ == "__main__":
+    unittest.main()

@@ -1,0 +1,408 @@
+"""The lobby with links of every kind, before a server that answers by no rules."""
+
+import io
+import json
+import os
+import signal
+import socket
+import struct
+import subprocess
+import sys
+import tempfile
+import threading
+import time
+import unittest
+from pathlib import Path
+from typing import Any, Dict, List, Optional, Type
+from unittest import mock
+
+from geesefuton import events, log_files
+from geesefuton.events import End, Event
+from geesefuton.journal import Journal, read_journal
+from geesefuton.lobby import Lobby, LobbyError, LobbySettings
+
+HERE = Path(__file__).resolve().parent
+TOP = HERE.parents[1]
+GAME = TOP / "examples" / "first.game"
+WORDS = [f"seat{number}" for number in range(8)]
+
+
+class Agent:
+    """A link to the lobby."""
+
+    def __init__(self, port: int, word: Optional[str] = None, first: Optional[bytes] = None):
+        self.socket = socket.create_connection(("localhost", port))
+        self.socket.settimeout(10)
+        self.lines = self.socket.makefile("rb")
+        self.send(first if first is not None else f"hello {word}\n".encode())
+
+    def send(self, data: bytes) -> None:
+        self.socket.sendall(data)
+
+    def line(self) -> str:
+        return self.lines.readline().decode("ascii").rstrip("\n")
+
+    def welcome(self) -> List[str]:
+        return [self.line() for _ in range(10)]
+
+    def ask(self, line: str) -> str:
+        self.send(line.encode() + b"\n")
+        return self.line()
+
+    def close(self) -> None:
+        self.lines.close()
+        self.socket.close()
+
+    def reset(self) -> None:
+        self.socket.setsockopt(socket.SOL_SOCKET, socket.SO_LINGER, struct.pack("ii", 1, 0))
+        self.close()
+
+    def quit(self) -> None:
+        assert self.ask("quit") == "bye"
+        self.close()
+
+
+class Host:
+    """A lobby in a thread."""
+
+    def __init__(self, folder: Path, **more: Any) -> None:
+        settings: Dict[str, Any] = {"port": 0, "pace": 20, "log": folder / "my.log",
+                                    "journal": folder / "my.journal", "linger": 0.3,
+                                    "start": 0.3, "patience": 30, "silence": 0.4, **more}
+        self.lobby = Lobby(LobbySettings(game=GAME, **settings))
+        self.port, self.told, self.status = self.lobby.port, [], None
+        self.thread = threading.Thread(target=self.run, daemon=True)
+        self.thread.start()
+
+    def run(self) -> None:
+        self.status = self.lobby.run(self.told.append)
+
+    def of(self, kind: Type[Event]) -> List[Any]:
+        return [event for event in self.told if isinstance(event, kind)]
+
+    def wait(self, kind: Type[Event], count: int = 1) -> List[Any]:
+        deadline = time.monotonic() + 10
+        while len(self.of(kind)) < count:
+            assert time.monotonic() < deadline, (kind, self.told)
+            time.sleep(0.005)
+        return self.of(kind)
+
+    def end(self) -> Dict[str, End]:
+        self.thread.join(20)
+        assert not self.thread.is_alive(), self.told
+        return {event.word: event.reason for event in self.of(events.Ended)}
+
+
+class Case(unittest.TestCase):
+    def setUp(self) -> None:
+        place = tempfile.TemporaryDirectory()
+        self.addCleanup(place.cleanup)
+        self.folder = Path(place.name)
+        change = mock.patch.dict(os.environ, {"TAC": str(HERE / "fake_tac.py")})
+        change.start()
+        self.addCleanup(change.stop)
+
+    def agents(self, host: Host, *words: str) -> List[Agent]:
+        agents = [Agent(host.port, word) for word in words]
+        self.addCleanup(lambda: [agent.close() for agent in agents])
+        host.wait(events.Arrived, len(words))
+        return agents
+
+    def asked(self) -> List[str]:
+        """What the server was asked, by its log."""
+        return (self.folder / "my.log").read_text("latin-1").split("\n")[1:-2]
+
+
+class BeforeTheGame(Case):
+    def test_first_lines(self) -> None:
+        host = Host(self.folder, start=1.0, patience=0.3)
+        self.agents(host, "seat0")
+        for first, answer in ((b"hello seat0\n", "taken"), (b"hello seat9\n", "wrongword"),
+                              (b"hello seat1\r\n", "syntax"), (b"GET / HTTP/1.1\n\n", "syntax"),
+                              (b"x" * 600, "syntax"), (b"hello seat0\n" + b"y" * 99999, "taken")):
+            with self.subTest(first=first[:20]):
+                link = Agent(host.port, first=first)
+                self.assertEqual(link.line(), f"refused {answer}")
+                self.assertEqual(link.line(), "")
+                link.close()
+        silent = Agent(host.port, first=b"hello")
+        self.assertEqual(silent.line(), "")
+        silent.close()
+        self.assertEqual(host.end()["seat0"], End.HUNG)
+        self.assertEqual([event.answer for event in host.of(events.Refused)],
+                         ["taken", "wrongword", "syntax", "syntax", "syntax", "taken"])
+
+    def test_one_that_goes_may_come_again(self) -> None:
+        host = Host(self.folder, start=None)
+        first = self.agents(host, "seat0")[0]
+        first.close()
+        host.wait(events.Departed)
+        agents = self.agents(host, *WORDS)
+        self.assertEqual([agent.welcome()[0] for agent in agents],
+                         [f"welcome {number}" for number in range(8)])
+        for agent in agents:
+            agent.quit()
+        self.assertEqual(set(host.end().values()), {End.LEFT})
+        self.assertEqual((host.status, len(host.of(events.Ended))), (0, 8))
+        self.assertEqual(host.of(events.Began)[0].seats, tuple(range(8)))
+
+    def test_lines_before_the_game_are_asked_in_it(self) -> None:
+        host = Host(self.folder)
+        agent = Agent(host.port, first=b"hello seat2\nown 1\nown 2\nown 3")
+        agent.socket.shutdown(socket.SHUT_WR)
+        self.assertEqual(agent.welcome()[0], "welcome 2")
+        self.assertEqual([agent.line() for _ in range(3)], ["@1 own 0 ()", "@2 own 0 ()", ""])
+        agent.close()
+        self.assertEqual(host.end()["seat2"], End.GONE)
+        self.assertEqual(self.asked(), ["2 own 1", "2 own 2"])
+
+    def test_orders(self) -> None:
+        host = Host(self.folder, start=None, orders=io.StringIO("hey\nwithout seat9\nwithout seat7"
+                                                                "\n\n"))
+        late = Agent(host.port, "seat7")
+        taken = late.line()
+        self.addCleanup(late.close)
+        reasons = host.end()
+        if host.of(events.Arrived):
+            self.skipTest("the agent came before the orders were read")
+        self.assertEqual(taken, "refused taken")
+        self.assertEqual(set(reasons.values()), {End.ABSENT})
+        self.assertEqual([event.word for event in host.of(events.Waived)], ["seat7"])
+        self.assertEqual(sum("empty line" in event.text for event in host.of(events.Warned)), 2)
+
+
+class InTheGame(Case):
+    def test_coming_again(self) -> None:
+        host = Host(self.folder, pace=40, silence=0.5)
+        agent, talker, early = self.agents(host, "seat0", "seat1", "seat2")
+        host.wait(events.Began)
+        welcome = agent.welcome()
+        talker.welcome()
+        early.welcome()
+
+        early.quit()
+        gone = Agent(host.port, "seat2")
+        self.assertEqual(gone.line(), "refused taken")  # its session is over
+
+        for end in (Agent.close, Agent.reset):
+            agent.send(b"bid 5 ((1 1))\nown 6\n")  # the reply to the bid will be owed
+            time.sleep(0.05)
+            end(agent)
+            agent = Agent(host.port, "seat0")
+            self.assertEqual(agent.welcome(), welcome)
+            self.assertEqual(agent.ask("own 17"), "@17 own 0 ()")
+        agent.send(b"bid 5 ((1 1))\n")
+        time.sleep(0.02)
+        heir = Agent(host.port, "seat0")  # the other one is half open
+        self.assertEqual(heir.welcome(), welcome)
+        self.assertEqual(heir.ask("own 18"), "@18 own 0 ()")
+        with self.assertRaises(OSError):
+            while agent.lines.readline():
+                pass
+            raise OSError("it was ended")
+
+        self.assertEqual(talker.ask("own 2"), "@2 own 0 ()")
+        second = Agent(host.port, "seat1")
+        time.sleep(0.05)
+        self.assertEqual(talker.ask("own 3"), "@3 own 0 ()")
+        self.assertEqual(second.line(), "refused taken")
+        late = Agent(host.port, "seat7")
+        self.assertEqual(late.welcome()[0], "welcome 7")
+        self.assertEqual(late.ask("own 4"), "@4 own 0 ()")
+        for link in (gone, second, agent):
+            link.close()
+        for link in (heir, talker, late):
+            link.quit()
+        reasons = host.end()
+        self.assertEqual({reasons[word] for word in ("seat0", "seat1", "seat2", "seat7")},
+                         {End.LEFT})
+        self.assertEqual(reasons["seat5"], End.ABSENT)
+        self.assertEqual([event.word for event in host.of(events.Rejoined)], ["seat0"] * 3)
+        self.assertEqual(host.of(events.Arrived)[-1].word, "seat7")
+        self.assertEqual([line for line in self.asked() if line.startswith("0 bid")],
+                         ["0 bid 5 ((1 1))"] * 3)
+
+    def test_hanging_refused_and_gone_agents(self) -> None:
+        host = Host(self.folder, pace=10)
+        hangs, babbles, goes, dies = self.agents(host, "seat0", "seat1", "seat2", "seat3")
+        host.wait(events.Began)
+        for agent in (hangs, babbles, goes, dies):
+            agent.welcome()
+        self.assertEqual(hangs.ask("own 1"), "@1 own 0 ()")
+        self.assertEqual([babbles.ask("hey"), babbles.ask("z" * 513)], ["no syntax", "no toolong"])
+        babbles.send(b"quit")  # it has no end, so nothing is asked
+        dies.reset()
+        host.wait(events.Departed)
+        host.wait(events.Ticked, 54)
+        goes.close()
+        reasons = host.end()
+        self.assertEqual([reasons[word] for word in WORDS[:5]],
+                         [End.HUNG, End.REFUSED, End.LEFT, End.GONE, End.ABSENT])
+        self.assertEqual(host.status, 0)
+        self.assertEqual([event.lines for event in host.of(events.Ended)
+                          if event.word == "seat1"], [2])
+        self.assertEqual(self.asked()[1:], ["1 hey", "1 " + "z" * 513])
+
+    def test_one_that_never_reads_holds_nobody(self) -> None:
+        host = Host(self.folder, pace=30, linger=0.2)
+        deaf, agent = self.agents(host, "seat0", "seat1")
+        host.wait(events.Began)
+        deaf.socket.settimeout(0.5)
+        with self.assertRaises(OSError):
+            while True:
+                deaf.send(b"own 1\n" * 1000)
+        agent.welcome()
+        start = time.monotonic()
+        for number in range(100):
+            self.assertEqual(agent.ask(f"own {number}"), f"@{number} own 0 ()")
+        self.assertLess(time.monotonic() - start, 3)
+        agent.quit()
+        self.assertEqual(host.end()["seat0"], End.HUNG)
+
+    def test_a_reply_is_in_the_journal_before_it_is_passed_on(self) -> None:
+        host = Host(self.folder)
+        agent = self.agents(host, "seat3")[0]
+        agent.welcome()
+        for number in range(50):
+            reply = agent.ask(f"own {number % 28}")
+            lines = (self.folder / "my.journal").read_text().split("\n")[-4:-1]
+            self.assertIn(reply, [json.loads(line).get("r") for line in lines])
+        agent.quit()
+        host.end()
+        journal = read_journal(self.folder / "my.journal")
+        self.assertEqual((journal.tick, journal.status, len(journal.calls)), (54, 0, 51))
+        self.assertEqual([agent.end for agent in journal.agents],
+                         ["absent"] * 3 + ["left"] + ["absent"] * 4)
+
+
+class TheEnd(Case):
+    def test_a_full_disk_for_the_log(self) -> None:
+        with open("/dev/full", "wb") as full:
+            host = Host(self.folder, log=full, pace=5)
+            host.end()
+        self.assertEqual(host.status, 4)
+        self.assertIn("No space left on device", host.of(events.Warned)[-1].text)
+        self.assertEqual((self.folder / "my.log").read_text(), "taclog 1\nend\n")
+        self.assertEqual(host.of(events.Finished)[0].log, str(self.folder / "my.log"))
+
+    def test_a_full_disk_for_the_journal(self) -> None:
+        warned: List[str] = []
+        journal = Journal(self.folder / "journal", warned.append)
+        journal._number = os.open("/dev/full", os.O_WRONLY)
+        journal.tell(tick=1, t=1)
+        journal.tell(tick=2, t=2)
+        journal.close()
+        self.assertEqual(len(warned), 1)
+        self.assertIn("No space left on device", warned[0])
+
+    def test_statuses_of_the_server(self) -> None:
+        taken = self.folder / "taken"
+        taken.touch()
+        with mock.patch.dict(os.environ, {"FAKE_STATUS": "6", "FAKE_TAKEN": str(taken)}):
+            host = Host(self.folder, pace=5)
+            host.end()
+        self.assertEqual((host.status, taken.exists()), (6, False))
+
+    def test_interrupt(self) -> None:
+        host = Host(self.folder, pace=1000)
+        host.wait(events.Began)
+        host.lobby.interrupt()
+        host.end()
+        self.assertEqual(host.status, 130)
+        self.assertIn("recover", host.of(events.Warned)[-1].text)
+        self.assertIsNone(read_journal(self.folder / "my.journal").status)
+
+    def test_a_journal_is_a_new_file(self) -> None:
+        (self.folder / "my.journal").touch()
+        lobby = Lobby(LobbySettings(GAME, 0, 5, None, journal=self.folder / "my.journal"))
+        with self.assertRaisesRegex(LobbyError, "is there already"):
+            lobby.run(lambda event: None)
+        with self.assertRaisesRegex(LobbyError, "port"):
+            with socket.create_server(("", 0)) as other:
+                Lobby(LobbySettings(GAME, other.getsockname()[1], 5, None))
+
+    def test_where_a_log_is_kept(self) -> None:
+        file = self.folder / "my.log"
+        with file.open("wb") as output:
+            self.assertEqual(log_files.keep(b"log\n", output, file), log_files.Kept(None, None))
+        self.assertEqual(file.read_bytes(), b"log\n")
+        kept = log_files.keep(b"other\n", None, file)
+        self.assertEqual((kept.fault, kept.file), ("there is none", self.folder / "my-2.log"))
+        self.assertEqual((self.folder / "my-2.log").read_bytes(), b"other\n")
+        self.assertEqual(log_files.keep(b"x", io.BytesIO(), None), log_files.Kept(None, None))
+
+
+class Command(Case):
+    """The command, as a host uses it and as things go wrong around it."""
+
+    def start(self, *more: str, **how: Any) -> "subprocess.Popen[bytes]":
+        with socket.create_server(("", 0)) as probe:
+            port = probe.getsockname()[1]
+        words = [sys.executable, str(TOP / "tools/lobby"), str(GAME), str(port), "15", "--start",
+                 "0.2", "--after", "0", *more]
+        how = {"stdin": subprocess.DEVNULL, "stdout": subprocess.PIPE, "stderr": subprocess.PIPE,
+               "cwd": self.folder, **how}
+        return subprocess.Popen(words, **how)
+
+    def wait_for(self, script: "subprocess.Popen[bytes]", word: bytes) -> None:
+        assert script.stderr is not None
+        for line in script.stderr:
+            if word in line:
+                return
+        self.fail(f"{word!r} was not told")
+
+    def test_ctrl_c_and_a_closed_terminal(self) -> None:
+        script = self.start()
+        self.wait_for(script, b"begins")
+        for number in (signal.SIGINT, signal.SIGHUP):
+            script.send_signal(number)
+        told = script.communicate(timeout=20)
+        self.assertEqual((script.returncode, told[0]), (0, b"taclog 1\nend\n"))
+        self.assertIn(b"the game goes on", told[1])
+        self.assertEqual(len(list(self.folder.glob("first-*.journal"))), 1)
+
+    def test_two_ctrl_c_leave_a_journal(self) -> None:
+        script = self.start("--journal", "my.journal")
+        self.wait_for(script, b"begins")
+        script.send_signal(signal.SIGINT)
+        time.sleep(0.1)
+        script.send_signal(signal.SIGINT)
+        told = script.communicate(timeout=20)
+        self.assertEqual((script.returncode, told[0]), (130, b""))
+        self.assertIn(b"recover my.journal > ", told[1])
+        self.assertTrue(read_journal(self.folder / "my.journal").has_begun)
+
+    def test_a_terminal_that_closes_before_the_game_ends_it(self) -> None:
+        script = self.start("--start", "60")
+        self.wait_for(script, b"waiting")
+        script.send_signal(signal.SIGHUP)
+        script.communicate(timeout=20)
+        self.assertEqual(script.returncode, 129)
+
+    def test_closed_outputs(self) -> None:
+        for number, close in ((0, "2>&-"), (4, ">&-"), (4, "> /dev/full"), (0, "<&-")):
+            with self.subTest(close=close):
+                script = self.start()
+                script.kill()
+                script.communicate()
+                words = [str(word) for word in script.args]
+                words[words.index(str(TOP / "tools/lobby")) + 2] = "0"
+                line = " ".join(f"'{word}'" for word in script.args)
+                done = subprocess.run(["sh", "-c", f"exec {line} {close}"], cwd=self.folder,
+                                      stdout=subprocess.PIPE, stderr=subprocess.DEVNULL,
+                                      timeout=20, check=False)
+                self.assertEqual(done.returncode, number)
+                logs = list(self.folder.glob("first-*.log"))
+                self.assertEqual([log.read_text() for log in logs],
+                                 ["taclog 1\nend\n"] * len(logs))
+                self.assertTrue(logs)
+
+    def test_words(self) -> None:
+        for more in (["--late", "55"], ["--start", "nan"], ["--page", "0"]):
+            script = self.start(*more)
+            told = script.communicate(timeout=20)
+            self.assertEqual((script.returncode, told[1].count(b"Traceback")), (2, 0))
+
+
+if __name__ == "__main__":
+    unittest.main()

@@ -1,0 +1,320 @@
+import re
+import unittest
+from typing import List
+
+from geesefuton.logs import (Call, LogError, Post, Reading, Trade, Verdict, read_log, read_played,
+                             read_scores, trades_of)
+from geesefuton.replies import Below, Done, No, Own, Sold, Taken
+from tests.helpers import PLAYED, SERVED_LOG, served_log
+
+
+class Served(unittest.TestCase):
+    def setUp(self) -> None:
+        self.log = served_log()
+
+    def test_the_head(self) -> None:
+        self.assertEqual(self.log.kind, "serve")
+        self.assertEqual(self.log.links, tuple(Verdict("seated", seat) for seat in range(8)))
+        self.assertEqual(dict(self.log.ends), {0: "quit", 1: "quit", 2: "quit", 3: "end", 4: "end",
+                                               5: "quit", 6: "end", 7: "quit"})
+        self.assertEqual(self.log.missed, 0)
+        self.assertEqual(self.log.seats(), list(range(8)))
+        self.assertEqual((self.log.end_of(3), self.log.end_of(7)), ("end", "quit"))
+
+    def test_every_entry_is_there(self) -> None:
+        text = SERVED_LOG.read_text().split("\n")
+        counts = [int(line.split()[2]) for line in text if line.startswith("auction ")]
+        self.assertEqual([len(history) for history in self.log.histories], counts)
+        self.assertEqual(trades_of(self.log.histories),
+                         sum(line.startswith("trade ") for line in text))
+        clock = [entry for history in self.log.histories for entry in history if entry.caller == 8]
+        self.assertEqual(len(clock), 480)
+        calls = [self.log.calls_of(agent) for agent in range(8)]
+        self.assertEqual(sum(calls) + 480, sum(counts))
+        self.assertEqual((calls[3], calls[4], calls[5], calls[6]), (0, 1, 0, 0))
+
+    def test_entries_are_what_the_lines_say(self) -> None:
+        """Each entry is written again, and has to give the line it was read from."""
+        lines = iter(SERVED_LOG.read_text().split("\n"))
+        for good, history in enumerate(self.log.histories):
+            for line in lines:
+                if line == f"auction {good} {len(history)}":
+                    break
+            for entry in history:
+                self.assertEqual(next(lines), text_of(entry))
+                for trade in entry.trades:
+                    self.assertEqual(next(lines), f"trade {trade.buyer} {trade.seller} "
+                                                  f"{trade.units} {trade.price}")
+
+    def test_the_cash_book(self) -> None:
+        lines = SERVED_LOG.read_text().split("\n")
+        start = next(place for place, line in enumerate(lines) if line.startswith("cash "))
+        self.assertEqual(len(self.log.cash), int(lines[start].split()[1]))
+        for line, entry in zip(lines[start + 1:], self.log.cash):
+            if isinstance(entry, Post):
+                self.assertEqual(line, f"{entry.caller} post {entry.good} {entry.position} "
+                                 + " ".join(map(str, entry.nets)))
+                self.assertEqual(sum(entry.nets), 0)
+            else:
+                self.assertEqual(line, f"{entry.agent} read = {entry.dollars}")
+        self.assertTrue(any(isinstance(entry, Reading) for entry in self.log.cash))
+
+    def test_the_sheet(self) -> None:
+        self.assertEqual([score.score for score in self.log.scores],
+                         [507, -726, -566, 0, -367, 0, 0, 294])
+        first = self.log.scores[0]
+        self.assertEqual((first.best, first.cash, first.short), (1302, -795, 0))
+        self.assertEqual(sum(package is not None for package in first.packages), 1)
+        for score in self.log.scores:
+            self.assertEqual(score.score, score.best + score.cash - 200 * score.short)
+        self.assertEqual(read_scores(SERVED_LOG.read_bytes()), self.log.scores)
+
+
+def text_of(entry) -> str:  # type: ignore[no-untyped-def]
+    """The line of an entry, written apart from the package."""
+    call: Call = entry.call
+    words = {"bid": "bid " + "(" + " ".join(f"({u} {c})" for u, c in call.points) + ")",
+             "update": f"update {call.tick} {call.draw}"}.get(call.do, call.do)
+    reply = entry.reply
+    if isinstance(reply, Taken):
+        told = f"taken {reply.bought} {reply.sold}"
+    elif isinstance(reply, Done):
+        told = "done"
+    elif isinstance(reply, Sold):
+        told = f"sold {reply.units} {reply.price}"
+    elif isinstance(reply, Own):
+        told = f"own {reply.holding} (" + " ".join(f"({u} {c})" for u, c in reply.points) + ")"
+    else:
+        assert isinstance(reply, No)
+        told = f"no {reply.reason}"
+        if reply.below:
+            told += f" {reply.below.need} {reply.below.price} {reply.below.offered}"
+    return f"{entry.caller} {words} = {told}"
+
+
+class PlayedText(unittest.TestCase):
+    def test_replies_and_log(self) -> None:
+        played = read_played(PLAYED.read_bytes())
+        text = PLAYED.read_text()
+        self.assertEqual(played.log, read_log(text[text.index("taclog 1"):]))
+        self.assertEqual(len(played.replies), text[:text.index("taclog 1")].count("\n"))
+        self.assertEqual(played.replies[0], (0, Taken(0, 2, 0)))
+        self.assertEqual((played.log.kind, played.log.links, played.log.ends), ("play", (), ()))
+        self.assertEqual(played.log.seats(), list(range(8)))
+        self.assertEqual([score.score for score in played.log.scores],
+                         [1491, -516, 45, 0, 0, 0, 0, 0])
+
+    def test_bad_reply_lines(self) -> None:
+        text = PLAYED.read_text()
+        for line, why in (("0 @1 taken", "is no reply"), ("8 @1 done", "a reply line or"),
+                          ("", "a reply line or")):
+            with self.assertRaises(LogError) as caught:
+                read_played(f"0 @0 done\n{line}\n{text}")
+            self.assertEqual(caught.exception.line, 2)
+            self.assertIn(why, str(caught.exception))
+        with self.assertRaises(LogError) as caught:
+            read_played("0 @0 done\n0 bye\n")
+        self.assertEqual(caught.exception.line, 3)
+
+
+class Faults(unittest.TestCase):
+    """Every error names the line that `tac audit` names."""
+
+    def setUp(self) -> None:
+        self.lines: List[str] = SERVED_LOG.read_text().split("\n")[:-1]
+
+    def place(self, pattern: str) -> int:
+        """The number of the first line that matches, from 1."""
+        return next(number for number, line in enumerate(self.lines, 1)
+                    if re.match(pattern, line))
+
+    def refuse(self, line: int, new: str, why: str, due: int = 0) -> None:
+        """Replaces a line by others, and looks for the error at it, or at `due`."""
+        lines = [*self.lines[:line - 1], *new.split("\n"), *self.lines[line:]]
+        self.refuse_text("\n".join(lines) + "\n", due or line, why)
+
+    def refuse_text(self, text: str, line: int, why: str) -> None:
+        with self.assertRaises(LogError) as caught:
+            read_log(text)
+        self.assertEqual(caught.exception.line, line, str(caught.exception))
+        self.assertIn(why, str(caught.exception))
+        self.assertTrue(str(caught.exception).startswith(f"line {line}: "))
+
+    def test_first_lines(self) -> None:
+        self.refuse(1, "taclog 2", "the line `taclog 1` is due")
+        self.refuse(2, "served", "`play` or `serve` is due")
+        self.refuse(2, "play", "a line `auction 0 N` is due", 3)
+
+    def test_links(self) -> None:
+        self.refuse(4, "link 2 seated 1", "link 1 is due, not 2")
+        self.refuse(4, "link 1 seated 8", "a line `link` is due")
+        self.refuse(4, "link 1 gone", "a line `link` is due")
+        self.refuse(4, "linked", "a line `link`, `end` or `missed` is due")
+        other = "\n".join(self.lines).replace("link 7 seated 7", "link 7 seated 7\nlink 8 lost")
+        self.assertEqual(read_log(other + "\n").links[8], Verdict("lost"))
+        many = "\n".join(f"link {number} taken" for number in range(8, 255))
+        self.refuse(10, f"link 7 seated 7\n{many}\nlink 255 taken", "more than 255 links", 258)
+
+    def test_ends_and_lapsed_ticks(self) -> None:
+        line = self.place("end ")
+        self.refuse(line, "end 0 gone", "a line `end` is due")
+        self.refuse(line, "end 8 quit", "a line `end` is due")
+        missed = self.place("missed")
+        self.refuse(missed, "missed 256", "0 to 255, not 256")
+        self.refuse(missed, "missed", "is due")
+        self.refuse(missed, "missed 0\nmissed 0", "a line `auction 0 N` is due", missed + 1)
+
+    def test_auctions(self) -> None:
+        line = self.place("auction 1 ")
+        self.refuse(line, "auction 2 54", "a line `auction 1 N` is due")
+        self.refuse(line, "auction 1 8257", "0 to 8,256")
+        entries = int(self.lines[line - 1].split()[2])
+        after = self.place("auction 2 ")
+        self.refuse(line, f"auction 1 {entries - 1}", "a line `auction 2 N` is due", after - 1)
+        self.refuse(line, f"auction 1 {entries + 1}", f"entry {entries} of auction 1 is due", after)
+
+    def test_entries(self) -> None:
+        line = self.place("8 update")
+        for bad in ("9 update 1 0 = done", "8 update 1 = done", "8 update 1 0 = done ",
+                    "8 update 1 0", "8 raise = done", "8 bid () = done x", "-1 own = own 0 ()"):
+            self.refuse(line, bad, "")
+        self.refuse(line, "8 update 54 0 = done", "1 to 53, not 54")
+        self.refuse(line, "8 update 0 0 = done", "1 to 53, not 0")
+        self.refuse(line, "8 update 1 4294967296 = done", "4,294,967,295")
+        self.refuse(line, "8 update 1 0 = cash 5", "not the reply of an entry")
+        self.refuse(line, "8 update 1 0 = quote 1 2 open", "not the reply of an entry")
+        self.refuse(line, "8 update 1 0 = fine", "is no reply")
+
+    def test_points(self) -> None:
+        line = self.place("[0-7] bid")
+        for bad, why in (("()", "1 to 16, not 0"), ("((0 5))", "no units"),
+                         ("((1 0))", "1 to 10,000, not 0"), ("((1 10001))", "not 10,001"),
+                         ("((17 5))", "not 17"), ("((9 5) (-8 5))", "not 17"),
+                         ("(" + " ".join(["(1 5)"] * 17) + ")", "not 17"),
+                         ("((01 5))", "is due"), ("((1  5))", "is due"), ("(1 5)", "is due")):
+            self.refuse(line, f"0 bid {bad} = taken 0 0", why)
+
+    def test_ranges_of_replies(self) -> None:
+        line = self.place("[0-7] bid")
+        for reply, why in (("taken 256 0", "`bought`"), ("taken 0 256", "`sold`"),
+                           ("sold 256 1", "`units`"), ("sold 1 10002", "`price`"),
+                           ("own 1000001 ()", "a holding"), ("own -1000001 ()", "a holding"),
+                           ("own 0 ((0 1))", "no units"), ("own 0 ((17 1))", "17"),
+                           ("no belowquote 256 1 1", "`need`"),
+                           ("no belowquote 1 10002 1", "`price`"),
+                           ("no belowquote 1 1 256", "`offered`")):
+            self.refuse(line, f"0 bid ((1 5)) = {reply}", why)
+        line = self.place("[0-7] bid .* = no")
+        words = self.lines[line - 1].split(" = ")[0]
+        for good in ("taken 255 255", "sold 255 10001", "own -1000000 ()", "own 1000000 ((16 1))",
+                     "no belowquote 255 10001 255"):
+            text = "\n".join([*self.lines[:line - 1], f"{words} = {good}", *self.lines[line:], ""])
+            read_log(text)
+
+    def test_trades(self) -> None:
+        line = self.place("trade")
+        self.refuse(line, "trade 0 8 0 5", "1 to 16, not 0")
+        self.refuse(line, "trade 0 8 17 5", "1 to 16, not 17")
+        self.refuse(line, "trade 0 8 1 10001", "0 to 10,000")
+        self.refuse(line, "trade 9 8 1 5", "a trade is due")
+        self.refuse(line, "trade 0 8 1", "a trade is due")
+        read_log("\n".join([*self.lines[:line - 1], *["trade 0 8 1 5"] * 128, *self.lines[line:],
+                            ""]))
+        self.refuse(line, "\n".join(["trade 0 8 1 5"] * 129), "more than 128", line + 128)
+
+    def test_the_cash_book(self) -> None:
+        line = self.place("cash ")
+        self.refuse(line, "cash 238049", "0 to 238,048")
+        self.refuse(line, "cash x", "is due")
+        post = self.place("[0-8] post")
+        self.refuse(post, "0 post 28 0 0 0 0 0 0 0 0 0 0", "0 to 27")
+        self.refuse(post, "0 post 0 8256 0 0 0 0 0 0 0 0 0", "0 to 8,255")
+        self.refuse(post, "0 post 0 0 2147483648 0 0 0 0 0 0 0 0", "a net of a post")
+        self.refuse(post, "0 post 0 0 -2147483649 0 0 0 0 0 0 0 0", "a net of a post")
+        self.refuse(post, "0 post 0 0 0 0 0 0 0 0 0 0", "an entry of the cash book is due")
+        self.refuse(post, "8 read = 5", "an entry of the cash book is due")
+        self.refuse(post, "0 read = 1234567890123456789", "an entry of the cash book is due")
+
+    def test_scores(self) -> None:
+        line = self.place("score 1")
+        self.refuse(line, "score 2 0 -726 0 -726", "agent 1 is due, not 2")
+        self.refuse(line, "score 1 14001 0 0 0", "0 to 14,000")
+        self.refuse(line, "score 1 0 0 4294967296 0", "the tickets short")
+        self.refuse(line, "score 1 0 0 -1 0", "the score of agent 1 is due")
+        self.refuse(self.place("sheet"), "memory", "memory was refused for the scores")
+        self.refuse(self.place("sheet"), "sheets", "the line `sheet` is due")
+
+    def test_packages(self) -> None:
+        line = self.place("package 1 2 ")
+        self.refuse(line, "package 2 2 none", "agent 1 is due, not 2")
+        self.refuse(line, "package 1 3 none", "client 2 is due, not 3")
+        self.refuse(line, "package 1 2 0 3 2 0 0 0", "no such package")
+        self.refuse(line, "package 1 2 0 1 3 1 1 0", "no such package")
+        self.refuse(line, "package 1 2 0 1 3 3 0 0", "no such package")
+        self.refuse(line, "package 1 2 2 1 3 0 0 0", "is due")
+
+    def test_certificates(self) -> None:
+        line = self.place("cert 1 ")
+        leaf = "leaf" + " 0" * 28
+        self.refuse(line, "cert 2 1", "agent 1 is due, not 2")
+        self.refuse(line, f"cert 1 2\n{leaf}", "the certificate ends before its last line")
+        self.refuse(line, "cert 1 0", "goes on after its 0 lines")
+        self.refuse(line, "cert 1 100000", "lines, and")
+        self.refuse(line, "cert 1 1\nleaf" + " 0" * 27, "a node of a certificate", line + 1)
+        self.refuse(line, "cert 1 1\nsplit 8 1", "a node of a certificate", line + 1)
+        rest = self.lines[line + 1:]
+        for feature, parts in ((0, 21), (1, 5), (2, 5), (3, 5)):
+            nodes = [f"split 0 {feature}", *[leaf] * parts]
+            text = [*self.lines[:line - 1], f"cert 1 {len(nodes)}", *nodes, *rest, ""]
+            read_log("\n".join(text))
+            text = [*self.lines[:line - 1], f"cert 1 {len(nodes) - 1}", *nodes[:-1], *rest, ""]
+            self.refuse_text("\n".join(text), line, "goes on after")
+
+    def test_ends_of_the_text(self) -> None:
+        text = "\n".join(self.lines) + "\n"
+        count = len(self.lines)
+        self.refuse_text(text + "end\n", count + 1, "a line follows the end")
+        self.refuse_text(text + "x", count + 1, "a line follows the end")
+        self.refuse_text(text[:-1], count, "has no line end")
+        self.refuse_text("\n".join(self.lines[:30]) + "\n", 31, "the text ends where")
+        self.refuse_text("", 1, "the text ends where")
+        for cut in (18, 60, 400, 640, 715, 722, 729):
+            self.refuse_text("\n".join(self.lines[:cut]) + "\n", cut + 1, "")
+
+    def test_a_log_cut_by_thirty_lines(self) -> None:
+        """The lines before the cut are a beginning of a log, and the first missing one is told."""
+        self.refuse_text("\n".join(self.lines[:-30]) + "\n", len(self.lines) - 29, "")
+
+    def test_other_bytes(self) -> None:
+        line = self.place("8 update")
+        self.refuse(line, "8 update 1 0 = done\r", "is no reply")
+        with self.assertRaises(LogError) as caught:
+            read_log(b"taclog 1\n\xff\n")
+        self.assertEqual(caught.exception.line, 2)
+        with self.assertRaises(LogError):
+            read_log("x" * 67_108_865)
+
+    def test_a_sheet_alone(self) -> None:
+        with self.assertRaises(LogError) as caught:
+            read_scores("taclog 1\nplay\n")
+        self.assertIn("the line `sheet` is due", str(caught.exception))
+        line = self.place("score 1")
+        with self.assertRaises(LogError) as caught:
+            read_scores("\n".join([*self.lines[:line - 1], "x", *self.lines[line:], ""]))
+        self.assertEqual(caught.exception.line, line)
+
+    def test_a_refusal_with_what_was_due(self) -> None:
+        below = [entry.reply for history in served_log().histories for entry in history
+                 if isinstance(entry.reply, No) and entry.reply.reason == "belowquote"]
+        self.assertEqual(below[0], No(None, "belowquote", 0, Below(1, 171, 0)))
+
+    def test_trades_are_kept_with_their_entry(self) -> None:
+        history = served_log().histories[0]
+        traded = [entry for entry in history if entry.trades]
+        self.assertTrue(traded)
+        self.assertTrue(all(isinstance(trade, Trade) and trade.seller == 8
+                            for entry in traded for trade in entry.trades))
+
+
+if __name__ == "__main__":
+    unittest.main()

@@ -1,0 +1,202 @@
+import os
+import signal
+import sys
+import tempfile
+import time
+import unittest
+from pathlib import Path
+from typing import Callable, List, Sequence
+from unittest import mock
+
+from geesefuton import events, match
+from geesefuton.entrants import Entrant
+from geesefuton.events import End
+from geesefuton.lobby import LobbyError
+from geesefuton.match import Exit, Job, Match, Message, Note, Result, outcome_of
+from geesefuton.processes import Children
+from geesefuton.results import Outcome
+from tests.helpers import SERVED_GAME, SERVED_LOG, fake_program
+
+QUIT, FAILED, KILLED, STOPPED = Exit(0), Exit(1), Exit(-9), Exit(-9, is_stopped=True)
+
+
+class Outcomes(unittest.TestCase):
+    def test_every_end_of_a_part_with_every_end_of_a_process(self) -> None:
+        played, absent, crashed, hung, refused = Outcome
+        due = {End.LEFT: (played, played, played, played),
+               End.GONE: (played, crashed, crashed, hung),
+               End.HUNG: (hung, hung, hung, hung),
+               End.ABSENT: (absent, crashed, crashed, absent),
+               End.REFUSED: (refused, refused, refused, refused)}
+        self.assertEqual(set(due), set(End))
+        for reason, outcomes in due.items():
+            for exited, outcome in zip((QUIT, FAILED, KILLED, STOPPED), outcomes):
+                self.assertIs(outcome_of(reason, exited, False), outcome, (reason, exited))
+
+    def test_a_refused_first_line_counts_only_for_an_empty_seat(self) -> None:
+        for exited in (QUIT, FAILED, KILLED, STOPPED):
+            self.assertIs(outcome_of(End.ABSENT, exited, True), Outcome.REFUSED)
+            self.assertIs(outcome_of(End.LEFT, exited, True), Outcome.PLAYED)
+
+
+class Lobby:
+    """A stand-in for a lobby, which plays no game."""
+
+    port = 4321
+    ends: Sequence[End] = ()
+    refused: Sequence[str] = ()
+    status = 0
+    log = b""
+    seconds = 0.0
+    orders: List[str] = []
+
+    def __init__(self, settings) -> None:  # type: ignore[no-untyped-def]
+        self.settings = settings
+
+    def run(self, on_event: Callable[[events.Event], None]) -> int:
+        time.sleep(self.seconds)
+        for line in self.refused:
+            on_event(events.Refused(0.0, "here", "syntax", line))
+        for seat, end in enumerate(self.ends):
+            on_event(events.Ended(0.0, seat, "word", end, 5))
+        self.settings.log.write_bytes(self.log)
+        os.set_blocking(self.settings.orders.fileno(), False)
+        Lobby.orders = self.settings.orders.readlines()
+        return self.status
+
+
+class Matches(unittest.TestCase):
+    """A game with a stand-in for the lobby, and shell commands as agents."""
+
+    def setUp(self) -> None:
+        folder = tempfile.TemporaryDirectory()
+        self.addCleanup(folder.cleanup)
+        self.place = Path(folder.name)
+        (self.place / "bin").mkdir()
+        self.sent: List[Message] = []
+        self.audit("sound")
+        self.lobby = type("Made", (Lobby,), {"ends": [End.LEFT] * 8,
+                                             "log": SERVED_LOG.read_bytes(), "seconds": 0.3})
+        self.patch("geesefuton.match.Lobby", self.lobby)
+        self.patch("geesefuton.match.LEAVE", 0.3)
+
+    def patch(self, name: str, value: object) -> None:
+        patch = mock.patch(name, value)
+        patch.start()
+        self.addCleanup(patch.stop)
+
+    def audit(self, says: str) -> None:
+        tac = fake_program(self.place / "bin", f"echo {says}; [ '{says}' = sound ] || exit 9")
+        patch = mock.patch.dict(os.environ, {"TAC": tac})
+        patch.start()
+        self.addCleanup(patch.stop)
+
+    def play(self, *scripts: str) -> Result:
+        """Plays with eight agents, the last ones `exit 0`."""
+        all_scripts = [*scripts, *["exit 0"] * (8 - len(scripts))]
+        entrants = tuple(Entrant("", ("sh", "-c", script), f"agent{seat}", "")
+                         for seat, script in enumerate(all_scripts))
+        words = tuple(f"red{seat}" for seat in range(8))
+        job = Job("7.0", self.place, SERVED_GAME.read_text(), entrants, words, pace=20)
+        with Children() as children:
+            return Match(job, children, self.sent.append).play()
+
+    def notes(self) -> str:
+        return "\n".join(message.text for message in self.sent if isinstance(message, Note))
+
+    def test_a_game_with_its_scores(self) -> None:
+        result = self.play()
+        self.assertEqual(result, Result((507, -726, -566, 0, -367, 0, 0, 294),
+                                        (Outcome.PLAYED,) * 8))
+        self.assertEqual(self.notes(), "")
+        self.assertEqual((self.place / "7.0.game").read_text(), SERVED_GAME.read_text())
+        self.assertEqual((self.place / "7.0.log").read_bytes(), SERVED_LOG.read_bytes())
+        self.assertEqual((self.place / "7.0.events").read_text().count("Ended("), 8)
+        self.assertEqual(sum(isinstance(message, events.Ended) for message in self.sent), 8)
+
+    def test_agents_get_their_words_and_variables(self) -> None:
+        self.play('echo "$@" $PYTHONPATH', "echo oops >&2")
+        printed = (self.place / "7.0.red0").read_text().split()
+        self.assertEqual(printed[:4], ["4321", "red0", "--pause", "0.02"])
+        self.assertIn(str(Path(match.__file__).parents[1]), printed[4].split(":"))
+        self.assertEqual((self.place / "7.0.red1").read_text(), "oops\n")
+
+    def test_the_lobby_is_told_of_agents_that_have_ended(self) -> None:
+        self.play("sleep 5")
+        self.assertEqual(sorted(Lobby.orders), [f"without red{seat}\n" for seat in range(1, 8)])
+
+    def test_agents_that_fail_are_told_with_what_they_printed_last(self) -> None:
+        self.lobby.ends = [End.GONE, End.HUNG, End.ABSENT, End.ABSENT, End.LEFT, End.GONE,
+                           End.REFUSED, End.LEFT]
+        result = self.play("echo a; echo last; exit 3", "sleep 9", "exit 0", "kill -9 $$",
+                           "exit 4", "exit 0", "exit 0")
+        self.assertEqual([outcome.value for outcome in result.outcomes],
+                         ["crashed", "hung", "absent", "crashed", "played", "played", "refused",
+                          "played"])
+        told = self.notes().split("\n")
+        self.assertEqual(told, [
+            "agent0 at seat 0 (red0) counts as crashed: ended with status 3; it printed last: last",
+            "agent1 at seat 1 (red1) counts as hung: was still running 0.3 seconds after its game, "
+            "and was stopped",
+            "agent2 at seat 2 (red2) counts as absent: ended without taking its seat",
+            "agent3 at seat 3 (red3) counts as crashed: was ended by signal 9",
+            "agent4 at seat 4 (red4) ended with status 4",
+            "agent5 at seat 5 (red5) left before the last tick, without `quit`",
+            "agent6 at seat 6 (red6) counts as refused"][:len(told)])
+        self.assertEqual(len(told), 7)
+
+    def test_a_refused_first_line_is_blamed_on_the_word_in_it(self) -> None:
+        self.lobby.ends = [End.ABSENT] * 3 + [End.LEFT] * 5
+        self.lobby.refused = ['{"hello":"red0"}', "hello red22"]
+        result = self.play()
+        self.assertEqual(result.outcomes[:3], (Outcome.REFUSED, Outcome.ABSENT, Outcome.ABSENT))
+
+    def test_an_agent_that_ignores_signals_is_ended_too(self) -> None:
+        began = time.monotonic()
+        self.play("trap '' TERM INT HUP; sleep 60")
+        self.assertLess(time.monotonic() - began, 20)
+        self.assertIn("was still running", self.notes())
+
+    def test_much_that_is_printed_is_cut(self) -> None:
+        self.patch("geesefuton.match.MOST_KEPT", 1000)
+        self.play("seq 1 1000")
+        text = (self.place / "7.0.red0").read_text()
+        self.assertLess(len(text), 1100)
+        self.assertTrue(text.startswith("[2893 bytes are left out]\n") and text.endswith("1000\n"))
+        self.patch("geesefuton.match.MOST_PRINTED", 8)
+        self.lobby.ends = [End.GONE] * 8
+        self.assertIs(self.play("seq 1 100000; exit 1").outcomes[0], Outcome.CRASHED)
+        self.assertLessEqual((self.place / "7.0.red0").stat().st_size, 4096)
+
+    def test_games_without_scores_are_lost(self) -> None:
+        for status, log, told in ((5, b"fault links\n", "exit status 5 (its port is taken"),
+                                  (-9, b"", "exit status -9 (the log is empty)"),
+                                  (-9, b"hm\nx\n", "exit status -9 (hm)"),
+                                  (0, b"", "its log: line 1: the text ends")):
+            self.lobby.status, self.lobby.log = status, log
+            result = self.play()
+            self.assertEqual((result.scores, result.outcomes), ((), ()))
+            self.assertTrue(result.fault.startswith(told), result.fault)
+
+    def test_a_lapsed_tick_loses_nothing(self) -> None:
+        self.lobby.status = 6
+        self.assertEqual(len(self.play().scores), 8)
+
+    def test_a_log_that_is_not_sound_loses_the_game(self) -> None:
+        self.audit("unsound score 2")
+        self.assertEqual(self.play().fault, "the audit of its log says `unsound score 2`")
+
+    def test_a_lobby_that_cannot_begin(self) -> None:
+        with mock.patch.object(self.lobby, "__init__", side_effect=LobbyError("no port")):
+            self.assertEqual(self.play("sleep 60").fault, "no port")
+        with mock.patch.object(self.lobby, "run", side_effect=LobbyError("no disk")):
+            self.assertEqual(self.play("sleep 1").fault, "no disk")
+
+    def test_signals_are_told_by_their_number(self) -> None:
+        self.play(f"kill -{int(signal.SIGSEGV)} $$")
+        self.assertIn(f"was ended by signal {int(signal.SIGSEGV)}", self.notes())
+        self.assertTrue(sys.executable)
+
+
+if __name__ == "__main__":
+    unittest.main()

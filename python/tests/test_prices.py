@@ -1,0 +1,104 @@
+import unittest
+from typing import List
+
+from geesefuton.games import HOTELS
+from geesefuton.logs import Call, Entry, Trade
+from geesefuton.prices import Event, all_events, ask_of, events_of
+from geesefuton.replies import Below, Done, No, Sold, Taken
+from tests.helpers import served_game, served_log
+
+
+def bid(caller: int, *points: "tuple[int, int]") -> Entry:
+    return Entry(caller, Call("bid", points), Taken(None, 0, 0))
+
+
+def prices_of(events: List[Event]) -> "list[tuple[str, object, int]]":
+    return [(event.what, event.tick, event.dollars) for event in events if event.what != "trade"]
+
+
+PUBLISH = Entry(8, Call("publish"), Done(None))
+CLOSE = Entry(8, Call("close"), Sold(None, 1, 0))
+
+
+class Asks(unittest.TestCase):
+    def test_the_last_unit_that_gets_a_room(self) -> None:
+        bids = {0: ((2, 50), (1, 90)), 3: ((1, 70),)}
+        self.assertEqual([ask_of(bids, rooms) for rooms in (1, 2, 3, 4, 5)], [90, 70, 50, 50, 0])
+        self.assertEqual(ask_of({}, 1), 0)
+
+
+class Hotels(unittest.TestCase):
+    """Hotel 8 of a game with two rooms there."""
+
+    def events(self, live: bool, *entries: Entry) -> List[Event]:
+        game = served_game().with_rooms([2] * 8, live)
+        return list(events_of(game, 8, entries))
+
+    def test_by_the_minute_only_the_clock_publishes(self) -> None:
+        got = self.events(False, bid(0, (1, 50)), bid(1, (1, 60)), PUBLISH, bid(2, (1, 90)), CLOSE)
+        self.assertEqual(prices_of(got), [("price", 0, 0), ("price", 6, 50), ("close", 12, 60)])
+        self.assertEqual([event.position for event in got], [None, 2, 4])
+
+    def test_live_quotes_move_with_each_admitted_bid(self) -> None:
+        low = Entry(3, Call("bid", ((5, 500),)), No(None, "belowquote", 0, Below(1, 51, 0)))
+        got = self.events(True, bid(0, (1, 50)), bid(1, (1, 60)), low, PUBLISH, bid(0, (1, 70)))
+        self.assertEqual(prices_of(got), [("price", 0, 0), ("price", 0, 50), ("price", 6, 50),
+                                          ("price", 6, 60)])
+
+    def test_a_new_bid_replaces_the_earlier_one(self) -> None:
+        got = self.events(False, bid(0, (2, 50)), bid(0, (1, 80)), PUBLISH)
+        self.assertEqual(prices_of(got)[-1], ("price", 6, 0))
+
+    def test_calls_of_the_clock_that_agents_make_publish_nothing(self) -> None:
+        wrong = Entry(0, Call("publish"), No(None, "wrongcall"))
+        self.assertEqual(prices_of(self.events(False, bid(0, (2, 50)), wrong)), [("price", 0, 0)])
+
+    def test_trades_are_those_of_agents_on_both_sides(self) -> None:
+        close = Entry(8, Call("close"), Sold(None, 2, 5), (Trade(1, 8, 2, 5),))
+        got = [event for event in self.events(False, close) if event.what == "trade"]
+        self.assertEqual(got, [Event("trade", 6, 8, 0, 1, 2, 5)])
+        entry = Entry(2, Call("bid", ((-1, 60),)), Taken(None, 0, 1), (Trade(4, 2, 1, 70),))
+        self.assertEqual(list(events_of(served_game(), 20, [entry])),
+                         [Event("trade", None, 20, 0, 4, 1, 70),
+                          Event("trade", None, 20, 0, 2, -1, 70)])
+
+
+class Whole(unittest.TestCase):
+    def setUp(self) -> None:
+        self.game, self.log = served_game(), served_log()
+        self.events = all_events(self.game, self.log)
+
+    def test_seats_are_sold_at_the_price_of_their_tick(self) -> None:
+        paths = [flight.prices() for flight in self.game.flights]
+        sold = [event for event in self.events if event.what == "trade" and event.good < 8]
+        self.assertTrue(sold)
+        for event in sold:
+            assert event.tick is not None
+            self.assertEqual(event.dollars, paths[event.good][event.tick])
+
+    def test_flights_have_a_price_at_each_tick(self) -> None:
+        for good in range(8):
+            got = [(event.tick, event.dollars) for event in self.events
+                   if event.good == good and event.what == "price"]
+            self.assertEqual(got, list(enumerate(self.game.flights[good].prices())))
+
+    def test_hotels_close_at_their_tick_and_sell_at_that_price(self) -> None:
+        for good in HOTELS:
+            closes = [event for event in self.events
+                      if event.good == good and event.what == "close"]
+            self.assertEqual(len(closes), 1)
+            self.assertEqual(closes[0].tick, self.game.hotels[good - 8].closes)
+            for event in self.events:
+                if event.good == good and event.what == "trade":
+                    self.assertEqual((event.tick, event.dollars),
+                                     (closes[0].tick, closes[0].dollars))
+
+    def test_trades_add_up_to_the_cash_of_the_sheet(self) -> None:
+        for score in self.log.scores:
+            paid = sum((event.units or 0) * event.dollars for event in self.events
+                       if event.what == "trade" and event.agent == score.agent)
+            self.assertEqual(-paid, score.cash)
+
+
+if __name__ == "__main__":
+    unittest.main()

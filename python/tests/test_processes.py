@@ -1,0 +1,206 @@
+import contextlib
+import os
+import signal
+import subprocess
+import tempfile
+import time
+import unittest
+from concurrent.futures import ThreadPoolExecutor
+from pathlib import Path
+from typing import List
+
+from geesefuton.processes import Children, Output, free_port
+from tests.helpers import python, variables
+
+# A script that starts a process which ignores signals, with a process of its own, and a folder;
+# it prints their numbers and the folder, and waits.
+SCRIPT = """
+import subprocess, sys, time
+from geesefuton.processes import Children, command
+def main():
+    with Children() as children:
+        stubborn = "trap '' TERM INT HUP; sleep 300 & echo $!; wait"
+        child = children.start(["sh", "-c", stubborn], stdout=subprocess.PIPE)
+        folder = children.folder("some")
+        (folder / "file").write_text("x")
+        print(child.pid, int(child.stdout.readline()), folder, flush=True)
+        {wait}
+    return 0
+sys.exit(command("script", main))
+"""
+
+
+def is_there(process: int) -> bool:
+    try:
+        state = Path(f"/proc/{process}/stat").read_text().rsplit(")", 1)[1].split()[0]
+    except OSError:
+        return False
+    return state not in "ZX"
+
+
+@unittest.skipUnless(Path("/proc/self").exists(), "processes are looked for in /proc")
+class Ends(unittest.TestCase):
+    def is_gone(self, processes: List[int], folder: Path) -> bool:
+        deadline = time.monotonic() + 8
+        while time.monotonic() < deadline:
+            if not any(map(is_there, processes)) and not folder.parent.parent.exists():
+                return True
+            time.sleep(0.02)
+        return False
+
+    def end(self, wait: str, number: int = 0) -> int:
+        """Runs the script, sends it a signal, and sees that nothing is left. Gives its status."""
+        script = subprocess.Popen(python(SCRIPT.format(wait=wait)), stdout=subprocess.PIPE,
+                                  stderr=subprocess.DEVNULL, text=True, env=variables())
+        assert script.stdout is not None
+        with script.stdout as told:
+            child, grandchild, folder = told.readline().split()
+            self.assertTrue(Path(folder, "file").exists())
+            self.assertTrue(is_there(int(child)) and is_there(int(grandchild)))
+            if number:
+                script.send_signal(number)
+            status = script.wait(10)
+        self.assertTrue(self.is_gone([int(child), int(grandchild)], Path(folder)))
+        return status
+
+    def test_a_script_leaves_nothing_however_it_ends(self) -> None:
+        sleeping = "time.sleep(300)"
+        cases = [("pass", 0, 0), ("raise OSError(28, 'full', 'my.file')", 0, 1),
+                 (sleeping, signal.SIGINT, 130), (sleeping, signal.SIGTERM, 143),
+                 (sleeping, signal.SIGHUP, 129), (sleeping, signal.SIGKILL, -9)]
+        with ThreadPoolExecutor(len(cases)) as pool:
+            got = list(pool.map(lambda case: self.end(case[0], case[1]), cases))
+        self.assertEqual(got, [status for _, _, status in cases])
+
+
+class Groups(unittest.TestCase):
+    def test_one_process_can_be_ended_before_the_others(self) -> None:
+        with Children() as children:
+            first = children.start(["sh", "-c", "sleep 300 & wait"])
+            second = children.start(["sleep", "300"])
+            self.assertEqual(children.end(first), -signal.SIGKILL)
+            self.assertIsNone(second.poll())
+            third = children.start(["sh", "-c", "exit 5"])
+            third.wait()
+            self.assertEqual(children.end(third), 5)
+        self.assertEqual(second.wait(5), -signal.SIGTERM)
+
+    def test_folders_are_new_and_gone_afterwards(self) -> None:
+        with Children() as children:
+            first, second = children.folder("a"), children.folder("a")
+            self.assertNotEqual(first, second)
+            self.assertTrue(first.is_dir() and second.is_dir())
+            (first / "sub").mkdir()
+        self.assertFalse(first.exists() or second.exists() or first.parent.parent.exists())
+
+    def test_a_folder_that_cannot_be_made_is_told(self) -> None:
+        with tempfile.TemporaryDirectory() as place:
+            missing = os.path.join(place, "none")
+            before = tempfile.tempdir
+            tempfile.tempdir = missing
+            try:
+                with self.assertRaises(OSError) as caught:
+                    Children()
+            finally:
+                tempfile.tempdir = before
+            self.assertEqual(caught.exception.filename, missing)
+
+    def test_a_free_port(self) -> None:
+        self.assertTrue(1024 <= free_port() <= 65535)
+
+
+class Outputs(unittest.TestCase):
+    def test_a_file_has_what_was_written(self) -> None:
+        with tempfile.TemporaryDirectory() as folder:
+            file = Path(folder, "out")
+            file.write_text("an old text that is longer")
+            out = Output(file)
+            self.assertTrue(out.write("one\n") and out.write(b"two\n"))
+            out.close()
+            self.assertEqual(file.read_text(), "one\ntwo\n")
+            self.assertIsNone(out.fault)
+            self.assertEqual(out.name, str(file))
+
+    def test_a_full_disk_is_told_once_and_nothing_more_is_written(self) -> None:
+        out = Output("/dev/full")
+        self.assertFalse(out.write("x"))
+        self.assertEqual(out.fault, "No space left on device")
+        self.assertFalse(out.write("y"))
+        out.close()
+
+    def test_a_pipe_without_a_reader(self) -> None:
+        reading, writing = os.pipe()
+        os.close(reading)
+        out = Output(writing, "a pipe")
+        self.assertFalse(out.write("x"))
+        self.assertEqual((out.name, out.fault), ("a pipe", "its reader has gone"))
+        os.close(writing)
+
+    def test_a_file_that_cannot_be_made(self) -> None:
+        self.assertEqual(Output("/nowhere/out").fault, "No such file or directory")
+        reading, writing = os.pipe()
+        os.close(reading)
+        os.close(writing)
+        self.assertEqual(Output(writing).fault, "Bad file descriptor")
+
+    def test_standard_output_has_its_name(self) -> None:
+        self.assertEqual(Output(1).name, "standard output")
+
+    def test_a_slow_reader_gets_everything(self) -> None:
+        reading, writing = os.pipe()
+        code = "import sys, time; time.sleep(0.1); print(len(sys.stdin.buffer.read()))"
+        child = subprocess.Popen(python(code), stdin=reading, stdout=subprocess.PIPE)
+        os.close(reading)
+        self.assertTrue(Output(writing).write("x" * 500_000))
+        os.close(writing)
+        self.assertEqual(child.communicate(timeout=20)[0], b"500000\n")
+
+
+class Commands(unittest.TestCase):
+    def ran(self, body: str, stdout: int = subprocess.PIPE) -> "subprocess.CompletedProcess[str]":
+        code = ("import sys\nfrom geesefuton import processes\nfrom geesefuton.program import "
+                f"ProgramError\ndef main():\n    {body}\n"
+                "sys.exit(processes.command('name', main))")
+        return subprocess.run(python(code), stdin=subprocess.DEVNULL, stdout=stdout, text=True,
+                              stderr=subprocess.PIPE, env=variables(), check=False, timeout=20)
+
+    def test_errors_are_one_line_and_a_status(self) -> None:
+        for body, status, told in (
+                ("return 0", 0, ""), ("return 3", 3, ""), ("sys.exit(2)", 2, ""),
+                ("sys.exit()", 0, ""),
+                ("raise ProgramError('no program')", 1, "name: no program\n"),
+                ("raise OSError(13, 'x', 'my.file')", 1, "name: my.file: x\n"),
+                ("open('/nowhere/x')", 1, "name: /nowhere/x: No such file or directory\n"),
+                ("raise BrokenPipeError(32, 'x')", 1, "name: its reader has gone\n")):
+            done = self.ran(body)
+            self.assertEqual((done.returncode, done.stderr), (status, told), body)
+
+    def test_what_python_still_keeps_is_written_or_told(self) -> None:
+        done = self.ran("print('kept'); return 0")
+        self.assertEqual((done.returncode, done.stdout), (0, "kept\n"))
+        with open("/dev/full", "wb") as full:
+            done = self.ran("print('kept'); return 0", full.fileno())
+        self.assertEqual(done.returncode, 1)
+        self.assertEqual(done.stderr, "name: standard output: No space left on device\n")
+
+    def test_a_closed_standard_error_is_no_error(self) -> None:
+        code = ("import os, sys\nfrom geesefuton import processes\nos.close(2)\n"
+                "sys.exit(processes.command('name', lambda: processes.tell('x') or 0))")
+        with contextlib.closing(open(os.devnull, "rb")) as nothing:
+            done = subprocess.run(python(code), stdin=nothing, stdout=subprocess.PIPE, check=False,
+                                  env=variables(), timeout=20)
+        self.assertEqual((done.returncode, done.stdout), (0, b""))
+
+    def test_an_ignored_hangup_stays_ignored(self) -> None:
+        body = ("import signal, os; os.kill(os.getpid(), signal.SIGHUP); print('went on'); "
+                "return 0")
+        code = ("import signal, sys\nsignal.signal(signal.SIGHUP, signal.SIG_IGN)\n"
+                "from geesefuton import processes\n"
+                f"def main():\n    {body}\nsys.exit(processes.command('name', main))")
+        done = subprocess.run(python(code), stdout=subprocess.PIPE, env=variables(), check=False,
+                              timeout=20)
+        self.assertEqual((done.returncode, done.stdout), (0, b"went on\n"))
+
+
+if __name__ == "__main__":
+    unittest.main()

@@ -1,0 +1,124 @@
+import os
+import tempfile
+import unittest
+from pathlib import Path
+from typing import Dict
+from unittest import mock
+
+from geesefuton import program
+from geesefuton.program import ProgramError
+from tests.helpers import SERVED_GAME, SERVED_LOG, fake_program, needs_program, served_game
+
+
+class Commands(unittest.TestCase):
+    def setUp(self) -> None:
+        folder = tempfile.TemporaryDirectory()
+        self.addCleanup(folder.cleanup)
+        self.place = Path(folder.name)
+
+    def use(self, body: str) -> None:
+        """Lets a shell script stand in for the program."""
+        self.set({"TAC": fake_program(self.place, body)})
+
+    def set(self, values: Dict[str, str]) -> None:
+        patch = mock.patch.dict(os.environ, values)
+        patch.start()
+        self.addCleanup(patch.stop)
+
+    def refused(self, *words: object) -> ProgramError:
+        with self.assertRaises(ProgramError) as caught:
+            program.run(str(words[0]), *map(str, words[1:]))
+        return caught.exception
+
+    def test_calls_give_their_words_and_get_the_output(self) -> None:
+        self.use('echo "$@"')
+        game, log = Path("a game"), Path("log")
+        for text, words in ((program.make(42), "make 42"), (program.show(game), "show a game"),
+                            (program.upgrade(game), "upgrade a game"),
+                            (program.play(game, "s"), "play a game s"),
+                            (program.table([(game, log), (game, log)]),
+                             "table a game log a game log"),
+                            (program.solve("a"), "solve a"), (program.worth("a"), "worth a")):
+            self.assertEqual(text, words + "\n")
+        self.assertEqual(program.audit(game, log), "audit a game log")
+
+    def test_a_refusal_has_its_status_and_first_line(self) -> None:
+        self.use("echo game 3 4; echo more; exit 2")
+        fault = self.refused("show", "x")
+        self.assertEqual((fault.status, fault.line), (2, "game 3 4"))
+        self.assertEqual(str(fault), "tac show ended with exit status 2 (the game file is refused: "
+                                     "game 3 4)")
+
+    def test_an_end_without_output(self) -> None:
+        self.use("kill -9 $$")
+        fault = self.refused("make", 1)
+        self.assertEqual((fault.status, fault.line), (-9, ""))
+        self.assertEqual(str(fault), "tac make ended with exit status -9")
+
+    def test_an_unsound_log_is_an_answer_and_a_refused_one_is_not(self) -> None:
+        self.use("echo unsound score 3; exit 9")
+        self.assertEqual(program.audit("g", "l"), "unsound score 3")
+        with self.assertRaises(ProgramError):
+            program.table([("g", "l")])
+        self.use("echo text 5 1; exit 8")
+        with self.assertRaisesRegex(ProgramError, "text 5 1"):
+            program.audit("g", "l")
+
+    def test_a_program_that_takes_too_long(self) -> None:
+        self.use("exec sleep 20")
+        with self.assertRaisesRegex(ProgramError, "took longer than 0.1 seconds"):
+            program.run("make", 1, timeout=0.1)
+
+    def test_a_program_that_is_not_there(self) -> None:
+        self.set({"TAC": str(self.place / "none")})
+        fault = self.refused("make", 1)
+        self.assertIsNone(fault.status)
+        self.assertIn(f"there is no program {self.place / 'none'}", str(fault))
+
+    def test_a_file_that_is_no_program(self) -> None:
+        (self.place / "text").write_text("x")
+        self.set({"TAC": str(self.place / "text")})
+        self.assertIn("is no program: chmod +x it", str(self.refused("make", 1)))
+
+    def test_a_program_that_cannot_be_run(self) -> None:
+        file = self.place / "bad"
+        file.write_bytes(b"\x00\x01\x02")
+        file.chmod(0o755)
+        self.set({"TAC": str(file)})
+        self.assertIn("cannot be run: Exec format error", str(self.refused("make", 1)))
+
+    def test_the_file_is_that_of_the_variable_and_holds_in_any_folder(self) -> None:
+        file = fake_program(self.place, "exit")
+        self.set({"TAC": os.path.relpath(file)})
+        self.assertEqual(program.find(), file)
+        self.assertEqual(program.served_words("g", 7000, 500), [file, "serve", "g", "7000", "500"])
+        self.assertEqual(program.served_words("g", 7000, 500, "json")[-1], "json")
+
+    def test_without_the_variable_it_is_that_of_the_clone(self) -> None:
+        self.set({"TAC": ""})
+        with mock.patch("geesefuton.program.top", return_value=self.place):
+            self.assertIn("tacd/out/tacd", str(self.refused("make", 1)))
+            built = self.place / "crates" / "tacd" / "out"
+            built.mkdir(parents=True)
+            Path(fake_program(built, "echo built")).rename(built / "tacd")
+            self.assertEqual(program.make(1), "built\n")
+        with mock.patch("geesefuton.program.top", return_value=None):
+            self.assertIn("set the variable TAC", str(self.refused("make", 1)))
+
+    def test_the_clone_is_found(self) -> None:
+        top = program.top()
+        assert top is not None
+        self.assertTrue((top / "crates" / "tacd").is_dir())
+
+
+@needs_program
+class Real(unittest.TestCase):
+    def test_it_makes_shows_and_audits(self) -> None:
+        self.assertTrue(program.make(42).startswith("tac 1\nwords seat0"))
+        self.assertEqual(program.show(SERVED_GAME), SERVED_GAME.read_text())
+        self.assertEqual(program.show(SERVED_GAME), served_game().text())
+        self.assertEqual(program.audit(SERVED_GAME, SERVED_LOG), "sound")
+
+
+if __name__ == "__main__":
+    unittest.main()

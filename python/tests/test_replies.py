@@ -1,0 +1,92 @@
+import unittest
+
+from geesefuton import replies
+from geesefuton.replies import (Below, Bye, Cash, Done, No, Own, Quote, ReplyError, Request, Sold,
+                                Taken)
+
+# A reply, its line of words, and its JSON.
+FORMS = [
+    (Taken(7, 1, 0), "@7 taken 1 0", '{"at":7,"taken":[1,0]}'),
+    (Taken(0, 2, 3), "@0 taken 2 3", '{"at":0,"taken":[2,3]}'),
+    (Done(9), "@9 done", '{"at":9,"done":true}'),
+    (Sold(60, 16, 250), "@60 sold 16 250", '{"at":60,"sold":[16,250]}'),
+    (Own(8, 1, ((1, 70), (-2, 65))), "@8 own 1 ((1 70) (-2 65))",
+     '{"at":8,"own":1,"points":[[1,70],[-2,65]]}'),
+    (Own(8, -3, ()), "@8 own -3 ()", '{"at":8,"own":-3,"points":[]}'),
+    (Cash(31, -660), "@31 cash -660", '{"at":31,"cash":-660}'),
+    (Quote(9, 70, 0, False), "@9 quote 70 0 open", '{"at":9,"quote":[70,0],"open":true}'),
+    (Quote(9, 0, 80, True), "@9 quote 0 80 closed", '{"at":9,"quote":[0,80],"open":false}'),
+    (No(3, "closed"), "@3 no closed", '{"at":3,"no":"closed"}'),
+    (No(3, "wrongcall"), "@3 no wrongcall", '{"at":3,"no":"wrongcall"}'),
+    (No(3, "nobid"), "@3 no nobid", '{"at":3,"no":"nobid"}'),
+    (No(3, "sell"), "@3 no sell", '{"at":3,"no":"sell"}'),
+    (No(3, "selfcross"), "@3 no selfcross", '{"at":3,"no":"selfcross"}'),
+    (No(3, "belowquote", 0, Below(3, 101, 2)), "@3 no belowquote 3 101 2",
+     '{"at":3,"no":"belowquote","need":3,"price":101,"offered":2}'),
+    (No(None, "spent"), "no spent", '{"no":"spent"}'),
+    (No(None, "syntax"), "no syntax", '{"no":"syntax"}'),
+    (No(None, "auction"), "no auction", '{"no":"auction"}'),
+    (No(None, "toolong"), "no toolong", '{"no":"toolong"}'),
+    (No(None, "memory"), "no memory", '{"no":"memory"}'),
+    (No(None, "bid", 4), "no bid 4", '{"no":"bid","fault":4}'),
+    (Bye(), "bye", '{"bye":true}'),
+]
+
+
+class Replies(unittest.TestCase):
+    def test_words_are_read_and_written(self) -> None:
+        for reply, words, _ in FORMS:
+            self.assertEqual(replies.read_words(words), reply)
+            self.assertEqual(replies.words_of(reply), words)
+
+    def test_json_is_read(self) -> None:
+        for reply, _, text in FORMS:
+            self.assertEqual(replies.read_json(text), reply)
+
+    def test_a_reply_of_an_entry_has_no_position(self) -> None:
+        self.assertEqual(replies.read_entry_reply("own 2 ((1 5))"), Own(None, 2, ((1, 5),)))
+        self.assertEqual(replies.read_entry_reply("done", 4), Done(4))
+        self.assertEqual(replies.words_of(Done(None)), "done")
+
+    def test_other_words_are_refused(self) -> None:
+        for line in ("", "taken 1 0", "@1 taken 1", "@01 done", "@1  done", "@1 done ", "@1 no",
+                     "@1 no syntax", "no closed", "no bid 0", "no bid 6", "@1 quote 1 2 shut",
+                     "@1 own 1 (1 70)", "@1 cash +5", "@1 cash -0", "bye ", "Bye", "@1 bye",
+                     "@1 sold -1 5", "@1 own 1 ((1 70)(1 65))"):
+            with self.assertRaises(ReplyError, msg=line):
+                replies.read_words(line)
+
+    def test_other_json_is_refused(self) -> None:
+        for line in ("", "{", "[]", "{}", '{"at":1}', '{"at":1,"taken":[1]}', '{"taken":[1,0]}',
+                     '{"at":1.5,"done":true}', '{"at":1,"done":true,"more":1}', '{"no":"closed"}',
+                     '{"at":1,"no":"syntax"}', '{"at":true,"done":true}', '{"no":"bid"}',
+                     '{"at":1,"quote":[1,2],"open":1}', '{"at":1,"own":1,"points":[[1]]}',
+                     '{"at":1,"no":"belowquote","need":3}', '{"at":1,"cash":"5"}'):
+            with self.assertRaises(ReplyError, msg=line):
+                replies.read_json(line)
+
+
+class Requests(unittest.TestCase):
+    FORMS = [
+        (Request("bid", 24, ((2, 70), (-1, 65))), "bid 24 ((2 70) (-1 65))",
+         '{"do":"bid","auction":24,"points":[[2,70],[-1,65]]}'),
+        (Request("withdraw", 16), "withdraw 16", '{"do":"withdraw","auction":16}'),
+        (Request("own", 0), "own 0", '{"do":"own","auction":0}'),
+        (Request("quote", 27), "quote 27", '{"do":"quote","auction":27}'),
+        (Request("cash"), "cash", '{"do":"cash"}'),
+        (Request("quit"), "quit", '{"do":"quit"}'),
+    ]
+
+    def test_both_forms(self) -> None:
+        for request, words, text in self.FORMS:
+            self.assertEqual(replies.request_words(request), words)
+            self.assertEqual(replies.request_json(request), text)
+            self.assertEqual(replies.read_request(words), request)
+
+    def test_lines_of_no_form_ask_nothing(self) -> None:
+        for line in ("", "buy 5", "own", "own 05", "cash ", "bid 5", "bid 5 (1 2)", "quote 1 2"):
+            self.assertIsNone(replies.read_request(line))
+
+
+if __name__ == "__main__":
+    unittest.main()

@@ -1,0 +1,179 @@
+import csv
+import io
+import json
+import unittest
+from typing import List
+
+from geesefuton.comparisons import adjusted, estimate
+from geesefuton.results import HEAD, Outcome, ResultsError, Row, csv_of, read_rows, text_of
+from geesefuton.summary import FORMS, as_csv, as_json, as_text, summarize
+
+
+def row(deal: str, rotation: int, seat: int, agent: str, score: int,
+        end: Outcome = Outcome.PLAYED, luck: int = 100) -> Row:
+    return Row(deal, rotation, seat, agent, score, end, luck)
+
+
+# Two deals of two seats, each played with swapped seats. Agent a has 10 more than b at seat 0 of
+# deal 1, 30 more at its seat 1, and 60 more at both seats of deal 2.
+SWAPPED = [
+    row("1", 0, 0, "a", 110), row("1", 0, 1, "b", 200),
+    row("1", 1, 0, "b", 100), row("1", 1, 1, "a", 230),
+    row("2", 0, 0, "b", 40), row("2", 0, 1, "a", 360),
+    row("2", 1, 0, "a", 100), row("2", 1, 1, "b", 300),
+]
+
+
+class Means(unittest.TestCase):
+    def test_standings_are_by_deals_the_best_first(self) -> None:
+        summary = summarize(SWAPPED)
+        self.assertEqual([standing.agent for standing in summary.standings], ["a", "b"])
+        self.assertEqual(summary.standings[0].score, estimate([170.0, 230.0]))
+        self.assertEqual(summary.standings[1].score, estimate([150.0, 170.0]))
+        self.assertEqual((summary.games, summary.deals, summary.swapped), (4, 2, True))
+        self.assertEqual(summary.standings[0].seats, 4)
+
+    def test_an_agent_that_does_not_play_lowers_no_mean_and_is_counted(self) -> None:
+        rows = [row("1", 0, 0, "a", 500), row("1", 0, 1, "a", -900, Outcome.CRASHED),
+                row("1", 0, 2, "b", 0, Outcome.ABSENT), row("2", 0, 0, "a", 300),
+                row("2", 0, 1, "a", 0, Outcome.HUNG), row("2", 0, 2, "b", 0, Outcome.REFUSED)]
+        first, second = summarize(rows).standings
+        self.assertEqual((first.agent, first.score), ("a", estimate([500.0, 300.0])))
+        self.assertEqual((first.seats, first.failed), (4, 2))
+        self.assertEqual(first.ends, {Outcome.PLAYED: 2, Outcome.CRASHED: 1, Outcome.HUNG: 1})
+        self.assertEqual((second.agent, second.score, second.failed), ("b", None, 2))
+        self.assertIsNone(second.luck)
+        self.assertIsNone(summarize(rows).differences[0].score)
+
+    def test_no_agent_gains_by_failing(self) -> None:
+        """An agent without a game comes after one with a mean below 0."""
+        rows = [row("1", 0, 0, "gone", 0, Outcome.ABSENT), row("1", 0, 1, "plays", -720)]
+        self.assertEqual([standing.agent for standing in summarize(rows).standings],
+                         ["plays", "gone"])
+
+    def test_seats_of_a_deal_count_once_together(self) -> None:
+        rows = [row("1", 0, 0, "a", 0), row("1", 0, 1, "a", 0), row("1", 0, 2, "a", 300),
+                row("2", 0, 0, "a", 200)]
+        self.assertEqual(summarize(rows).standings[0].score, estimate([100.0, 200.0]))
+
+
+class Differences(unittest.TestCase):
+    def test_swapped_seats_are_compared_by_clients(self) -> None:
+        pair = summarize(SWAPPED).differences[0]
+        self.assertEqual((pair.first, pair.second), ("a", "b"))
+        self.assertEqual(pair.score, estimate([20.0, 60.0]))
+        self.assertIsNone(pair.adjusted)
+
+    def test_clients_that_one_of_them_did_not_play_are_left_out(self) -> None:
+        rows = list(SWAPPED)
+        rows[3] = row("1", 1, 1, "a", -5000, Outcome.CRASHED)
+        self.assertEqual(summarize(rows).differences[0].score, estimate([10.0, 60.0]))
+        rows[0] = row("1", 0, 0, "a", -5000, Outcome.CRASHED)
+        self.assertEqual(summarize(rows).differences[0].score, estimate([60.0]))
+
+    def test_other_games_are_compared_by_their_means(self) -> None:
+        rows = [row("1", 0, 0, "a", 100), row("1", 0, 1, "a", 300), row("1", 0, 2, "b", 50),
+                row("2", 0, 0, "b", 10), row("2", 0, 1, "b", 30), row("2", 0, 2, "a", 90),
+                row("3", 0, 0, "a", 7), row("3", 0, 1, "b", 0, Outcome.ABSENT)]
+        summary = summarize(rows)
+        self.assertFalse(summary.swapped)
+        self.assertEqual(summary.differences[0].score, estimate([150.0, 70.0]))
+
+    def test_every_pair_is_there_once_the_better_first(self) -> None:
+        rows = [row("1", 0, seat, agent, score)
+                for seat, (agent, score) in enumerate([("b", 5), ("c", 1), ("a", 9)])]
+        pairs = [(pair.first, pair.second) for pair in summarize(rows).differences]
+        self.assertEqual(pairs, [("a", "b"), ("a", "c"), ("b", "c")])
+
+
+class Luck(unittest.TestCase):
+    def test_means_are_adjusted_to_the_luck_of_all(self) -> None:
+        scores = {"a": [100, 140, 210], "b": [50, 90, 20]}
+        lucks = {"a": [1000, 1100, 1300], "b": [900, 1000, 800]}
+        rows = [row(str(deal), 0, seat, agent, scores[agent][deal], luck=lucks[agent][deal])
+                for deal in range(3) for seat, agent in enumerate("ab")]
+        centre = sum(lucks["a"] + lucks["b"]) / 6
+        summary = summarize(rows)
+        for standing in summary.standings:
+            self.assertEqual(standing.adjusted, adjusted(scores[standing.agent],
+                                                         lucks[standing.agent], centre))
+            self.assertEqual(standing.luck, sum(lucks[standing.agent]) / 3)
+        pair = summary.differences[0]
+        self.assertEqual(pair.adjusted, adjusted([50, 50, 190], [100, 100, 500], 0.0))
+
+    def test_luck_of_seats_that_did_not_play_does_not_count(self) -> None:
+        rows = [row("1", 0, 0, "a", 5, luck=100),
+                row("1", 0, 1, "a", 0, Outcome.ABSENT, luck=9000)]
+        self.assertEqual(summarize(rows).standings[0].luck, 100.0)
+
+
+class Texts(unittest.TestCase):
+    def setUp(self) -> None:
+        rows = [*SWAPPED, row("2", 1, 2, "c", 0, Outcome.ABSENT)]
+        self.summary = summarize(rows, ["game 7.0 is lost: why"])
+
+    def test_text(self) -> None:
+        text = as_text(self.summary)
+        self.assertIn("4 games of 2 deals", text)
+        lines = [" ".join(line.split()) for line in text.splitlines()]
+        self.assertIn("a 200 +- 381 100 - 0 of 4", lines)
+        self.assertIn("c - - - 1 of 1: 1 absent", lines)
+        self.assertIn("a less b 40 +- 254 - 2", lines)
+        self.assertNotIn("a less c", text)
+        self.assertIn("by clients that both had", text)
+        self.assertEqual(lines[-1], "game 7.0 is lost: why")
+        self.assertIn("1 game of 1 deal;", as_text(summarize(SWAPPED[:1])))
+        self.assertIn("110 +- ?", as_text(summarize(SWAPPED[:1])))
+        self.assertIn("difference, by games", as_text(summarize(SWAPPED[:2])))
+
+    def test_csv(self) -> None:
+        rows = list(csv.DictReader(io.StringIO(as_csv(self.summary))))
+        self.assertEqual([(line["what"], line["agent"], line["other"]) for line in rows],
+                         [("mean", "a", ""), ("mean", "b", ""), ("mean", "c", ""),
+                          ("difference", "a", "b"), ("difference", "a", "c"),
+                          ("difference", "b", "c")])
+        self.assertEqual((rows[0]["mean"], rows[0]["half"], rows[0]["deals"], rows[0]["seats"]),
+                         ("200.0", "381.19", "2", "4"))
+        self.assertEqual((rows[2]["mean"], rows[2]["absent"], rows[2]["played"], rows[2]["deals"]),
+                         ("", "1", "0", "0"))
+        self.assertEqual((rows[3]["mean"], rows[3]["half"], rows[3]["deals"]),
+                         ("40.0", "254.12", "2"))
+
+    def test_json(self) -> None:
+        value = json.loads(as_json(self.summary))
+        self.assertEqual((value["games"], value["deals"], value["paired_by"]), (4, 2, "clients"))
+        self.assertEqual(value["agents"][0]["score"]["mean"], 200.0)
+        self.assertEqual(value["agents"][2]["ends"]["absent"], 1)
+        self.assertIsNone(value["agents"][2]["score"])
+        self.assertEqual(value["differences"][0]["score"]["deals"], 2)
+        self.assertEqual(value["lost"], ["game 7.0 is lost: why"])
+        self.assertEqual(json.loads(as_json(summarize(SWAPPED[:2])))["paired_by"], "games")
+
+    def test_nothing_played(self) -> None:
+        for form in FORMS.values():
+            form(summarize([], ["all is lost"]))
+        self.assertEqual(set(FORMS), {".txt", ".csv", ".json"})
+
+
+class Rows(unittest.TestCase):
+    def test_rows_are_written_and_read(self) -> None:
+        rows: List[Row] = [*SWAPPED, row("x-1", 2, 7, 'a "b", c', -5, Outcome.HUNG, -3)]
+        text = csv_of([HEAD]) + text_of(rows)
+        self.assertEqual(text.split("\n")[:2], ["deal,rotation,seat,agent,score,end,luck,kind",
+                                                "1,0,0,a,110,played,100,served"])
+        self.assertEqual(read_rows(text, "x"), rows)
+        self.assertEqual(read_rows(text + text, "x"), rows + rows)
+
+    def test_other_texts_are_refused(self) -> None:
+        head = csv_of([HEAD])
+        for text, line in (("", 1), ("seed,seat,agent,score\n1,0,a,5\n", 1),
+                           (head + "1,0,0,a,5,played,100\n", 2),
+                           (head + "1,0,0,a,x,played,100,served\n", 2),
+                           (head + "1,0,0,a,5,won,100,served\n", 2)):
+            with self.assertRaises(ResultsError) as caught:
+                read_rows(text, "my.csv")
+            self.assertIn(f"my.csv: line {line} ", str(caught.exception))
+
+
+if __name__ == "__main__":
+    unittest.main()

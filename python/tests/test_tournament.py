@@ -1,0 +1,382 @@
+import csv
+import io
+import json
+import os
+import re
+import subprocess
+import tempfile
+import time
+import unittest
+from pathlib import Path
+from typing import Any, List, Optional
+from unittest import mock
+
+from geesefuton import tournament
+from geesefuton.deals import Rule
+from geesefuton.entrants import Entrant
+from geesefuton.luck import worths_of
+from geesefuton.processes import Children, Output
+from geesefuton.results import HEAD, Outcome, Row, csv_of, read_rows, text_of
+from geesefuton.summary import summarize
+from geesefuton.tournament import Plan, Tournament
+from tests.helpers import (PACKAGE, SERVED_GAME, TOP, fake_program, needs_program, refusal, run,
+                           served_game)
+
+# A stand-in for the process of a game: seat s of game D.R scores 1000 D + 100 R + s. What FAULT
+# says of the game GAME happens to it.
+WORKER = """
+import os, sys, time
+from multiprocessing.connection import Connection
+from geesefuton import events
+from geesefuton.match import Note, Result
+from geesefuton.results import Outcome
+parent = Connection(int(sys.argv[1]))
+job = parent.recv()
+deal, rotation = job.name.split(".")
+fault = os.environ.get("FAULT", "") if job.name == os.environ.get("GAME") else ""
+if fault == "late":
+    time.sleep(1)
+if fault == "hang":
+    time.sleep(60)
+if fault == "die":
+    os._exit(3)
+if fault == "lose":
+    parent.send(Result(fault="why"))
+else:
+    parent.send(Note(f"{job.words[0]} {job.form} {job.pace} {job.start:g} {job.linger:g}"))
+    parent.send(events.Refused(0.0, "here", "syntax", "HELLO"))
+    parent.send(events.Warned(0.0, "a warning"))
+    (job.folder / f"{job.name}.game").write_text(job.game)
+    outcomes = [Outcome.PLAYED] * 7 + [Outcome.HUNG]
+    score = 1000 * int(deal) + 100 * int(rotation)
+    parent.send(Result(tuple(score + seat for seat in range(8)), tuple(outcomes)))
+time.sleep(60)
+"""
+
+
+def entrants(*names: str) -> List[Entrant]:
+    return [Entrant(name, (name,), name, name) for name in names]
+
+
+class Playing(unittest.TestCase):
+    """Tournaments with a stand-in for the processes of games."""
+
+    def setUp(self) -> None:
+        folder = tempfile.TemporaryDirectory()
+        self.addCleanup(folder.cleanup)
+        self.place = Path(folder.name)
+        self.told: List[str] = []
+        self.patch("geesefuton.tournament.PROGRAM", WORKER)
+        self.patch("geesefuton.tournament.tell", self.told.append)
+        self.patch("geesefuton.program.make", lambda seed: SERVED_GAME.read_text())
+        self.folders = 0
+
+    def patch(self, name: str, value: object) -> None:
+        patch = mock.patch(name, value)
+        patch.start()
+        self.addCleanup(patch.stop)
+
+    def play(self, games: int = 2, rotations: int = 2, at_once: int = 2, fault: str = "",
+             game: str = "", out: Optional[Output] = None, keep: bool = False) -> Tournament:
+        file = self.place / "scores.csv"
+        plan = Plan(entrants("a", "b"), Rule(seed=1), games, rotations, at_once, 7, "json", 1.5,
+                    2.5, self.place if keep else None, [])
+        made = Tournament(plan, out or Output(file))
+        with mock.patch.dict(os.environ, {"FAULT": fault, "GAME": game}), Children() as children:
+            made.play(children)
+            self.folders = len(list(children.folder("x").parent.glob("game*")))
+        made.rescue()
+        return made
+
+    def rows(self) -> List[Row]:
+        return read_rows((self.place / "scores.csv").read_text(), "scores.csv")
+
+    def test_every_game_is_played_and_told_in_order(self) -> None:
+        made = self.play(games=4)
+        rows = self.rows()
+        self.assertEqual(rows, made.report.all_rows())
+        self.assertEqual([(row.deal, row.rotation, row.seat) for row in rows],
+                         [(deal, rotation, seat) for deal in "12" for rotation in (0, 1)
+                          for seat in range(8)])
+        self.assertEqual([row.score for row in rows[:9]], [*range(1000, 1008), 1100])
+        self.assertEqual([row.agent for row in rows[:8]], list("babababa"))
+        self.assertEqual([row.agent for row in rows[8:16]], list("abababab"))
+        self.assertEqual([row.end for row in rows[:8]], [Outcome.PLAYED] * 7 + [Outcome.HUNG])
+        self.assertEqual([row.luck for row in rows[:8]], worths_of(served_game()))
+        self.assertEqual({row.kind for row in rows}, {"served"})
+        self.assertEqual(made.report.lost, [])
+
+    def test_lines_come_in_the_order_of_the_games_whichever_ends_first(self) -> None:
+        self.play(games=3, rotations=1, at_once=3, fault="late", game="2.0")
+        self.assertEqual([row.deal for row in self.rows()[::8]], ["1", "2", "3"])
+        ends = [line for line in self.told if "scored" in line]
+        self.assertEqual(ends[-1], "game 3 of 3 (2.0): scored; 0:00 left")
+
+    def test_what_games_tell_is_passed_on_and_their_settings_reach_them(self) -> None:
+        self.play(games=1, rotations=1)
+        self.assertIn("game 1.0: b json 7 1.5 2.5", self.told)
+        self.assertIn("game 1.0: refused syntax to a link that said 'HELLO'", self.told)
+        self.assertIn("game 1.0: a warning", self.told)
+
+    def test_folders_of_games_are_removed_or_kept(self) -> None:
+        self.play(games=1, rotations=1)
+        self.assertEqual(self.folders, 0)
+        self.play(keep=True)
+        names = sorted(file.name for file in self.place.glob("*.game"))
+        self.assertEqual(names, ["1.0.game", "1.1.game"])
+        self.assertIn("\nwords b a bb ab bc ac bd ad\n", (self.place / "1.0.game").read_text())
+
+    def test_a_lost_game_is_told_and_loses_no_other(self) -> None:
+        for fault, told in (("lose", "why"), ("die", "its process ended without a result")):
+            made = self.play(fault=fault, game="1.1")
+            self.assertEqual([(row.deal, row.rotation) for row in self.rows()[::8]],
+                             [("1", 0)])
+            self.assertEqual(made.report.lost, [f"game 1.1 is lost: {told}"])
+            self.assertIn(f"game 1.1 is lost: {told}", self.told)
+
+    def test_a_game_that_takes_too_long_is_ended(self) -> None:
+        self.patch("geesefuton.tournament.MARGIN", -3.0)
+        began = time.monotonic()
+        made = self.play(games=2, rotations=1, at_once=1, fault="hang", game="1.0")
+        self.assertLess(time.monotonic() - began, 30)
+        self.assertIn("game 1.0 is lost: it took longer than its ticks and all waiting",
+                      made.report.lost)
+
+    def test_no_game_is_lost_by_an_output_that_fails(self) -> None:
+        made = self.play(out=Output("/dev/full"), keep=True)
+        self.assertEqual(len(made.report.all_rows()), 16)
+        rest = self.place / "scores.rest.csv"
+        self.assertEqual(read_rows(rest.read_text(), "rest"), made.report.all_rows())
+        self.assertEqual(made.report.lost, [
+            f"/dev/full: No space left on device; 16 lines were not written, and are in {rest}"])
+        self.assertEqual(tournament._free_name(rest), self.place / "scores.rest.2.csv")
+
+    def test_a_reader_that_goes_away_loses_no_game(self) -> None:
+        reading, writing = os.pipe()
+        os.close(reading)
+        made = self.play(1, 1, out=Output(writing, "a pipe"), keep=True)
+        os.close(writing)
+        self.assertEqual(len(made.report.all_rows()), 8)
+        self.assertIn("a pipe: its reader has gone; 8 lines", made.report.lost[0])
+
+    def test_a_stop_keeps_what_was_played(self) -> None:
+        file = self.place / "scores.csv"
+        plan = Plan(entrants("a", "b"), Rule(), 3, 1, 3, 7, "words", 1, 1, None, [])
+        made = Tournament(plan, Output(file))
+        finish, seen = made._finish, []  # type: ignore[var-annotated]
+
+        def stop_after_two(game: Any) -> None:
+            finish(game)
+            seen.append(game)
+            if len(seen) == 2:
+                raise KeyboardInterrupt
+
+        with mock.patch.object(made, "_finish", stop_after_two), Children() as children:
+            with self.assertRaises(KeyboardInterrupt):
+                made.play(children)
+        self.assertEqual(len(self.rows()), 16)
+        self.assertEqual(self.rows(), made.report.all_rows())
+
+
+class Commands(unittest.TestCase):
+    """Words that are refused, with a stand-in for the program."""
+
+    def setUp(self) -> None:
+        folder = tempfile.TemporaryDirectory()
+        self.addCleanup(folder.cleanup)
+        self.place = Path(folder.name)
+        tac = fake_program(self.place, f"cat '{SERVED_GAME}'")
+        patch = mock.patch.dict(os.environ, {"TAC": tac})
+        patch.start()
+        self.addCleanup(patch.stop)
+
+    def refused(self, told: str, *words: object, status: int = 2) -> None:
+        got, text = refusal("tournament", *words)
+        self.assertEqual(got, status, text)
+        self.assertEqual(text.count("\n"), 1, text)
+        self.assertRegex(text, "^tournament: ")
+        self.assertIn(told, text)
+
+    def test_agents(self) -> None:
+        self.refused("there is no file none.py", "none.py")
+        self.refused("no closing quotation", "sh 'x")
+        self.refused("not an empty word", "")
+
+    def test_numbers(self) -> None:
+        for words in (["--games", "0"], ["--games", "x"], ["--at-once", "0"], ["--pace", "60001"],
+                      ["--seed", "-1"], ["--seed", "18446744073709551616"], ["--games", "1.5"],
+                      ["--seed", "18446744073709551615"]):
+            self.refused("18446744073709551615" if "--seed" in words else "a number", *words, "sh")
+        for words in (["--start", "x"], ["--after", "-1"], ["--start", "nan"]):
+            self.refused("a number of seconds is due", *words)
+
+    def test_deals(self) -> None:
+        self.refused("rooms are", "--rooms", "0..3")
+        self.refused("/nowhere/my.game: No such file", "--game", "/nowhere/my.game")
+        self.refused("line 3: a line `tac` is due", "--game", TOP / "README.md")
+        self.refused("for made games", "--game", SERVED_GAME, "--live")
+        self.refused("for made games", "--game", SERVED_GAME, "--rooms", "4")
+
+    def test_words_are_not_abbreviated(self) -> None:
+        self.refused("unrecognized arguments: --gam", "--gam", "4")
+        self.refused("unrecognized arguments: --sum", "--sum", "x.txt")
+
+    def test_no_program(self) -> None:
+        with mock.patch.dict(os.environ, {"TAC": "/nowhere/tac"}):
+            self.refused("there is no program /nowhere/tac", "sh")
+
+    def test_a_folder_with_earlier_games_is_never_written_over(self) -> None:
+        (self.place / "3.0.log").write_text("kept")
+        self.refused("it has files of earlier games, such as 3.0.log", "--keep", self.place, "sh")
+        self.assertEqual((self.place / "3.0.log").read_text(), "kept")
+
+    def test_a_folder_that_cannot_be_made(self) -> None:
+        self.refused("Not a directory", "--keep", SERVED_GAME / "x", "sh")
+        self.refused("File exists", "--keep", SERVED_GAME, "sh")
+
+    def test_summaries(self) -> None:
+        self.refused("the name ends with", "--summary", "x.html", "sh")
+
+    def test_a_plan(self) -> None:
+        parser = tournament._parser()
+        with mock.patch("geesefuton.tournament.tell") as tell:
+            plan = tournament._plan(parser, parser.parse_args(["sh", "cat", "--games", "3"]))
+            self.assertEqual((plan.games, plan.rotations), (4, 2))
+            self.assertIn("4 games are played", tell.call_args[0][0])
+            for words, games, rotations in ((["sh", "cat", "ls"], 4, 1),
+                                            (["sh", "cat", "--no-swap"], 4, 1),
+                                            (["sh", "cat", "ls", "--swap"], 6, 3),
+                                            (["sh", "cat"], 4, 2), (["sh"], 4, 1)):
+                plan = tournament._plan(parser, parser.parse_args(words))
+                self.assertEqual((plan.games, plan.rotations), (games, rotations), words)
+        plan = tournament._plan(parser, parser.parse_args(
+            ["sh", "--rooms", "3..6", "--live", "--json", "--seed", "9", "--start", "3",
+             "--after", "4", "--pace", "60", "--at-once", "5"]))
+        self.assertEqual(plan.rule, Rule(9, None, (3, 6), True))
+        self.assertEqual((plan.form, plan.start, plan.linger, plan.pace, plan.at_once),
+                         ("json", 3.0, 4.0, 60, 5))
+        plan = tournament._plan(parser, parser.parse_args([]))
+        self.assertEqual([entrant.name for entrant in plan.entrants],
+                         ["planner", "trader", "watcher"])
+
+    def test_the_help(self) -> None:
+        done = run("tournament", "--help")
+        self.assertEqual(done.returncode, 0)
+        for option in ("--swap", "--rooms", "--live", "--game ", "--keep", "--summary", "--join"):
+            self.assertIn(option, done.stdout)
+        with open("/dev/full", "wb") as full:
+            done = run("tournament", "--help", stdout=full)
+        self.assertEqual(done.stderr, "tournament: standard output: No space left on device\n")
+
+
+class Joining(unittest.TestCase):
+    def setUp(self) -> None:
+        folder = tempfile.TemporaryDirectory()
+        self.addCleanup(folder.cleanup)
+        self.place = Path(folder.name)
+        self.rows = [Row(str(deal), 0, seat, "ab"[seat], 100 * deal + seat, Outcome.PLAYED, deal)
+                     for deal in range(4) for seat in range(2)]
+        for number, part in enumerate((self.rows[:4], self.rows[4:])):
+            (self.place / f"{number}.csv").write_text(csv_of([HEAD]) + text_of(part))
+
+    def files(self) -> List[Path]:
+        return [self.place / "0.csv", self.place / "1.csv"]
+
+    def test_several_tournaments_are_summarized_as_one(self) -> None:
+        done = run("tournament", "--summary", self.place / "s.json", "--summary",
+                   self.place / "s.csv", "--summary", self.place / "s.txt", "--join", *self.files())
+        self.assertEqual((done.returncode, done.stderr), (0, ""))
+        summary = summarize(self.rows)
+        self.assertEqual(done.stdout, tournament.as_text(summary))
+        self.assertEqual((self.place / "s.txt").read_text(), done.stdout)
+        self.assertEqual(json.loads((self.place / "s.json").read_text())["deals"], 4)
+        self.assertEqual(len(list(csv.reader(io.StringIO((self.place / "s.csv").read_text())))), 4)
+
+    def test_what_fails_is_told(self) -> None:
+        self.assertEqual(refusal("tournament", "--join", self.place / "none.csv"),
+                         (1, f"tournament: {self.place / 'none.csv'}: No such file or directory\n"))
+        status, text = refusal("tournament", "--join", TOP / "README.md")
+        self.assertEqual(status, 1)
+        self.assertIn("is not the head of a tournament's CSV", text)
+        done = run("tournament", "--summary", "/nowhere/s.txt", "--join", *self.files())
+        self.assertEqual((done.returncode, done.stderr),
+                         (1, "tournament: the summary was not written to /nowhere/s.txt: No such "
+                             "file or directory\n"))
+        with open("/dev/full", "wb") as full:
+            done = run("tournament", "--join", *self.files(), stdout=full)
+        self.assertEqual(done.returncode, 1)
+        self.assertIn("standard output: No space left on device", done.stderr)
+
+
+# An agent that buys the trip of its first client, and one that fails in each of several ways.
+BUYER = """
+import sys, time
+from geesefuton.link import Link, inbound, outbound, room
+link = Link.greet(sys.argv[1], int(sys.argv[2]), sys.argv[3])
+client = link.clients[0]
+link.bid(inbound(client.arrive), (1, 600))
+link.bid(outbound(client.depart), (1, 600))
+for night in client.nights():
+    link.bid(room(0, night), (1, 200))
+while not link.quote(0).closed:
+    time.sleep(0.05)
+link.quit()
+"""
+FAILING = """
+import os, socket, sys, time
+from geesefuton.link import Link
+word = sys.argv[3]
+if word == "failing":
+    sys.exit(0)
+if word == "failingb":
+    raise ValueError("before the game")
+if word == "failingc":
+    link = socket.create_connection((sys.argv[1], int(sys.argv[2])))
+    link.sendall(b"HELLO failingc\\n")
+    time.sleep(60)
+link = Link.greet(sys.argv[1], int(sys.argv[2]), word)
+link.bid(0, (1, 600))
+if word == "failingd":
+    os.abort()
+time.sleep(60)
+"""
+
+
+@needs_program
+class Real(unittest.TestCase):
+    def test_a_game_with_agents_that_fail(self) -> None:
+        with tempfile.TemporaryDirectory() as folder:
+            place = Path(folder)
+            (place / "buyer.py").write_text(BUYER)
+            (place / "failing.py").write_text(FAILING)
+            # The first five seats of seed 1 are those of the failing agent but one.
+            agents = ["failing.py", "failing.py", "failing.py", "failing.py", "failing.py",
+                      "buyer.py", "buyer.py", "buyer.py"]
+            done = run("tournament", *agents, "--games", "1", "--pace", "25", "--start", "4",
+                       "--after", "0.5", "--keep", "kept", "--summary", "s.json", cwd=folder)
+            self.assertEqual(done.returncode, 0, done.stderr)
+            rows = read_rows(done.stdout, "scores")
+            ends = sorted(row.end.value for row in rows if row.agent == "failing")
+            self.assertEqual(ends, ["absent", "crashed", "crashed", "hung", "refused"], done.stderr)
+            for row in rows:
+                if row.agent == "buyer":
+                    self.assertIs(row.end, Outcome.PLAYED)
+                    self.assertNotEqual(row.score, 0)
+            value = json.loads((place / "s.json").read_text())
+            self.assertEqual(value["agents"][0]["agent"], "buyer")
+            self.assertEqual(value["agents"][1]["ends"], {"played": 0, "absent": 1, "crashed": 2,
+                                                          "hung": 1, "refused": 1})
+            self.assertTrue((place / "kept" / "1.0.log").read_text().startswith("taclog 1\n"))
+            self.assertTrue(re.search("failing at seat [0-7] .failingb. counts as crashed: ended "
+                                      "with status 1; it printed last: ValueError: before the game",
+                                      done.stderr))
+
+    def test_it_runs_from_a_clone(self) -> None:
+        done = subprocess.run([str(TOP / "tools" / "tournament"), "--help"], check=False,
+                              stdout=subprocess.PIPE, timeout=20)
+        self.assertEqual(done.returncode, 0)
+        self.assertTrue(PACKAGE.is_dir())
+
+
+if __name__ == "__main__":
+    unittest.main()
