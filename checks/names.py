@@ -12,22 +12,18 @@ import collections
 import os
 import re
 import sys
-from typing import Dict, List, Set
+from typing import Dict, Iterable, List, Set
 
-import reading
+from definitions import CRATES, Definitions, Target, clauses_of
 
-ROOT = os.path.dirname(os.path.dirname(os.path.abspath(__file__)))
 GIVEN = re.compile(r"^pub use ([\w:]+)::(?:\{([^}]*)\}|(\w+));$", re.M)
 
 
-def defined_twice(
-    modules: Dict[str, "reading.Module"], reached: Dict[str, List[str]]
-) -> Dict[str, List[str]]:
-    """The names that several modules define, of those that are reached: each with its modules."""
+def defined_twice(targets: Iterable[Target]) -> Dict[str, List[str]]:
+    """The names that several modules define, of these definitions: each with its modules."""
     places: Dict[str, List[str]] = collections.defaultdict(list)
-    for path, names in reached.items():
-        for name in names:
-            places[name].append(modules[path].key())
+    for path, name in targets:
+        places[name].append(path.replace(".specs.", "."))
     return {name: keys for name, keys in sorted(places.items()) if len(keys) > 1}
 
 
@@ -38,7 +34,7 @@ def public_items(crates: Set[str]) -> Dict[str, Set[str]]:
     """
     owners: Dict[str, Set[str]] = collections.defaultdict(set)
     for crate in sorted(crates):
-        path = os.path.join(ROOT, "crates", crate, "src", "lib.rt")
+        path = os.path.join(CRATES, crate, "src", "lib.rt")
         if not os.path.exists(path):
             continue
         with open(path, encoding="utf-8") as file:
@@ -58,18 +54,19 @@ def main() -> int:
         description=__doc__, formatter_class=argparse.RawDescriptionHelpFormatter
     )
     parser.parse_args()
-    modules, given = reading.read_modules()
-    everywhere = {path: list(module.definitions) for path, module in modules.items()}
-    for name, keys in defined_twice(modules, everywhere).items():
+    definitions = Definitions()
+    everywhere = [(path, name) for path, module in definitions.modules.items() for name in module.definitions]
+    for name, keys in defined_twice(everywhere).items():
         print("%s: %s" % (name, ", ".join(keys)))
-    clauses = reading.clauses_of_tac()
-    start = [name for names in clauses.values() for name in names]
-    believed = reading.reached(modules, given, start)
+    clauses = clauses_of(os.path.join(CRATES, "tacd", "src", "top.rt"), "tac")
+    reached = definitions.reached([name for names in clauses.values() for name in names])
+    # An operator is one word at several types, as `>>=` of a result and of a value that may be missing.
+    believed = [(path, name) for path, name in reached if path in definitions.modules and "◌" not in name]
     faults = [
         "the clauses of `tac` reach `%s` in %s" % (name, " and in ".join(keys))
-        for name, keys in defined_twice(modules, believed).items()
+        for name, keys in defined_twice(believed).items()
     ]
-    items = public_items(set(os.listdir(os.path.join(ROOT, "crates"))))
+    items = public_items(set(os.listdir(CRATES)))
     faults += [
         "`%s` is a public item of %s" % (name, " and of ".join(sorted(owners)))
         for name, owners in sorted(items.items())

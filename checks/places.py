@@ -25,7 +25,8 @@ def documents() -> List[str]:
 
 def paths_of(text: str) -> Iterator[str]:
     for quoted in re.findall(r"`([^`\s]+)", text):
-        if quoted.startswith(FOLDERS) and not quoted.startswith(MADE) and ".." not in quoted:
+        placeholder = re.search(r"/[A-Z]+$", quoted)  # as in `tools/NAME`
+        if quoted.startswith(FOLDERS) and not quoted.startswith(MADE) and ".." not in quoted and not placeholder:
             yield quoted.rstrip(".,:;")
 
 
