@@ -233,7 +233,8 @@ class InTheGame(Case):
         babbles.send(b"quit")  # it has no end, so nothing is asked
         dies.reset()
         host.wait(events.Departed)
-        host.wait(events.Ticked, 54)
+        while not any(event.tick == 54 for event in host.of(events.Ticked)):
+            time.sleep(0.005)  # under load ticks may be passed over
         goes.close()
         reasons = host.end()
         self.assertEqual([reasons[word] for word in WORDS[:5]],
@@ -302,6 +303,14 @@ class TheEnd(Case):
             host = Host(self.folder, pace=5)
             host.end()
         self.assertEqual((host.status, taken.exists()), (6, False))
+
+    def test_a_server_that_fails_at_once(self) -> None:
+        with mock.patch.dict(os.environ, {"FAKE_EARLY": "7"}):
+            host = Host(self.folder, pace=5)
+            agent = self.agents(host, "seat0")[0]
+            self.assertEqual(agent.line(), "")
+            self.assertEqual(len(host.end()), 8)
+        self.assertEqual(host.status, 7)
 
     def test_interrupt(self) -> None:
         host = Host(self.folder, pace=1000)
