@@ -1,4 +1,4 @@
-"""How lucky a seat's draw is: what its clients and tickets are worth at fixed prices.
+"""How lucky a seat's draw is: what its clients' best trips are worth at fixed prices.
 
 It is computed from the game file alone, so that no agent changes it. A tournament uses it to tell
 how much of a mean is owed to the clients that an agent happened to get.
@@ -30,8 +30,12 @@ def best_trip(client: Client) -> int:
 
 
 def worth_of(game: Game, agent: int) -> int:
-    """What a seat's clients and the tickets that it begins with are worth, in dollars."""
-    return sum(map(best_trip, game.clients[agent])) + TICKET * sum(game.endow[agent])
+    """What the best trips of a seat's clients are worth, in dollars.
+
+    The tickets that a seat begins with are not counted: among small agents, which hardly trade
+    them, they foretold nothing of the scores.
+    """
+    return sum(map(best_trip, game.clients[agent]))
 
 
 def worths_of(game: Game) -> List[int]:

@@ -12,7 +12,7 @@ from typing import Any, List, Optional, Sequence, Tuple, Union
 Points = Tuple[Tuple[int, int], ...]  # units, below 0 for selling, and dollars for each
 
 NUMBER = r"(?:0|[1-9][0-9]{0,9})"
-SIGNED = r"(?:0|-?[1-9][0-9]{{0,17}})"
+SIGNED = r"(?:0|-?[1-9][0-9]{0,17})"
 POINTS = rf"\((?:\({SIGNED} {NUMBER}\)(?: \({SIGNED} {NUMBER}\))*)?\)"
 
 CLOSING_REASONS = ("closed", "wrongcall", "nobid", "sell", "selfcross")  # have an entry

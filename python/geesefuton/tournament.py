@@ -42,7 +42,7 @@ from geesefuton.summary import FORMS, Summary, as_text, summarize
 
 AGENTS = ("planner", "trader", "watcher")  # those of examples/agents that play by default
 SUFFIXES = (".game", ".log", ".events")
-MARGIN = 60.0  # seconds that a game may take beyond what it is given
+MARGIN = 300.0  # seconds that a game may take beyond what it is given, on a machine that is full
 
 
 @dataclass(frozen=True)

@@ -113,11 +113,11 @@ class Lucks(unittest.TestCase):
                          for package in PACKAGES]
                 self.assertEqual(luck.best_trip(client), max(0, *gains))
 
-    def test_a_seat_has_its_clients_and_its_tickets(self) -> None:
+    def test_a_seat_has_its_clients(self) -> None:
         game = served_game()
         for seat in range(8):
             trips = sum(luck.best_trip(client) for client in game.clients[seat])
-            self.assertEqual(luck.worth_of(game, seat), trips + luck.TICKET * sum(game.endow[seat]))
+            self.assertEqual(luck.worth_of(game, seat), trips)
         self.assertEqual(luck.worths_of(game), [luck.worth_of(game, seat) for seat in range(8)])
 
     def test_each_good_has_its_price(self) -> None:
