@@ -13,9 +13,12 @@ import unittest
 import urllib.error
 import urllib.request
 from pathlib import Path
-from typing import List
+from typing import List, Optional
+from unittest import mock
 
+from geesefuton.live import Live
 from geesefuton.processes import free_port
+from geesefuton.projection import Projection, View
 
 HERE = Path(__file__).resolve().parent
 DATA, TOP = HERE / "data", HERE.parents[1]
@@ -30,6 +33,26 @@ class Page(unittest.TestCase):
         for word in ("src=", "@import", "url(", "innerHTML", "insertAdjacent", "eval("):
             self.assertNotIn(word, text)
         self.assertEqual(re.findall(r"<link[^>]*>", text), ['<link rel="icon" href="data:,">'])
+
+
+class Lateness(unittest.TestCase):
+    """Which projection may be shown whole."""
+
+    def secret(self, late: int, ticks: List[int], now: int) -> Optional[int]:
+        live = Live(mock.Mock(), View(late, False), mock.Mock(), mock.Mock())
+        for tick in ticks:
+            live._reader.tick = tick
+            live._add(Projection(tick, [], [], [], [], [], []))
+        live._reader.tick = now
+        shown = live._secret()
+        return None if shown is None else shown.tick
+
+    def test_ticks(self) -> None:
+        self.assertEqual(self.secret(0, [3, 4, 5], 6), 5)
+        self.assertEqual(self.secret(6, [3, 4, 5], 8), None)
+        self.assertEqual(self.secret(6, [3, 4, 5], 9), 3)
+        self.assertEqual(self.secret(6, [3, 9, 10, 15], 15), 9)
+        self.assertEqual(self.secret(54, [0, 10, 54], 54), None)
 
 
 class Serving(unittest.TestCase):
