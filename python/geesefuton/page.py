@@ -3,7 +3,7 @@
 import html
 from collections import defaultdict
 from dataclasses import dataclass
-from pathlib import Path
+from importlib.resources import files
 from typing import Dict, Iterable, Iterator, List, Optional, Sequence, Tuple, Union
 
 from geesefuton.games import (AUCTIONS, CLIENTS, FLIGHTS, GOODS, HOTELS, ROOMS, SEATS, TICKETS,
@@ -11,7 +11,7 @@ from geesefuton.games import (AUCTIONS, CLIENTS, FLIGHTS, GOODS, HOTELS, ROOMS, 
 from geesefuton.logs import Log, Score, trades_of
 from geesefuton.prices import Event
 
-STYLE = Path(__file__).with_name("report.css")
+STYLE = files("geesefuton").joinpath("report.css")
 Cell = Union[str, int]
 KINDS: Tuple[Tuple[str, range], ...] = (("flights", FLIGHTS), ("Shanties", range(8, 12)),
                                         ("Towers", range(12, 16)), ("tickets", TICKETS))
