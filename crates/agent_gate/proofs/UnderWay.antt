@@ -279,8 +279,11 @@ module _ (dialect : Dialect) (game : GameFile) (old : Held) (count : ℕ) (link 
       items = u.items;
       few = omega (arith, u.many, full);
       lawful = u.lawful;
-      end = (inl (u.here, u.many ∙ full), (ends_by text (record { welcome = welcome; turns = u.turns; rest = answers_left now [] count'; before = link; after = link' }) causes.Budget answered
-          (u.here, inl (u.many ∙ full), (u.sent_is, sym u.many))).0.1);
+      end = (
+        inl (u.here, u.many ∙ full),
+        (ends_by text (record { welcome = welcome; turns = u.turns; rest = answers_left now [] count'; before = link; after = link' }) causes.Budget answered
+            (u.here, inl (u.many ∙ full), (u.sent_is, sym u.many))).0.1,
+      );
     };
     counted = sym u.many;
     desk = all_made u.turns before after u.made;
