@@ -4,4 +4,3 @@ pub mod PostedCash
 pub mod WrittenLogs
 pub mod LapsedGames
 pub mod ServiceCauses
-pub mod FormerService
