@@ -46,8 +46,8 @@ pub record IsMade (turn : Turn) (before after : Desk) : Type 0 where
   pub seen : (good : ℕ) → good < 28 → (seen_at before good ≤ seen_at after good) × (shown_length good turn ≤ seen_at after good)
 
 -- the item was answered so, and the desk made the turn
-pub record TakesTurn (Asked : Item → Type 0) (before after : Desk) (said : Said) : Type 0 where
+pub record TakesTurn (Asked : Item → Type 0) (before after : Desk) (answer : Said) : Type 0 where
   pub turn : Turn
   pub asked : Asked (item_of turn)
-  pub said : said_of turn ≡ said
+  pub said : said_of turn ≡ answer
   pub made : IsMade turn before after
