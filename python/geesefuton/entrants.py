@@ -97,7 +97,9 @@ def seat_words(entrants: Sequence[Entrant]) -> List[str]:
     return words
 
 
-def environment(tac: str) -> Dict[str, str]:
-    """The variables of an agent's process: it finds the package, and the program."""
+def environment(tac: str, folder: Path) -> Dict[str, str]:
+    """The variables of an agent's process: it finds the package and the program, and its temporary
+    files stand in a folder that is removed with the game."""
     path = os.pathsep.join(filter(None, [str(PACKAGE), os.environ.get("PYTHONPATH")]))
-    return {**os.environ, "PYTHONUNBUFFERED": "1", "PYTHONPATH": path, "TAC": tac}
+    return {**os.environ, "PYTHONUNBUFFERED": "1", "PYTHONPATH": path, "TAC": tac,
+            "TMPDIR": str(folder)}

@@ -11,15 +11,13 @@ the form, and the calls are the same. `ask` takes and gives lines of words in ei
 
 import argparse
 import socket
-import subprocess
-import tempfile
 import time
 from dataclasses import dataclass, field
 from typing import BinaryIO, Callable, Dict, List, NamedTuple, Optional, Sequence, Tuple
 
+from geesefuton import program as tac
 from geesefuton.games import (FLIGHTS, HOTELS, INBOUND, OUTBOUND, TICKETS, Client, inbound,
                               outbound, room, ticket)
-from geesefuton.program import ProgramError, find
 from geesefuton.replies import (Cash, No, Own, Quote, Reply, ReplyError, Request, read_json,
                                 read_request, read_words, request_json, request_words,
                                 text_of_points, words_of)
@@ -206,29 +204,22 @@ def _connect(host: str, port: int) -> socket.socket:
 def program() -> Optional[str]:
     """The file of tac; None if there is none."""
     try:
-        return find()
-    except ProgramError:
+        return tac.find()
+    except tac.ProgramError:
         return None
 
 
 def solve(holdings: Sequence[int], clients: Sequence[Client]) -> Optional[int]:
     """The best total of 28 holdings for the clients, in dollars; None if there is no program."""
-    tac = program()
-    if tac is None:
-        return None
     lines = ["account", " ".join(["hold", *map(str, holdings)])]
     for number, client in enumerate(clients):
         numbers = [number, client.arrive, client.depart, client.premium, *client.values]
         lines.append(" ".join(["client", *map(str, numbers)]))
-    with tempfile.NamedTemporaryFile("w", suffix=".account", newline="\n") as account:
-        account.write("\n".join([*lines, "end", ""]))
-        account.flush()
-        try:
-            solved = subprocess.run([tac, "solve", account.name], stdout=subprocess.PIPE,
-                                    stderr=subprocess.DEVNULL, text=True, check=False).stdout
-        except OSError:
-            return None
-    return int(solved.split()[1]) if solved.startswith("total ") else None
+    try:
+        solved = tac.solve("\n".join([*lines, "end", ""]).encode("ascii"))
+    except tac.ProgramError:
+        return None
+    return int(solved.split()[1])
 
 
 def arguments(what: str) -> Tuple[str, int, str, float]:

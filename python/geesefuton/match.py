@@ -184,7 +184,8 @@ class Match:
         self._send(event)
 
     def _start_agents(self, port: int) -> None:
-        job, variables = self._job, environment(program.find())
+        job = self._job
+        variables = environment(program.find(), self._children.folder("agents"))
         limited = ["sh", "-c", f'ulimit -f {MOST_PRINTED}; exec "$@"', "agent"]
         for seat, (entrant, word) in enumerate(zip(job.entrants, job.words)):
             words = [*limited, *entrant.words, "localhost", str(port), word, "--pause",

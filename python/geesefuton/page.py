@@ -3,7 +3,7 @@
 import html
 from collections import defaultdict
 from dataclasses import dataclass
-from pathlib import Path
+from importlib.resources import files
 from typing import Dict, Iterable, Iterator, List, Optional, Sequence, Tuple, Union
 
 from geesefuton.games import (AUCTIONS, CLIENTS, FLIGHTS, GOODS, HOTELS, ROOMS, SEATS, TICKETS,
@@ -11,7 +11,7 @@ from geesefuton.games import (AUCTIONS, CLIENTS, FLIGHTS, GOODS, HOTELS, ROOMS, 
 from geesefuton.logs import Log, Score, trades_of
 from geesefuton.prices import Event
 
-STYLE = Path(__file__).with_name("report.css")
+STYLE = files("geesefuton").joinpath("report.css")
 Cell = Union[str, int]
 KINDS: Tuple[Tuple[str, range], ...] = (("flights", FLIGHTS), ("Shanties", range(8, 12)),
                                         ("Towers", range(12, 16)), ("tickets", TICKETS))
@@ -90,13 +90,18 @@ def bar(value: int, low: int, high: int) -> str:
             "</span>")
 
 
+def _order(log: Log) -> List[Score]:
+    """The rows of the sheet, the best first, and those without a rank last."""
+    place = ranks(log)
+    return sorted(log.scores, key=lambda score: (score.agent not in place, -score.score))
+
+
 def _scores(game: Game, log: Log, events: Sequence[Event]) -> str:
     place = ranks(log)
     low = min([0, *(score.score for score in log.scores)])
     high = max([1, *(score.score for score in log.scores)])
     rows: List[List[Cell]] = []
-    order = sorted(log.scores, key=lambda score: (score.agent not in place, -score.score))
-    for score in order:
+    for score in _order(log):
         home = sum(package is None for package in score.packages)
         told = [why_nothing(log, events, score), ENDS.get(log.end_of(score.agent), "")]
         rows.append([place.get(score.agent, "–"), _word(game, score.agent),
@@ -127,7 +132,7 @@ def _spending(game: Game, log: Log, events: Sequence[Event]) -> str:
             sold = event.units < 0
             sums[event.agent, kind_of[event.good], sold] += abs(event.units) * event.dollars
     rows = []
-    for agent in range(SEATS):
+    for agent in [score.agent for score in _order(log)]:
         paid = [sums[agent, kind, False] for kind, _ in KINDS]
         earned = sums[agent, "tickets", True]
         rows.append([_word(game, agent), *paid, earned, earned - sum(paid)])
@@ -242,12 +247,11 @@ def _trade_rows(events: Sequence[Event], agent: int) -> Iterator[List[Cell]]:
 
 
 def _teams(game: Game, log: Log, events: Sequence[Event]) -> Iterator[str]:
-    best = max(score.score for score in log.scores)
     clients = ["client", "days", "Towers", "alligators", "park", "museum", "got", "days",
                "alligators", "park", "museum", "worth"]
     trades = ["good", "bought", "for", "sold", "for", "cash"]
-    for score in sorted(log.scores, key=lambda score: -score.score):
-        yield (f'<details{" open" if score.score == best else ""}><summary>'
+    for number, score in enumerate(_order(log)):
+        yield (f'<details{"" if number else " open"}><summary>'
                f"<b>{_word(game, score.agent)}</b>: trips worth {score.best}, cash {score.cash}, "
                f"score {score.score}</summary><h3>What each client wanted, and got on which nights"
                f"</h3>{table(clients, _client_rows(game, score), (6,))}<h3>Trades</h3>"

@@ -11,13 +11,14 @@ from pathlib import Path
 from typing import List, Optional, Sequence, Tuple, Union
 
 __all__ = [
-    "MEANINGS", "OK", "CLOCK", "UNSOUND", "ProgramError", "audit", "find", "make", "play", "run",
+    "INPUT", "MEANINGS", "OK", "CLOCK", "UNSOUND", "ProgramError", "audit", "find", "make", "play", "run",
     "served_words", "show", "solve", "table", "top", "upgrade", "worth",
 ]
 
 Word = Union[str, int, "os.PathLike[str]"]
 
 OK, CLOCK, UNSOUND = 0, 6, 9  # exit statuses
+INPUT = "/dev/stdin"  # the file that has what a command is given
 MEANINGS = {
     1: "the words are no command",
     2: "the game file is refused",
@@ -72,13 +73,14 @@ def find() -> str:
     return os.path.abspath(file)
 
 
-def run(command: str, *words: Word, allowed: Sequence[int] = (OK,),
+def run(command: str, *words: Word, given: bytes = b"", allowed: Sequence[int] = (OK,),
         timeout: Optional[float] = None) -> str:
     """Runs a command of tac, and gives its output.
 
     Args:
         command: The first word, such as `make`.
         words: The further words; files and numbers are put into text.
+        given: What it can read from the file INPUT.
         allowed: The exit statuses that are no error.
         timeout: The seconds that it may take; None for no limit.
 
@@ -86,7 +88,7 @@ def run(command: str, *words: Word, allowed: Sequence[int] = (OK,),
         ProgramError: There is no program, it ended with another status, or took too long.
     """
     try:
-        done = subprocess.run([find(), command, *map(str, words)], stdin=subprocess.DEVNULL,
+        done = subprocess.run([find(), command, *map(str, words)], input=given,
                               stdout=subprocess.PIPE, timeout=timeout, check=False)
     except subprocess.TimeoutExpired:
         raise ProgramError(f"tac {command} took longer than {timeout:g} seconds") from None
@@ -122,9 +124,11 @@ def play(game: Word, script: Word) -> str:
     return run("play", game, script)
 
 
-def audit(game: Word, log: Word) -> str:
-    """What the audit says of a log: `sound`, or its first flaw, such as `unsound score 0`."""
-    return run("audit", game, log, allowed=(OK, UNSOUND)).rstrip("\n")
+def audit(game: Word, log: Union[Word, bytes]) -> str:
+    """What the audit says of a log, a file or its bytes: `sound`, or its first flaw, such as
+    `unsound score 0`."""
+    given, file = (log, INPUT) if isinstance(log, bytes) else (b"", log)
+    return run("audit", game, file, given=given, allowed=(OK, UNSOUND)).rstrip("\n")
 
 
 def table(pairs: Sequence[Tuple[Word, Word]]) -> str:
@@ -132,8 +136,10 @@ def table(pairs: Sequence[Tuple[Word, Word]]) -> str:
     return run("table", *(word for pair in pairs for word in pair))
 
 
-def solve(account: Word) -> str:
-    """A best allocation of an account file's goods, with its certificate."""
+def solve(account: Union[Word, bytes]) -> str:
+    """A best allocation of the goods of an account, a file or its bytes, with its certificate."""
+    if isinstance(account, bytes):
+        return run("solve", INPUT, given=account)
     return run("solve", account)
 
 

@@ -14,7 +14,6 @@ so trades of tickets have none.
 """
 
 import sys
-import tempfile
 import time
 from pathlib import Path
 from typing import Tuple
@@ -49,15 +48,12 @@ def flaw_of(game: Path, log: bytes) -> str:
     Raises:
         ProgramError: There is no program.
     """
-    with tempfile.NamedTemporaryFile(prefix="report.") as file:
-        file.write(log)
-        file.flush()
-        try:
-            said = program.audit(game, file.name)
-        except program.ProgramError as fault:
-            if fault.status is None:
-                raise
-            return str(fault)
+    try:
+        said = program.audit(game, log)
+    except program.ProgramError as fault:
+        if fault.status is None:
+            raise
+        return str(fault)
     return "" if said == "sound" else f"`tac audit` says `{said}`"
 
 

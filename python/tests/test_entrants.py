@@ -66,7 +66,8 @@ class Entrants(unittest.TestCase):
         self.assertTrue(all(len(word) <= 16 for word in words))
 
     def test_an_agent_finds_the_package_and_the_program(self) -> None:
-        variables = environment("/some/tac")
+        variables = environment("/some/tac", Path("/some/folder"))
+        self.assertEqual(variables["TMPDIR"], "/some/folder")
         self.assertEqual(variables["TAC"], "/some/tac")
         self.assertEqual(variables["PYTHONPATH"].split(os.pathsep)[0], str(PACKAGE))
         self.assertEqual(variables["PYTHONUNBUFFERED"], "1")

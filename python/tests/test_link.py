@@ -186,7 +186,7 @@ class Solving(unittest.TestCase):
     def test_the_account_of_the_program(self) -> None:
         with tempfile.TemporaryDirectory() as folder:
             copy = Path(folder, "copy")
-            tac = fake_program(Path(folder), f'cp "$2" "{copy}"; echo total 1234; echo end')
+            tac = fake_program(Path(folder), f'cat "$2" > "{copy}"; echo total 1234; echo end')
             with mock.patch.dict(os.environ, {"TAC": tac}):
                 self.assertEqual(link.solve(range(28), self.CLIENTS), 1234)
             lines = copy.read_text().splitlines()

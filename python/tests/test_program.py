@@ -42,6 +42,12 @@ class Commands(unittest.TestCase):
             self.assertEqual(text, words + "\n")
         self.assertEqual(program.audit(game, log), "audit a game log")
 
+    def test_bytes_are_given_as_a_file(self) -> None:
+        self.use('echo "$@"; cat /dev/stdin')
+        self.assertEqual(program.audit("game", b"a log"), "audit game /dev/stdin\na log")
+        self.assertEqual(program.solve(b"an account"), "solve /dev/stdin\nan account")
+        self.assertEqual(program.run("show", program.INPUT, given=b"x"), "show /dev/stdin\nx")
+
     def test_a_refusal_has_its_status_and_first_line(self) -> None:
         self.use("echo game 3 4; echo more; exit 2")
         fault = self.refused("show", "x")

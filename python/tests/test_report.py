@@ -86,11 +86,13 @@ class Page(unittest.TestCase):
         rows = self.table("What each team paid and earned")
         self.assertEqual(rows[0], ["team", "flights", "Shanties", "Towers", "tickets",
                                    "tickets sold", "cash"])
-        for row, score in zip(rows[1:], served_log().scores):
+        cash = dict(zip(served_game().words, (score.cash for score in served_log().scores)))
+        for row in rows[1:]:
             paid = list(map(int, row[1:]))
             self.assertEqual(paid[4] - sum(paid[:4]), paid[5])
-            self.assertEqual(paid[5], score.cash)
-        self.assertEqual(rows[5], ["boom", "367", "0", "0", "0", "0", "-367"])
+            self.assertEqual(paid[5], cash[row[0]])
+        self.assertEqual(rows[4], ["boom", "367", "0", "0", "0", "0", "-367"])
+        self.assertEqual([row[0] for row in rows[1:]], [row[1] for row in self.table("Scores")[1:]])
         self.assertTrue(any(int(row[3]) for row in rows[1:]))
         self.assertTrue(any(int(row[5]) for row in rows[1:]))
 
