@@ -19,36 +19,34 @@ from __future__ import annotations
 import argparse
 import contextlib
 import os
-import queue
 import signal
 import socket
 import subprocess
 import sys
-import threading
 import time
 from collections import deque
 from dataclasses import dataclass
 from pathlib import Path
 from types import FrameType
-from typing import Callable, Deque, Dict, List, Optional, Sequence, Set, TextIO
+from typing import Callable, Deque, List, Optional, Sequence, TextIO
 
 from geesefuton import events, log_files, program
-from geesefuton.events import End, Event
+from geesefuton.events import Event
 from geesefuton.games import TICKS
 from geesefuton.journal import Journal
+from geesefuton.orders import Orders
 from geesefuton.processes import Children, command, free_port, tell, why
 from geesefuton.relay import Relay, Session
 from geesefuton.seats import SILENCE
+from geesefuton.teller import STOPPED, Teller
 
 HINT = "an empty line begins the game, and `without WORD` waits for that agent no longer"
-STOPPED = 130  # the exit status of a game that was ended before its time
 FULL = 4  # the exit status if the output takes no more
 TAKEN = 5  # the server's exit status if its port is taken
 TRIES = 3  # ports that the server is given
 TURN = 0.2  # seconds between two looks at what has waited too long
 ENDING = 1.0  # seconds that links have to end after the server
-AGAIN = 10.0  # seconds in which the same refusal is told once
-SHOWING = 20.0  # seconds that the page has to show the last scores
+SHOWING = 60.0  # seconds that the page has to show the last scores
 
 
 class LobbyError(Exception):
@@ -151,8 +149,8 @@ class Lobby:
                           self.settings.silence)
             stack.callback(relay.close)
             relay.attend(self._wake, lambda: bool(self._wake.recv(4096)))
-            reader = _Orders(self.settings.orders, self._orders)
-            reader.attach(relay)
+            reader = Orders(self.settings.orders, self._orders)
+            reader.look(relay)
             if journal and self.settings.page is not None:
                 self._page = self._start_page(children, journal)
             status = self._host(children, folder, relay, journal, reader)
@@ -196,7 +194,7 @@ class Lobby:
                               env={**os.environ, "PYTHONPATH": os.pathsep.join(filter(None, path))})
 
     def _host(self, children: Children, folder: Path, relay: Relay, journal: Optional[Journal],
-              reader: "_Orders") -> int:
+              reader: Orders) -> int:
         self._gather(relay, reader)
         if self._is_stopped:
             return self._stop(journal)
@@ -217,7 +215,7 @@ class Lobby:
 
     # Before the game.
 
-    def _gather(self, relay: Relay, reader: "_Orders") -> None:
+    def _gather(self, relay: Relay, reader: Orders) -> None:
         """Waits until the game may begin."""
         given = self.settings
         deadline = None if given.start is None else time.monotonic() + given.start
@@ -269,7 +267,7 @@ class Lobby:
                 relay.forget(server.stdout)
                 server.stdout.close()
 
-    def _play(self, relay: Relay, server: "subprocess.Popen[bytes]", reader: "_Orders") -> None:
+    def _play(self, relay: Relay, server: "subprocess.Popen[bytes]", reader: Orders) -> None:
         """Passes lines on until the server has ended."""
         assert server.stdout is not None
         given, journal = self.settings, relay.journal
@@ -342,62 +340,6 @@ class Lobby:
         return status
 
 
-class _Orders:
-    """Reads the host's commands, from a terminal only while the lobby is in its foreground."""
-
-    def __init__(self, source: Optional[TextIO], orders: Deque[str]) -> None:
-        self._source, self._orders, self._tail = source, orders, b""
-        self._number: Optional[int] = None
-        self._is_attended = False
-        if source is None:
-            return
-        try:
-            self._number = source.fileno()
-        except (OSError, ValueError):  # a text in memory, or closed
-            orders.extend(line.strip() for line in ([] if source.closed else source))
-
-    def attach(self, relay: Relay) -> None:
-        """Begins to listen."""
-        self.look(relay)
-
-    def look(self, relay: Relay) -> None:
-        """Listens again once the lobby is in the foreground."""
-        if self._number is None or self._is_attended or not self._may_read():
-            return
-        try:
-            relay.attend(self._number, lambda: self._read(relay))
-            self._is_attended = True
-        except (OSError, ValueError):  # a file, which can always be read
-            while self._number is not None:
-                self._read(relay)
-
-    def _may_read(self) -> bool:
-        assert self._number is not None
-        try:
-            return not os.isatty(self._number) or os.tcgetpgrp(self._number) == os.getpgrp()
-        except OSError:
-            return False
-
-    def _read(self, relay: Relay) -> None:
-        assert self._number is not None
-        if not self._may_read():
-            relay.forget(self._number)
-            self._is_attended = False
-            return
-        try:
-            data = os.read(self._number, 4096)
-        except BlockingIOError:
-            return
-        except OSError:
-            data = b""
-        if not data:
-            relay.forget(self._number)
-            self._number = None
-            return
-        *lines, self._tail = (self._tail + data).split(b"\n")
-        self._orders.extend(line.decode("ascii", "replace").strip() for line in lines)
-
-
 def _listen(port: int) -> socket.socket:
     """A listening socket on every address of the machine."""
     both = socket.has_dualstack_ipv6()
@@ -431,86 +373,6 @@ def recovery_line(journal: Path) -> str:
 
 
 # The command.
-
-
-class Teller:
-    """Tells the host what happens, from a thread of its own: a terminal that is held, or a pipe
-    that is not read, does not hold the game."""
-
-    def __init__(self, words: Sequence[str]) -> None:
-        self._words = list(words)
-        self._here: Set[str] = set()
-        self._refused: Dict[str, float] = {}  # when a refusal was told
-        self._lines: "queue.SimpleQueue[Optional[str]]" = queue.SimpleQueue()
-        self._thread = threading.Thread(target=self._write, daemon=True)
-        self._thread.start()
-
-    def tell(self, event: Event) -> None:
-        """Tells an event."""
-        for text in self._texts(event):
-            clock = time.strftime("%H:%M:%S", time.localtime(event.at))
-            is_fault = isinstance(event, (events.Refused, events.Warned, events.Departed))
-            self._lines.put(f"{'! ' if is_fault else ''}{clock} {text}")
-
-    def say(self, text: str) -> None:
-        """Tells a text."""
-        self._lines.put(f"{time.strftime('%H:%M:%S')} {text}")
-
-    def close(self) -> None:
-        """Waits a little until all is told."""
-        self._lines.put(None)
-        self._thread.join(2.0)
-
-    def _write(self) -> None:
-        for line in iter(self._lines.get, None):
-            tell(line)
-
-    def _texts(self, event: Event) -> List[str]:
-        if isinstance(event, events.Arrived):
-            self._here.add(event.word)
-            missing = [word for word in self._words if word not in self._here]
-            return [f"{event.word} is here from {event.source}; "
-                    f"missing: {' '.join(missing) or 'nobody'}"]
-        if isinstance(event, events.Rejoined):
-            return [f"{event.word} is here again, from {event.source}"]
-        if isinstance(event, events.Departed):
-            self._here.discard(event.word)
-            return [f"{event.word} went away, and may come again"]
-        if isinstance(event, events.Refused):
-            text = f"refused {event.answer} to {event.source}, which said {event.line!r}"
-            if event.at - self._refused.get(text, 0.0) < AGAIN:
-                return []
-            self._refused[text] = event.at
-            return [text]
-        if isinstance(event, events.Waived):
-            return [f"{event.word} is not waited for"]
-        if isinstance(event, events.Began):
-            missing = [word for word in self._words if self._words.index(word) not in event.seats]
-            late = f" without {' '.join(missing)}" if missing else ""
-            return [f"the game begins{late}"]
-        if isinstance(event, events.Ticked):
-            lines = (f"{word} {count}" for word, count in zip(self._words, event.lines))
-            return [f"tick {event.tick} of {TICKS}; lines: {' '.join(lines)}"
-                    ] if event.tick % 6 == 0 else []
-        if isinstance(event, events.Ended):
-            return [f"{event.word} {ENDS[event.reason]}, {event.lines} lines"]
-        if isinstance(event, events.Finished):
-            if event.status == STOPPED:
-                return []  # it was told as a warning
-            meaning = program.MEANINGS.get(event.status, "")
-            more = f": {meaning}" if meaning else ""
-            log = f"; the log is in {event.log}" if event.log else ""
-            return [f"the game is over, exit status {event.status}{more}{log}"]
-        return [event.text]
-
-
-ENDS = {
-    End.LEFT: "has left",
-    End.GONE: "went away and did not come again",
-    End.HUNG: "still had its link long after the last tick",
-    End.ABSENT: "never came",
-    End.REFUSED: "sent only lines that were refused",
-}
 
 
 def _arguments(words: Optional[Sequence[str]]) -> argparse.Namespace:

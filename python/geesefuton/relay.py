@@ -339,7 +339,7 @@ class Relay:
             elif isinstance(action, Close):
                 self._drop(self._links[action.link])
             elif isinstance(action, Over):
-                self._finish_session(self.sessions[seat.number], action.reason)
+                self._finish_seat(seat, action.reason)
 
     def _give(self, seat: Seat, link: OuterLink, again: bool) -> None:
         if self.journal:
@@ -517,14 +517,17 @@ class Relay:
         if link.is_open:
             self._owe(link, line + b"\n")
 
-    def _finish_session(self, session: Session, reason: End) -> None:
+    def _finish_seat(self, seat: Seat, reason: End) -> None:
         """Tells the server that an agent sends nothing more. What it still sends is read."""
-        seat, reason = session.seat, session.reason(reason)
-        with contextlib.suppress(OSError):  # it may have ended
-            session.socket.shutdown(socket.SHUT_WR)
+        lines = 0
+        if self.sessions:
+            session = self.sessions[seat.number]
+            reason, lines = session.reason(reason), session.lines
+            with contextlib.suppress(OSError):  # it may have ended
+                session.socket.shutdown(socket.SHUT_WR)
         if self.journal:
             self.journal.timed(end=seat.number, why=reason.value)
-        self._emit(events.Ended(time.time(), seat.number, seat.word, reason, session.lines))
+        self._emit(events.Ended(time.time(), seat.number, seat.word, reason, lines))
 
     def _end_session(self, session: Session) -> None:
         """The server has ended its side: the game is over, or has failed."""

@@ -3,7 +3,7 @@
 
 `own N` is answered `@N own 0 ()`, `bid N ..` after a while by `@N taken 0 0`, and any other line is
 refused. The log has a line for each line that was asked. FAKE_STATUS is the exit status of `serve`,
-and the file FAKE_TAKEN makes it end as if its port were taken, once.
+the file FAKE_TAKEN makes it end as if its port were taken, once, and FAKE_EARLY at once.
 """
 
 import os
@@ -48,6 +48,8 @@ def serve(game: str, port: int, pace: int) -> int:
     if taken and os.path.exists(taken):
         os.remove(taken)
         return 5
+    if "FAKE_EARLY" in os.environ:
+        return int(os.environ["FAKE_EARLY"])
     lines = [line.split() for line in open(game, encoding="ascii")]
     words = lines[1][1:]
     listener = socket.create_server(("127.0.0.1", port))
@@ -74,4 +76,7 @@ if __name__ == "__main__":
         print(*(line for line in open(sys.argv[2], encoding="ascii") if line[0] not in "#\n"),
               sep="", end="")
         sys.exit(0)
+    if sys.argv[1] != "serve":
+        print("usage")
+        sys.exit(1)
     sys.exit(serve(sys.argv[2], int(sys.argv[3]), int(sys.argv[4])))

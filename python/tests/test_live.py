@@ -13,9 +13,12 @@ import unittest
 import urllib.error
 import urllib.request
 from pathlib import Path
-from typing import List
+from typing import List, Optional
+from unittest import mock
 
+from geesefuton.live import Live
 from geesefuton.processes import free_port
+from geesefuton.projection import Projection, View
 
 HERE = Path(__file__).resolve().parent
 DATA, TOP = HERE / "data", HERE.parents[1]
@@ -32,6 +35,26 @@ class Page(unittest.TestCase):
         self.assertEqual(re.findall(r"<link[^>]*>", text), ['<link rel="icon" href="data:,">'])
 
 
+class Lateness(unittest.TestCase):
+    """Which projection may be shown whole."""
+
+    def secret(self, late: int, ticks: List[int], now: int) -> Optional[int]:
+        live = Live(mock.Mock(), View(late, False), mock.Mock(), mock.Mock())
+        for tick in ticks:
+            live._reader.tick = tick
+            live._add(Projection(tick, [], [], [], [], [], []))
+        live._reader.tick = now
+        shown = live._secret()
+        return None if shown is None else shown.tick
+
+    def test_ticks(self) -> None:
+        self.assertEqual(self.secret(0, [3, 4, 5], 6), 5)
+        self.assertEqual(self.secret(6, [3, 4, 5], 8), None)
+        self.assertEqual(self.secret(6, [3, 4, 5], 9), 3)
+        self.assertEqual(self.secret(6, [3, 9, 10, 15], 15), 9)
+        self.assertEqual(self.secret(54, [0, 10, 54], 54), None)
+
+
 class Serving(unittest.TestCase):
     """A page on a journal that grows. The stand-in for the program plays no scripts, so there are
     no scores."""
@@ -45,7 +68,7 @@ class Serving(unittest.TestCase):
     def start(self, *more: str) -> "subprocess.Popen[bytes]":
         live = subprocess.Popen(
             [sys.executable, str(TOP / "tools/live"), str(self.journal), str(self.port), *more],
-            env={**os.environ, "TAC": str(HERE / "fake_tac.py")}, stderr=subprocess.DEVNULL)
+            env={**os.environ, "TAC": str(HERE / "fake_tac.py")}, stderr=subprocess.PIPE)
         self.addCleanup(live.wait)
         self.addCleanup(live.kill)
         return live
@@ -115,8 +138,13 @@ class Serving(unittest.TestCase):
         while b'"phase":"over"' not in self.get("/state")[0] and time.monotonic() < deadline:
             time.sleep(0.05)
         self.assertIn(b'"phase":"over"', self.get("/state")[0])
-        live.send_signal(signal.SIGINT)
-        self.assertEqual(live.wait(10), 130)
+        viewer = self.events()
+        self.addCleanup(viewer.close)
+        viewer.recv(100)
+        live.send_signal(signal.SIGTERM)
+        told = live.communicate(timeout=10)[1]
+        self.assertEqual(live.returncode, 143)
+        self.assertNotIn("Traceback", told.decode())
 
     def test_errors(self) -> None:
         self.journal.write_text("hey\n")

@@ -20,6 +20,8 @@ from geesefuton import events, log_files
 from geesefuton.events import End, Event
 from geesefuton.journal import Journal, read_journal
 from geesefuton.lobby import Lobby, LobbyError, LobbySettings
+from geesefuton.relay import MOST_STRANGERS
+from geesefuton.teller import Teller
 
 HERE = Path(__file__).resolve().parent
 TOP = HERE.parents[1]
@@ -132,6 +134,17 @@ class BeforeTheGame(Case):
         self.assertEqual([event.answer for event in host.of(events.Refused)],
                          ["taken", "wrongword", "syntax", "syntax", "syntax", "taken"])
 
+    def test_links_that_say_nothing_do_not_keep_agents_out(self) -> None:
+        host = Host(self.folder, start=None, patience=60)
+        silent = [Agent(host.port, first=b"") for _ in range(MOST_STRANGERS + 2)]
+        self.addCleanup(lambda: [link.close() for link in silent])
+        for agent in self.agents(host, *WORDS):
+            agent.welcome()
+            agent.quit()
+        self.assertEqual([silent[0].line(), silent[1].line()], ["", ""])
+        host.end()
+        self.assertTrue(any("have sent no line" in event.text for event in host.of(events.Warned)))
+
     def test_one_that_goes_may_come_again(self) -> None:
         host = Host(self.folder, start=None)
         first = self.agents(host, "seat0")[0]
@@ -233,7 +246,8 @@ class InTheGame(Case):
         babbles.send(b"quit")  # it has no end, so nothing is asked
         dies.reset()
         host.wait(events.Departed)
-        host.wait(events.Ticked, 54)
+        while not any(event.tick == 54 for event in host.of(events.Ticked)):
+            time.sleep(0.005)  # under load ticks may be passed over
         goes.close()
         reasons = host.end()
         self.assertEqual([reasons[word] for word in WORDS[:5]],
@@ -303,6 +317,14 @@ class TheEnd(Case):
             host.end()
         self.assertEqual((host.status, taken.exists()), (6, False))
 
+    def test_a_server_that_fails_at_once(self) -> None:
+        with mock.patch.dict(os.environ, {"FAKE_EARLY": "7"}):
+            host = Host(self.folder, pace=5)
+            agent = self.agents(host, "seat0")[0]
+            self.assertEqual(agent.line(), "")
+            self.assertEqual(len(host.end()), 8)
+        self.assertEqual(host.status, 7)
+
     def test_interrupt(self) -> None:
         host = Host(self.folder, pace=1000)
         host.wait(events.Began)
@@ -330,6 +352,38 @@ class TheEnd(Case):
         self.assertEqual((kept.fault, kept.file), ("there is none", self.folder / "my-2.log"))
         self.assertEqual((self.folder / "my-2.log").read_bytes(), b"other\n")
         self.assertEqual(log_files.keep(b"x", io.BytesIO(), None), log_files.Kept(None, None))
+
+
+class Telling(unittest.TestCase):
+    """What the host is told."""
+
+    def test_texts(self) -> None:
+        told: List[str] = []
+        with mock.patch("geesefuton.teller.tell", told.append):
+            teller = Teller(WORDS)
+            for event in (
+                    events.Arrived(0.0, 1, "seat1", "10.0.0.7"), events.Departed(0.0, 1, "seat1"),
+                    events.Rejoined(0.0, 1, "seat1", "10.0.0.8"), events.Waived(0.0, "seat2"),
+                    events.Refused(20.0, "10.0.0.9", "taken", "hello seat1"),
+                    events.Refused(25.0, "10.0.0.9", "taken", "hello seat1"),
+                    events.Refused(31.0, "10.0.0.9", "taken", "hello seat1"),
+                    events.Began(0.0, (1,)), events.Ticked(0.0, 5, (1,) * 8),
+                    events.Ticked(0.0, 6, tuple(range(8))), events.Warned(0.0, "mind the gap"),
+                    events.Ended(0.0, 1, "seat1", End.HUNG, 17), events.Finished(0.0, 130, None),
+                    events.Finished(0.0, 6, "my.log")):
+                teller.tell(event)
+            teller.close()
+        self.assertEqual([text.replace("! ", "!", 1).split(" ", 1)[1] for text in told], [
+            "seat1 is here from 10.0.0.7; missing: seat0 seat2 seat3 seat4 seat5 seat6 seat7",
+            "seat1 went away, and may come again", "seat1 is here again, from 10.0.0.8",
+            "seat2 is not waited for", "refused taken to 10.0.0.9, which said 'hello seat1'",
+            "refused taken to 10.0.0.9, which said 'hello seat1'",
+            "the game begins without seat0 seat2 seat3 seat4 seat5 seat6 seat7",
+            "tick 6 of 54; lines: seat0 0 seat1 1 seat2 2 seat3 3 seat4 4 seat5 5 seat6 6 seat7 7",
+            "mind the gap", "seat1 still had its link long after the last tick, 17 lines",
+            "the game is over, exit status 6: a tick lapsed; the scores stand; the log is in my.log"
+        ])
+        self.assertEqual(sum(text.startswith("! ") for text in told), 4)
 
 
 class Command(Case):

@@ -16,7 +16,7 @@ from geesefuton.dialects import Asked
 from geesefuton.games import DRAWS, Game, read_game
 from geesefuton.journal import Call, JournalReader, Schedule, read_journal
 from geesefuton.logs import read_log
-from geesefuton.projection import View, names_of, nights_of, project, without_future
+from geesefuton.projection import Projection, View, names_of, nights_of, project, without_future
 from geesefuton.recovery import Auction, Player, Recovery, RecoveryError, script_of
 
 HERE = Path(__file__).resolve().parent
@@ -155,6 +155,35 @@ class Showing(unittest.TestCase):
             self.assertEqual(night.closed[2], sold)
             if sold:
                 self.assertEqual(night.closed[1], price)
+
+    def test_what_is_shown_later(self) -> None:
+        reader = of_text(LINES[:next(place for place, line in enumerate(LINES)
+                                     if line.startswith('{"tick":20,'))])
+        nights = nights_of(reader)
+        made = Projection(9, [[5, -3, 1, -198]] * 8, nights, [[3.0, 20, 1, 2, 70]] * 401,
+                          [7] * 8, [1, 5], [4])
+        early = View(6, False).state(reader, nights, None, False)
+        late = View(6, False).state(reader, nights, made, False)
+        self.assertFalse({"asks", "trades", "traded"} & set(early))
+        self.assertFalse({"score", "asked", "doing"} & {
+            key for agent in early["agents"] for key in agent})
+        self.assertEqual((early["phase"], early["tick"], early["shown"], late["shown"]),
+                         ("running", 19, None, 9))
+        self.assertEqual([agent["here"] for agent in early["agents"]],
+                         [{True: "here", False: "gone"}[agent.is_here]
+                          for agent in reader.agents[:5]] + ["missing"] * 3)
+        closed = [night["closed"] for night in early["hotels"] if night["closed"]]
+        self.assertEqual([len(night) for night in closed], [2] * 3)
+        self.assertEqual([len(flight) for flight in early["flights"]], [20] * 8)
+        self.assertEqual((late["traded"], len(late["trades"])), (401, 400))
+        self.assertEqual(late["agents"][4]["doing"], "refused")
+        self.assertEqual(late["agents"][1].get("doing"), "silent" if reader.agents[1].is_here
+                         else None)
+        self.assertEqual(late["agents"][0]["score"], [5, -3, 1, -198])
+        at_once = View(0, False).state(reader, nights, made, False)
+        self.assertEqual([len(night["closed"]) for night in at_once["hotels"] if night["closed"]],
+                         [3] * 3)
+        self.assertEqual(View(6, False).state(reader, nights, made, True)["phase"], "over")
 
     def test_words_are_not_shown(self) -> None:
         for count in (1, 6, 12, 60, len(LINES)):

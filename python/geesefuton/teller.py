@@ -1,0 +1,96 @@
+"""Tells the host in lines of text what happens in a lobby."""
+
+from __future__ import annotations
+
+import queue
+import threading
+import time
+from typing import Dict, List, Optional, Sequence, Set
+
+from geesefuton import events, program
+from geesefuton.events import End, Event
+from geesefuton.games import TICKS
+from geesefuton.processes import tell
+
+AGAIN = 10.0  # seconds in which the same refusal is told once
+STOPPED = 130  # the exit status of a game that was ended before its time
+
+
+class Teller:
+    """Tells the host what happens, from a thread of its own: a terminal that is held, or a pipe
+    that is not read, does not hold the game."""
+
+    def __init__(self, words: Sequence[str]) -> None:
+        self._words = list(words)
+        self._here: Set[str] = set()
+        self._refused: Dict[str, float] = {}  # when a refusal was told
+        self._lines: "queue.SimpleQueue[Optional[str]]" = queue.SimpleQueue()
+        self._thread = threading.Thread(target=self._write, daemon=True)
+        self._thread.start()
+
+    def tell(self, event: Event) -> None:
+        """Tells an event."""
+        for text in self._texts(event):
+            clock = time.strftime("%H:%M:%S", time.localtime(event.at))
+            is_fault = isinstance(event, (events.Refused, events.Warned, events.Departed))
+            self._lines.put(f"{'! ' if is_fault else ''}{clock} {text}")
+
+    def say(self, text: str) -> None:
+        """Tells a text."""
+        self._lines.put(f"{time.strftime('%H:%M:%S')} {text}")
+
+    def close(self) -> None:
+        """Waits a little until all is told."""
+        self._lines.put(None)
+        self._thread.join(2.0)
+
+    def _write(self) -> None:
+        for line in iter(self._lines.get, None):
+            tell(line)
+
+    def _texts(self, event: Event) -> List[str]:
+        if isinstance(event, events.Arrived):
+            self._here.add(event.word)
+            missing = [word for word in self._words if word not in self._here]
+            return [f"{event.word} is here from {event.source}; "
+                    f"missing: {' '.join(missing) or 'nobody'}"]
+        if isinstance(event, events.Rejoined):
+            return [f"{event.word} is here again, from {event.source}"]
+        if isinstance(event, events.Departed):
+            self._here.discard(event.word)
+            return [f"{event.word} went away, and may come again"]
+        if isinstance(event, events.Refused):
+            text = f"refused {event.answer} to {event.source}, which said {event.line!r}"
+            if event.at - self._refused.get(text, 0.0) < AGAIN:
+                return []
+            self._refused[text] = event.at
+            return [text]
+        if isinstance(event, events.Waived):
+            return [f"{event.word} is not waited for"]
+        if isinstance(event, events.Began):
+            missing = [word for word in self._words if self._words.index(word) not in event.seats]
+            late = f" without {' '.join(missing)}" if missing else ""
+            return [f"the game begins{late}"]
+        if isinstance(event, events.Ticked):
+            lines = (f"{word} {count}" for word, count in zip(self._words, event.lines))
+            return [f"tick {event.tick} of {TICKS}; lines: {' '.join(lines)}"
+                    ] if event.tick % 6 == 0 else []
+        if isinstance(event, events.Ended):
+            return [f"{event.word} {ENDS[event.reason]}, {event.lines} lines"]
+        if isinstance(event, events.Finished):
+            if event.status == STOPPED:
+                return []  # it was told as a warning
+            meaning = program.MEANINGS.get(event.status, "")
+            more = f": {meaning}" if meaning else ""
+            log = f"; the log is in {event.log}" if event.log else ""
+            return [f"the game is over, exit status {event.status}{more}{log}"]
+        return [event.text]
+
+
+ENDS = {
+    End.LEFT: "has left",
+    End.GONE: "went away and did not come again",
+    End.HUNG: "still had its link long after the last tick",
+    End.ABSENT: "never came",
+    End.REFUSED: "sent only lines that were refused",
+}
