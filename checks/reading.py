@@ -15,13 +15,17 @@ import re
 import sys
 from typing import Dict, Iterable, List, Tuple
 
-from definitions import CRATES, LIMITS, ROOT, Definitions, Target, clauses_of, line_of
+from definitions import CRATES, LIMITS, ROOT, Definitions, Module, Target, clauses_of, line_of
 from rules import rules_page
-from reading_words import APART, CHAPTERS, HOW_TO_READ, INTRODUCTION, LIBRARY, NOTATION, SENTENCES, TRUTHS
+from reading_words import (APART, CHAPTERS, HOW_TO_READ, IN_WORDS, INTRODUCTION, LIBRARY, NOTATION, SENTENCES,
+                           TRUTHS)
 
 PAGE = os.path.join(ROOT, "docs", "READING.md")
 RULES_PAGE = os.path.join(ROOT, "docs", "RULES.md")
 TOP = os.path.join(CRATES, "tacd", "src", "top.rt")
+# Types that definitions meet only as the values that contracts see of them.
+SEEN_AS_VALUES = ["tac_base.bids.Points", "tac_base.bids.Left", "tac_base.numbers.Agent", "tac_base.numbers.Good", "auction_core.auction.Auction",
+                  "auction_core.closed.Closed", "game_text.games.Game", "trade_ledger.cash_book.CashBook", "score_sheet.scores.Sheet"]
 Rows = Dict[str, List[str]]  # the names that are used of each module
 
 
@@ -67,13 +71,23 @@ def line_count(definitions: Definitions, rows: Rows, paths: Iterable[str]) -> in
 
 
 def table(definitions: Definitions, rows: Rows, paths: Iterable[str]) -> List[str]:
-    text = ["| module | lines | what it says | definitions |", "|---|---|---|---|"]
+    text = ["| module | lines | what it says | in words | definitions |", "|---|---|---|---|---|"]
     for path in paths:
         module = definitions.modules[path]
         named = sorted((module.definitions[name] for name in rows[path]), key=lambda one: one.line)
         links = " · ".join(link(one.name, module.file, one.line) for one in named)
-        text.append(f"| `{module.crate}/{module.name}` | {line_count(definitions, rows, [path])} | {module.about} | {links} |")
+        text.append(f"| `{module.crate}/{module.name}` | {line_count(definitions, rows, [path])} | {module.about} | {in_words(module)} | {links} |")
     return text
+
+
+def in_words(module: Module) -> str:
+    """A link to the heading that says in words what a module says."""
+    document, heading = IN_WORDS.get(f"{module.crate}.{module.name}", IN_WORDS[module.crate])
+    with open(os.path.join(ROOT, "docs", document + ".md"), encoding="utf-8") as page_file:
+        if not re.search(r"^##+ %s$" % re.escape(heading), page_file.read(), re.M):
+            raise KeyError(f"docs/{document}.md has no heading {heading}")
+    anchor = re.sub(r"[^a-z0-9 -]", "", heading.lower()).replace(" ", "-")
+    return f"[{document}, {heading}]({document}.md#{anchor})"
 
 
 def backward(definitions: Definitions, rows: Rows, order: List[str]) -> List[str]:
@@ -106,6 +120,9 @@ def types_table(found: Iterable[Target]) -> Tuple[List[str], List[str]]:
         if not os.path.exists(file):
             file = os.path.join(CRATES, crate, "src", *module.split("."), "mod.rt")
         types[crate, name] = file
+    for place in SEEN_AS_VALUES:
+        crate, module, name = place.split(".")
+        types[crate, name] = os.path.join(CRATES, crate, "src", module + ".rt")
     text = ["| type | what it is | appears as |", "|---|---|---|"]
     for (crate, name), file in sorted(types.items()):
         line = line_of(file, r"pub(?:\(crate\))? (?:struct|enum) %s\b" % name)
@@ -118,7 +135,7 @@ def types_table(found: Iterable[Target]) -> Tuple[List[str], List[str]]:
         while lines[above].startswith(("#[", "///")):
             about[:0] = [lines[above][4:]] if lines[above].startswith("///") else []
             above -= 1
-        model = re.search(r"impl(?:<.*?>)? Model for %s\b.*?ghost Value = \{ (.*?) \};" % name, "\n".join(lines), re.S)
+        model = re.search(r"impl(?:<.*?>)? Model for %s\b[^\n]*\n(?:(?!\n\}).)*?ghost Value = \{ (.*?) \};" % name, "\n".join(lines), re.S)
         text.append(f"| {link(f'{crate}::{name}', file, line)} | {' '.join(about)} | {'`' + ' '.join(model.group(1).split()) + '`' if model else ''} |")
     return text, missing
 
@@ -226,6 +243,24 @@ def page(definitions: Definitions) -> Tuple[str, List[str], str]:
     return "\n".join(text) + "\n", faults, figures
 
 
+def print_definitions(definitions: Definitions) -> None:
+    """Prints what the headline rests on in the order of the page: each definition with its comment, without imports."""
+    clauses = clauses_of(TOP, "tac")
+    rows = rows_of(definitions, definitions.reached(clauses["service"] + clauses["cash"]))
+    for heading, paths in chapters_of(definitions, rows).items():
+        print(f"\n{'=' * 80}\n{heading}\n{'=' * 80}")
+        for path in paths:
+            module = definitions.modules[path]
+            print(f"\n-- {os.path.relpath(module.file, ROOT)}: {module.about}\n")
+            with open(module.file, encoding="utf-8") as source:
+                lines = source.read().split("\n")
+            for one in sorted((module.definitions[name] for name in rows[path]), key=lambda each: each.line):
+                above = one.line - 2
+                while above >= 0 and lines[above].lstrip().startswith("--"):
+                    above -= 1
+                print("\n".join(lines[above + 1:one.line - 1] + one.lines) + "\n")
+
+
 def compare(file: str, text: str, write: bool) -> List[str]:
     """Writes a page, or says that it is not what the sources say."""
     if write:
@@ -243,7 +278,11 @@ def compare(file: str, text: str, write: bool) -> List[str]:
 def main() -> int:
     parser = argparse.ArgumentParser(description=__doc__, formatter_class=argparse.RawDescriptionHelpFormatter)
     parser.add_argument("--write", action="store_true", help="write the pages")
+    parser.add_argument("--print", action="store_true", help="print the definitions of the headline themselves, chapter by chapter")
     options = parser.parse_args()
+    if options.print:
+        print_definitions(Definitions())
+        return 0
     text, faults, figures = page(Definitions())
     rules, wrong_rules = rules_page()
     faults += wrong_rules + compare(PAGE, text, options.write) + compare(RULES_PAGE, rules, options.write)

@@ -12,9 +12,9 @@ what else has to be trusted. `checks/reading.py --write` makes the page from the
 used before it stands, or if a module listed here imports one that is not."""
 
 HOW_TO_READ = """\
-Begin with the next table: each half sentence of the headline, and the definitions that say it. Then
+Compare each definition with the rule in words that its row links. Begin with the next table: each half sentence of the headline, and the definitions that say it. Then
 read the chapters in their order, the definitions that are named and nothing else; a module may hold
-more. The column of lines counts them without comments and imports. Where a name is met for the
+more. `checks/reading.py --print` prints them one after the other, each with its comment. The column of lines counts them without comments and imports. Where a name is met for the
 first time that is not on this page, it is a word of the toolchain's library (the key below), a type
 of the code, or a limit; all three have their tables."""
 
@@ -44,6 +44,14 @@ NOTATION: List[Tuple[str, str]] = [
     ("`record { a = ..; b = .. }`, `record r { a = .. }`, `r.a`", "a value with these fields, one that differs from r in a field, a field"),
     ("`ℕ`, `ℤ`, `pos n`, `negsuc n`", "0, 1, 2 .., the whole numbers, n, and -(n + 1)"),
     ("`+`, `-`, `+ℤ`, `-ℤ`, `≤ℤ`, `^`", "sums and differences; `-` of ℕ stops at 0"),
+    ("`a || b`, `a && b`, `not a`", "computed or, and, not"),
+    ("`*`, `/`, `%`, `*ℤ`, `neg_ℤ`", "product, quotient and remainder of ℕ; product and negation of ℤ. They bind as in Rust"),
+    ("`let x = a in b`, `m >>= λ x. b`, `do` with `x ← m`", "b with a for x; b of the value of m, if it has one, else m's refusal"),
+    ("equations", "tried from the top: the first that matches holds, so a last line `f x y = ..` says what is so otherwise"),
+    ("`(a, b)`, `p.0`, `p.1`", "a pair and its parts; `p.2` is the part after the first two of a longer product"),
+    ("`{A : Type 0}`, `Type 1`, `tt`, `Unit {0}`", "an argument that is inferred, the type of types as `Type 0`, the value of ⊤, the type with one value"),
+    ("`mutual`", "the definitions in it use one another"),
+    ("`use .. as causes`, `causes.Quit`, `use ..{Own as OwnCall}`", "an import under another name. Constructors of several types share a name; the imports of the module tell which is meant"),
     ("`module _ (x : A) where`", "each definition in it has the parameter x"),
     ("a type of the code", "appears in a definition as its value for contracts: a struct that has a row \"appears as\" below as that value, "
                            "every other struct as a record of its fields, an enum as its variants, a number as ℕ or ℤ, text as a list of its bytes"),
@@ -59,7 +67,7 @@ LIBRARY: Dict[str, str] = {
     "filter": "the items for which p says yes", "filter_map": "the values that f gives, where it gives one", "nat_le": "at most, computed",
     "nat_lt": "below, computed", "int_le": "at most, computed", "int_lt": "below, computed", "max": "the greater number", "min": "the lesser number",
     "int_max": "the greater number", "slice_index": "the item at a place; 0 past the end", "slice_index_or": "the item at a place, or the given value past the end",
-    "slice_get": "the item at a place, if there is one", "get_elem?": "the item at a place, if there is one", "slice_set": "the list with another item at a place",
+    "slice_get": "the item at a place, if there is one", "get_elem?": "the item at a place, if there is one (`some`)", "some": "a value that is there", "slice_set": "the list with another item at a place",
     "slice_split": "the parts between the items for which p says yes", "decimal": "a number in decimal digits",
     "signed_decimal": "a whole number in decimal digits, with `-` below 0", "bytes_eq": "equal bytes, computed", "unsigned_abs": "a number without its sign",
     "list_any": "p says yes of some item", "list_all": "p says yes of each item", "count_by": "of how many items p says yes", "sum_by": "the sum of f over the items",
@@ -68,7 +76,7 @@ LIBRARY: Dict[str, str] = {
     "take": "the first n items", "drop": "what follows the first n items", "reverse": "the items backwards", "zip": "pairs, place by place",
     "enumerate_from": "each item with its number, from n on", "join_with_byte": "lists with a byte between them", "position": "the first place where p says yes",
     "find": "the first item for which p says yes", "option_map": "f of the value, if there is one", "option_and_then": "f of the value, if both are there",
-    "option_or": "the first value that is there", "get_or": "the value, or the given one", "IfSome": "P holds of the value, if there is one",
+    "option_or": "the first value that is there", "get_or": "the item of a list at a place, or the given value past the end; of an optional value: it, or the given one", "IfSome": "P holds of the value, if there is one",
     "IsTrue": "the computed answer is yes", "MatchBool": "P where the answer is yes, else Q", "MatchOption": "Q of the value, if there is one, else P", "MatchResult": "P of a result, Q of an error",
     "all_ascii_digits": "each byte is a digit", "int_div_euclid": "the quotient whose remainder is not negative", "is_utf8": "the bytes are text in UTF-8",
     "Data": "a JSON value", "Members": "the members of a JSON object", "Items": "the items of a JSON array", "read": "the JSON value of a text, by `serde_json`",
@@ -82,6 +90,32 @@ LIBRARY: Dict[str, str] = {
 }
 
 
+# Where the rule of a crate, or of one of its modules, stands in words: a document and its heading.
+IN_WORDS: Dict[str, Tuple[str, str]] = {
+    "tac_base": ("GAME", "Bids and units"), "tac_base.Goods": ("GAME", "Goods, parties and callers"), "tac_base.Kinds": ("GAME", "Goods, parties and callers"),
+    "tac_base.Clients": ("GAME", "Packages"), "tac_base.Numerals": ("FORMATS", "Common rules"), "tac_base.Ranges": ("FORMATS", "The histories"),
+    "auction_rules": ("GAME", "Histories"), "auction_rules.Units": ("GAME", "Bids and units"), "auction_rules.Standing": ("GAME", "Bids and units"),
+    "auction_rules.FlightRule": ("GAME", "Flights"), "auction_rules.FlightSales": ("GAME", "Flights"), "auction_rules.Precedence": ("GAME", "Hotels"),
+    "auction_rules.Ask": ("GAME", "Hotels"), "auction_rules.WinningNumber": ("GAME", "Hotels"), "auction_rules.BeatQuote": ("GAME", "Hotels"),
+    "auction_rules.HotelClosing": ("GAME", "Hotels"), "auction_rules.TicketMatch": ("GAME", "Tickets"), "auction_rules.Refusals": ("GAME", "Refusals"),
+    "auction_rules.Board": ("GAME", "Boards"), "auction_rules.Effects": ("GAME", "Cash"), "trade_ledger": ("GAME", "Cash"),
+    "text_forms": ("FORMATS", "Common rules"), "game_text": ("FORMATS", "Game file"), "game_text.Schedule": ("GAME", "The schedule"),
+    "game_text.Accounts": ("FORMATS", "Account file"), "game_text.OneAgent": ("PROTOCOL", "Admission"),
+    "auction_core": ("GAME", "Histories"), "auction_core.Setups": ("FORMATS", "Game file"), "auction_core.Ranges": ("FORMATS", "The histories"),
+    "turn_lock": ("PROTOCOL", "Replies"), "floor": ("GAME", "Boards"), "packages": ("GAME", "Packages"), "packages.BestTotal": ("GAME", "Scores"),
+    "packages.Stocks": ("GAME", "Scores"), "packages.Listing": ("FORMATS", "Certificates"), "packages.Bounds": ("FORMATS", "Certificates"),
+    "packages.Features": ("FORMATS", "Certificates"), "bound_cert": ("FORMATS", "Certificates"), "allocator": ("GAME", "Scores"), "score_sheet": ("GAME", "Scores"),
+    "bid_strings": ("FORMATS", "Bid strings"), "line_protocol": ("FORMATS", "Requests and replies"), "line_protocol.Heads": ("FORMATS", "The log"),
+    "line_protocol.Ranges": ("FORMATS", "Requests and replies"), "json_dialect": ("FORMATS", "Requests and replies in JSON"), "tac_io": ("PROOFS", "The program"),
+    "agent_gate": ("PROOFS", "The headline: a game over links"), "agent_gate.Gates": ("PROTOCOL", "Admission"), "agent_gate.Welcome": ("PROTOCOL", "Admission"),
+    "game_run": ("PROOFS", "The headline: a game over links"), "game_run.Admission": ("PROTOCOL", "Admission"), "clock_events": ("GAME", "The schedule"),
+    "log_text": ("FORMATS", "The log"), "log_text.SheetText": ("FORMATS", "The sheet"), "game_log": ("FORMATS", "The log"), "log_reader": ("FORMATS", "The audit of a log"),
+    "tac_commands": ("FORMATS", "Exit statuses and refusals"), "tac_commands.Cash": ("GAME", "Cash"), "tacd": ("PROOFS", "The headline: a game over links"),
+    "draw_maker": ("FORMATS", "Made games"), "good_worth": ("FORMATS", "What a unit is worth"), "log_audit": ("FORMATS", "The audit of a log"),
+    "tourney": ("FORMATS", "The standings"), "script_run": ("FORMATS", "Game script"),
+}
+
+
 class Chapter(NamedTuple):
     """A heading, what it says, and the crates or modules (`CRATE.NAME`) that it begins with."""
 
@@ -90,6 +124,7 @@ class Chapter(NamedTuple):
     places: List[str]
 
 
+GAME_FORM = "The form of a game file"
 CERTIFICATES = "Certificates"
 JSON = "Lines of JSON"
 SOUND = "That the log is sound, as `audit` has it"
@@ -98,7 +133,9 @@ CHAPTERS = [
     Chapter("Goods, bids, calls and replies", "What is numbered how, what a bid is, and the call and reply of an entry.", ["tac_base"]),
     Chapter("The rules of the auctions", "Over whole histories: which units stand, each refusal, what trades, and the entry that is due.", ["auction_rules"]),
     Chapter("The cash book", "Posts and readings of cash, and which posts are due.", ["trade_ledger"]),
-    Chapter("The game file", "The form of the file, as a value; and the schedule of the clock, which is a function of it.", ["text_forms", "game_text"]),
+    Chapter(GAME_FORM, "How the text of a game file is read. Whoever believes that the file says what `tac show` prints of it may leave this out: its text is proved to "
+            "be read as that game.", ["text_forms", "game_text"]),
+    Chapter("The schedule", "The clock's calls, as a function of the game.", ["game_text.Schedule", "game_text.OneAgent"]),
     Chapter("The auctions of a game", "28 auctions with their setups, and a caller's part of a history.", ["auction_core", "turn_lock", "floor"]),
     Chapter("Packages and the best total", "What a client gets, what it uses, what it is worth, and the best that eight can have.", ["packages"]),
     Chapter(CERTIFICATES, "Their lines in the log, and when they hold. The scores do not rest on them: whoever believes the best total needs none.",
@@ -115,7 +152,7 @@ CHAPTERS = [
     Chapter("The command `serve`", "The clause `service` itself.", ["tacd"]),
 ]
 
-APART = [CERTIFICATES, JSON, SOUND]  # chapters beside the headline over lines of words
+APART = [GAME_FORM, CERTIFICATES, JSON, SOUND]  # chapters beside the headline over lines of words
 
 # The headline, half sentence by half sentence: what says it, as CRATE/MODULE.NAME.
 SENTENCES: List[Tuple[str, List[str]]] = [

@@ -21,6 +21,7 @@ import asyncio
 import contextlib
 import json
 import os
+import signal
 import socket
 import sys
 import time
@@ -73,8 +74,8 @@ class Viewers:
             request = await asyncio.wait_for(reader.readuntil(b"\r\n\r\n"), STALLED)
             await self._answer(request.split(b"\r\n")[0].split(b" "), writer)
         except (asyncio.TimeoutError, asyncio.IncompleteReadError, asyncio.LimitOverrunError,
-                OSError):
-            pass  # a viewer that is gone, or takes nothing
+                asyncio.CancelledError, OSError):
+            pass  # a viewer that is gone or takes nothing, or the page is stopped
         finally:
             self.count -= 1
             if writer.transport.get_write_buffer_size():
@@ -229,6 +230,24 @@ async def _run(given: argparse.Namespace, journal: BinaryIO, player: Player) -> 
         await asyncio.sleep(0.05)
 
 
+async def _run_until_signal(given: argparse.Namespace, journal: BinaryIO, player: Player) -> int:
+    """Runs the page, and gives the exit status."""
+    work = asyncio.ensure_future(_run(given, journal, player))
+    signals: List[int] = []
+
+    def stop(number: int) -> None:
+        signals.append(number)
+        work.cancel()
+
+    for number in (signal.SIGINT, signal.SIGTERM, signal.SIGHUP):
+        asyncio.get_running_loop().add_signal_handler(number, stop, number)
+    try:
+        await work
+    except asyncio.CancelledError:
+        return 128 + signals[0] if signals else 1
+    return 0
+
+
 def _arguments() -> argparse.Namespace:
     parser = argparse.ArgumentParser(prog="live", description=__doc__,
                                      formatter_class=argparse.RawDescriptionHelpFormatter)
@@ -253,14 +272,14 @@ def _main() -> int:
     os.nice(NICE)
     try:
         with given.journal.open("rb") as journal, Children() as children:
-            asyncio.run(_run(given, journal, Player(children.folder("live"))))
+            player = Player(children.folder("live"))
+            return asyncio.run(_run_until_signal(given, journal, player))
     except JournalError as fault:
         tell(f"live: {given.journal}: {fault}")
         return 1
     except OSError as fault:
         tell(f"live: {given.journal if fault.filename else f'port {given.port}'}: {why(fault)}")
         return 1
-    return 0
 
 
 def main() -> int:

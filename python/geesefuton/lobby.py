@@ -46,7 +46,7 @@ TAKEN = 5  # the server's exit status if its port is taken
 TRIES = 3  # ports that the server is given
 TURN = 0.2  # seconds between two looks at what has waited too long
 ENDING = 1.0  # seconds that links have to end after the server
-SHOWING = 20.0  # seconds that the page has to show the last scores
+SHOWING = 60.0  # seconds that the page has to show the last scores
 
 
 class LobbyError(Exception):

@@ -76,4 +76,7 @@ if __name__ == "__main__":
         print(*(line for line in open(sys.argv[2], encoding="ascii") if line[0] not in "#\n"),
               sep="", end="")
         sys.exit(0)
+    if sys.argv[1] != "serve":
+        print("usage")
+        sys.exit(1)
     sys.exit(serve(sys.argv[2], int(sys.argv[3]), int(sys.argv[4])))

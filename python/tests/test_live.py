@@ -68,7 +68,7 @@ class Serving(unittest.TestCase):
     def start(self, *more: str) -> "subprocess.Popen[bytes]":
         live = subprocess.Popen(
             [sys.executable, str(TOP / "tools/live"), str(self.journal), str(self.port), *more],
-            env={**os.environ, "TAC": str(HERE / "fake_tac.py")}, stderr=subprocess.DEVNULL)
+            env={**os.environ, "TAC": str(HERE / "fake_tac.py")}, stderr=subprocess.PIPE)
         self.addCleanup(live.wait)
         self.addCleanup(live.kill)
         return live
@@ -138,8 +138,13 @@ class Serving(unittest.TestCase):
         while b'"phase":"over"' not in self.get("/state")[0] and time.monotonic() < deadline:
             time.sleep(0.05)
         self.assertIn(b'"phase":"over"', self.get("/state")[0])
-        live.send_signal(signal.SIGINT)
-        self.assertEqual(live.wait(10), 130)
+        viewer = self.events()
+        self.addCleanup(viewer.close)
+        viewer.recv(100)
+        live.send_signal(signal.SIGTERM)
+        told = live.communicate(timeout=10)[1]
+        self.assertEqual(live.returncode, 143)
+        self.assertNotIn("Traceback", told.decode())
 
     def test_errors(self) -> None:
         self.journal.write_text("hey\n")
