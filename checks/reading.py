@@ -13,6 +13,7 @@ import argparse
 import os
 import re
 import sys
+import textwrap
 from typing import Dict, Iterable, List, Tuple
 
 from definitions import CRATES, LIMITS, ROOT, Definitions, Module, Target, clauses_of, line_of
@@ -27,6 +28,11 @@ TOP = os.path.join(CRATES, "tacd", "src", "top.rt")
 SEEN_AS_VALUES = ["tac_base.bids.Points", "tac_base.bids.Left", "tac_base.numbers.Agent", "tac_base.numbers.Good", "auction_core.auction.Auction",
                   "auction_core.closed.Closed", "game_text.games.Game", "trade_ledger.cash_book.CashBook", "score_sheet.scores.Sheet"]
 Rows = Dict[str, List[str]]  # the names that are used of each module
+
+
+def filled(text: str) -> str:
+    """A paragraph in lines of at most 100 columns."""
+    return textwrap.fill(" ".join(text.split()), 100, break_long_words=False, break_on_hyphens=False)
 
 
 def link(name: str, file: str, line: int) -> str:
@@ -169,8 +175,9 @@ def outside_tables() -> List[str]:
             own = [word for word in specs if os.path.exists(os.path.join(CRATES, "tac_io", "specs", word + ".antt"))]
             links = ", ".join(f"[`{word}`](../crates/tac_io/specs/{word}.antt)" for word in own)
             objects.append(f"| {link(made.group(2), file, line_of(file, f'pub struct {made.group(2)}'))} | `{made.group(1)}` | {links} |")
-    return traits + ["", "The objects in memory state all of it, so the premises can be met; tests and the law of this contract run over them. The system's own",
-                     "(`HostFiles`, `StdSink`, `TcpLinks`, `TcpLink`, `SleepTicker` of `crates/tacd/src`) state `None` and their counts of faults.", ""] + objects
+    memory = ("The objects in memory state all of it, so the premises can be met; the tests run over them. They need not be read to believe the promise. "
+              "The system's own (`HostFiles`, `StdSink`, `TcpLinks`, `TcpLink`, `SleepTicker` of `crates/tacd/src`) state `None` and their counts of faults.")
+    return traits + ["", filled(memory), ""] + objects
 
 
 def sentences_table(definitions: Definitions, rows: Rows) -> Tuple[List[str], List[str]]:
@@ -210,20 +217,20 @@ def page(definitions: Definitions) -> Tuple[str, List[str], str]:
     types, wrong_types = types_table(headline)
     words, wrong_words = library_words(definitions, everything)
     faults += wrong_types + wrong_words + backward(definitions, rows, order) + inner_imports(definitions, all_rows)
-    text = ["# What must be believed", "", INTRODUCTION, "", HOW_TO_READ, "",
-            f"The headline over lines of words takes {core:,} lines of definitions; the chapters {', '.join(f'“{heading}”' for heading in APART)} are beside it.",
+    text = ["# What must be believed", "", filled(INTRODUCTION), "", filled(HOW_TO_READ), "",
+            filled(f"The headline over lines of words takes {core:,} lines of definitions; the chapters {', '.join(f'“{heading}”' for heading in APART)} are beside it."),
             "", "## The headline, half sentence by half sentence", ""] + sentences
     text += ["", "Three things that the clause does not say in so many words:", "", TRUTHS, "", "## Key", "", "| notation | what it means |", "|---|---|"]
     text += [f"| {sign} | {meaning} |" for sign, meaning in NOTATION]
-    text += ["", "Words of the toolchain's library (`rt lemma WORD` in the folder of a crate prints the definition of one):", "", words, "",
+    text += ["", "Words of the toolchain's library (`rt lemma WORD` in the folder of a crate prints the definition of one):", "", filled(words), "",
              "## Types of the code", "", "Each in `src/` of its crate; its ranges are kept by its own calls.", ""] + types
     text += ["", "## Limits", ""] + limits_table({**headline, **dict.fromkeys(name for names in clauses.values() for name in names)})
-    text += ["", "## The objects of the outside", "", "`F.state`, `K.state`, `N.state`, `N.Link.state` and `T.state` in the clauses of `tac` are the ghost `state` of these traits.", ""]
+    text += ["", "## The objects of the outside", "", filled("`F.state`, `K.state`, `N.state`, `N.Link.state` and `T.state` in the clauses of `tac` are the ghost `state` of these traits."), ""]
     text += outside_tables()
     for heading, about, _ in CHAPTERS:
         paths = chapters[heading]
         if paths:
-            text += ["", f"## {heading}", "", f"{about} {line_count(definitions, rows, paths)} lines.", ""] + table(definitions, rows, paths)
+            text += ["", f"## {heading}", "", filled(f"{about} {line_count(definitions, rows, paths)} lines."), ""] + table(definitions, rows, paths)
     other_order: List[str] = []
     placed = set()
 
@@ -237,7 +244,8 @@ def page(definitions: Definitions) -> Tuple[str, List[str], str]:
     for path in others:
         place(path)
     text += ["", "## For the other commands and the codes", "",
-             f"The other clauses of `tac`: what each command writes, and when each exit code comes. {line_count(definitions, others, others):,} lines beside those above.",
+             filled("The other clauses of `tac`: what each command writes, and when each exit code comes. "
+                    f"{line_count(definitions, others, others):,} lines beside those above."),
              ""] + table(definitions, others, other_order)
     figures = f"{core} lines for the headline over lines of words, {line_count(definitions, all_rows, all_rows)} in {len(all_rows)} modules in all"
     return "\n".join(text) + "\n", faults, figures
