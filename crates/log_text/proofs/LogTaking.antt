@@ -297,8 +297,8 @@ cert_ok number (Err certs.TooLong) tree e = absurd cc
 cert_ok number (Err certs.Memory) tree e = absurd cc
 
 -- the bytes of a certificate after the line before it
-abbrev cert_text : ℕ → Tree → List ℕ
-cert_text agent tree = text_of (cert_line agent (length (tree_lines tree)) ∷ tree_lines tree)
+abbrev agents_cert_text : ℕ → Tree → List ℕ
+agents_cert_text agent tree = text_of (cert_line agent (length (tree_lines tree)) ∷ tree_lines tree)
 
 record IsShortCert (tree : Tree) : Type 0 where
   fits : IsCertificate tree
@@ -339,7 +339,7 @@ cert_block number count left (Some block) x at e =
 line_again_by : {A : Type 0} (form : List ℕ → Option A) (left : Remaining) (line : NumberedLine × Remaining) (x : A) → due_of left ≡ Ok line → at_line line.0.number (formed (form line.0.bytes)) ≡ Ok x → line_by form left ≡ Ok (x, line.1)
 line_again_by form left line x due read = rw (due, read) refl
 
-cert_took : (agent : ℕ) (left : Remaining) (x : Tree × Remaining) → AreLines left → cert_in agent left ≡ Ok x → TookPart (cert_text agent) IsShortCert left x
+cert_took : (agent : ℕ) (left : Remaining) (x : Tree × Remaining) → AreLines left → cert_in agent left ≡ Ok x → TookPart (agents_cert_text agent) IsShortCert left x
 unfolding cert_in
 cert_took agent left x are e =
     let a = bind_ok (due_of left) (λ line. at_line line.0.number (formed (read_count agent line.0.bytes)) >>= λ count. block_by line.0.number (block_of count line.1)) x e in
@@ -351,7 +351,7 @@ cert_took agent left x are e =
     let few = is.1 in
     let count = block.1 in
     record {
-      took = took_as left x.1 ((cert_line agent (length (tree_lines x.0)) ++ 10 ∷ []) ++ cert_text x.0) (cert_text agent x.0) (sym (flat_map-cons (λ l. l ++ 10 ∷ []) (cert_line agent (length (tree_lines x.0))) (tree_lines x.0)))
+      took = took_as left x.1 ((cert_line agent (length (tree_lines x.0)) ++ 10 ∷ []) ++ cert_text x.0) (agents_cert_text agent x.0) (sym (flat_map-cons (λ l. l ++ 10 ∷ []) (cert_line agent (length (tree_lines x.0))) (tree_lines x.0)))
           (took_both left a.0.1 x.1 (cert_line agent (length (tree_lines x.0)) ++ 10 ∷ []) (cert_text x.0)
           (took_as left a.0.1 (r.0 ++ 10 ∷ []) (cert_line agent (length (tree_lines x.0)) ++ 10 ∷ []) (ap (λ (t : List ℕ). t ++ 10 ∷ []) is.0 ∙ ap (λ (n : ℕ). cert_line agent n ++ 10 ∷ []) count) r.1) block.0);
       range = record { fits = cert.fits; few = omega (arith, few, count) };
@@ -364,7 +364,7 @@ made_scored score packages tree = record { best = score.0; cash = score.1; short
 
 -- the lines of an agent, as they are taken
 agent_text : (agent : ℕ) (scored : Scored) →
-    (score_line agent scored ++ 10 ∷ []) ++ (text_of (lines_of_parts (one_line (package_line agent)) 0 scored.allocation) ++ cert_text agent scored.tree) ≡ text_of (agent_lines agent scored)
+    (score_line agent scored ++ 10 ∷ []) ++ (text_of (lines_of_parts (one_line (package_line agent)) 0 scored.allocation) ++ agents_cert_text agent scored.tree) ≡ text_of (agent_lines agent scored)
 agent_text agent scored =
     let packages = lines_of_parts (one_line (package_line agent)) 0 scored.allocation in
     let cert = cert_line agent (length (tree_lines scored.tree)) ∷ tree_lines scored.tree in
@@ -385,9 +385,9 @@ score_took agent left x are e =
     let cert = cert_took agent b.0.1 c.0 (packages.0.took.lines (r.1.lines are)) c.1 in
     let scored = made_scored a.0.0 b.0.0 c.0.0 in
     subst (TookPart (λ s. text_of (agent_lines agent s)) IsLoggedScore left) (ok_is {E = BadLine} (scored, c.0.1) x c.2) (record {
-      took = took_as left c.0.1 _ _ (agent_text agent scored) (took_both left a.0.1 c.0.1 (score_line agent scored ++ 10 ∷ []) (text_of (lines_of_parts (one_line (package_line agent)) 0 b.0.0) ++ cert_text agent c.0.0)
+      took = took_as left c.0.1 _ _ (agent_text agent scored) (took_both left a.0.1 c.0.1 (score_line agent scored ++ 10 ∷ []) (text_of (lines_of_parts (one_line (package_line agent)) 0 b.0.0) ++ agents_cert_text agent c.0.0)
           (took_as left a.0.1 (r.0 ++ 10 ∷ []) (score_line agent scored ++ 10 ∷ []) (ap (λ (t : List ℕ). t ++ 10 ∷ []) is.text) r.1)
-          (took_both a.0.1 b.0.1 c.0.1 (text_of (lines_of_parts (one_line (package_line agent)) 0 b.0.0)) (cert_text agent c.0.0)
+          (took_both a.0.1 b.0.1 c.0.1 (text_of (lines_of_parts (one_line (package_line agent)) 0 b.0.0)) (agents_cert_text agent c.0.0)
           (took_as a.0.1 b.0.1 _ _ (parts_of_lines (one_line (package_line agent)) 0 b.0.0) packages.0.took) cert.took));
       range = record {
         best = is.best_range;

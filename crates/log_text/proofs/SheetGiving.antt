@@ -80,16 +80,16 @@ count_lacks : (agent count : ℕ) → agent ≤ 7 → count ≤ 4294967295 → L
 count_lacks agent count low few = join_lacks 10 (codes "cert" ∷ decimal agent ∷ decimal count ∷ []) refl (lacks 10 (codes "cert") refl, (decimal_lacks 10 agent (lit< tt) (omega (arith, low)), (decimal_lacks 10 count (lit< tt) (omega (arith, few)), tt)))
 
 -- the bytes of a certificate after the line before it
-abbrev cert_text : ℕ → Tree → List ℕ
-cert_text agent tree = text_of (cert_line agent (length (tree_lines tree)) ∷ tree_lines tree)
+abbrev agents_cert_text : ℕ → Tree → List ℕ
+agents_cert_text agent tree = text_of (cert_line agent (length (tree_lines tree)) ∷ tree_lines tree)
 
 cert_given : (agent : ℕ) (tree : Tree) → agent ≤ 7 → IsCertificate tree → length (tree_lines tree) ≤ 4294967295 → length (cert_text tree) ≤ 67108864 → (number : ℕ) (rest : List ℕ) →
-    (m : ℕ) × (cert_in agent (at number (cert_text agent tree ++ rest)) ≡ Ok (tree, at m rest))
+    (m : ℕ) × (cert_in agent (at number (agents_cert_text agent tree ++ rest)) ≡ Ok (tree, at m rest))
 unfolding cert_in
 cert_given agent tree low fits few short number rest =
     let line = cert_line agent (length (tree_lines tree)) in
     let after = cert_text tree ++ rest in
-    let made : cert_text agent tree ++ rest ≡ line ++ 10 ∷ after =
+    let made : agents_cert_text agent tree ++ rest ≡ line ++ 10 ∷ after =
     ap (λ (t : List ℕ). t ++ rest) (flat_map-cons (λ l. l ++ 10 ∷ []) line (tree_lines tree) ∙ append_assoc line (10 ∷ []) (cert_text tree)) ∙ append_assoc line (10 ∷ cert_text tree) rest in
     let here = ap (at number) made ∙ next_at number line after (count_lacks agent (length (tree_lines tree)) low few) in
     let read = count_again agent (length (tree_lines tree)) low few in
@@ -123,14 +123,14 @@ score_gives agent scored is number rest q =
     let range = is.range in
     let packages = lines_of_parts (one_line (package_line agent)) 0 scored.allocation in
     let line = score_line agent scored in
-    let after_packages = cert_text agent scored.tree ++ rest in
+    let after_packages = agents_cert_text agent scored.tree ++ rest in
     let after = text_of packages ++ after_packages in
     let made : text_of (agent_lines agent scored) ++ rest ≡ line ++ 10 ∷ after =
     ap (λ (t : List ℕ). t ++ rest) (flat_map-cons (λ l. l ++ 10 ∷ []) line (packages ++ (cert_line agent (length (tree_lines scored.tree)) ∷ tree_lines scored.tree)))
     ∙ append_assoc (line ++ 10 ∷ []) (text_of (packages ++ (cert_line agent (length (tree_lines scored.tree)) ∷ tree_lines scored.tree))) rest
     ∙ append_assoc line (10 ∷ []) (text_of (packages ++ (cert_line agent (length (tree_lines scored.tree)) ∷ tree_lines scored.tree)) ++ rest)
     ∙ ap (λ (t : List ℕ). line ++ 10 ∷ (t ++ rest)) (flat_map-append (λ l. l ++ 10 ∷ []) packages (cert_line agent (length (tree_lines scored.tree)) ∷ tree_lines scored.tree))
-    ∙ ap (λ (t : List ℕ). line ++ 10 ∷ t) (append_assoc (text_of packages) (cert_text agent scored.tree) rest) in
+    ∙ ap (λ (t : List ℕ). line ++ 10 ∷ t) (append_assoc (text_of packages) (agents_cert_text agent scored.tree) rest) in
     let first = ap (λ (t : List ℕ). line_by (read_score agent) (at number t)) made
     ∙ line_given (read_score agent) number line after (scored.best, scored.cash, scored.short, scored.score) (score_lacks agent scored.best scored.cash scored.short scored.score low range.best range.cash range.short range.score)
     (score_again agent scored.best scored.cash scored.short scored.score low range.best range.cash range.short range.score) in
