@@ -37,6 +37,7 @@ class Module:
         self.aliases: Dict[str, str] = {}
         self.given_again: List[str] = []
         self.definitions: Dict[str, Definition] = {}
+        self.renamed: List[str] = []
         self.parameters: Dict[str, List[str]] = {}
         with open(file, encoding="utf-8") as source:
             lines = source.read().split("\n")
@@ -55,6 +56,8 @@ class Module:
                 self.imports.update(imported(several.group(1), several.group(2)))
             elif whole:
                 self.aliases[whole.group(2)] = whole.group(1)
+            if whole or " as " in line and line.startswith("use "):
+                self.renamed.append(line)
             elif given:
                 self.given_again.append(given.group(1))
 
@@ -136,9 +139,10 @@ class Definitions:
                     self.modules[module.path] = module
         self.crates = set(module.crate for module in self.modules.values()) | set(os.listdir(CRATES))
 
-    def reached(self, start: Iterable[Target]) -> Dict[Target, None]:
+    def reached(self, start: Iterable[Target], stop: Iterable[Target] = ()) -> Dict[Target, None]:
         """All that these names lead to: definitions, types of the code, limits and words of the library, in the
-        order in which they were met. A field or a constructor stands for its type."""
+        order in which they were met. A field or a constructor stands for its type. What the names of `stop` say is
+        not followed."""
         todo, met, found = list(start), set(), {}
         while todo:
             path, name = todo.pop(0)
@@ -151,7 +155,7 @@ class Definitions:
                 found[path, name] = None
             elif name in module.definitions:
                 found[path, name] = None
-                todo += module.targets(name)
+                todo += [] if (path, name) in stop else module.targets(name)
             else:
                 row = re.compile(r"\s+(?:pub )?%s :" % re.escape(name))
                 todo += [(path, owner.name) for owner in module.definitions.values()

@@ -18,7 +18,7 @@ from typing import Dict, Iterable, List, Tuple
 
 from definitions import CRATES, LIMITS, ROOT, Definitions, Module, Target, clauses_of, line_of
 from rules import rules_page
-from reading_words import (APART, CHAPTERS, HOW_TO_READ, IN_WORDS, INTRODUCTION, LIBRARY, NOTATION, SENTENCES,
+from reading_words import (BESIDE, CHAPTERS, HOW_TO_READ, IN_WORDS, INTRODUCTION, LIBRARY, NOTATION, SENTENCES,
                            TRUTHS)
 
 PAGE = os.path.join(ROOT, "docs", "READING.md")
@@ -72,6 +72,23 @@ def chapters_of(definitions: Definitions, rows: Rows) -> Dict[str, List[str]]:
     return chapters
 
 
+def in_order(definitions: Definitions, rows: Rows) -> List[str]:
+    """Modules, each after those that it uses."""
+    order: List[str] = []
+    placed = set()
+
+    def place(path: str) -> None:
+        if path in rows and path not in placed:
+            placed.add(path)
+            for used in definitions.used_modules(path, rows[path]):
+                place(used)
+            order.append(path)
+
+    for path in rows:
+        place(path)
+    return order
+
+
 def line_count(definitions: Definitions, rows: Rows, paths: Iterable[str]) -> int:
     return sum(len(definitions.modules[path].definitions[name].lines) for path in paths for name in rows[path])
 
@@ -114,27 +131,31 @@ def inner_imports(definitions: Definitions, rows: Rows) -> List[str]:
     return wrong
 
 
-def types_table(found: Iterable[Target]) -> Tuple[List[str], List[str]]:
-    """The types of the code that definitions name, with what contracts see of them; and what could not be found."""
-    types, missing = {}, []
+def types_of(found: Iterable[Target]) -> Tuple[Dict[Tuple[str, str], Tuple[str, int]], List[str]]:
+    """The types of the code that definitions name, each with its file and line; and what could not be found."""
+    places, types, missing = {}, {}, []
     for path, _ in found:
         named = re.match(r"(\w+)\.specs\.declared\.(.+?)\.(\w+)(?:\.TheVariants)?$", path)
-        if not named or path == LIMITS or named.group(1) not in os.listdir(CRATES):
-            continue
-        crate, module, name = named.groups()
-        file = os.path.join(CRATES, crate, "src", *module.split(".")) + ".rt"
-        if not os.path.exists(file):
-            file = os.path.join(CRATES, crate, "src", *module.split("."), "mod.rt")
-        types[crate, name] = file
+        if named and path != LIMITS and os.path.isdir(os.path.join(CRATES, named.group(1))):
+            crate, module, name = named.groups()
+            places[crate, name] = os.path.join(CRATES, crate, "src", *module.split(".")) + ".rt"
     for place in SEEN_AS_VALUES:
         crate, module, name = place.split(".")
-        types[crate, name] = os.path.join(CRATES, crate, "src", module + ".rt")
-    text = ["| type | what it is | appears as |", "|---|---|---|"]
-    for (crate, name), file in sorted(types.items()):
-        line = line_of(file, r"pub(?:\(crate\))? (?:struct|enum) %s\b" % name)
+        places[crate, name] = os.path.join(CRATES, crate, "src", module + ".rt")
+    for (crate, name), file in sorted(places.items()):
+        line = line_of(file, r"pub(?:\(crate\))? (?:struct|enum) %s\b" % name) if os.path.exists(file) else None
         if line is None:
             missing.append(f"{os.path.relpath(file, ROOT)} has no type {name}")
-            continue
+        else:
+            types[crate, name] = (file, line)
+    return types, missing
+
+
+def types_table(found: Iterable[Target]) -> Tuple[List[str], List[str]]:
+    """The table of these types, with what contracts see of them; and what could not be found."""
+    types, missing = types_of(found)
+    text = ["| type | what it is | appears as |", "|---|---|---|"]
+    for (crate, name), (file, line) in types.items():
         with open(file, encoding="utf-8") as source:
             lines = source.read().split("\n")
         about, above = [], line - 2
@@ -180,13 +201,18 @@ def outside_tables() -> List[str]:
     return traits + ["", filled(memory), ""] + objects
 
 
+def target_of(full: str) -> Target:
+    """The target of a name that is written as CRATE/MODULE.NAME."""
+    place, name = full.rsplit(".", 1)
+    return place.replace("/", ".specs.", 1), name
+
+
 def sentences_table(definitions: Definitions, rows: Rows) -> Tuple[List[str], List[str]]:
     text, missing = ["| of the headline | said by |", "|---|---|"], []
     for sentence, names in SENTENCES:
         links = []
         for full in names:
-            place, name = full.rsplit(".", 1)
-            path = place.replace("/", ".specs.", 1)
+            path, name = target_of(full)
             if name in rows.get(path, []):
                 links.append(link(name, definitions.modules[path].file, definitions.modules[path].definitions[name].line))
             else:
@@ -205,20 +231,30 @@ def library_words(definitions: Definitions, found: Iterable[Target]) -> Tuple[st
 def page(definitions: Definitions) -> Tuple[str, List[str], str]:
     """The text of READING.md, what is wrong with it, and a line of figures."""
     clauses = clauses_of(TOP, "tac")
-    headline = definitions.reached(clauses["service"] + clauses["cash"])
+    start = clauses["service"] + clauses["cash"]
+    entries = [target_of(name) for _, _, names in BESIDE for name in names]
+    headline = definitions.reached(start, entries)
     everything = definitions.reached([name for names in clauses.values() for name in names])
     rows, all_rows = rows_of(definitions, headline), rows_of(definitions, everything)
-    others = {path: [name for name in names if name not in rows.get(path, [])] for path, names in all_rows.items()}
-    others = {path: names for path, names in others.items() if names}
     chapters = chapters_of(definitions, rows)
     order = [path for paths in chapters.values() for path in paths]
-    core = sum(line_count(definitions, rows, paths) for heading, paths in chapters.items() if heading not in APART)
+    core = line_count(definitions, rows, order) - sum(len(definitions.modules[path].definitions[name].lines) for path, name in entries)
     sentences, faults = sentences_table(definitions, rows)
     types, wrong_types = types_table(headline)
     words, wrong_words = library_words(definitions, everything)
     faults += wrong_types + wrong_words + backward(definitions, rows, order) + inner_imports(definitions, all_rows)
+    listed = {(path, name) for path, names in rows.items() for name in names} - set(entries)
+    beside = []
+    for heading, about, names in BESIDE:
+        part = rows_of(definitions, [target for target in definitions.reached(target_of(name) for name in names) if target not in listed])
+        listed |= {(path, name) for path, names_of in part.items() for name in names_of}
+        beside.append((heading, about, part))
+    others = {path: [name for name in names if (path, name) not in listed] for path, names in all_rows.items()}
+    others = {path: names for path, names in others.items() if names}
+    in_all = core + sum(line_count(definitions, part, part) for _, _, part in beside)
     text = ["# What must be believed", "", filled(INTRODUCTION), "", filled(HOW_TO_READ), "",
-            filled(f"The headline over lines of words takes {core:,} lines of definitions; the chapters {', '.join(f'“{heading}”' for heading in APART)} are beside it."),
+            filled(f"The headline over lines of words takes {core:,} lines of definitions. Beside it are four parts that may be left out at first ({in_all:,} lines with "
+                   "them); the chapters need nothing of what they say: " + "; ".join(heading for heading, _, _ in BESIDE) + "."),
             "", "## The headline, half sentence by half sentence", ""] + sentences
     text += ["", "Three things that the clause does not say in so many words:", "", TRUTHS, "", "## Key", "", "| notation | what it means |", "|---|---|"]
     text += [f"| {sign} | {meaning} |" for sign, meaning in NOTATION]
@@ -231,38 +267,47 @@ def page(definitions: Definitions) -> Tuple[str, List[str], str]:
         paths = chapters[heading]
         if paths:
             text += ["", f"## {heading}", "", filled(f"{about} {line_count(definitions, rows, paths)} lines."), ""] + table(definitions, rows, paths)
-    other_order: List[str] = []
-    placed = set()
-
-    def place(path: str) -> None:
-        if path in others and path not in placed:
-            placed.add(path)
-            for used in definitions.used_modules(path, others[path]):
-                place(used)
-            other_order.append(path)
-
-    for path in others:
-        place(path)
+    for heading, about, part in beside:
+        text += ["", f"## Beside: {heading[0].lower() + heading[1:]}", "", filled(f"{about} {line_count(definitions, part, part)} lines."), ""]
+        text += table(definitions, part, in_order(definitions, part))
     text += ["", "## For the other commands and the codes", "",
              filled("The other clauses of `tac`: what each command writes, and when each exit code comes. "
                     f"{line_count(definitions, others, others):,} lines beside those above."),
-             ""] + table(definitions, others, other_order)
-    figures = f"{core} lines for the headline over lines of words, {line_count(definitions, all_rows, all_rows)} in {len(all_rows)} modules in all"
+             ""] + table(definitions, others, in_order(definitions, others))
+    figures = (f"{core} lines for the headline over lines of words, {in_all} with what is beside it, "
+               f"{line_count(definitions, all_rows, all_rows)} in {len(all_rows)} modules in all")
     return "\n".join(text) + "\n", faults, figures
 
 
 def print_definitions(definitions: Definitions) -> None:
-    """Prints what the headline rests on in the order of the page: each definition with its comment, without imports."""
+    """Prints what the headline rests on in the order of the page: the clauses of `tac`, the types of the code, and each
+    definition with its comment, without the imports that change no name."""
     clauses = clauses_of(TOP, "tac")
-    rows = rows_of(definitions, definitions.reached(clauses["service"] + clauses["cash"]))
+    entries = [target_of(name) for _, _, names in BESIDE for name in names]
+    found = definitions.reached(clauses["service"] + clauses["cash"], entries)
+    rows = rows_of(definitions, found)
+    with open(TOP, encoding="utf-8") as source:
+        text = source.read()
+    print(text[text.index("/// Runs the command"):text.index("\n{\n")])
+    heading = "Types of the code"
+    print(f"\n{'=' * 80}\n{heading}\n{'=' * 80}\n")
+    for file, line in types_of(found)[0].values():
+        with open(file, encoding="utf-8") as source:
+            lines = source.read().split("\n")
+        end = next(place for place in range(line - 1, len(lines)) if lines[place].startswith("}") or lines[place].endswith(";"))
+        print("\n".join(lines[line - 1:end + 1]) + "\n")
     for heading, paths in chapters_of(definitions, rows).items():
         print(f"\n{'=' * 80}\n{heading}\n{'=' * 80}")
         for path in paths:
             module = definitions.modules[path]
-            print(f"\n-- {os.path.relpath(module.file, ROOT)}: {module.about}\n")
+            print("\n".join(["", f"-- {os.path.relpath(module.file, ROOT)}: {module.about}", *module.renamed, ""]))
             with open(module.file, encoding="utf-8") as source:
                 lines = source.read().split("\n")
+            header = None
             for one in sorted((module.definitions[name] for name in rows[path]), key=lambda each: each.line):
+                if module.parameters.get(one.name) not in (None, header):
+                    header = module.parameters[one.name]
+                    print("\n".join(header))
                 above = one.line - 2
                 while above >= 0 and lines[above].lstrip().startswith("--"):
                     above -= 1

@@ -26,6 +26,10 @@ TRUTHS = """\
 - **Reading ahead, or answering late.** No clause forbids it in words, and a body that did so would
   not meet them: a failed write cuts the turns at its line, and after a failed read every whole line
   must have been answered. Any read or write may fail, so each reply goes out before the next read.
+- **When the clock makes its calls.** The clause `service` says that they are the schedule's, good by
+  good, and that the ticks were waited for; that a tick's calls are made after its wait and before
+  the next one is tested (`docs/PROOFS.md`, "What is not proved"). Their order across the goods is a
+  clause of `run_clock` (`crates/clock_events`), and not of `tac`.
 - **How far a reading of cash may lag.** The desk's clause bounds it, and not that of `tac`: every desk
   has posted what is due before its call returns. A body that appended the clock's posts at the end
   would meet the clauses of `tac`."""
@@ -71,15 +75,15 @@ LIBRARY: Dict[str, str] = {
     "slice_split": "the parts between the items for which p says yes", "decimal": "a number in decimal digits",
     "signed_decimal": "a whole number in decimal digits, with `-` below 0", "bytes_eq": "equal bytes, computed", "unsigned_abs": "a number without its sign",
     "list_any": "p says yes of some item", "list_all": "p says yes of each item", "count_by": "of how many items p says yes", "sum_by": "the sum of f over the items",
-    "fold": "f over the items in order, from a first value", "All": "P holds of each item", "AllByRecursion": "P holds of each item",
-    "AllZip": "R holds of the items of two lists, place by place", "Contains": "the list has the item", "replicate": "n times the same item",
+    "fold": "f over the items in order, from a first value: `fold f a (x ∷ xs)` is `fold f (f a x) xs`", "All": "P holds of each item", "AllByRecursion": "P holds of each item",
+    "AllZip": "R holds of the items of two lists of one length, place by place", "Contains": "the list has the item", "replicate": "n times the same item",
     "take": "the first n items", "drop": "what follows the first n items", "reverse": "the items backwards", "zip": "pairs, place by place",
     "enumerate_from": "each item with its number, from n on", "join_with_byte": "lists with a byte between them", "position": "the first place where p says yes",
     "find": "the first item for which p says yes", "option_map": "f of the value, if there is one", "option_and_then": "f of the value, if both are there",
     "option_or": "the first value that is there", "get_or": "the item of a list at a place, or the given value past the end; of an optional value: it, or the given one", "IfSome": "P holds of the value, if there is one",
     "IsTrue": "the computed answer is yes", "MatchBool": "P where the answer is yes, else Q", "MatchOption": "Q of the value, if there is one, else P", "MatchResult": "P of a result, Q of an error",
     "all_ascii_digits": "each byte is a digit", "int_div_euclid": "the quotient whose remainder is not negative", "is_utf8": "the bytes are text in UTF-8",
-    "Data": "a JSON value", "Members": "the members of a JSON object", "Items": "the items of a JSON array", "read": "the JSON value of a text, by `serde_json`",
+    "Data": "a JSON value", "Members": "the members of a JSON object, repeated keys too", "Items": "the items of a JSON array", "read": "the JSON value of a text, by `serde_json`",
     "as_object": "the members, of an object", "as_array": "the items, of an array", "as_str": "the bytes, of a string", "as_number": "the number, of a number",
     "as_i64": "the whole number of 64 bits, of a number that is one", "get_member": "the last value of a key", "member": "one member before others",
     "no_members": "no member", "item": "one item before others", "no_items": "no item", "string_bytes": "the bytes of a string", "string_len": "how many bytes",
@@ -124,50 +128,50 @@ class Chapter(NamedTuple):
     places: List[str]
 
 
-GAME_FORM = "The form of a game file"
-CERTIFICATES = "Certificates"
-JSON = "Lines of JSON"
-SOUND = "That the log is sound, as `audit` has it"
-
 CHAPTERS = [
     Chapter("Goods, bids, calls and replies", "What is numbered how, what a bid is, and the call and reply of an entry.", ["tac_base"]),
     Chapter("The rules of the auctions", "Over whole histories: which units stand, each refusal, what trades, and the entry that is due.", ["auction_rules"]),
     Chapter("The cash book", "Posts and readings of cash, and which posts are due.", ["trade_ledger"]),
-    Chapter(GAME_FORM, "How the text of a game file is read. Whoever believes that the file says what `tac show` prints of it may leave this out: its text is proved to "
-            "be read as that game.", ["text_forms", "game_text"]),
-    Chapter("The schedule", "The clock's calls, as a function of the game.", ["game_text.Schedule", "game_text.OneAgent"]),
+    Chapter("The game file", "What it says, as a value; and the clock's calls, a function of it.", ["text_forms", "game_text"]),
     Chapter("The auctions of a game", "28 auctions with their setups, and a caller's part of a history.", ["auction_core", "turn_lock", "floor"]),
     Chapter("Packages and the best total", "What a client gets, what it uses, what it is worth, and the best that eight can have.", ["packages"]),
-    Chapter(CERTIFICATES, "Their lines in the log, and when they hold. The scores do not rest on them: whoever believes the best total needs none.",
-            ["bound_cert", "packages.Listing", "packages.Bounds", "packages.Features"]),
-    Chapter("Scores", "What an agent has at the end, and its score.", ["allocator", "score_sheet"]),
-    Chapter("Requests and replies as lines", "What a line asks, and the line of a reply.", ["bid_strings", "line_protocol"]),
-    Chapter(JSON, "For `serve .. json` alone.", ["json_dialect"]),
+    Chapter("Scores", "What an agent has at the end, and its score.", ["bound_cert", "allocator", "score_sheet"]),
+    Chapter("Requests and replies as lines", "What a line asks, and the line of a reply.", ["bid_strings", "line_protocol", "json_dialect"]),
     Chapter("The outside", "What is known of files, output, links and the ticker, before a call and after it.", ["tac_io"]),
     Chapter("The session of a link", "Seats and first lines; what an agent's lines ask, how each is answered, and why the session ends.", ["agent_gate"]),
     Chapter("A game over links", "Who is admitted, what was played, and what became of each link.", ["clock_events", "game_run"]),
     Chapter("The log", "The text that is written.", ["log_text", "game_log"]),
     Chapter("Outcomes and codes", "What a command may write, and the code that it answers; and the clause `cash`.", ["tac_commands"]),
-    Chapter(SOUND, "The same log, judged by the definition of `audit`.", ["log_reader", "tac_base.Ranges", "auction_core.Ranges", "log_text.LoggedGames", "line_protocol.Ranges", "game_log.LogRanges", "tac_commands.SoundTexts", "tacd.SoundLogs"]),
     Chapter("The command `serve`", "The clause `service` itself.", ["tacd"]),
 ]
 
-APART = [GAME_FORM, CERTIFICATES, JSON, SOUND]  # chapters beside the headline over lines of words
+# Parts of the promise that a reader may leave out at first: a heading, why, and the names behind which they begin, as
+# CRATE/MODULE.NAME. What these names say is not needed to read the chapters.
+BESIDE: List[Tuple[str, str, List[str]]] = [
+    ("How the text of a game file is read", "Whoever believes that a file says what `tac show` prints of it may leave this out: that text is proved to be read as that game.",
+     ["game_text/Games.game_of"]),
+    ("When a certificate holds, and its lines", "The scores do not rest on certificates: whoever believes the best total needs none.",
+     ["bound_cert/Trees.IsCertificate", "bound_cert/Certificate.holds", "bound_cert/Texts.tree_lines"]),
+    ("Lines of JSON", "For `serve .. json` alone.", ["json_dialect/JsonRequests.asks_json", "json_dialect/JsonReplies.json_text"]),
+    ("That the log is sound, as `audit` has it", "The same log, judged by the definition of `audit`.", ["tacd/SoundLogs.ReportsSoundly"]),
+]
 
 # The headline, half sentence by half sentence: what says it, as CRATE/MODULE.NAME.
 SENTENCES: List[Tuple[str, List[str]]] = [
     ("When `serve` ends with code 0, ..", ["tacd/Service.Serves", "tacd/Service.ServeAllows", "tacd/Service.ServesGame", "tac_commands/Reporting.Reports"]),
     ("the log written ..", ["tacd/Service.PlayedAllows", "tacd/Service.IsLogOf", "log_text/SheetText.log_text"]),
-    ("holds 29 legal one-thread histories;", ["game_run/PlayedGame.IsLegalGame", "auction_rules/Legal.Legal", "trade_ledger/CashHistory.IsLegalCash"]),
-    ("in each, every agent's calls are those its link asked,", ["game_run/Outcomes.IsPlayedOver", "game_run/LinkRuns.IsSeated", "agent_gate/Transcript.IsTranscript",
+    ("holds 29 legal one-thread histories;", ["game_run/PlayedGame.IsLegalGame", "auction_rules/Legal.Legal", "auction_rules/Legal.trades_by", "auction_rules/Refusals.refusal",
+                                              "trade_ledger/CashHistory.IsLegalCash"]),
+    ("(who has a seat: the links taken, and the verdict on each)", ["game_run/Admission.AreAllTaken", "game_run/Admission.AreAdmitted", "game_run/Admission.CameTo"]),
+    ("in each, every agent's calls are those its link asked,", ["agent_gate/Served.EndsBy", "game_run/Outcomes.IsPlayedOver", "game_run/LinkRuns.IsSeated", "agent_gate/Transcript.IsTranscript",
                                                                "agent_gate/Served.IsServed", "agent_gate/Items.AreItems", "line_protocol/Requests.request_of"]),
     ("each once,", ["agent_gate/Transcript.IsTranscript", "turn_lock/Part.part", "agent_gate/Turns.made_at"]),
     ("after all it had seen,", ["agent_gate/Turns.AreLawful", "agent_gate/Turns.IsNotBehind", "turn_lock/Notes.AreNotes"]),
-    ("with the replies it got,", ["agent_gate/Served.EndsBy", "agent_gate/Served.pieces_of", "line_protocol/Replies.said_text"]),
+    ("with the replies it got,", ["agent_gate/Served.pieces_of", "agent_gate/Served.SendsAll", "agent_gate/Served.IsCutOff", "line_protocol/Replies.said_text"]),
     ("and the clock's are the game file's;", ["game_run/PlayedGame.IsPlayedBy", "game_text/Schedule.clock_calls", "clock_events/Clocking.WaitsForAll"]),
-    ("goods and cash equal the trades recorded;", ["trade_ledger/Posts.Matched", "score_sheet/Settlement.settlement_of", "auction_rules/Effects.holding",
+    ("goods and cash equal the trades recorded;", ["trade_ledger/Posts.Matched", "score_sheet/Settlement.settlement_of", "score_sheet/Settlement.cash_gained", "auction_rules/Effects.holding",
                                                    "auction_rules/Effects.dollars", "tac_commands/Cash.IsCashOfPosts"]),
     ("each score is the greatest utility over all feasible allocations,", ["score_sheet/Sheets.IsSheet", "score_sheet/Sheets.IsScored", "allocator/Solutions.IsSolution",
                                                                            "packages/BestTotal.IsBest", "packages/BestTotal.IsFeasible", "packages/Packages.utility_of"]),
-    ("less costs and penalties.", ["score_sheet/Score.score_of", "score_sheet/Score.short_of"]),
+    ("less costs and penalties.", ["score_sheet/Score.score_of", "score_sheet/Score.short_of", "score_sheet/Score.lacking"]),
 ]
