@@ -15,11 +15,13 @@ use crate::readings::false_reading;
 use crate::replaying::{Replays, replay_all};
 use crate::scheduling::off_schedule;
 use crate::scores::false_score;
+use auction_core::Closed;
 use game_text::Game;
 use log_reader::Log;
-use score_sheet::{Accounts, settle_auctions};
+use score_sheet::{Accounts, settle};
 use std::alloc::Global;
 use tac_base::{Memory, Nets};
+use trade_ledger::CashBook;
 
 /// The first flaw of the clock's calls.
 fn clock_flaw(alloc: Global, game: &Game, log: &Log) -> Result<Option<Flaw>, Memory>
@@ -99,7 +101,10 @@ pub fn audit_log(alloc: Global, game: &Game, log: &Log) -> Result<Finding, Memor
     if let Some(flaw) = post_flaw(alloc, log, &earned)? {
         return Ok(Finding::Unsound(flaw));
     }
-    let accounts = settle_auctions(&auctions);
+    // Settling only reads the auctions.
+    let cash = CashBook::begin(alloc)?;
+    let closed = Closed { auctions, cash };
+    let accounts = settle(&closed);
     match last_flaw(game, log, &accounts) {
         Some(flaw) => Ok(Finding::Unsound(flaw)),
         None => Ok(Finding::Sound),

@@ -1,7 +1,6 @@
-use Rattle.std.proofs.Common.{◌∙◌, List, ap, subst, arith, length, None, map}
+use Rattle.std.proofs.Common.{◌∙◌, ap, subst, arith, None, map}
 use Rattle.auction_core.specs.Auctions.{AuctionHistory}
 use Rattle.score_sheet.specs.Settlement.{settlement_of}
-use Rattle.score_sheet.proofs.Dollars.{twenty_eight}
 use Rattle.log_audit.specs.declared.findings.Flaw.TheVariants as flaws
 use Rattle.log_audit.specs.Parts.{IsFirstFrom, HasNoneFrom}
 use Rattle.log_audit.specs.Replays.{AreReplays, AreReplayed, AreUnfair}
@@ -52,18 +51,17 @@ returns-in-Some-2-clause-flaw c =
 pub returns-in-Some-2-clause-sound : goal.returns-in-Some-2-clause-sound
 returns-in-Some-2-clause-sound c = unsound_is c.args.game.now c.args.log.now c.head-head.ensures.logged c.in-Some-2.flaw (returns-in-Some-2-clause-flaw c)
 
-pub settle_auctions-requires : goal.settle_auctions-requires
-settle_auctions-requires c =
+pub invariant_of-closed : goal.invariant_of-closed
+invariant_of-closed c =
     let game = c.args.game.now in let log = c.args.log.now in
     let replayed : AreReplayed game log c.in-Fair.auctions.items c.in-Fair.nets.items = subst (AreReplays game log) c.in-Fair.is c.in_ok-auctions.ensures in
-    ap (λ (xs : List AuctionHistory). length xs) c.deref.ensures.value
-    ∙ twenty_eight c.in-Fair.auctions.items (ap (map (λ (a : AuctionHistory). a.setup.good)) replayed.auctions_are ∙ goods_of game log c.head-head.ensures.logged.goods)
+    ap (map (λ (a : AuctionHistory). a.setup.good)) replayed.auctions_are ∙ goods_of game log c.head-head.ensures.logged.goods
 
 pub last_flaw-requires : goal.last_flaw-requires
 last_flaw-requires c =
     let game = c.args.game.now in let log = c.args.log.now in
     let replayed : AreReplayed game log c.in-Fair.auctions.items c.in-Fair.nets.items = subst (AreReplays game log) c.in-Fair.is c.in_ok-auctions.ensures in
-    c.settle_auctions-accounts.ensures ∙ ap settlement_of (c.deref.ensures.value ∙ replayed.auctions_are)
+    c.settle-accounts.ensures ∙ ap settlement_of replayed.auctions_are
 
 pub returns-in-Some-last_flaw-clause-flaw : goal.returns-in-Some-last_flaw-clause-flaw
 returns-in-Some-last_flaw-clause-flaw c =
