@@ -8,4 +8,4 @@ pub returns-in-Ok : goal.returns-in-Ok
 returns-in-Ok g c =
     let played = c.args.played.now in
     writes_both _ _ played.replies.items (play_part Play played.closed) _ _ _ c.write_play_part.result c.as_slice.ensures.value refl
-    (c.in-Ok.ensures.whole, c.in-Ok.ensures.cause) c.write_play_part.ensures.text
+    c.in-Ok.ensures c.write_play_part.ensures.text
