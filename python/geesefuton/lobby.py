@@ -135,7 +135,7 @@ class Lobby:
         Raises:
             LobbyError: The journal cannot be made.
         """
-        self._emit = on_event
+        self._emit, status = on_event, STOPPED
         with contextlib.ExitStack() as stack:
             stack.callback(self._wake.close)
             stack.callback(self._waker.close)
@@ -148,7 +148,7 @@ class Lobby:
             relay = Relay(self.words, self._listener, self._emit, journal, self.settings.patience,
                           self.settings.silence)
             stack.callback(relay.close)
-            relay.attend(self._wake, lambda: bool(self._wake.recv(4096)))
+            relay.attend(self._wake, self._woken)
             reader = Orders(self.settings.orders, self._orders)
             reader.look(relay)
             if journal and self.settings.page is not None:
@@ -157,13 +157,17 @@ class Lobby:
             if self._page is not None and not self._is_stopped:
                 with contextlib.suppress(subprocess.TimeoutExpired):
                     self._page.wait(SHOWING)
-            return status
+        return status
 
     def interrupt(self) -> None:
         """Ends the game before its time. It may be called by a signal handler or a thread."""
         self._is_stopped = True
         with contextlib.suppress(OSError):  # it has ended already
             self._waker.send(b".")
+
+    def _woken(self) -> None:
+        with contextlib.suppress(BlockingIOError):
+            self._wake.recv(4096)
 
     def _warn(self, text: str) -> None:
         self._emit(events.Warned(time.time(), text))

@@ -344,8 +344,8 @@ class Relay:
     def _give(self, seat: Seat, link: OuterLink, again: bool) -> None:
         if self.journal:
             self.journal.timed(here=seat.number, **{"from": link.source})
-        kind = events.Rejoined if again else events.Arrived
-        self._emit(kind(time.time(), seat.number, seat.word, link.source))
+        what = (time.time(), seat.number, seat.word, link.source)
+        self._emit(events.Rejoined(*what) if again else events.Arrived(*what))
         if self.sessions:
             session = self.sessions[seat.number]
             session.lines += link.said.count(b"\n")
