@@ -218,19 +218,22 @@ class Relay:
         try:
             link, where = self._listener.accept()
         except (BlockingIOError, ConnectionError):
-            return
+            return None
         except OSError:  # no more files may be opened
             self.forget(self._listener)
             self._deaf_until = time.monotonic() + 0.5
-            return
+            return None
         strangers = [other for other in self._links.values()
                      if other.seat is None and other.parting is None]
         if len(strangers) >= MOST_STRANGERS:
             self._warn(f"{strangers[0].source} is let go: {MOST_STRANGERS} links have sent no line")
             self._drop(strangers[0])
-        guest = OuterLink(next(self._numbers), link, str(where[0]).removeprefix("::ffff:"))
+        try:
+            guest = OuterLink(next(self._numbers), link, str(where[0]).removeprefix("::ffff:"))
+        except OSError:  # it has gone already
+            return link.close()
         self._links[guest.number] = guest
-        self._watch(guest)
+        return self._watch(guest)
 
     def _read(self, link: OuterLink | Session) -> None:
         if isinstance(link, Session):
