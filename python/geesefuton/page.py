@@ -131,7 +131,7 @@ def _spending(game: Game, log: Log, events: Sequence[Event]) -> str:
         if event.agent is not None and event.units:
             sold = event.units < 0
             sums[event.agent, kind_of[event.good], sold] += abs(event.units) * event.dollars
-    rows = []
+    rows: List[List[Cell]] = []
     for agent in [score.agent for score in _order(log)]:
         paid = [sums[agent, kind, False] for kind, _ in KINDS]
         earned = sums[agent, "tickets", True]
@@ -157,14 +157,14 @@ def _tickets(events: Sequence[Event]) -> str:
             + table(["ticket", "traded", "lowest", "mean", "highest"], rows, (0,)))
 
 
-Path2 = List[Tuple[int, int]]  # ticks and dollars
+PricePath = List[Tuple[int, int]]  # ticks and dollars
 
 
 def _round_up(number: int, step: int) -> int:
     return -(-number // step) * step
 
 
-def _chart(title: str, points: Path2, low: int, high: int, steps: bool) -> str:
+def _chart(title: str, points: PricePath, low: int, high: int, steps: bool) -> str:
     """A small chart of one price over the ticks, with its labels in HTML, so that they keep their
     size."""
     def y(dollars: int) -> float:
@@ -185,7 +185,7 @@ def _chart(title: str, points: Path2, low: int, high: int, steps: bool) -> str:
 
 
 def _price_rows(game: Game, events: Sequence[Event]) -> Iterator[str]:
-    paths: Dict[int, Path2] = defaultdict(list)
+    paths: Dict[int, PricePath] = defaultdict(list)
     for event in events:
         if event.what in ("price", "close") and event.tick is not None:
             paths[event.good].append((event.tick, event.dollars))
