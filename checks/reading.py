@@ -1,301 +1,255 @@
 #!/usr/bin/env python3
-"""The page of what must be believed: docs/READING.md.
+"""The page of what must be believed, docs/READING.md, and the table of the rules, docs/RULES.md.
 
-    checks/reading.py            compares the page with what the clauses of `tac` reach, and fails if they differ
-    checks/reading.py --write    writes the page
+    checks/reading.py            compares the pages with the sources, and fails if they differ
+    checks/reading.py --write    writes the pages
 
-From the clauses of `tac` (crates/tacd/src/top.rt) it follows every name through the modules of specs/ and counts the lines of the
-definitions that it meets, without comments, imports and blank lines. It also fails if a module with such a definition imports a module
-that has none: a reader would then open a file that says nothing of what is promised.
+From the clauses of `tac` (crates/tacd/src/top.rt) it follows every name through the modules of `specs/`. It fails if
+a definition is used before its row stands, if a word of the library has no explanation, or if a listed module imports
+one that is not listed: a reader would then open a file that says nothing of what is promised.
 """
+
 import argparse
-import collections
 import os
 import re
 import sys
+from typing import Dict, Iterable, List, Tuple
 
-ROOT = os.path.dirname(os.path.dirname(os.path.abspath(__file__)))
+from definitions import CRATES, LIMITS, ROOT, Definitions, Target, clauses_of, line_of
+from rules import rules_page
+from reading_words import APART, CHAPTERS, HOW_TO_READ, INTRODUCTION, LIBRARY, NOTATION, SENTENCES, TRUTHS
+
 PAGE = os.path.join(ROOT, "docs", "READING.md")
-LIMITS = "tac_base.specs.declared.limits.TheConstants"
-NAME = re.compile(r"[A-Za-z_][A-Za-z0-9_']*(?:\.[A-Za-z_][A-Za-z0-9_']*)*")
-WORDS = r"(?:(?:pub|abbrev|unfoldable) )*"
-# The parts of the promise that need modules of their own: each with its heading and these crates and modules.
-PARTS = [
-    ("The certificates of the scores: their lines in the log, and when they hold", ["bound_cert", "packages.Bounds", "packages.Features", "packages.Listing"]),
-    ("For `serve .. json` alone", ["json_dialect"]),
-    ("That the log is sound, as `audit` has it", ["log_reader", "log_text.LoggedGames", "line_protocol.Ranges", "game_log.LogRanges", "tac_commands.SoundTexts", "tacd.SoundLogs"]),
-]
+RULES_PAGE = os.path.join(ROOT, "docs", "RULES.md")
+TOP = os.path.join(CRATES, "tacd", "src", "top.rt")
+Rows = Dict[str, List[str]]  # the names that are used of each module
 
 
-class Module:
-    """A module of specs/: its imports, and the lines of each of its definitions."""
-
-    def __init__(self, crate, name, path):
-        self.crate, self.name, self.path = crate, name, path
-        self.imports, self.aliases, self.again = {}, {}, []
-        self.definitions = collections.OrderedDict()
-        self.parameters = {}
-        self.about = ""
-        with open(path, encoding="utf-8") as file:
-            lines = file.read().split("\n")
-        self.read_imports(lines)
-        self.read_about(lines)
-        self.read_definitions(lines)
-
-    def read_imports(self, lines):
-        for line in lines:
-            several = re.match(r"use Rattle\.([\w.]+)\.\{(.*)\}$", line)
-            whole = re.match(r"use Rattle\.([\w.]+) as (\w+)$", line)
-            given = re.match(r"pub use Rattle\.([\w.]+)$", line)
-            if several:
-                for item in several.group(2).split(","):
-                    names = [name.strip() for name in item.split(" as ")]
-                    self.imports[names[-1]] = (several.group(1), names[0])
-            elif whole:
-                self.aliases[whole.group(2)] = whole.group(1)
-            elif given:
-                self.again.append(given.group(1))
-
-    def read_about(self, lines):
-        about = []
-        for line in lines:
-            if not line.startswith("--"):
-                break
-            about.append(line[2:].strip())
-        self.about = " ".join(about)
-
-    def read_definitions(self, lines):
-        level, current, block = 0, None, None
-        for line in lines:
-            text, depth = line.strip(), len(line) - len(line.lstrip())
-            if not text or text.startswith(("--", "use ", "pub use ", "pub mod ", "infix")):
-                continue
-            if depth == 0 and text.startswith("module "):
-                block, level, current = [line], 2, None
-                continue
-            if depth == 0:
-                level, block = 0, None
-            if text in ("mutual", "abbrev mutual"):
-                level, current = depth + 2, None
-                continue
-            if depth == level:
-                named = re.match(WORDS + r"(?:record|data) ([^\s:({]+)", text) or re.match(WORDS + r"([^\s(){}:]+) :", text)
-                equation = re.match(r"[^\s(){}]+", text)
-                if named:
-                    current = named.group(1)
-                elif equation and equation.group(0) in self.definitions:
-                    current = equation.group(0)
-                if block and current not in self.parameters and current is not None:
-                    self.parameters[current] = block
-            if current is None:
-                if block is not None:
-                    block.append(line)
-                continue
-            self.definitions.setdefault(current, []).append(line)
-
-    def key(self):
-        return self.crate + "." + self.name
-
-    def target(self, word):
-        """The module and the name that a word of this module stands for, if it is imported or its own."""
-        parts = word.split(".")
-        if parts[0] in self.imports:
-            return self.imports[parts[0]]
-        if parts[0] in self.aliases and len(parts) > 1:
-            return (self.aliases[parts[0]], parts[1])
-        if parts[0] in self.definitions:
-            return (self.crate + ".specs." + self.name, parts[0])
-        return None
+def link(name: str, file: str, line: int) -> str:
+    return f"[`{name}`](../{os.path.relpath(file, ROOT)}#L{line})"
 
 
-def read_modules():
-    modules, given = {}, {}
-    for folder, _, files in os.walk(os.path.join(ROOT, "crates")):
-        inside = os.path.relpath(folder, os.path.join(ROOT, "crates")).split(os.sep)
-        if len(inside) < 2 or inside[1] != "specs" or "declared" in inside:
-            continue
-        for file in sorted(files):
-            if not file.endswith(".antt"):
-                continue
-            name = ".".join(inside[2:] + [file[:-5]])
-            module = Module(inside[0], name, os.path.join(folder, file))
-            if file == "Lib.antt":
-                for path in module.again:
-                    given[inside[0] + ".specs." + path.split(".")[-1]] = path
-            else:
-                modules[inside[0] + ".specs." + name] = module
-    return modules, given
-
-
-def clauses_of_tac():
-    """Each clause of `tac` with the names that it imports."""
-    path = os.path.join(ROOT, "crates", "tacd", "src", "top.rt")
-    with open(path, encoding="utf-8") as file:
-        text = file.read()
-    imports = {}
-    for several in re.finditer(r"ghost use Rattle\.([\w.]+)\.\{(.*?)\};", text):
-        for item in several.group(2).split(","):
-            names = [name.strip() for name in item.split(" as ")]
-            imports[names[-1]] = (several.group(1), names[0])
-    clauses = collections.OrderedDict()
-    body = text[text.index("pub fn tac"):]
-    for clause in re.finditer(r"(?:ensures|requires) (\w+) \{(.*?)\}\n(?=    ensures|    requires|    //|\{)", body, re.S):
-        words = [word.split(".")[0] for word in NAME.findall(clause.group(2))]
-        clauses[clause.group(1)] = [imports[word] for word in words if word in imports]
-    return clauses
-
-
-def reached(modules, given, start):
-    """The definitions that these names lead to, as a map from modules to the definitions' names."""
-    found, todo, seen = collections.OrderedDict(), list(start), set()
-    while todo:
-        path, name = todo.pop(0)
-        path = given.get(path, path)
-        if (path, name) in seen:
-            continue
-        seen.add((path, name))
-        module = modules.get(path)
-        if module is None:
-            continue
-        if name not in module.definitions:
-            # A constructor or a field: its type is what is meant.
-            field = re.compile(r"\s+(?:pub )?%s :" % re.escape(name))
-            todo += [(path, owner) for owner, lines in module.definitions.items() if any(field.match(line) for line in lines[1:])]
-            continue
-        found.setdefault(path, []).append(name)
-        lines = module.definitions[name] + module.parameters.get(name, [])
-        for word in NAME.findall("\n".join(lines)):
-            target = module.target(word)
-            if target:
-                todo.append(target)
-    return found
-
-
-def limits_in(modules, found, start):
-    """The limits that these definitions or the clauses themselves name: each with its value and what it is."""
-    named = set(name for path, name in start if path == LIMITS)
-    for path, names in found.items():
-        for name in names:
-            targets = [modules[path].target(word) for word in NAME.findall("\n".join(modules[path].definitions[name]))]
-            named |= set(target[1] for target in targets if target and target[0] == LIMITS)
-    with open(os.path.join(ROOT, "crates", "tac_base", "src", "limits.rt"), encoding="utf-8") as file:
-        all_of_them = re.findall(r"/// (.*)\npub const (\w+): \w+ = (\w+)(?: as \w+)?;", file.read())
-    rows = ["| limit | value | what it is |", "|---|---|---|"]
-    return rows + ["| `%s` | %s | %s |" % (name, value.replace("_", ",") if value[0].isdigit() else "`%s`" % value, about) for about, name, value in all_of_them if name in named]
-
-
-def line_count(modules, found):
-    return sum(len(modules[path].definitions[name]) for path, names in found.items() for name in names)
-
-
-def crate_order():
-    """The crates in the order of the table of docs/ARCHITECTURE.md, in which each stands on those before it."""
-    order = []
-    with open(os.path.join(ROOT, "docs", "ARCHITECTURE.md"), encoding="utf-8") as file:
-        for line in file:
-            row = re.match(r"\| (`\w+`(?:, `\w+`)*) \|", line)
-            if row:
-                order += re.findall(r"`(\w+)`", row.group(1))
-    return order
-
-
-def part_of(module):
-    for heading, places in PARTS:
-        if module.crate in places or module.key() in places:
-            return heading
-    return None
-
-
-def table(modules, found, order):
-    rows = ["| module | lines | what it says |", "|---|---|---|"]
-    for path in sorted(found, key=lambda path: (order.index(modules[path].crate), list(found).index(path) * -1)):
-        module = modules[path]
-        count = sum(len(module.definitions[name]) for name in found[path])
-        link = "../" + os.path.relpath(module.path, ROOT)
-        rows.append("| [`%s/%s`](%s) | %d | %s |" % (module.crate, module.name, link, count, module.about))
+def rows_of(definitions: Definitions, found: Iterable[Target]) -> Rows:
+    rows: Rows = {}
+    for path, name in found:
+        if path in definitions.modules:
+            rows.setdefault(path, []).append(name)
     return rows
 
 
-def page(modules, given, clauses):
-    order = crate_order()
-    headline = reached(modules, given, clauses["service"])
-    everything = reached(modules, given, [name for names in clauses.values() for name in names])
-    others = collections.OrderedDict()
-    for path, names in everything.items():
-        new = [name for name in names if name not in headline.get(path, [])]
-        if new:
-            others[path] = new
-    chosen = collections.OrderedDict((heading, collections.OrderedDict()) for heading in [None] + [part[0] for part in PARTS])
-    for path, names in headline.items():
-        chosen[part_of(modules[path])][path] = names
-    core = chosen.pop(None)
-    text = [
-        "# What must be believed",
-        "",
-        "A proof says that the code meets its contract. Whether the contract says what a game is, a reader has to judge. This page lists every module of",
-        "definitions that the top call `tac` (`crates/tacd/src/top.rt`) rests on, with the number of lines that it uses of each, without comments and imports.",
-        "They use types of the code in `src/`, whose imports contain `declared`, and names of the toolchain's libraries, which are not counted;",
-        "no other module of `specs/` and no proof has to be read to know what is promised. The README says what else has to be trusted. Each module",
-        "begins with a sentence on what it says, which is repeated here. Modules lower in the table use those above them; within a crate the order is rough.",
-        "",
-        "`checks/reading.py --write` makes the page. Without `--write` it runs after the gate, compares the page with the sources, and fails if a module listed",
-        "here imports one that is not.",
-        "",
-        "## A game over links, in lines of words",
-        "",
-        "The clause `service`: which game was played, that its 28 auctions and its cash followed the rules, that each agent's calls are those that its link asked,",
-        "that each score is the greatest there is, and which bytes were written, except for the lines of certificates. %d lines in %d modules." % (line_count(modules, core), len(core)),
-        "",
-    ]
-    text += table(modules, core, order)
-    limits = limits_in(modules, headline, clauses["service"])
-    text += ["", "The limits that these definitions and those of the next three headings name, from `crates/tac_base/src/limits.rt`:", ""] + limits
-    for heading, found in chosen.items():
-        if found:
-            text += ["", "## " + heading, "", "%d lines in %d modules." % (line_count(modules, found), len(found)), ""]
-            text += table(modules, found, order)
-    text += [
-        "", "## For the other commands and the codes", "",
-        "The other clauses of `tac`: what each command writes, and when each exit code comes. %d lines in %d modules, beside those above." % (line_count(modules, others), len(others)),
-        "",
-    ]
-    text += table(modules, others, order)
-    return "\n".join(text) + "\n", everything
+def chapters_of(definitions: Definitions, rows: Rows) -> Dict[str, List[str]]:
+    """The modules of each chapter: the chapter's own, each after those that it uses."""
+    chapters: Dict[str, List[str]] = {}
+    placed = set()
+
+    def place(path: str, chapter: List[str]) -> None:
+        if path in placed or path not in rows:
+            return
+        placed.add(path)
+        for used in definitions.used_modules(path, rows[path]):
+            place(used, chapter)
+        chapter.append(path)
+
+    named = {each: heading for heading, _, places in CHAPTERS for each in places if "." in each}
+    for heading, _, places in CHAPTERS:
+        chapter = chapters.setdefault(heading, [])
+        for path, module in sorted(definitions.modules.items()):
+            full = f"{module.crate}.{module.name}"
+            if named.get(full) == heading or (module.crate in places and full not in named):
+                place(path, chapter)
+    for path in rows:
+        place(path, chapters[CHAPTERS[-1].heading])
+    return chapters
 
 
-def inner_imports(modules, given, everything):
-    """The imports of a listed module that lead to a module of specs/ that is not listed."""
+def line_count(definitions: Definitions, rows: Rows, paths: Iterable[str]) -> int:
+    return sum(len(definitions.modules[path].definitions[name].lines) for path in paths for name in rows[path])
+
+
+def table(definitions: Definitions, rows: Rows, paths: Iterable[str]) -> List[str]:
+    text = ["| module | lines | what it says | definitions |", "|---|---|---|---|"]
+    for path in paths:
+        module = definitions.modules[path]
+        named = sorted((module.definitions[name] for name in rows[path]), key=lambda one: one.line)
+        links = " · ".join(link(one.name, module.file, one.line) for one in named)
+        text.append(f"| `{module.crate}/{module.name}` | {line_count(definitions, rows, [path])} | {module.about} | {links} |")
+    return text
+
+
+def backward(definitions: Definitions, rows: Rows, order: List[str]) -> List[str]:
+    """The modules that use one whose row stands below theirs."""
+    return [f"{path} uses {used}, whose row stands below"
+            for place, path in enumerate(order) for used in definitions.used_modules(path, rows[path])
+            if used in order[place + 1:]]
+
+
+def inner_imports(definitions: Definitions, rows: Rows) -> List[str]:
     wrong = []
-    for path in everything:
-        module = modules[path]
-        targets = [target[0] for target in module.imports.values()] + list(module.aliases.values())
-        for target in sorted(set(given.get(target, target) for target in targets)):
-            if target in modules and target not in everything:
-                wrong.append("%s imports %s, which says nothing of what is promised" % (module.key(), modules[target].key()))
+    for path in rows:
+        module = definitions.modules[path]
+        targets = {target[0] for target in module.imports.values()} | set(module.aliases.values())
+        for target in sorted(definitions.given.get(target, target) for target in targets):
+            if target in definitions.modules and target not in rows:
+                wrong.append(f"{path} imports {target}, which says nothing of what is promised")
     return wrong
 
 
-def main():
+def types_table(found: Iterable[Target]) -> Tuple[List[str], List[str]]:
+    """The types of the code that definitions name, with what contracts see of them; and what could not be found."""
+    types, missing = {}, []
+    for path, _ in found:
+        named = re.match(r"(\w+)\.specs\.declared\.(.+?)\.(\w+)(?:\.TheVariants)?$", path)
+        if not named or path == LIMITS or named.group(1) not in os.listdir(CRATES):
+            continue
+        crate, module, name = named.groups()
+        file = os.path.join(CRATES, crate, "src", *module.split(".")) + ".rt"
+        if not os.path.exists(file):
+            file = os.path.join(CRATES, crate, "src", *module.split("."), "mod.rt")
+        types[crate, name] = file
+    text = ["| type | what it is | appears as |", "|---|---|---|"]
+    for (crate, name), file in sorted(types.items()):
+        line = line_of(file, r"pub(?:\(crate\))? (?:struct|enum) %s\b" % name)
+        if line is None:
+            missing.append(f"{os.path.relpath(file, ROOT)} has no type {name}")
+            continue
+        with open(file, encoding="utf-8") as source:
+            lines = source.read().split("\n")
+        about, above = [], line - 2
+        while lines[above].startswith(("#[", "///")):
+            about[:0] = [lines[above][4:]] if lines[above].startswith("///") else []
+            above -= 1
+        model = re.search(r"impl(?:<.*?>)? Model for %s\b.*?ghost Value = \{ (.*?) \};" % name, "\n".join(lines), re.S)
+        text.append(f"| {link(f'{crate}::{name}', file, line)} | {' '.join(about)} | {'`' + ' '.join(model.group(1).split()) + '`' if model else ''} |")
+    return text, missing
+
+
+def limits_table(found: Iterable[Target]) -> List[str]:
+    named = {name for path, name in found if path == LIMITS}
+    file = os.path.join(CRATES, "tac_base", "src", "limits.rt")
+    text = ["| limit | value | what it is |", "|---|---|---|"]
+    with open(file, encoding="utf-8") as source:
+        for about, name, value in re.findall(r"/// (.*)\npub const (\w+): \w+ = (\w+)(?: as \w+)?;", source.read()):
+            if name in named:
+                shown = value.replace("_", ",") if value[0].isdigit() else f"`{value}`"
+                text.append(f"| {link(name, file, line_of(file, f'pub const {name}:'))} | {shown} | {about} |")
+    return text
+
+
+def outside_tables() -> List[str]:
+    """The traits whose ghost `state` the clauses speak of, and the objects in memory that state it."""
+    folder = os.path.join(CRATES, "tac_io", "src")
+    files = sorted(os.path.join(place, file) for place, _, names in os.walk(folder) for file in names if file.endswith(".rt"))
+    traits, objects = ["| trait | its `state` | what it says |", "|---|---|---|"], ["| object in memory | trait | its `state` is said by |", "|---|---|---|"]
+    for file in files:
+        with open(file, encoding="utf-8") as source:
+            text = source.read()
+        for trait in re.finditer(r"((?:    ///.*\n)+)    ghost state: \{ Self → (.*?) \};", text):
+            name = re.findall(r"pub trait (\w+)", text[:trait.start()])[-1]
+            about = " ".join(line.strip()[4:] for line in trait.group(1).strip().split("\n"))
+            traits.append(f"| {link(name, file, line_of(file, f'pub trait {name}'))} | `{trait.group(2)}` | {about} |")
+        for made in re.finditer(r"impl(?:<.*?>)? (Files|Sink|Links|Link|Ticker) for (\w+)", text):
+            specs = sorted(set(re.findall(r"Rattle\.tac_io\.specs\.(\w+)\.", text[:made.start()] + text[made.start():])))
+            own = [word for word in specs if os.path.exists(os.path.join(CRATES, "tac_io", "specs", word + ".antt"))]
+            links = ", ".join(f"[`{word}`](../crates/tac_io/specs/{word}.antt)" for word in own)
+            objects.append(f"| {link(made.group(2), file, line_of(file, f'pub struct {made.group(2)}'))} | `{made.group(1)}` | {links} |")
+    return traits + ["", "The objects in memory state all of it, so the premises can be met; tests and the law of this contract run over them. The system's own",
+                     "(`HostFiles`, `StdSink`, `TcpLinks`, `TcpLink`, `SleepTicker` of `crates/tacd/src`) state `None` and their counts of faults.", ""] + objects
+
+
+def sentences_table(definitions: Definitions, rows: Rows) -> Tuple[List[str], List[str]]:
+    text, missing = ["| of the headline | said by |", "|---|---|"], []
+    for sentence, names in SENTENCES:
+        links = []
+        for full in names:
+            place, name = full.rsplit(".", 1)
+            path = place.replace("/", ".specs.", 1)
+            if name in rows.get(path, []):
+                links.append(link(name, definitions.modules[path].file, definitions.modules[path].definitions[name].line))
+            else:
+                missing.append(f"{full} of the table of sentences is not what the headline rests on")
+        text.append(f"| {sentence} | {' · '.join(links)} |")
+    return text, missing
+
+
+def library_words(definitions: Definitions, found: Iterable[Target]) -> Tuple[str, List[str]]:
+    own = definitions.crates
+    words = sorted({name for path, name in found if path.split(".")[0] not in own and "◌" not in name and re.match(r"\w", name)}, key=str.lower)
+    missing = [f"no explanation of the library's word {word}" for word in words if word not in LIBRARY]
+    return " · ".join(f"`{word}` {LIBRARY.get(word, '?')}" for word in words), missing
+
+
+def page(definitions: Definitions) -> Tuple[str, List[str], str]:
+    """The text of READING.md, what is wrong with it, and a line of figures."""
+    clauses = clauses_of(TOP, "tac")
+    headline = definitions.reached(clauses["service"] + clauses["cash"])
+    everything = definitions.reached([name for names in clauses.values() for name in names])
+    rows, all_rows = rows_of(definitions, headline), rows_of(definitions, everything)
+    others = {path: [name for name in names if name not in rows.get(path, [])] for path, names in all_rows.items()}
+    others = {path: names for path, names in others.items() if names}
+    chapters = chapters_of(definitions, rows)
+    order = [path for paths in chapters.values() for path in paths]
+    core = sum(line_count(definitions, rows, paths) for heading, paths in chapters.items() if heading not in APART)
+    sentences, faults = sentences_table(definitions, rows)
+    types, wrong_types = types_table(headline)
+    words, wrong_words = library_words(definitions, everything)
+    faults += wrong_types + wrong_words + backward(definitions, rows, order) + inner_imports(definitions, all_rows)
+    text = ["# What must be believed", "", INTRODUCTION, "", HOW_TO_READ, "",
+            f"The headline over lines of words takes {core:,} lines of definitions; the chapters {', '.join(f'“{heading}”' for heading in APART)} are beside it.",
+            "", "## The headline, half sentence by half sentence", ""] + sentences
+    text += ["", "Three things that the clause does not say in so many words:", "", TRUTHS, "", "## Key", "", "| notation | what it means |", "|---|---|"]
+    text += [f"| {sign} | {meaning} |" for sign, meaning in NOTATION]
+    text += ["", "Words of the toolchain's library (`rt lemma WORD` in the folder of a crate prints the definition of one):", "", words, "",
+             "## Types of the code", "", "Each in `src/` of its crate; its ranges are kept by its own calls.", ""] + types
+    text += ["", "## Limits", ""] + limits_table({**headline, **dict.fromkeys(name for names in clauses.values() for name in names)})
+    text += ["", "## The objects of the outside", "", "`F.state`, `K.state`, `N.state`, `N.Link.state` and `T.state` in the clauses of `tac` are the ghost `state` of these traits.", ""]
+    text += outside_tables()
+    for heading, about, _ in CHAPTERS:
+        paths = chapters[heading]
+        if paths:
+            text += ["", f"## {heading}", "", f"{about} {line_count(definitions, rows, paths)} lines.", ""] + table(definitions, rows, paths)
+    other_order: List[str] = []
+    placed = set()
+
+    def place(path: str) -> None:
+        if path in others and path not in placed:
+            placed.add(path)
+            for used in definitions.used_modules(path, others[path]):
+                place(used)
+            other_order.append(path)
+
+    for path in others:
+        place(path)
+    text += ["", "## For the other commands and the codes", "",
+             f"The other clauses of `tac`: what each command writes, and when each exit code comes. {line_count(definitions, others, others):,} lines beside those above.",
+             ""] + table(definitions, others, other_order)
+    figures = f"{core} lines for the headline over lines of words, {line_count(definitions, all_rows, all_rows)} in {len(all_rows)} modules in all"
+    return "\n".join(text) + "\n", faults, figures
+
+
+def compare(file: str, text: str, write: bool) -> List[str]:
+    """Writes a page, or says that it is not what the sources say."""
+    if write:
+        with open(file, "w", encoding="utf-8") as page_file:
+            page_file.write(text)
+        return []
+    try:
+        with open(file, encoding="utf-8") as page_file:
+            same = page_file.read() == text
+    except FileNotFoundError:
+        same = False
+    return [] if same else [f"{os.path.relpath(file, ROOT)} is not what the sources say: run checks/reading.py --write"]
+
+
+def main() -> int:
     parser = argparse.ArgumentParser(description=__doc__, formatter_class=argparse.RawDescriptionHelpFormatter)
-    parser.add_argument("--write", action="store_true", help="write the page")
+    parser.add_argument("--write", action="store_true", help="write the pages")
     options = parser.parse_args()
-    modules, given = read_modules()
-    text, everything = page(modules, given, clauses_of_tac())
-    faults = inner_imports(modules, given, everything)
-    if options.write:
-        with open(PAGE, "w", encoding="utf-8") as file:
-            file.write(text)
-    else:
-        try:
-            with open(PAGE, encoding="utf-8") as file:
-                same = file.read() == text
-        except FileNotFoundError:
-            same = False
-        if not same:
-            faults.append("docs/READING.md is not what the sources say: run checks/reading.py --write")
+    text, faults, figures = page(Definitions())
+    rules, wrong_rules = rules_page()
+    faults += wrong_rules + compare(PAGE, text, options.write) + compare(RULES_PAGE, rules, options.write)
     for fault in faults:
-        print("reading.py: " + fault)
-    print("reading.py: %d definition lines in %d modules; %s" % (line_count(modules, everything), len(everything), "%d faults" % len(faults) if faults else "as the page says"))
+        print(f"reading.py: {fault}")
+    print(f"reading.py: {figures}; {f'{len(faults)} faults' if faults else 'as the page says'}")
     return 1 if faults else 0
 
 

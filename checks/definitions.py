@@ -1,0 +1,188 @@
+"""The definitions of the repository's `specs/` folders, read as text, and what a name in them leads to.
+
+A module is a file of a crate's `specs/`. Its path is `CRATE.specs.NAME`, as imports write it. A name is followed
+through imports, aliases and modules that are given again, to definitions, types of the code (`declared`), limits and
+words of the toolchain's library.
+"""
+
+import os
+import re
+from dataclasses import dataclass, field
+from typing import Dict, Iterable, List, Optional, Tuple
+
+ROOT = os.path.dirname(os.path.dirname(os.path.abspath(__file__)))
+CRATES = os.path.join(ROOT, "crates")
+LIMITS = "tac_base.specs.declared.limits.TheConstants"
+WORD = re.compile(r"[A-Za-z_][A-Za-z0-9_']*(?:\.[A-Za-z_][A-Za-z0-9_']*)*")
+HEADS = r"(?:(?:pub|abbrev|unfoldable) )*"
+Target = Tuple[str, str]  # the path of a module, and a name in it
+
+
+@dataclass
+class Definition:
+    """A definition: its name, the number of its first line, counted from 1, and its lines."""
+
+    name: str
+    line: int
+    lines: List[str] = field(default_factory=list)
+
+
+class Module:
+    """A module of `specs/`: its imports and its definitions, without comments and blank lines."""
+
+    def __init__(self, crate: str, name: str, file: str) -> None:
+        self.crate, self.name, self.file = crate, name, file
+        self.path = f"{crate}.specs.{name}"
+        self.imports: Dict[str, Target] = {}
+        self.aliases: Dict[str, str] = {}
+        self.given_again: List[str] = []
+        self.definitions: Dict[str, Definition] = {}
+        self.parameters: Dict[str, List[str]] = {}
+        with open(file, encoding="utf-8") as source:
+            lines = source.read().split("\n")
+        self.about = " ".join(line[2:].strip() for line in leading_comment(lines))
+        self._read_imports(lines)
+        self._read_definitions(lines)
+        self.operators = {name.replace("◌", ""): name for name in [*self.imports, *self.definitions]
+                          if "◌" in name and not re.match(r"[\w◌]+$", name)}
+
+    def _read_imports(self, lines: Iterable[str]) -> None:
+        for line in lines:
+            several = re.match(r"(?:pub )?use Rattle\.([\w.]+)\.\{(.*)\}$", line)
+            whole = re.match(r"use Rattle\.([\w.]+) as (\w+)$", line)
+            given = re.match(r"pub use Rattle\.([\w.]+)$", line)
+            if several:
+                self.imports.update(imported(several.group(1), several.group(2)))
+            elif whole:
+                self.aliases[whole.group(2)] = whole.group(1)
+            elif given:
+                self.given_again.append(given.group(1))
+
+    def _read_definitions(self, lines: Iterable[str]) -> None:
+        level, current, block = 0, None, None
+        for number, line in enumerate(lines, 1):
+            text, depth = line.strip(), len(line) - len(line.lstrip())
+            if not text or text.startswith(("--", "use ", "pub use ", "pub mod ", "infix")):
+                continue
+            if depth == 0:
+                level, block = 0, None
+                if text.startswith("module "):
+                    block, level, current = [line], 2, None
+                    continue
+            if text in ("mutual", "abbrev mutual"):
+                level, current = depth + 2, None
+                continue
+            if depth == level:
+                named = (re.match(HEADS + r"(?:record|data) ([^\s:({]+)", text)
+                         or re.match(HEADS + r"([^\s(){}:]+) :", text))
+                equation = re.match(r"[^\s(){}]+", text)
+                if named:
+                    current = named.group(1)
+                    self.definitions.setdefault(current, Definition(current, number))
+                elif equation and equation.group(0) in self.definitions:
+                    current = equation.group(0)
+                if block and current is not None:
+                    self.parameters.setdefault(current, block)
+            if current is not None:
+                self.definitions.setdefault(current, Definition(current, number)).lines.append(line)
+            elif block is not None:
+                block.append(line)
+
+    def target(self, word: str) -> Optional[Target]:
+        """What a word stands for here: an imported name, one behind an alias, or one of the module itself."""
+        first, _, rest = word.partition(".")
+        if first in self.imports:
+            return self.imports[first]
+        if first in self.aliases and rest:
+            return self.aliases[first], rest.split(".")[0]
+        return (self.path, first) if first in self.definitions else None
+
+    def targets(self, name: str) -> List[Target]:
+        """What the words and operators of a definition stand for, each once, in order."""
+        text = "\n".join(self.definitions[name].lines + self.parameters.get(name, []))
+        words = WORD.findall(text) + [sign for sign in self.operators if f" {sign} " in text.replace("\n", " ")]
+        found = (self.target(self.operators.get(word, word)) for word in words)
+        return list(dict.fromkeys(target for target in found if target))
+
+
+def leading_comment(lines: Iterable[str]) -> Iterable[str]:
+    for line in lines:
+        if not line.startswith("--"):
+            return
+        yield line
+
+
+def imported(path: str, items: str) -> Dict[str, Target]:
+    """The names that an import of some items brings, and what each stands for."""
+    pairs = [[name.strip() for name in item.split(" as ")] for item in items.split(",")]
+    return {pair[-1]: (path, pair[0]) for pair in pairs}
+
+
+class Definitions:
+    """All modules of the repository."""
+
+    def __init__(self) -> None:
+        self.modules: Dict[str, Module] = {}
+        self.given: Dict[str, str] = {}
+        for crate in sorted(os.listdir(CRATES)):
+            folder = os.path.join(CRATES, crate, "specs")
+            for file in sorted(os.listdir(folder)) if os.path.isdir(folder) else []:
+                if not file.endswith(".antt"):
+                    continue
+                module = Module(crate, file[:-5], os.path.join(folder, file))
+                if file == "Lib.antt":
+                    self.given.update({f"{crate}.specs.{path.split('.')[-1]}": path for path in module.given_again})
+                else:
+                    self.modules[module.path] = module
+        self.crates = set(module.crate for module in self.modules.values()) | set(os.listdir(CRATES))
+
+    def reached(self, start: Iterable[Target]) -> Dict[Target, None]:
+        """All that these names lead to: definitions, types of the code, limits and words of the library, in the
+        order in which they were met. A field or a constructor stands for its type."""
+        todo, met, found = list(start), set(), {}
+        while todo:
+            path, name = todo.pop(0)
+            path = self.given.get(path, path)
+            if (path, name) in met:
+                continue
+            met.add((path, name))
+            module = self.modules.get(path)
+            if module is None:
+                found[path, name] = None
+            elif name in module.definitions:
+                found[path, name] = None
+                todo += module.targets(name)
+            else:
+                row = re.compile(r"\s+(?:pub )?%s :" % re.escape(name))
+                todo += [(path, owner.name) for owner in module.definitions.values()
+                         if any(row.match(line) for line in owner.lines[1:])]
+        return found
+
+    def used_modules(self, path: str, names: Iterable[str]) -> List[str]:
+        """The other modules that these definitions of a module use."""
+        targets = [target[0] for name in names for target in self.modules[path].targets(name)]
+        targets = [self.given.get(target, target) for target in targets]
+        return list(dict.fromkeys(target for target in targets if target in self.modules and target != path))
+
+
+def clauses_of(file: str, call: str) -> Dict[str, List[Target]]:
+    """Each named clause of a call of the code, with what the names of its text stand for."""
+    with open(file, encoding="utf-8") as source:
+        text = source.read()
+    names: Dict[str, Target] = {}
+    for several in re.finditer(r"ghost use Rattle\.([\w.]+)\.\{(.*?)\};", text):
+        names.update(imported(several.group(1), several.group(2)))
+    body = text[text.index(f"pub fn {call}"):]
+    pattern = r"(?:ensures|requires) (\w+) \{(.*?)\}\n(?=    ensures|    requires|    //|\{)"
+    return {clause.group(1): [names[word.split(".")[0]] for word in WORD.findall(clause.group(2))
+                              if word.split(".")[0] in names]
+            for clause in re.finditer(pattern, body, re.S)}
+
+
+def line_of(file: str, pattern: str, after: int = 0) -> Optional[int]:
+    """The number of the first line of a file, behind a given one, that a pattern matches at its beginning."""
+    with open(file, encoding="utf-8") as source:
+        for number, line in enumerate(source, 1):
+            if number > after and re.match(pattern, line):
+                return number
+    return None

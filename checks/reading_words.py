@@ -1,0 +1,136 @@
+"""The prose of docs/READING.md: its key, its chapters, and the sentences of the headline with their definitions."""
+
+from typing import Dict, List, NamedTuple, Tuple
+
+INTRODUCTION = """\
+A proof says that the code meets its contract. Whether the contract says what a game is, a reader has
+to judge. This page is for one who has an evening: it has every definition that the contract of the
+top call `tac` (`crates/tacd/src/top.rt`) rests on, each before it is used, with the lines at which
+it stands. No other definition and no proof has to be read to know what is promised; the README says
+what else has to be trusted. `checks/reading.py --write` makes the page from the sources. Without
+`--write` it runs after the gate: it fails if the page is not what the sources say, if something is
+used before it stands, or if a module listed here imports one that is not."""
+
+HOW_TO_READ = """\
+Begin with the next table: each half sentence of the headline, and the definitions that say it. Then
+read the chapters in their order, the definitions that are named and nothing else; a module may hold
+more. The column of lines counts them without comments and imports. Where a name is met for the
+first time that is not on this page, it is a word of the toolchain's library (the key below), a type
+of the code, or a limit; all three have their tables."""
+
+TRUTHS = """\
+- **For which objects.** `tac` is generic: the body that is proved over objects that say what they
+  hold is the one that serves TCP. For the system's own files, links, output and clock, which say
+  nothing (`None` in their states), the clause says only that there are such bytes, and of the game
+  file only that some text is read as this game.
+- **Reading ahead, or answering late.** No clause forbids it in words, and a body that did so would
+  not meet them: a failed write cuts the turns at its line, and after a failed read every whole line
+  must have been answered. Any read or write may fail, so each reply goes out before the next read.
+- **How far a reading of cash may lag.** The desk's clause bounds it, and not that of `tac`: every desk
+  has posted what is due before its call returns. A body that appended the clock's posts at the end
+  would meet the clauses of `tac`."""
+
+NOTATION: List[Tuple[str, str]] = [
+    ("`abbrev pub f : A → B`, then `f x = ..`", "a definition with its type and its equations; `unfoldable` and `pub` change nothing for a reader"),
+    ("`pub record R (x : A) : Type 0 where pub a : ..`", "a statement with named parts, all of which have to hold, or a value with named fields"),
+    ("`pub data D : Type 0 where C : A → D`", "a type with its constructors"),
+    ("`Type 0`", "the type of types and of statements: a definition into it is a statement, true where it has a value"),
+    ("`≡`, `≤`, `<`, `→`, `↔`", "equal, at most, below, implies (or a function), exactly if"),
+    ("`A × B`, `A ⊎ B`, `⊤`, `⊥`", "both hold (or a pair, with parts `.0` and `.1`), one of them holds, what always holds, what never holds"),
+    ("`(x : A) → P x`, `(x : A) × P x`", "for every x, and there is an x with"),
+    ("`==`, `&&`, `if b then x else y`", "computed equality and logic, with `Bool` results `true` and `false`"),
+    ("`[]`, `x ∷ xs`, `xs ++ ys`", "lists: empty, one item before others, one list after another"),
+    ("`λ x. ..`, `f x y`", "a function, and a function with its arguments"),
+    ("`record { a = ..; b = .. }`, `record r { a = .. }`, `r.a`", "a value with these fields, one that differs from r in a field, a field"),
+    ("`ℕ`, `ℤ`, `pos n`, `negsuc n`", "0, 1, 2 .., the whole numbers, n, and -(n + 1)"),
+    ("`+`, `-`, `+ℤ`, `-ℤ`, `≤ℤ`, `^`", "sums and differences; `-` of ℕ stops at 0"),
+    ("`module _ (x : A) where`", "each definition in it has the parameter x"),
+    ("a type of the code", "appears in a definition as its value for contracts: a struct that has a row \"appears as\" below as that value, "
+                           "every other struct as a record of its fields, an enum as its variants, a number as ℕ or ℤ, text as a list of its bytes"),
+    ("`x.old`, `x.new`, `x.now`, `result`", "in a clause: what a reference points to before the call, after it, at any time; what is returned"),
+]
+
+LIBRARY: Dict[str, str] = {
+    "List": "lists", "Option": "`Some x` or `None`", "Some": "a value that is there", "None": "no value", "Bool": "`true` or `false`",
+    "true": "yes", "false": "no", "Result": "`Ok x` or `Err e`", "Ok": "a result", "Err": "an error", "Vec": "Rust's vector; `.items` is its list",
+    "Global": "Rust's vector; `.items` is its list",
+    "codes": "the bytes of a text", "map": "f of each item", "length": "how many items", "pos": "a whole number from 0 on", "negsuc": "`negsuc n` is -(n + 1)",
+    "zero": "0", "suc": "one more", "not": "no for yes", "flat_map": "the lists that f gives, one after another", "concat": "lists, one after another",
+    "filter": "the items for which p says yes", "filter_map": "the values that f gives, where it gives one", "nat_le": "at most, computed",
+    "nat_lt": "below, computed", "int_le": "at most, computed", "int_lt": "below, computed", "max": "the greater number", "min": "the lesser number",
+    "int_max": "the greater number", "slice_index": "the item at a place; 0 past the end", "slice_index_or": "the item at a place, or the given value past the end",
+    "slice_get": "the item at a place, if there is one", "get_elem?": "the item at a place, if there is one", "slice_set": "the list with another item at a place",
+    "slice_split": "the parts between the items for which p says yes", "decimal": "a number in decimal digits",
+    "signed_decimal": "a whole number in decimal digits, with `-` below 0", "bytes_eq": "equal bytes, computed", "unsigned_abs": "a number without its sign",
+    "list_any": "p says yes of some item", "list_all": "p says yes of each item", "count_by": "of how many items p says yes", "sum_by": "the sum of f over the items",
+    "fold": "f over the items in order, from a first value", "All": "P holds of each item", "AllByRecursion": "P holds of each item",
+    "AllZip": "R holds of the items of two lists, place by place", "Contains": "the list has the item", "replicate": "n times the same item",
+    "take": "the first n items", "drop": "what follows the first n items", "reverse": "the items backwards", "zip": "pairs, place by place",
+    "enumerate_from": "each item with its number, from n on", "join_with_byte": "lists with a byte between them", "position": "the first place where p says yes",
+    "find": "the first item for which p says yes", "option_map": "f of the value, if there is one", "option_and_then": "f of the value, if both are there",
+    "option_or": "the first value that is there", "get_or": "the value, or the given one", "IfSome": "P holds of the value, if there is one",
+    "IsTrue": "the computed answer is yes", "MatchBool": "P where the answer is yes, else Q", "MatchResult": "P of a result, Q of an error",
+    "all_ascii_digits": "each byte is a digit", "int_div_euclid": "the quotient whose remainder is not negative", "is_utf8": "the bytes are text in UTF-8",
+    "Data": "a JSON value", "Members": "the members of a JSON object", "Items": "the items of a JSON array", "read": "the JSON value of a text, by `serde_json`",
+    "as_object": "the members, of an object", "as_array": "the items, of an array", "as_str": "the bytes, of a string", "as_number": "the number, of a number",
+    "as_i64": "the whole number of 64 bits, of a number that is one", "get_member": "the last value of a key", "member": "one member before others",
+    "no_members": "no member", "item": "one item before others", "no_items": "no item", "string_bytes": "the bytes of a string", "string_len": "how many bytes",
+    "first_words": "the first words that a generator gives", "increment_of": "the increment of a generator, by its stream", "int_min": "the lesser number",
+    "IsGcd": "the number is the greatest common divisor", "Lcg": "a linear congruential generator", "multiplier_64": "the multiplier of PCG",
+    "pcg32": "the generator PCG32", "range_with_len": "so many numbers in a row, from the first", "set": "the list with another item at a place",
+    "started": "a generator after its first step", "swap": "the list with two items exchanged", "cond": "`if .. then .. else ..`", "eqb": "equal, computed", "snd": "the second part", "fst": "the first part",
+}
+
+
+class Chapter(NamedTuple):
+    """A heading, what it says, and the crates or modules (`CRATE.NAME`) that it begins with."""
+
+    heading: str
+    about: str
+    places: List[str]
+
+
+CERTIFICATES = "Certificates"
+JSON = "Lines of JSON"
+SOUND = "That the log is sound, as `audit` has it"
+
+CHAPTERS = [
+    Chapter("Goods, bids, calls and replies", "What is numbered how, what a bid is, and the call and reply of an entry.", ["tac_base"]),
+    Chapter("The rules of the auctions", "Over whole histories: which units stand, each refusal, what trades, and the entry that is due.", ["auction_rules"]),
+    Chapter("The cash book", "Posts and readings of cash, and which posts are due.", ["trade_ledger"]),
+    Chapter("The game file", "The form of the file, as a value; and the schedule of the clock, which is a function of it.", ["text_forms", "game_text"]),
+    Chapter("The auctions of a game", "28 auctions with their setups, and a caller's part of a history.", ["auction_core", "turn_lock", "floor"]),
+    Chapter("Packages and the best total", "What a client gets, what it uses, what it is worth, and the best that eight can have.", ["packages"]),
+    Chapter(CERTIFICATES, "Their lines in the log, and when they hold. The scores do not rest on them: whoever believes the best total needs none.",
+            ["bound_cert", "packages.Listing", "packages.Bounds", "packages.Features"]),
+    Chapter("Scores", "What an agent has at the end, and its score.", ["allocator", "score_sheet"]),
+    Chapter("Requests and replies as lines", "What a line asks, and the line of a reply.", ["bid_strings", "line_protocol"]),
+    Chapter(JSON, "For `serve .. json` alone.", ["json_dialect"]),
+    Chapter("The outside", "What is known of files, output, links and the ticker, before a call and after it.", ["tac_io"]),
+    Chapter("The session of a link", "Seats and first lines; what an agent's lines ask, how each is answered, and why the session ends.", ["agent_gate"]),
+    Chapter("A game over links", "Who is admitted, what was played, and what became of each link.", ["clock_events", "game_run"]),
+    Chapter("The log", "The text that is written.", ["log_text", "game_log"]),
+    Chapter("Outcomes and codes", "What a command may write, and the code that it answers; and the clause `cash`.", ["tac_commands"]),
+    Chapter(SOUND, "The same log, judged by the definition of `audit`.", ["log_reader", "log_text.LoggedGames", "line_protocol.Ranges", "game_log.LogRanges", "tac_commands.SoundTexts", "tacd.SoundLogs"]),
+    Chapter("The command `serve`", "The clause `service` itself.", ["tacd"]),
+]
+
+APART = [CERTIFICATES, JSON, SOUND]  # chapters beside the headline over lines of words
+
+# The headline, half sentence by half sentence: what says it, as CRATE/MODULE.NAME.
+SENTENCES: List[Tuple[str, List[str]]] = [
+    ("When `serve` ends with code 0, ..", ["tacd/Service.Serves", "tacd/Service.ServeAllows", "tacd/Service.ServesGame", "tac_commands/Telling.Tells"]),
+    ("the log written ..", ["tacd/Service.PlayedAllows", "tacd/Service.IsLogOf", "log_text/SheetText.log_text"]),
+    ("holds 29 legal one-thread histories;", ["game_run/PlayedGame.IsLegalGame", "auction_rules/Legal.Legal", "trade_ledger/CashHistory.IsLegalCash"]),
+    ("in each, every agent's calls are those its link asked,", ["game_run/Outcomes.IsPlayed", "game_run/LinkRuns.IsSeated", "agent_gate/Transcript.IsTranscript",
+                                                               "agent_gate/Served.IsServed", "agent_gate/Items.AreItems", "line_protocol/Requests.request_of"]),
+    ("each once,", ["agent_gate/Transcript.IsTranscript", "turn_lock/Part.part", "agent_gate/Turns.made_at"]),
+    ("after all it had seen,", ["agent_gate/Turns.AreLawful", "agent_gate/Turns.GoesOn", "turn_lock/Notes.AreNotes"]),
+    ("with the replies it got,", ["agent_gate/Served.EndsBy", "agent_gate/Served.session_text", "line_protocol/Replies.said_text"]),
+    ("and the clock's are the game file's;", ["game_run/PlayedGame.IsPlayedBy", "game_text/Schedule.clock_calls", "clock_events/Clocking.WaitsForAll"]),
+    ("goods and cash equal the trades recorded;", ["trade_ledger/Posts.Matched", "score_sheet/Settlement.settlement_of", "auction_rules/Effects.holding",
+                                                   "auction_rules/Effects.dollars", "tac_commands/Cash.IsCashOfPosts"]),
+    ("each score is the greatest utility over all feasible allocations,", ["score_sheet/Sheets.IsSheet", "score_sheet/Sheets.IsScored", "allocator/Solutions.IsSolution",
+                                                                           "packages/BestTotal.IsBest", "packages/BestTotal.IsFeasible", "packages/Packages.utility_of"]),
+    ("less costs and penalties.", ["score_sheet/Score.score_of", "score_sheet/Score.short_of"]),
+]
