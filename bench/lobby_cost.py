@@ -29,7 +29,7 @@ sys.path.insert(0, str(TOP / "python"))
 from geesefuton import program
 from geesefuton.processes import Children, command, free_port
 
-PACE = 500  # milliseconds
+PACE = 2000  # milliseconds; a round ends long before the game does
 WAYS = ["server alone", "lobby", "lobby and page", "and 50 viewers"]
 PROBE = """
 import json, socket, sys, time
