@@ -7,7 +7,7 @@ One agent asks a quote every millisecond, or eight agents every two, in lock ste
 replies: of the server itself, through the lobby with its journal, with the page, and with 50
 viewers of the page and one that hangs. The ways are taken in turn. It writes for each the
 microseconds of a request (median, 90th and 99th of 100), and the microseconds of a processor that
-the lobby spent for a request; at the end the size of the last journal.
+the lobby spent for a request since the game began; at the end the size of the last journal.
 """
 
 import argparse
@@ -29,7 +29,7 @@ sys.path.insert(0, str(TOP / "python"))
 from geesefuton import program
 from geesefuton.processes import Children, command, free_port
 
-PACE = 500  # milliseconds
+PACE = 2000  # milliseconds; a round ends long before the game does
 WAYS = ["server alone", "lobby", "lobby and page", "and 50 viewers"]
 PROBE = """
 import json, socket, sys, time
@@ -65,7 +65,13 @@ class Meter(threading.Thread):
 
     def __init__(self, number: int) -> None:
         super().__init__(daemon=True)
-        self.number, self.spent = number, 0.0
+        self.number, self.spent, self.before = number, 0.0, 0.0
+
+    def begin(self, journal: Path) -> None:
+        """Counts from the time at which a game begins, by its journal."""
+        while not journal.exists() or '"tick":0' not in journal.read_text():
+            time.sleep(0.02)
+        self.before = self.spent
 
     def run(self) -> None:
         with contextlib.suppress(OSError, IndexError):
@@ -115,13 +121,15 @@ def measure(way: str, agents: int, count: int, folder: Path) -> "Dict[str, float
         others: List[socket.socket] = []
         if way == WAYS[0]:
             others = [leave(port, f"seat{number}") for number in range(agents, 8)]
+        if way != WAYS[0]:
+            meter.begin(journal)
         times = sorted(number for probe in probes for number in json.loads(probe.communicate()[0]))
         for other in others:
             other.close()
         part = 1e6 / len(times)
         return {"median": statistics.median(times) * 1e6, "p90": times[len(times) * 9 // 10] * 1e6,
                 "p99": times[len(times) * 99 // 100] * 1e6,
-                "processor": meter.spent * part if way != WAYS[0] else 0,
+                "processor": (meter.spent - meter.before) * part if way != WAYS[0] else 0,
                 "journal": journal.stat().st_size if journal.exists() else 0}
 
 

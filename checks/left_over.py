@@ -58,8 +58,9 @@ class Run(NamedTuple):
 
 
 def scripts(hanger: str) -> Iterator[List[str]]:
-    """Each script's name and its words; the lobby comes twice, waiting for its agents and running
-    a game."""
+    """Each script's name and its words; the lobby comes three times, waiting for its agents,
+    running a game, and showing one on a page."""
+    journal = str(TOP / "python" / "tests" / "data" / "lobby.journal")
     game = str(TOP / "examples" / "first.game")
     planner = str(TOP / "examples" / "agents" / "planner.py")
     yield ["quick start", "quickstart"]
@@ -67,6 +68,10 @@ def scripts(hanger: str) -> Iterator[List[str]]:
            hanger, planner]
     yield ["lobby, waiting", "tools/lobby", game, "PORT", "100", "--start", "4", "--after", "1"]
     yield ["lobby, game", "tools/lobby", game, "PORT", "100", "--start", "0.1", "--after", "1"]
+    yield ["lobby, page", "tools/lobby", game, "PORT", "100", "--start", "0.1", "--after", "1",
+           "--page", "PORT"]
+    yield ["live page", "tools/live", journal, "PORT", "--until-over"]
+    yield ["recovery", "tools/recover", journal]
     yield ["learner", "examples/learner.py", "2"]
 
 

@@ -29,6 +29,7 @@ from collections import deque
 from pathlib import Path
 from typing import BinaryIO, Deque, List, Optional
 
+from geesefuton.arguments import Parser, whole
 from geesefuton.games import TICKS
 from geesefuton.journal import JournalError, JournalReader
 from geesefuton.logs import LogError
@@ -249,22 +250,19 @@ async def _run_until_signal(given: argparse.Namespace, journal: BinaryIO, player
 
 
 def _arguments() -> argparse.Namespace:
-    parser = argparse.ArgumentParser(prog="live", description=__doc__,
-                                     formatter_class=argparse.RawDescriptionHelpFormatter)
-    parser.add_argument("journal", type=Path)
-    parser.add_argument("port", type=int, help="the port of the page, 1 to 65535")
-    parser.add_argument("--late", type=int, default=6, metavar="TICKS",
-                        help="how many ticks later what agents cannot ask is shown; 6, and 54 is "
-                             "after the game, 0 at once")
-    parser.add_argument("--names", action="store_true",
-                        help="call agents by their seat words, which are passwords")
-    parser.add_argument("--until-over", action="store_true",
-                        help="end once the game is over and viewers have its scores; otherwise the "
-                             "page stays until ctrl-C")
-    given = parser.parse_args()
-    if not 1 <= given.port <= 65535 or not 0 <= given.late <= TICKS:
-        parser.error(f"PORT is 1 to 65535, and TICKS 0 to {TICKS}")
-    return given
+    parser = Parser("live", __doc__)
+    add = parser.add_argument
+    add("journal", type=Path)
+    add("port", type=whole(1, 65535), help="the port of the page, 1 to 65535")
+    add("--late", type=whole(0, TICKS), default=6, metavar="TICKS",
+        help="how many ticks later what agents cannot ask is shown; 6, and 54 is after the game, 0 "
+             "at once")
+    add("--names", action="store_true",
+        help="call agents by their seat words, which are passwords")
+    add("--until-over", action="store_true",
+        help="end once the game is over and viewers have its scores; otherwise the page stays "
+             "until ctrl-C")
+    return parser.parse_args()
 
 
 def _main() -> int:

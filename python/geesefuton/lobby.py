@@ -31,6 +31,7 @@ from types import FrameType
 from typing import Callable, Deque, List, Optional, Sequence, TextIO
 
 from geesefuton import events, log_files, program
+from geesefuton.arguments import Parser, seconds, whole
 from geesefuton.events import Event
 from geesefuton.games import TICKS
 from geesefuton.journal import Journal
@@ -135,7 +136,7 @@ class Lobby:
         Raises:
             LobbyError: The journal cannot be made.
         """
-        self._emit = on_event
+        self._emit, status = on_event, STOPPED
         with contextlib.ExitStack() as stack:
             stack.callback(self._wake.close)
             stack.callback(self._waker.close)
@@ -148,7 +149,7 @@ class Lobby:
             relay = Relay(self.words, self._listener, self._emit, journal, self.settings.patience,
                           self.settings.silence)
             stack.callback(relay.close)
-            relay.attend(self._wake, lambda: bool(self._wake.recv(4096)))
+            relay.attend(self._wake, self._woken)
             reader = Orders(self.settings.orders, self._orders)
             reader.look(relay)
             if journal and self.settings.page is not None:
@@ -157,13 +158,17 @@ class Lobby:
             if self._page is not None and not self._is_stopped:
                 with contextlib.suppress(subprocess.TimeoutExpired):
                     self._page.wait(SHOWING)
-            return status
+        return status
 
     def interrupt(self) -> None:
         """Ends the game before its time. It may be called by a signal handler or a thread."""
         self._is_stopped = True
         with contextlib.suppress(OSError):  # it has ended already
             self._waker.send(b".")
+
+    def _woken(self) -> None:
+        with contextlib.suppress(BlockingIOError):
+            self._wake.recv(4096)
 
     def _warn(self, text: str) -> None:
         self._emit(events.Warned(time.time(), text))
@@ -375,45 +380,33 @@ def recovery_line(journal: Path) -> str:
 # The command.
 
 
-def _arguments(words: Optional[Sequence[str]]) -> argparse.Namespace:
-    parser = argparse.ArgumentParser(prog="lobby", description=__doc__,
-                                     formatter_class=argparse.RawDescriptionHelpFormatter)
-    parser.add_argument("game", type=Path)
-    parser.add_argument("port", type=int, help="the port for agents, 1 to 65535")
-    parser.add_argument("pace", type=int, help="milliseconds from tick to tick, 1 to 60000")
-    parser.add_argument("form", nargs="?", choices=["json"],
-                        help="agents speak JSON objects in place of words")
-    parser.add_argument("--start", type=float, metavar="SECONDS",
-                        help="begin after this time without those who are missing; they may come "
-                             "late; default: wait for all")
-    parser.add_argument("--after", type=float, default=30, metavar="SECONDS",
-                        help="how long after the last tick links are ended; 30")
-    parser.add_argument("--patience", type=float, default=30, metavar="SECONDS",
-                        help="how long to wait for the first line of a link; 30")
-    parser.add_argument("--silence", type=float, default=SILENCE, metavar="SECONDS",
-                        help="how long an agent's link says nothing before it gives way to another "
-                             f"one with its word; {SILENCE:g}")
-    parser.add_argument("--journal", type=Path, metavar="FILE",
-                        help="the journal, a new file; by default GAME-DATE.journal beside the log")
-    parser.add_argument("--page", type=int, metavar="PORT",
-                        help="show the game on a page at this port, for a projector")
-    parser.add_argument("--late", type=int, default=6, metavar="TICKS",
-                        help="how many ticks later the page shows what agents cannot ask: scores, "
-                             "trades, standing bids; 6, and 54 is after the game, 0 at once")
-    parser.add_argument("--names", action="store_true",
-                        help="the page calls agents by their seat words, which are passwords")
-    given = parser.parse_intermixed_args(words)  # `json` may stand after an option too
-    if not 1 <= given.port <= 65535 or not 1 <= given.pace <= 60000:
-        parser.error("PORT is 1 to 65535, PACE 1 to 60000")
-    if given.page is not None and not 1 <= given.page <= 65535:
-        parser.error("the port of the page is 1 to 65535")
-    if not 0 <= given.late <= TICKS:
-        parser.error(f"--late is 0 to {TICKS}")
-    for name in ("start", "after", "patience", "silence"):
-        value = getattr(given, name)
-        if value is not None and not 0 <= value <= 1e9:
-            parser.error(f"--{name} is a number of seconds, 0 or more")
-    return given
+def _arguments() -> argparse.Namespace:
+    parser = Parser("lobby", __doc__)
+    add = parser.add_argument
+    add("game", type=Path)
+    add("port", type=whole(1, 65535), help="the port for agents, 1 to 65535")
+    add("pace", type=whole(1, 60000), help="milliseconds from tick to tick, 1 to 60000")
+    add("form", nargs="?", choices=["json"], help="agents speak JSON objects in place of words")
+    add("--start", type=seconds, metavar="SECONDS",
+        help="begin after this time without those who are missing; they may come late; default: "
+             "wait for all")
+    add("--after", type=seconds, default=30.0, metavar="SECONDS",
+        help="how long after the last tick links are ended; 30")
+    add("--patience", type=seconds, default=30.0, metavar="SECONDS",
+        help="how long to wait for the first line of a link; 30")
+    add("--silence", type=seconds, default=SILENCE, metavar="SECONDS",
+        help="how long an agent's link says nothing before it gives way to another one with its "
+             f"word; {SILENCE:g}")
+    add("--journal", type=Path, metavar="FILE",
+        help="the journal, a new file; by default GAME-DATE.journal beside the log")
+    add("--page", type=whole(1, 65535), metavar="PORT",
+        help="show the game on a page at this port, for a projector")
+    add("--late", type=whole(0, TICKS), default=6, metavar="TICKS",
+        help="how many ticks later the page shows what agents cannot ask: scores, trades, standing "
+             "bids; 6, and 54 is after the game, 0 at once")
+    add("--names", action="store_true",
+        help="the page calls agents by their seat words, which are passwords")
+    return parser.parse_intermixed_args()  # `json` may stand after an option too
 
 
 def _open_standard_files() -> bool:
@@ -484,7 +477,7 @@ def main() -> int:
 
 def _main() -> int:
     has_output = _open_standard_files()
-    given = _arguments(None)
+    given = _arguments()
     settings = LobbySettings(
         game=given.game, port=given.port, pace=given.pace, form=given.form or "words",
         log=sys.stdout.buffer if has_output and sys.stdout else None, start=given.start,

@@ -30,6 +30,7 @@ LEAVE = 2.0  # seconds that an agent has to end after its game
 MOST_KEPT = 1 << 20  # bytes that are kept of what an agent prints
 MOST_PRINTED = 131072  # blocks of 512 bytes that an agent may print, as `ulimit -f` counts
 PATIENCE = 30.0  # seconds for the first line of a link
+LATE = 36  # the tick after which the last third of a game begins
 
 
 @dataclass(frozen=True)
@@ -97,13 +98,15 @@ class Exit:
     is_stopped: bool = False
 
 
-def outcome_of(reason: End, exited: Exit, was_refused: bool) -> Outcome:
+def outcome_of(reason: End, exited: Exit, was_refused: bool, was_asking: bool) -> Outcome:
     """How an agent's game went.
 
     Args:
         reason: Why its part in the game was over.
         exited: How its process ended.
         was_refused: Whether a first line of it was refused.
+        was_asking: Whether it sent lines in the last third of the game. Then it did not hang if its
+            link had to be ended: it did not quit, or the machine was too busy to hear it quit.
     """
     if reason is End.ABSENT:
         if was_refused:
@@ -112,7 +115,9 @@ def outcome_of(reason: End, exited: Exit, was_refused: bool) -> Outcome:
         return Outcome.CRASHED if failed else Outcome.ABSENT
     if reason is End.REFUSED:
         return Outcome.REFUSED
-    if reason is End.HUNG or (reason is End.GONE and exited.is_stopped):
+    if reason is End.HUNG:
+        return Outcome.PLAYED if was_asking else Outcome.HUNG
+    if reason is End.GONE and exited.is_stopped:
         return Outcome.HUNG
     if reason is End.GONE and exited.status != 0:
         return Outcome.CRASHED
@@ -121,6 +126,8 @@ def outcome_of(reason: End, exited: Exit, was_refused: bool) -> Outcome:
 
 def _how(exited: Exit, reason: Optional[End]) -> str:
     """How an agent ended, if that is to be told; else ""."""
+    if reason is End.HUNG and not exited.is_stopped:
+        return "did not quit in time, and its link was ended"
     if exited.is_stopped:
         return f"was still running {LEAVE:g} seconds after its game, and was stopped"
     if exited.status < 0:
@@ -141,6 +148,7 @@ class Match:
         self._exits: Dict[int, Exit] = {}
         self._ends: Dict[int, End] = {}
         self._refused: List[events.Refused] = []
+        self._lines: Dict[int, Tuple[int, ...]] = {}  # that agents had sent, by tick
         self._game = job.folder / f"{job.name}.game"
         self._log = job.folder / f"{job.name}.log"
         self._events = (job.folder / f"{job.name}.events").open("w", encoding="utf-8")
@@ -180,6 +188,8 @@ class Match:
             self._ends[event.seat] = event.reason
         if isinstance(event, events.Refused):
             self._refused.append(event)
+        if isinstance(event, events.Ticked):
+            self._lines[event.tick] = event.lines
         self._events.write(f"{event}\n")
         self._send(event)
 
@@ -238,7 +248,8 @@ class Match:
         outcomes = []
         for seat in range(len(job.words)):
             reason, exited = self._ends.get(seat, End.ABSENT), self._exits[seat]
-            outcomes.append(outcome_of(reason, exited, self._was_refused(seat)))
+            outcomes.append(outcome_of(reason, exited, self._was_refused(seat),
+                                       self._was_asking(seat)))
             self._tell(seat, exited, reason, outcomes[-1])
             self._shorten(seat)
         return Result(scores, tuple(outcomes))
@@ -251,6 +262,12 @@ class Match:
         """
         return any(self._job.words[seat] in re.findall("[a-z0-9]+", refused.line)
                    for refused in self._refused)
+
+    def _was_asking(self, seat: int) -> bool:
+        """Whether an agent sent lines in the last third of the game."""
+        before = [lines[seat] for tick, lines in self._lines.items() if tick <= LATE]
+        after = [lines[seat] for tick, lines in self._lines.items() if tick > LATE]
+        return max(after, default=0) > max(before, default=0)
 
     def _tell(self, seat: int, exited: Exit, reason: End, outcome: Outcome) -> None:
         how = _how(exited, reason)

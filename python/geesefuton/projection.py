@@ -239,7 +239,7 @@ class View:
 
     def _agent(self, reader: JournalReader, number: int, name: str,
                secret: Optional[Projection]) -> Dict[str, Any]:
-        agent = {"name": name, "here": _presence(reader, number)}
+        agent: Dict[str, Any] = {"name": name, "here": _presence(reader, number)}
         if secret is not None:
             agent["score"] = secret.scores[number]
             agent["asked"] = secret.asked[number]

@@ -27,6 +27,7 @@ from pathlib import Path
 from typing import Dict, Iterable, Iterator, List, NamedTuple, Sequence, Tuple
 
 from geesefuton import program
+from geesefuton.arguments import Parser
 from geesefuton.dialects import CASH, Asked
 from geesefuton.games import GOODS, SEATS, TICKS
 from geesefuton.journal import Call, JournalError, JournalReader, Schedule, read_journal
@@ -372,13 +373,13 @@ class Recovery:
 
 
 def _arguments() -> argparse.Namespace:
-    parser = argparse.ArgumentParser(prog="recover", description=__doc__,
-                                     formatter_class=argparse.RawDescriptionHelpFormatter)
-    parser.add_argument("journal", type=Path)
-    parser.add_argument("--pending", action="store_true",
-                        help="requests without a reply are asked too, after all others")
-    parser.add_argument("--script", type=Path, metavar="FILE", help="write the script here, too")
-    parser.add_argument("--game", type=Path, metavar="FILE", help="write the game file here, too")
+    parser = Parser("recover", __doc__)
+    add = parser.add_argument
+    add("journal", type=Path)
+    add("--pending", action="store_true",
+        help="requests without a reply are asked too, after all others")
+    add("--script", type=Path, metavar="FILE", help="write the script here, too")
+    add("--game", type=Path, metavar="FILE", help="write the game file here, too")
     return parser.parse_args()
 
 

@@ -218,19 +218,22 @@ class Relay:
         try:
             link, where = self._listener.accept()
         except (BlockingIOError, ConnectionError):
-            return
+            return None
         except OSError:  # no more files may be opened
             self.forget(self._listener)
             self._deaf_until = time.monotonic() + 0.5
-            return
+            return None
         strangers = [other for other in self._links.values()
                      if other.seat is None and other.parting is None]
         if len(strangers) >= MOST_STRANGERS:
             self._warn(f"{strangers[0].source} is let go: {MOST_STRANGERS} links have sent no line")
             self._drop(strangers[0])
-        guest = OuterLink(next(self._numbers), link, str(where[0]).removeprefix("::ffff:"))
+        try:
+            guest = OuterLink(next(self._numbers), link, str(where[0]).removeprefix("::ffff:"))
+        except OSError:  # it has gone already
+            return link.close()
         self._links[guest.number] = guest
-        self._watch(guest)
+        return self._watch(guest)
 
     def _read(self, link: OuterLink | Session) -> None:
         if isinstance(link, Session):
@@ -344,8 +347,8 @@ class Relay:
     def _give(self, seat: Seat, link: OuterLink, again: bool) -> None:
         if self.journal:
             self.journal.timed(here=seat.number, **{"from": link.source})
-        kind = events.Rejoined if again else events.Arrived
-        self._emit(kind(time.time(), seat.number, seat.word, link.source))
+        what = (time.time(), seat.number, seat.word, link.source)
+        self._emit(events.Rejoined(*what) if again else events.Arrived(*what))
         if self.sessions:
             session = self.sessions[seat.number]
             session.lines += link.said.count(b"\n")

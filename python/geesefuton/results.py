@@ -13,7 +13,7 @@ class Outcome(enum.Enum):
     PLAYED = "played"
     ABSENT = "absent"  # it took no seat
     CRASHED = "crashed"  # it ended with an error, or without a word
-    HUNG = "hung"  # it had to be ended when the game was over
+    HUNG = "hung"  # it fell silent, and had to be ended when the game was over
     REFUSED = "refused"  # its first line was refused, or every line that it sent
 
 

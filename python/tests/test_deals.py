@@ -45,6 +45,9 @@ class Tables(unittest.TestCase):
         self.assertEqual(seated("abc", first), list("bcabcabc"))
         self.assertEqual(seated("abc", second), list("cabcabca"))
 
+    def test_seeds_begin_at_one_and_are_of_64_bits(self) -> None:
+        self.assertEqual((Rule().seed, deals.MOST_SEED), (1, 2 ** 64 - 1))
+
     def test_a_tournament_in_parts_is_the_same_one(self) -> None:
         whole = list(tables(Rule(seed=5), 4, 1))
         parts = [*tables(Rule(seed=5), 2, 1), *tables(Rule(seed=7), 2, 1)]
@@ -121,6 +124,7 @@ class Lucks(unittest.TestCase):
         self.assertEqual(luck.worths_of(game), [luck.worth_of(game, seat) for seat in range(8)])
 
     def test_each_good_has_its_price(self) -> None:
+        self.assertEqual((luck.SEAT, luck.SHANTIES, luck.TOWERS, luck.TICKET), (350, 80, 120, 80))
         prices = [luck.SEAT] * 8 + [luck.SHANTIES] * 4 + [luck.TOWERS] * 4 + [luck.TICKET] * 12
         self.assertEqual(list(luck.PRICES), prices)
 

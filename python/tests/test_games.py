@@ -152,6 +152,15 @@ class Rules(unittest.TestCase):
                          ["in, day 1", "out, day 2", "Shanties, night 4", "Towers, night 1",
                           "alligators, night 1", "park, night 4", "museum, night 4"])
 
+    def test_kinds_of_goods_are_ranges_of_their_numbers(self) -> None:
+        self.assertEqual([*games.INBOUND, *games.OUTBOUND], list(range(8)))
+        self.assertEqual((list(games.INBOUND), list(games.FLIGHTS)), ([0, 1, 2, 3], list(range(8))))
+        self.assertEqual([*games.FLIGHTS, *games.HOTELS, *games.TICKETS], list(range(28)))
+        self.assertEqual((list(games.HOTELS), list(games.GOODS)),
+                         (list(range(8, 16)), list(range(28))))
+        self.assertEqual((games.TICKS, games.SEATS, games.CLIENTS, games.HOUSE, games.CLOCK),
+                         (54, 8, 8, 8, 8))
+
     def test_there_are_392_trips(self) -> None:
         self.assertEqual(len(games.PACKAGES), 392)
         self.assertEqual(len(set(games.PACKAGES)), 392)
@@ -187,12 +196,14 @@ class Rules(unittest.TestCase):
         self.assertEqual(up.next_price(152, 1, 0), 150)
 
     def test_prices_of_a_flight(self) -> None:
-        flight = served_game().flights[0]
-        prices = flight.prices()
-        self.assertEqual(len(prices), 54)
-        self.assertEqual(prices[0], flight.first)
-        self.assertEqual(prices[1], flight.next_price(flight.first, 1, flight.draws[0]))
-        self.assertEqual(prices[53], flight.next_price(prices[52], 53, flight.draws[52]))
+        for flight in served_game().flights:
+            prices = [flight.first]
+            for number in range(53):
+                end = 10 + (number + 1) * (flight.bound - 10) // 54
+                low, high = (-10, end) if end > 0 else (end, 10) if end < 0 else (-10, 10)
+                moved = prices[-1] + low + flight.draws[number] % (high - low + 1)
+                prices.append(min(800, max(150, moved)))
+            self.assertEqual(flight.prices(), prices)
 
 
 if __name__ == "__main__":

@@ -24,6 +24,7 @@ HERE = Path(__file__).resolve().parent
 DATA, TOP = HERE / "data", HERE.parents[1]
 LINES = (DATA / "lobby.journal").read_text().split("\n")[:-1]
 PAGE = TOP / "python/geesefuton/live.html"
+MOST = 60.0  # seconds that anything may take, on a machine that is busy with other work
 
 
 class Page(unittest.TestCase):
@@ -74,11 +75,11 @@ class Serving(unittest.TestCase):
         return live
 
     def get(self, path: str) -> "tuple[bytes, str]":
-        deadline = time.monotonic() + 10
+        deadline = time.monotonic() + MOST
         while True:
             try:
                 address = f"http://127.0.0.1:{self.port}{path}"
-                with urllib.request.urlopen(address, timeout=5) as got:
+                with urllib.request.urlopen(address, timeout=MOST) as got:
                     return got.read(), got.headers["Content-Security-Policy"]
             except urllib.error.HTTPError:
                 raise
@@ -89,7 +90,7 @@ class Serving(unittest.TestCase):
 
     def events(self) -> socket.socket:
         link = socket.create_connection(("127.0.0.1", self.port))
-        link.settimeout(15)
+        link.settimeout(MOST)
         link.sendall(b"GET /events HTTP/1.1\r\nHost: x\r\n\r\n")
         return link
 
@@ -120,7 +121,7 @@ class Serving(unittest.TestCase):
             self.assertIn(b"event: end", text)
             last = json.loads(re.findall(rb"data: (\{.*\})", text)[-1])
             self.assertEqual((last["phase"], last["status"]), ("over", 0))
-        self.assertEqual(live.wait(15), 0)
+        self.assertEqual(live.wait(MOST), 0)
 
     def states(self, read: "socket.SocketIO", count: int) -> List[dict]:
         states: List[dict] = []
@@ -134,7 +135,7 @@ class Serving(unittest.TestCase):
     def test_it_stays_until_it_is_stopped(self) -> None:
         self.journal.write_text("\n".join(LINES) + "\n")
         live = self.start()
-        deadline = time.monotonic() + 10
+        deadline = time.monotonic() + MOST
         while b'"phase":"over"' not in self.get("/state")[0] and time.monotonic() < deadline:
             time.sleep(0.05)
         self.assertIn(b'"phase":"over"', self.get("/state")[0])
@@ -142,17 +143,17 @@ class Serving(unittest.TestCase):
         self.addCleanup(viewer.close)
         viewer.recv(100)
         live.send_signal(signal.SIGTERM)
-        told = live.communicate(timeout=10)[1]
+        told = live.communicate(timeout=MOST)[1]
         self.assertEqual(live.returncode, 143)
         self.assertNotIn("Traceback", told.decode())
 
     def test_errors(self) -> None:
         self.journal.write_text("hey\n")
-        self.assertEqual(self.start().wait(10), 1)
+        self.assertEqual(self.start().wait(MOST), 1)
         self.journal.write_text("\n".join(LINES) + "\n")
         with socket.create_server(("", self.port)):
-            self.assertEqual(self.start().wait(10), 1)
-        self.assertEqual(self.start("--late", "55").wait(10), 2)
+            self.assertEqual(self.start().wait(MOST), 1)
+        self.assertEqual(self.start("--late", "55").wait(MOST), 2)
 
 
 if __name__ == "__main__":

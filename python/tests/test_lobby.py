@@ -27,6 +27,7 @@ HERE = Path(__file__).resolve().parent
 TOP = HERE.parents[1]
 GAME = TOP / "examples" / "first.game"
 WORDS = [f"seat{number}" for number in range(8)]
+MOST = 60.0  # seconds that anything may take, on a machine that is busy with other work
 
 
 class Agent:
@@ -34,7 +35,7 @@ class Agent:
 
     def __init__(self, port: int, word: Optional[str] = None, first: Optional[bytes] = None):
         self.socket = socket.create_connection(("localhost", port))
-        self.socket.settimeout(10)
+        self.socket.settimeout(MOST)
         self.lines = self.socket.makefile("rb")
         self.send(first if first is not None else f"hello {word}\n".encode())
 
@@ -70,7 +71,7 @@ class Host:
     def __init__(self, folder: Path, **more: Any) -> None:
         settings: Dict[str, Any] = {"port": 0, "pace": 20, "log": folder / "my.log",
                                     "journal": folder / "my.journal", "linger": 0.3,
-                                    "start": 0.3, "patience": 30, "silence": 0.4, **more}
+                                    "start": 0.5, "patience": 30, "silence": 0.4, **more}
         self.lobby = Lobby(LobbySettings(game=GAME, **settings))
         self.port, self.told, self.status = self.lobby.port, [], None
         self.thread = threading.Thread(target=self.run, daemon=True)
@@ -83,14 +84,14 @@ class Host:
         return [event for event in self.told if isinstance(event, kind)]
 
     def wait(self, kind: Type[Event], count: int = 1) -> List[Any]:
-        deadline = time.monotonic() + 10
+        deadline = time.monotonic() + MOST
         while len(self.of(kind)) < count:
             assert time.monotonic() < deadline, (kind, self.told)
             time.sleep(0.005)
         return self.of(kind)
 
     def end(self) -> Dict[str, End]:
-        self.thread.join(20)
+        self.thread.join(MOST)
         assert not self.thread.is_alive(), self.told
         return {event.word: event.reason for event in self.of(events.Ended)}
 
@@ -117,7 +118,7 @@ class Case(unittest.TestCase):
 
 class BeforeTheGame(Case):
     def test_first_lines(self) -> None:
-        host = Host(self.folder, start=1.0, patience=0.3)
+        host = Host(self.folder, start=None, patience=0.3)
         self.agents(host, "seat0")
         for first, answer in ((b"hello seat0\n", "taken"), (b"hello seat9\n", "wrongword"),
                               (b"hello seat1\r\n", "syntax"), (b"GET / HTTP/1.1\n\n", "syntax"),
@@ -130,7 +131,8 @@ class BeforeTheGame(Case):
         silent = Agent(host.port, first=b"hello")
         self.assertEqual(silent.line(), "")
         silent.close()
-        self.assertEqual(host.end()["seat0"], End.HUNG)
+        host.lobby.interrupt()
+        self.assertEqual((host.end(), host.status), ({}, 130))
         self.assertEqual([event.answer for event in host.of(events.Refused)],
                          ["taken", "wrongword", "syntax", "syntax", "syntax", "taken"])
 
@@ -186,7 +188,7 @@ class BeforeTheGame(Case):
 
 class InTheGame(Case):
     def test_coming_again(self) -> None:
-        host = Host(self.folder, pace=40, silence=0.5)
+        host = Host(self.folder, pace=150, silence=1.5)
         agent, talker, early = self.agents(host, "seat0", "seat1", "seat2")
         host.wait(events.Began)
         welcome = agent.welcome()
@@ -236,7 +238,7 @@ class InTheGame(Case):
                          ["0 bid 5 ((1 1))"] * 3)
 
     def test_hanging_refused_and_gone_agents(self) -> None:
-        host = Host(self.folder, pace=10)
+        host = Host(self.folder, pace=40)
         hangs, babbles, goes, dies = self.agents(host, "seat0", "seat1", "seat2", "seat3")
         host.wait(events.Began)
         for agent in (hangs, babbles, goes, dies):
@@ -258,7 +260,7 @@ class InTheGame(Case):
         self.assertEqual(self.asked()[1:], ["1 hey", "1 " + "z" * 513])
 
     def test_one_that_never_reads_holds_nobody(self) -> None:
-        host = Host(self.folder, pace=30, linger=0.2)
+        host = Host(self.folder, pace=80, linger=0.2)
         deaf, agent = self.agents(host, "seat0", "seat1")
         host.wait(events.Began)
         deaf.socket.settimeout(0.5)
@@ -267,24 +269,24 @@ class InTheGame(Case):
                 deaf.send(b"own 1\n" * 1000)
         agent.welcome()
         start = time.monotonic()
-        for number in range(100):
+        for number in range(40):
             self.assertEqual(agent.ask(f"own {number}"), f"@{number} own 0 ()")
-        self.assertLess(time.monotonic() - start, 3)
+        self.assertLess(time.monotonic() - start, MOST / 20)
         agent.quit()
         self.assertEqual(host.end()["seat0"], End.HUNG)
 
     def test_a_reply_is_in_the_journal_before_it_is_passed_on(self) -> None:
-        host = Host(self.folder)
+        host = Host(self.folder, pace=60)
         agent = self.agents(host, "seat3")[0]
         agent.welcome()
-        for number in range(50):
+        for number in range(30):
             reply = agent.ask(f"own {number % 28}")
             lines = (self.folder / "my.journal").read_text().split("\n")[-4:-1]
             self.assertIn(reply, [json.loads(line).get("r") for line in lines])
         agent.quit()
         host.end()
         journal = read_journal(self.folder / "my.journal")
-        self.assertEqual((journal.tick, journal.status, len(journal.calls)), (54, 0, 51))
+        self.assertEqual((journal.tick, journal.status, len(journal.calls)), (54, 0, 31))
         self.assertEqual([agent.end for agent in journal.agents],
                          ["absent"] * 3 + ["left"] + ["absent"] * 4)
 
@@ -410,7 +412,7 @@ class Command(Case):
         self.wait_for(script, b"begins")
         for number in (signal.SIGINT, signal.SIGHUP):
             script.send_signal(number)
-        told = script.communicate(timeout=20)
+        told = script.communicate(timeout=MOST)
         self.assertEqual((script.returncode, told[0]), (0, b"taclog 1\nend\n"))
         self.assertIn(b"the game goes on", told[1])
         self.assertEqual(len(list(self.folder.glob("first-*.journal"))), 1)
@@ -421,7 +423,7 @@ class Command(Case):
         script.send_signal(signal.SIGINT)
         time.sleep(0.1)
         script.send_signal(signal.SIGINT)
-        told = script.communicate(timeout=20)
+        told = script.communicate(timeout=MOST)
         self.assertEqual((script.returncode, told[0]), (130, b""))
         self.assertIn(b"recover my.journal > ", told[1])
         self.assertTrue(read_journal(self.folder / "my.journal").has_begun)
@@ -430,7 +432,7 @@ class Command(Case):
         script = self.start("--start", "60")
         self.wait_for(script, b"waiting")
         script.send_signal(signal.SIGHUP)
-        script.communicate(timeout=20)
+        script.communicate(timeout=MOST)
         self.assertEqual(script.returncode, 129)
 
     def test_closed_outputs(self) -> None:
@@ -444,7 +446,7 @@ class Command(Case):
                 line = " ".join(f"'{word}'" for word in script.args)
                 done = subprocess.run(["sh", "-c", f"exec {line} {close}"], cwd=self.folder,
                                       stdout=subprocess.PIPE, stderr=subprocess.DEVNULL,
-                                      timeout=20, check=False)
+                                      timeout=MOST, check=False)
                 self.assertEqual(done.returncode, number)
                 logs = list(self.folder.glob("first-*.log"))
                 self.assertEqual([log.read_text() for log in logs],
@@ -454,7 +456,7 @@ class Command(Case):
     def test_words(self) -> None:
         for more in (["--late", "55"], ["--start", "nan"], ["--page", "0"]):
             script = self.start(*more)
-            told = script.communicate(timeout=20)
+            told = script.communicate(timeout=MOST)
             self.assertEqual((script.returncode, told[1].count(b"Traceback")), (2, 0))
 
 

@@ -31,12 +31,19 @@ class Outcomes(unittest.TestCase):
         self.assertEqual(set(due), set(End))
         for reason, outcomes in due.items():
             for exited, outcome in zip((QUIT, FAILED, KILLED, STOPPED), outcomes):
-                self.assertIs(outcome_of(reason, exited, False), outcome, (reason, exited))
+                self.assertIs(outcome_of(reason, exited, False, False), outcome,
+                              (reason, exited))
+
+    def test_an_agent_that_asks_until_the_end_does_not_hang(self) -> None:
+        for exited in (QUIT, FAILED, KILLED, STOPPED):
+            self.assertIs(outcome_of(End.HUNG, exited, False, True), Outcome.PLAYED)
+        self.assertIs(outcome_of(End.GONE, FAILED, False, True), Outcome.CRASHED)
+        self.assertIs(outcome_of(End.REFUSED, QUIT, False, True), Outcome.REFUSED)
 
     def test_a_refused_first_line_counts_only_for_an_empty_seat(self) -> None:
         for exited in (QUIT, FAILED, KILLED, STOPPED):
-            self.assertIs(outcome_of(End.ABSENT, exited, True), Outcome.REFUSED)
-            self.assertIs(outcome_of(End.LEFT, exited, True), Outcome.PLAYED)
+            self.assertIs(outcome_of(End.ABSENT, exited, True, False), Outcome.REFUSED)
+            self.assertIs(outcome_of(End.LEFT, exited, True, False), Outcome.PLAYED)
 
 
 class Lobby:
@@ -48,6 +55,7 @@ class Lobby:
     status = 0
     log = b""
     seconds = 0.0
+    lines: Sequence[events.Ticked] = ()
     orders: List[str] = []
 
     def __init__(self, settings) -> None:  # type: ignore[no-untyped-def]
@@ -57,6 +65,8 @@ class Lobby:
         time.sleep(self.seconds)
         for line in self.refused:
             on_event(events.Refused(0.0, "here", "syntax", line))
+        for tick in self.lines:
+            on_event(tick)
         for seat, end in enumerate(self.ends):
             on_event(events.Ended(0.0, seat, "word", end, 5))
         self.settings.log.write_bytes(self.log)
@@ -150,6 +160,17 @@ class Matches(unittest.TestCase):
         self.lobby.refused = ['{"hello":"red0"}', "hello red22"]
         result = self.play()
         self.assertEqual(result.outcomes[:3], (Outcome.REFUSED, Outcome.ABSENT, Outcome.ABSENT))
+
+    def test_lines_in_the_last_third_tell_who_hung(self) -> None:
+        self.lobby.ends = [End.HUNG] * 8
+        self.lobby.lines = [events.Ticked(0.0, 36, (5, 5, 0, 5, 5, 0, 0, 0)),
+                            events.Ticked(0.0, 37, (5, 6, 0, 5, 5, 1, 0, 0)),
+                            events.Ticked(0.0, 54, (5, 6, 0, 9, 5, 1, 0, 0))]
+        result = self.play()
+        self.assertEqual([outcome is Outcome.PLAYED for outcome in result.outcomes],
+                         [False, True, False, True, False, True, False, False])
+        self.assertIn("agent1 at seat 1 (red1) did not quit in time, and its link was ended",
+                      self.notes())
 
     def test_an_agent_that_ignores_signals_is_ended_too(self) -> None:
         began = time.monotonic()

@@ -39,6 +39,10 @@ class Hotels(unittest.TestCase):
         self.assertEqual(prices_of(got), [("price", 0, 0), ("price", 6, 50), ("close", 12, 60)])
         self.assertEqual([event.position for event in got], [None, 2, 4])
 
+    def test_a_price_before_the_first_entry_has_no_position(self) -> None:
+        got = self.events(False, PUBLISH, bid(0, (1, 50)))
+        self.assertEqual([event.position for event in got], [None, 0])
+
     def test_live_quotes_move_with_each_admitted_bid(self) -> None:
         low = Entry(3, Call("bid", ((5, 500),)), No(None, "belowquote", 0, Below(1, 51, 0)))
         got = self.events(True, bid(0, (1, 50)), bid(1, (1, 60)), low, PUBLISH, bid(0, (1, 70)))
