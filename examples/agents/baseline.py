@@ -36,10 +36,10 @@ from link import HOTELS, TICKETS, Client, Link, inbound, outbound, room, ticket
 
 # Rises in dollars, if 0, 1, .. 7 nights have closed, of Shanties' outer (1 and 4) and inner nights
 # and Towers' outer and inner ones: if rooms are plenty, and if they are scarce.
-PLENTY = ([15, 13, 11, 9, 7, 4, 2, 1], [74, 60, 39, 32, 23, 18, 14, 2],
-          [85, 50, 36, 30, 26, 22, 25, 25], [158, 92, 76, 57, 35, 32, 17, 5])
-SCARCE = ([62, 36, 25, 18, 15, 10, 4, 2], [33, 29, 31, 34, 35, 34, 24, 11],
-          [74, 49, 44, 36, 30, 24, 23, 9], [53, 31, 28, 28, 21, 16, 7, 3])
+PLENTY = ([16, 15, 13, 14, 14, 11, 9, 4], [89, 66, 52, 42, 36, 36, 28, 11],
+          [68, 46, 34, 25, 23, 18, 9, 2], [129, 85, 67, 46, 30, 22, 14, 20])
+SCARCE = ([58, 33, 26, 24, 16, 11, 6, 3], [24, 14, 12, 10, 8, 5, 3, 1],
+          [63, 33, 26, 21, 14, 7, 5, 2], [41, 20, 15, 12, 8, 4, 1, 0])
 SCARCE_QUOTE, LEAST_GAIN = 50, 250  # dollars: rooms are scarce once each night was quoted at that
 SHADE = 0.25  # the part that it bids of what a room is worth beyond its predicted price
 AHEAD, PATIENCE = 12, 10  # a seat waits if it is expected to rise by fewer dollars in 12 ticks
