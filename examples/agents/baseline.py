@@ -200,9 +200,9 @@ class Baseline:
         live = self.tick % 2 == 1 and self.quotes != quotes
         if closed or live or self.tick % 6 == 3 or not self.tick:
             self.replan()
-            self.buy_seats()
             self.bid_for_rooms()
-        if self.tick % 2 == 0:
+            self.buy_seats()
+        if self.tick % 2 == 0 and self.tick:
             self.trade()
         return True
 
@@ -235,7 +235,7 @@ class Baseline:
         sure = [goods for _, goods in self.plan.trips if not (self.scarce and self.open & {*goods})]
         for good, flight in enumerate(self.flights):
             units = sum(good in goods for goods in sure) - self.have[good]
-            if units > 0 and (flight.rising(self.tick) or not self.open):
+            if units > 0 and (self.tick and flight.rising(self.tick) or not self.open):
                 self.link.bid(good, (units, flight.price + 50))
 
     def bid_for_rooms(self) -> None:

@@ -108,9 +108,14 @@ def main() -> int:
     moved = [entry for entry, (mean, error) in then.items()
              if abs(learner.mean(entry) - mean) > max(error, 1)]
     print(f"{given.more} rounds more moved {len(moved)} of {len(then)} entries by more than their "
-          "error and a dollar", *moved)
+          "error and a dollar", *moved, flush=True)
     return 0
 
 
 if __name__ == "__main__":
-    sys.exit(main())
+    try:
+        sys.exit(main())
+    except KeyboardInterrupt:
+        sys.exit("learn_baseline.py: stopped")
+    except OSError as fault:  # a closed pipe or a full disk
+        sys.exit(f"learn_baseline.py: {fault.strerror}")
