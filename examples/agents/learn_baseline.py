@@ -3,8 +3,8 @@
 
 Eight baselines play each other in simulator.py, half of the games with 16 rooms a night and half
 with 3 to 6 and live quotes. After each round of games the tables become the means of all rises so
-far, later rounds counting for more, and the next round is played with them. It prints the tables as
-they stand in baseline.py, and each entry's standard error over games. All is drawn from the seed.
+far, and the next round is played with them. It prints the tables as they stand in baseline.py, with
+the error of each entry: two standard errors over games. All is drawn from the seed.
 """
 
 from __future__ import annotations
@@ -39,24 +39,26 @@ def rises(market: Market, few: bool) -> Dict[Entry, List[int]]:
 
 
 class Learner:
-    """What was seen so far: of each entry and game a weight, and the sum and number of rises."""
+    """What was seen so far: the sum and the number of rises, of each entry in each game."""
 
     def __init__(self) -> None:
-        self.games: Dict[Entry, List[Tuple[int, int, int]]] = defaultdict(list)
+        self.games: Dict[Entry, List[Tuple[int, int]]] = defaultdict(list)
 
-    def add(self, market: Market, few: bool, weight: int) -> None:
+    def add(self, market: Market, few: bool) -> None:
         for entry, seen in rises(market, few).items():
-            self.games[entry].append((weight, sum(seen), len(seen)))
+            self.games[entry].append((sum(seen), len(seen)))
 
     def mean(self, entry: Entry) -> float:
+        """The mean rise, in dollars."""
         games = self.games[entry]
-        return sum(w * total for w, total, _ in games) / sum(w * count for w, _, count in games)
+        return sum(total for total, _ in games) / sum(count for _, count in games)
 
     def error(self, entry: Entry) -> float:
-        """The standard error of the mean over games, in dollars."""
+        """Two standard errors of the mean, in dollars; infinite if one game alone has the entry."""
         games, mean = self.games[entry], self.mean(entry)
-        squares = sum((w * (total - count * mean)) ** 2 for w, total, count in games)
-        return squares ** 0.5 / sum(w * count for w, _, count in games)
+        squares = sum((total - count * mean) ** 2 for total, count in games)
+        spread = (squares * len(games) / max(1, len(games) - 1)) ** 0.5
+        return 2 * spread / sum(count for _, count in games) if len(games) > 1 else math.inf
 
     def install(self) -> None:
         """Puts the means into the tables of the agents that play in this process."""
@@ -86,8 +88,8 @@ def number_of(least: int):
 def main() -> int:
     parser = argparse.ArgumentParser(description=__doc__,
                                      formatter_class=argparse.RawDescriptionHelpFormatter)
-    parser.add_argument("--rounds", type=number_of(1), default=16, help="rounds of games; 16")
-    parser.add_argument("--games", type=number_of(2), default=16, help="games a round; 16")
+    parser.add_argument("--rounds", type=number_of(1), default=24, help="rounds of games; 24")
+    parser.add_argument("--games", type=number_of(2), default=12, help="games a round; 12")
     parser.add_argument("--more", type=number_of(0), default=3,
                         help="rounds after these, to see what still moves; 3")
     parser.add_argument("--seed", type=number_of(0), default=1, help="of all that is drawn; 1")
@@ -99,7 +101,7 @@ def main() -> int:
             few = game % 2 == 1
             market = play(Deal.draw(source, FEW if few else None), [
                 lambda seat: baseline.Baseline(seat, random.Random(source.random()))] * 8, source)
-            learner.add(market, few, count)
+            learner.add(market, few)
         learner.install()
         print(f"round {count} after {time.monotonic() - begun:.0f} s", file=sys.stderr, flush=True)
         if count == given.rounds:
@@ -108,7 +110,7 @@ def main() -> int:
     moved = [entry for entry, (mean, error) in then.items()
              if abs(learner.mean(entry) - mean) > max(error, 1)]
     print(f"{given.more} rounds more moved {len(moved)} of {len(then)} entries by more than their "
-          "error and a dollar", *moved, flush=True)
+          "error and a dollar:", *moved or ["none"], flush=True)
     return 0
 
 
