@@ -52,7 +52,7 @@ def wide_lines(text: str) -> Iterator[int]:
     fenced = False
     for number, line in enumerate(text.split("\n"), 1):
         fenced ^= line.startswith("```")
-        if len(line) > WIDTH and not (fenced or line.startswith(("|", "    ", "![")) or "](" in line):
+        if len(line) > WIDTH and not (fenced or line.lstrip().startswith(("|", "![")) or line.startswith("    ") or "](" in line):
             yield number
 
 

@@ -35,6 +35,12 @@ def filled(text: str) -> str:
     return textwrap.fill(" ".join(text.split()), 100, break_long_words=False, break_on_hyphens=False)
 
 
+def filled_items(text: str) -> str:
+    """The items of a list, each in lines of at most 100 columns."""
+    return "\n".join(textwrap.fill(" ".join(item.split()), 100, initial_indent="- ", subsequent_indent="  ", break_long_words=False, break_on_hyphens=False)
+                     for item in re.split(r"(?:^|\n)- ", text) if item)
+
+
 def link(name: str, file: str, line: int) -> str:
     return f"[`{name}`](../{os.path.relpath(file, ROOT)}#L{line})"
 
@@ -256,9 +262,9 @@ def page(definitions: Definitions) -> Tuple[str, List[str], str]:
             filled(f"The headline over lines of words takes {core:,} lines of definitions. Beside it are four parts that may be left out at first ({in_all:,} lines with "
                    "them); the chapters need nothing of what they say: " + "; ".join(heading for heading, _, _ in BESIDE) + "."),
             "", "## The headline, half sentence by half sentence", ""] + sentences
-    text += ["", "Three things that the clause does not say in so many words:", "", TRUTHS, "", "## Key", "", "| notation | what it means |", "|---|---|"]
+    text += ["", "What the clause does not say in so many words:", "", filled_items(TRUTHS), "", "## Key", "", "| notation | what it means |", "|---|---|"]
     text += [f"| {sign} | {meaning} |" for sign, meaning in NOTATION]
-    text += ["", "Words of the toolchain's library (`rt lemma WORD` in the folder of a crate prints the definition of one):", "", filled(words), "",
+    text += ["", filled("Words of the toolchain's library (`rt lemma WORD` in the folder of a crate prints the definition of one):"), "", filled(words), "",
              "## Types of the code", "", "Each in `src/` of its crate; its ranges are kept by its own calls.", ""] + types
     text += ["", "## Limits", ""] + limits_table({**headline, **dict.fromkeys(name for names in clauses.values() for name in names)})
     text += ["", "## The objects of the outside", "", filled("`F.state`, `K.state`, `N.state`, `N.Link.state` and `T.state` in the clauses of `tac` are the ghost `state` of these traits."), ""]
