@@ -410,7 +410,7 @@ class Command(Case):
         self.wait_for(script, b"begins")
         for number in (signal.SIGINT, signal.SIGHUP):
             script.send_signal(number)
-        told = script.communicate(timeout=20)
+        told = script.communicate(timeout=200)
         self.assertEqual((script.returncode, told[0]), (0, b"taclog 1\nend\n"))
         self.assertIn(b"the game goes on", told[1])
         self.assertEqual(len(list(self.folder.glob("first-*.journal"))), 1)
@@ -421,7 +421,7 @@ class Command(Case):
         script.send_signal(signal.SIGINT)
         time.sleep(0.1)
         script.send_signal(signal.SIGINT)
-        told = script.communicate(timeout=20)
+        told = script.communicate(timeout=200)
         self.assertEqual((script.returncode, told[0]), (130, b""))
         self.assertIn(b"recover my.journal > ", told[1])
         self.assertTrue(read_journal(self.folder / "my.journal").has_begun)
@@ -430,7 +430,7 @@ class Command(Case):
         script = self.start("--start", "60")
         self.wait_for(script, b"waiting")
         script.send_signal(signal.SIGHUP)
-        script.communicate(timeout=20)
+        script.communicate(timeout=200)
         self.assertEqual(script.returncode, 129)
 
     def test_closed_outputs(self) -> None:
@@ -454,7 +454,7 @@ class Command(Case):
     def test_words(self) -> None:
         for more in (["--late", "55"], ["--start", "nan"], ["--page", "0"]):
             script = self.start(*more)
-            told = script.communicate(timeout=20)
+            told = script.communicate(timeout=200)
             self.assertEqual((script.returncode, told[1].count(b"Traceback")), (2, 0))
 
 
