@@ -391,7 +391,7 @@ class Real(unittest.TestCase):
 
     def test_it_runs_from_a_clone(self) -> None:
         done = subprocess.run([str(TOP / "tools" / "tournament"), "--help"], check=False,
-                              stdout=subprocess.PIPE, timeout=20)
+                              stdout=subprocess.PIPE, timeout=200)
         self.assertEqual(done.returncode, 0)
         self.assertTrue(PACKAGE.is_dir())
 
