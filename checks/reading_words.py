@@ -16,7 +16,8 @@ Compare each definition with the rule in words that its row links. Begin with th
 read the chapters in their order, the definitions that are named and nothing else; a module may hold
 more. `checks/reading.py --print` prints them one after the other, each with its comment. The column of lines counts them without comments and imports. Where a name is met for the
 first time that is not on this page, it is a word of the toolchain's library (the key below), a type
-of the code, or a limit; all three have their tables."""
+of the code, or a limit; all three have their tables. The last chapter, on the other commands and the
+codes, is no part of the headline."""
 
 TRUTHS = """\
 - **For which objects.** `tac` is generic: the body that is proved over objects that say what they

@@ -152,7 +152,8 @@ def rules_page() -> Tuple[str, List[str]]:
     for rule in sorted(RULES, key=lambda one: headings.index(one.heading) if one.heading in headings else -1):
         if rule.heading != heading:
             heading = rule.heading
-            text.append(f"| **{heading}** | | | | | |")
+            anchor = re.sub(r"[^a-z0-9 -]", "", heading.lower()).replace(" ", "-")
+            text.append(f"| **[{heading}](GAME.md#{anchor})** | | | | | |")
         cells = [cell("definition", rule.definitions, faults), cell("code", rule.code, faults), cell("clause", rule.clauses, faults),
                  cell("edit", rule.edits, faults), cell("row", rule.rows, faults)]
         text.append(f"| {rule.rule} | {' | '.join(cells)} |")
