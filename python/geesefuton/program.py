@@ -11,8 +11,8 @@ from pathlib import Path
 from typing import List, Optional, Sequence, Tuple, Union
 
 __all__ = [
-    "INPUT", "MEANINGS", "OK", "CLOCK", "UNSOUND", "ProgramError", "audit", "find", "make", "play", "run",
-    "served_words", "show", "solve", "table", "top", "upgrade", "worth",
+    "INPUT", "MEANINGS", "OK", "CLOCK", "UNSOUND", "ProgramError", "audit", "find", "make", "play",
+    "run", "served_words", "show", "solve", "table", "top", "upgrade", "worth",
 ]
 
 Word = Union[str, int, "os.PathLike[str]"]

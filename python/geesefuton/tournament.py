@@ -24,11 +24,10 @@ import shutil
 import subprocess
 import sys
 import time
-from collections import deque
 from dataclasses import dataclass, field
 from multiprocessing.connection import Connection, Pipe, wait
 from pathlib import Path
-from typing import Deque, Dict, List, Optional, Sequence, Tuple
+from typing import Dict, Iterator, List, Optional, Sequence, Tuple
 
 from geesefuton import events, program
 from geesefuton.arguments import Parser, seconds, whole
@@ -127,14 +126,16 @@ class Tournament:
         """Plays all games."""
         plan = self._plan
         self._out.write(csv_of([HEAD]))
-        waiting: Deque[Table] = deque(tables(plan.rule, plan.games, plan.rotations))
+        waiting = tables(plan.rule, plan.games, plan.rotations)
         running: List[Running] = []
-        number = 0
+        number, are_all_begun = 0, False
         try:
-            while waiting or running:
-                while waiting and len(running) < plan.at_once:
-                    running.append(self._begin(children, number, waiting.popleft()))
+            while running or not are_all_begun:
+                while len(running) < plan.at_once and not are_all_begun:
+                    game = self._begin_next(children, number, waiting)
                     number += 1
+                    are_all_begun = game is None
+                    running += [game] if game else []
                 self._hear(running)
                 for game in [game for game in running if self._is_over(game)]:
                     running.remove(game)
@@ -145,6 +146,18 @@ class Tournament:
                         shutil.rmtree(game.folder, ignore_errors=True)
         finally:
             self._write(plan.games)
+
+    def _begin_next(self, children: Children, number: int,
+                    waiting: Iterator[Table]) -> Optional[Running]:
+        """Begins the next game; None if there is none, or none can be begun."""
+        try:
+            table = next(waiting, None)
+            return None if table is None else self._begin(children, number, table)
+        except (DealError, program.ProgramError) as fault:
+            self.report.lose(f"no more games are played: {fault}")
+        except OSError as fault:
+            self.report.lose(f"no more games are played: {why(fault)}")
+        return None
 
     def _begin(self, children: Children, number: int, table: Table) -> Running:
         plan = self._plan

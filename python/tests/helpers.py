@@ -49,7 +49,7 @@ def run(module: str, *words: object, env: Optional[Dict[str, str]] = None,
     code = f"import sys; from geesefuton.{module} import main; sys.exit(main())"
     how.setdefault("stdout", subprocess.PIPE)
     return subprocess.run(python(code, *words), stdin=subprocess.DEVNULL, stderr=subprocess.PIPE,
-                          text=True, timeout=50, check=False, env=variables(env), **how)
+                          text=True, timeout=300, check=False, env=variables(env), **how)
 
 
 def refusal(module: str, *words: object) -> Tuple[int, str]:

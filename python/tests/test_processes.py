@@ -153,7 +153,7 @@ class Outputs(unittest.TestCase):
         os.close(reading)
         self.assertTrue(Output(writing).write("x" * 500_000))
         os.close(writing)
-        self.assertEqual(child.communicate(timeout=20)[0], b"500000\n")
+        self.assertEqual(child.communicate(timeout=200)[0], b"500000\n")
 
 
 class Commands(unittest.TestCase):
@@ -162,7 +162,7 @@ class Commands(unittest.TestCase):
                 f"ProgramError\ndef main():\n    {body}\n"
                 "sys.exit(processes.command('name', main))")
         return subprocess.run(python(code), stdin=subprocess.DEVNULL, stdout=stdout, text=True,
-                              stderr=subprocess.PIPE, env=variables(), check=False, timeout=20)
+                              stderr=subprocess.PIPE, env=variables(), check=False, timeout=200)
 
     def test_errors_are_one_line_and_a_status(self) -> None:
         for body, status, told in (
@@ -188,7 +188,7 @@ class Commands(unittest.TestCase):
                 "sys.exit(processes.command('name', lambda: processes.tell('x') or 0))")
         with contextlib.closing(open(os.devnull, "rb")) as nothing:
             done = subprocess.run(python(code), stdin=nothing, stdout=subprocess.PIPE, check=False,
-                                  env=variables(), timeout=20)
+                                  env=variables(), timeout=200)
         self.assertEqual((done.returncode, done.stdout), (0, b""))
 
     def test_an_ignored_hangup_stays_ignored(self) -> None:
@@ -198,7 +198,7 @@ class Commands(unittest.TestCase):
                 "from geesefuton import processes\n"
                 f"def main():\n    {body}\nsys.exit(processes.command('name', main))")
         done = subprocess.run(python(code), stdout=subprocess.PIPE, env=variables(), check=False,
-                              timeout=20)
+                              timeout=200)
         self.assertEqual((done.returncode, done.stdout), (0, b"went on\n"))
 
 

@@ -285,7 +285,7 @@ class Command(unittest.TestCase):
 
     def test_it_runs_from_a_clone(self) -> None:
         done = subprocess.run([str(TOP / "tools" / "report"), "--help"], stdout=subprocess.PIPE,
-                              env=variables({"PYTHONPATH": ""}), check=False, timeout=20)
+                              env=variables({"PYTHONPATH": ""}), check=False, timeout=200)
         self.assertEqual(done.returncode, 0)
         self.assertIn(b"--unaudited", done.stdout)
 

@@ -12,13 +12,15 @@ from typing import Any, List, Optional
 from unittest import mock
 
 from geesefuton import tournament
-from geesefuton.deals import Rule
+from geesefuton.deals import Deal, Rule, Table
 from geesefuton.entrants import Entrant
 from geesefuton.luck import worths_of
+from geesefuton.match import Result
 from geesefuton.processes import Children, Output
+from geesefuton.program import ProgramError
 from geesefuton.results import HEAD, Outcome, Row, csv_of, read_rows, text_of
 from geesefuton.summary import summarize
-from geesefuton.tournament import Plan, Tournament
+from geesefuton.tournament import Plan, Running, Tournament
 from tests.helpers import (PACKAGE, SERVED_GAME, TOP, fake_program, needs_program, refusal, run,
                            served_game)
 
@@ -34,8 +36,6 @@ parent = Connection(int(sys.argv[1]))
 job = parent.recv()
 deal, rotation = job.name.split(".")
 fault = os.environ.get("FAULT", "") if job.name == os.environ.get("GAME") else ""
-if fault == "late":
-    time.sleep(1)
 if fault == "hang":
     time.sleep(60)
 if fault == "die":
@@ -107,10 +107,19 @@ class Playing(unittest.TestCase):
         self.assertEqual(made.report.lost, [])
 
     def test_lines_come_in_the_order_of_the_games_whichever_ends_first(self) -> None:
-        self.play(games=3, rotations=1, at_once=3, fault="late", game="2.0")
-        self.assertEqual([row.deal for row in self.rows()[::8]], ["1", "2", "3"])
-        ends = [line for line in self.told if "scored" in line]
-        self.assertEqual(ends[-1], "game 3 of 3 (2.0): scored; 0:00 left")
+        plan = Plan(entrants("a", "b"), Rule(), 3, 1, 3, 7, "words", 1, 1, None, [])
+        made = Tournament(plan, Output(self.place / "scores.csv"))
+        made._out.write(csv_of([HEAD]))
+        written = []
+        for number in (2, 0, 1):
+            table = Table(Deal(str(number), number, served_game()), 0)
+            result = Result(tuple(range(8)), (Outcome.PLAYED,) * 8)
+            made._finish(Running(number, table, plan.entrants * 4, self.place, mock.Mock(),
+                                 mock.Mock(), 0.0, result))
+            written.append([row.deal for row in self.rows()[::8]])
+        self.assertEqual(written, [[], ["0"], ["0", "1", "2"]])
+        self.assertRegex(self.told[0], r"^game 1 of 3 \(2\.0\): scored; \d+:\d\d left$")
+        self.assertEqual(self.told[-1], "game 3 of 3 (1.0): scored; 0:00 left")
 
     def test_what_games_tell_is_passed_on_and_their_settings_reach_them(self) -> None:
         self.play(games=1, rotations=1)
@@ -133,6 +142,15 @@ class Playing(unittest.TestCase):
                              [("1", 0)])
             self.assertEqual(made.report.lost, [f"game 1.1 is lost: {told}"])
             self.assertIn(f"game 1.1 is lost: {told}", self.told)
+
+    def test_a_deal_that_cannot_be_made_ends_the_tournament_after_the_games_before(self) -> None:
+        for fault, told in ((ProgramError("tac make broke"), "tac make broke"),
+                            (OSError(28, "the disk is full"), "the disk is full")):
+            made = [Deal("1", 1, served_game()), fault]
+            with mock.patch("geesefuton.deals.made_deal", side_effect=made):
+                played = self.play(games=3, rotations=1)
+            self.assertEqual([row.seat for row in self.rows()], list(range(8)))
+            self.assertEqual(played.report.lost, [f"no more games are played: {told}"])
 
     def test_a_game_that_takes_too_long_is_ended(self) -> None:
         self.patch("geesefuton.tournament.MARGIN", -3.0)
@@ -373,7 +391,7 @@ class Real(unittest.TestCase):
 
     def test_it_runs_from_a_clone(self) -> None:
         done = subprocess.run([str(TOP / "tools" / "tournament"), "--help"], check=False,
-                              stdout=subprocess.PIPE, timeout=20)
+                              stdout=subprocess.PIPE, timeout=200)
         self.assertEqual(done.returncode, 0)
         self.assertTrue(PACKAGE.is_dir())
 
