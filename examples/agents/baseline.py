@@ -40,7 +40,7 @@ PLENTY = ([16, 15, 13, 14, 14, 11, 9, 4], [89, 66, 52, 42, 36, 36, 28, 11],
           [68, 46, 34, 25, 23, 18, 9, 2], [129, 85, 67, 46, 30, 22, 14, 20])
 SCARCE = ([58, 33, 26, 24, 16, 11, 6, 3], [24, 14, 12, 10, 8, 5, 3, 1],
           [63, 33, 26, 21, 14, 7, 5, 2], [41, 20, 15, 12, 8, 4, 1, 0])
-SCARCE_QUOTE, LEAST_GAIN = 50, 250  # dollars: rooms are scarce once each night was quoted at that
+SCARCE_QUOTE, LEAST_GAIN = 15, 250  # dollars: rooms are scarce once each night was quoted at that
 SHADE = 0.25  # the part that it bids of what a room is worth beyond its predicted price
 AHEAD, PATIENCE = 12, 10  # a seat waits if it is expected to rise by fewer dollars in 12 ticks
 BUY, KEEP = 75, 60  # dollars: what a plan takes a ticket to cost, and one that is left to bring
