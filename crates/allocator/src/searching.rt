@@ -89,6 +89,14 @@ impl Attempt {
     }
 }
 
+/// What all parts of a search have in common: where it takes memory, whose goods it allocates, and how it splits.
+#[derive(Clone, Copy)]
+pub(crate) struct Search<'a> {
+    pub(crate) alloc: Global,
+    pub(crate) account: &'a Account,
+    pub(crate) attempt: Attempt,
+}
+
 /// Why a search ends without a certificate.
 #[derive(Drop)]
 pub(crate) enum Stop {
@@ -214,9 +222,7 @@ fn next_split(
 /// Searches what a choice leaves, where so many features are fixed. After an error the best is a feasible allocation still.
 #[cycle(search)]
 pub(crate) fn explore(
-    alloc: Global,
-    account: &Account,
-    attempt: Attempt,
+    search: &Search<'_>,
     level: u8,
     choice: &Choice,
     left: &Relaxation,
@@ -224,25 +230,31 @@ pub(crate) fn explore(
     best: &mut Found,
 ) -> Result<CertNode, Stop>
     requires level { level ≡ fixed_count choice.now }
-    requires ceiling { IsCeiling account.now (chosen choice.now) left.now.worths.dollars }
-    requires reached { IsReached account.now best.old.allocation best.old.total }
-    ensures reached { IsReached account.now best.new.allocation best.new.total }
+    requires ceiling { IsCeiling search.now.account.now (chosen choice.now) left.now.worths.dollars }
+    requires reached { IsReached search.now.account.now best.old.allocation best.old.total }
+    ensures reached { IsReached search.now.account.now best.new.allocation best.new.total }
     ensures grows { best.old.total ≤ best.new.total }
-    ensures holds { IfOk result (λ node. holds account.now best.new.total (chosen choice.now) (tree_of node) ≡ true) }
+    ensures holds { IfOk result (λ node. holds search.now.account.now best.new.total (chosen choice.now) (tree_of node) ≡ true) }
     ensures fits { IfOk result (λ node. is_tree (CERTIFICATE_DEPTH - level) (tree_of node) ≡ true) }
 {
     // The proof rests on the account's ranges, which are known where it is read.
+    let account = search.account;
     let _holdings = &account.holdings;
     let quote = Quote::new(account, &left.prices_for(best.total));
     if quote.holds(&left.worths, best.total) {
         return Ok(leaf(&quote.prices));
     }
-    let Some(split) = next_split(attempt.rule, choice, left, &quote.prices, best.total, hint) else {
+    let Some(split) = next_split(
+        search.attempt.rule,
+        choice,
+        left,
+        &quote.prices,
+        best.total,
+        hint,
+    ) else {
         return Ok(leaf(&full_prices(account, choice, best)));
     };
-    explore_parts(
-        alloc, account, attempt, level, choice, left, split, &quote, hint, best,
-    )
+    explore_parts(search, level, choice, left, split, &quote, hint, best)
 }
 
 /// The quote by which a part is tested first: of the prices of the part that it is like, if a hint has them, and else the one of the split. Parts that
@@ -262,9 +274,7 @@ fn quote_for(account: &Account, hint: Hint<'_>, last: &Quote, known: &Quote) -> 
 /// Searches the parts of a split. After an error the best is a feasible allocation still.
 #[cycle(search)]
 fn explore_parts(
-    alloc: Global,
-    account: &Account,
-    attempt: Attempt,
+    search: &Search<'_>,
     level: u8,
     choice: &Choice,
     left: &Relaxation,
@@ -274,22 +284,23 @@ fn explore_parts(
     best: &mut Found,
 ) -> Result<CertNode, Stop>
     requires level { level ≡ fixed_count choice.now }
-    requires ceiling { IsCeiling account.now (chosen choice.now) left.now.worths.dollars }
-    requires stock { known.now.stock_value ≡ stock_value account.now.holdings known.now.prices }
+    requires ceiling { IsCeiling search.now.account.now (chosen choice.now) left.now.worths.dollars }
+    requires stock { known.now.stock_value ≡ stock_value search.now.account.now.holdings known.now.prices }
     requires client { split.client < 8 }
     requires feature { split.feature < 4 }
     requires free { fixed_at choice.now split.client split.feature ≡ None }
-    requires reached { IsReached account.now best.old.allocation best.old.total }
-    ensures reached { IsReached account.now best.new.allocation best.new.total }
+    requires reached { IsReached search.now.account.now best.old.allocation best.old.total }
+    ensures reached { IsReached search.now.account.now best.new.allocation best.new.total }
     ensures grows { best.old.total ≤ best.new.total }
-    ensures holds { IfOk result (λ node. holds account.now best.new.total (chosen choice.now) (tree_of node) ≡ true) }
+    ensures holds { IfOk result (λ node. holds search.now.account.now best.new.total (chosen choice.now) (tree_of node) ≡ true) }
     ensures fits { IfOk result (λ node. is_tree (CERTIFICATE_DEPTH - level) (tree_of node) ≡ true) }
 {
     // The proof rests on the ranges of the account and of the choice, which are known where they are read.
+    let account = search.account;
     let _holdings = &account.holdings;
     let _fixed = &choice.fixed;
     let Split { client, feature } = split;
-    let mut children = Vec::new(alloc);
+    let mut children = Vec::new(search.alloc);
     let mut quote = *known;
     for value in 0..value_count(feature) {
         let next = choice.with(client, feature, value);
@@ -297,17 +308,7 @@ fn explore_parts(
         part.narrow(client, feature, value);
         let hint = hint_of_part(hint, split, value, &children, &left.worths);
         quote = quote_for(account, hint, &quote, known);
-        let child = explore_part(
-            alloc,
-            account,
-            attempt,
-            level + 1,
-            &next,
-            &mut part,
-            &quote,
-            hint,
-            best,
-        )?;
+        let child = explore_part(search, level + 1, &next, &mut part, &quote, hint, best)?;
         children.push(child)?;
     }
     Ok(CertNode::Split {
@@ -321,9 +322,7 @@ fn explore_parts(
 /// known do not bound it. An attempt that has come to its limit of parts stops here. After an error the best is a feasible allocation still.
 #[cycle(search)]
 fn explore_part(
-    alloc: Global,
-    account: &Account,
-    attempt: Attempt,
+    search: &Search<'_>,
     level: u8,
     choice: &Choice,
     part: &mut Relaxation,
@@ -332,29 +331,28 @@ fn explore_part(
     best: &mut Found,
 ) -> Result<CertNode, Stop>
     requires level { level ≡ fixed_count choice.now }
-    requires ceiling { IsCeiling account.now (chosen choice.now) part.old.worths.dollars }
-    requires stock { known.now.stock_value ≡ stock_value account.now.holdings known.now.prices }
-    requires reached { IsReached account.now best.old.allocation best.old.total }
-    ensures reached { IsReached account.now best.new.allocation best.new.total }
+    requires ceiling { IsCeiling search.now.account.now (chosen choice.now) part.old.worths.dollars }
+    requires stock { known.now.stock_value ≡ stock_value search.now.account.now.holdings known.now.prices }
+    requires reached { IsReached search.now.account.now best.old.allocation best.old.total }
+    ensures reached { IsReached search.now.account.now best.new.allocation best.new.total }
     ensures grows { best.old.total ≤ best.new.total }
-    ensures holds { IfOk result (λ node. holds account.now best.new.total (chosen choice.now) (tree_of node) ≡ true) }
+    ensures holds { IfOk result (λ node. holds search.now.account.now best.new.total (chosen choice.now) (tree_of node) ≡ true) }
     ensures fits { IfOk result (λ node. is_tree (CERTIFICATE_DEPTH - level) (tree_of node) ≡ true) }
 {
     // The proof rests on the account's ranges, which are known where it is read.
+    let account = search.account;
     let _holdings = &account.holdings;
-    if best.parts >= attempt.parts {
+    if best.parts >= search.attempt.parts {
         return Err(Stop::Parts);
     }
     best.parts += 1;
     if let Some(split) = copied_split(choice, hint) {
-        return explore_parts(
-            alloc, account, attempt, level, choice, part, split, known, hint, best,
-        );
+        return explore_parts(search, level, choice, part, split, known, hint, best);
     }
     if known.holds(&part.worths, best.total) {
         return Ok(leaf(&known.prices));
     }
     part.repair(best.total);
     offer_near(level, account, part, best);
-    explore(alloc, account, attempt, level, choice, part, hint, best)
+    explore(search, level, choice, part, hint, best)
 }

@@ -8,7 +8,7 @@ ghost use Rattle.bound_cert.specs.Certificate.{holds, all_left};
 ghost use Rattle.dual_bound.specs.Ceilings.{IsCeiling};
 ghost use Rattle.allocator.specs.Searching.{IsReached};
 
-use crate::searching::{Attempt, Found, Stop, explore, leaf, offer_near};
+use crate::searching::{Attempt, Found, Search, Stop, explore, leaf, offer_near};
 use crate::symmetry::Hint;
 use bound_cert::{Cert, CertNode};
 use dual_bound::{Choice, settled_quote};
@@ -60,8 +60,12 @@ fn explore_all(
     for _ in 0..MOST_ATTEMPTS + BEST_TOTAL {
         let before = best.total;
         best.parts = 0;
-        let hint = Hint::Nothing;
-        match explore(alloc, account, attempt, 0, &all, relaxation, hint, best) {
+        let search = Search {
+            alloc,
+            account,
+            attempt,
+        };
+        match explore(&search, 0, &all, relaxation, Hint::Nothing, best) {
             Err(Stop::Memory) => return Err(AllocError),
             Ok(root) => {
                 let other = attempt.shorter(best.parts, best.total > before);
@@ -97,8 +101,12 @@ fn shorter_of(
     };
     best.parts = 0;
     let all = Choice::none();
-    let hint = Hint::Nothing;
-    match explore(alloc, account, other, 0, &all, relaxation, hint, best) {
+    let search = Search {
+        alloc,
+        account,
+        attempt: other,
+    };
+    match explore(&search, 0, &all, relaxation, Hint::Nothing, best) {
         Ok(less) => less,
         Err(_) => root,
     }

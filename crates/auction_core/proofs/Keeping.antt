@@ -8,7 +8,7 @@ use Rattle.tac_base.specs.declared.calls.Reply.{Reply}
 use Rattle.tac_base.specs.declared.calls.Entry.{Entry as StoredEntry}
 use Rattle.tac_base.specs.declared.calls.Trade.{Trade}
 use Rattle.tac_base.specs.Goods.{clock}
-use Rattle.tac_base.specs.Ranges.{IsCall, IsTrade}
+use Rattle.tac_base.specs.Ranges.{IsCall, IsTrade, HasSmallNumbers}
 use Rattle.auction_rules.specs.Setup.{Setup}
 use Rattle.auction_rules.specs.History.{Entry}
 use Rattle.auction_rules.specs.Effects.{nets, net_units, all_trades, endowment, holding}
@@ -17,7 +17,7 @@ use Rattle.auction_rules.specs.Legal.{entry_by, entry_of, reply_of, trades_of, e
 use Rattle.auction_rules.specs.Follows.{Follows}
 use Rattle.std.specs.List.{All, AllByRecursion}
 use Rattle.auction_rules.specs.Traded.{traded, Spends, IsShort}
-use Rattle.auction_core.specs.Ranges.{IsEntry, HasSmallNumbers, IsToldInRange}
+use Rattle.auction_core.specs.Ranges.{IsEntry, IsToldInRange}
 use Rattle.auction_core.proofs.Dealing.{IsDealt, all_dealt}
 use Rattle.auction_core.proofs.Telling.{AreBids, reply_ranged, told_in_range}
 use Rattle.auction_rules.proofs.Lists.{all-append}

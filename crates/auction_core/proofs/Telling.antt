@@ -11,7 +11,7 @@ use Rattle.tac_base.specs.declared.calls.Call.TheVariants.{Bid, Withdraw, Own as
 use Rattle.tac_base.specs.declared.calls.Reply.{Reply}
 use Rattle.tac_base.specs.declared.calls.Reply.TheVariants as replies
 use Rattle.tac_base.specs.Goods.{agents}
-use Rattle.tac_base.specs.Ranges.{IsCall, IsReply}
+use Rattle.tac_base.specs.Ranges.{IsCall, IsReply, HasCallNumbers, HasSmallNumbers}
 use Rattle.tac_base.proofs.Faults.{good_point, both_none}
 use Rattle.auction_rules.specs.declared.units.Placed.{Placed}
 use Rattle.auction_rules.specs.declared.units.BidUnit.{BidUnit}
@@ -29,9 +29,18 @@ use Rattle.auction_rules.proofs.Lists.{all-flat_map, all-map, all_alike}
 use Rattle.auction_rules.proofs.Quotes.{fold_keeps, max_keeps, prices_of}
 use Rattle.auction_rules.proofs.Standing.{Each, each-append, each-block, each-filter, each-weaker}
 use Rattle.game_text.specs.Accounts.{IsHolding}
-use Rattle.auction_core.specs.Ranges.{HasSmallNumbers, IsToldInRange}
+use Rattle.auction_core.specs.Calls.{IsFit}
+use Rattle.auction_core.specs.Ranges.{IsToldInRange}
 
--- ---- what the rules and the type of a reply keep, together
+-- ---- what the rules and the types of calls and replies keep, together
+
+pub call_ranged : (call : Call) → HasCallNumbers call → IsFit call → IsCall call
+call_ranged (Bid points) small fit = small
+call_ranged Withdraw small fit = tt
+call_ranged OwnCall small fit = tt
+call_ranged (Update tick draw) small fit = (small.0, fit, small.1)
+call_ranged Publish small fit = tt
+call_ranged Close small fit = tt
 
 pub reply_ranged : (reply : Reply) → HasSmallNumbers reply → IsToldInRange reply → IsReply reply
 reply_ranged (replies.Taken bought sold) small told = small

@@ -1,9 +1,8 @@
 -- The ranges of an auction's entries, in which a log shows them.
-use Rattle.std.specs.Prelude.{◌≡◌, ℕ, ◌≤◌, ⊤, List, None, length}
+use Rattle.std.specs.Prelude.{ℕ, ◌≤◌, ⊤, List, length}
 use Rattle.std.specs.List.{All}
-use Rattle.tac_base.specs.Bids.{left_fault}
 use Rattle.tac_base.specs.declared.calls.Reply.{Reply}
-use Rattle.tac_base.specs.declared.calls.Reply.TheVariants.{Taken, Own, Sold, BelowQuote}
+use Rattle.tac_base.specs.declared.calls.Reply.TheVariants.{Own, Sold, BelowQuote}
 use Rattle.tac_base.specs.declared.limits.TheConstants.{AUCTION_ENTRIES, BID_PRICE, ENTRY_TRADES, SHOWN_PRICE}
 use Rattle.tac_base.specs.Goods.{clock}
 use Rattle.tac_base.specs.Ranges.{IsCall, IsReply, IsTrade}
@@ -29,11 +28,3 @@ IsToldInRange (Own holding left) = IsHolding holding
 IsToldInRange (Sold units price) = price ≤ BID_PRICE
 IsToldInRange (BelowQuote need at offered) = at ≤ SHOWN_PRICE
 IsToldInRange reply = ⊤
-
--- what the type of a reply keeps of its range: numbers of units of eight bits, and standing points within the limits of a bid
-abbrev pub HasSmallNumbers : Reply → Type 0
-HasSmallNumbers (Taken bought sold) = (bought ≤ 255) × (sold ≤ 255)
-HasSmallNumbers (Own holding left) = left_fault left ≡ None
-HasSmallNumbers (Sold units price) = units ≤ 255
-HasSmallNumbers (BelowQuote need at offered) = (need ≤ 255) × (offered ≤ 255)
-HasSmallNumbers reply = ⊤

@@ -10,7 +10,6 @@ ghost use Rattle.auction_core.specs.Struck.{struck_of};
 
 use crate::auction_setup::AuctionSetup;
 use crate::book::Book;
-use crate::copies::{same_call, same_reply};
 use crate::effects::{apply_all, nets};
 use crate::entries::{AuctionEntry, Struck};
 use crate::order_book::OrderBook;
@@ -175,11 +174,11 @@ impl Kept for Auction {
         let trades = fills.as_slice();
         apply_all(&mut self.held, trades);
         let struck = Struck {
-            reply: same_reply(&reply),
+            reply: reply.copy(),
             nets: nets(trades),
             trades: trades.len() as u8,
         };
-        let call = same_call(call);
+        let call = call.copy();
         store(
             &mut self.entries,
             &mut self.trades,

@@ -6,7 +6,6 @@ mod auction;
 mod auction_setup;
 mod book;
 mod closed;
-mod copies;
 mod effects;
 mod entries;
 mod flight_calls;

@@ -19,7 +19,7 @@ use Rattle.auction_rules.specs.Precedence.{precedes, predecessors, wins}
 use Rattle.auction_rules.specs.Ask.{units_at, published}
 use Rattle.auction_rules.specs.WinningNumber.{winning}
 use Rattle.auction_rules.specs.HotelClosing.{sold_units}
-use Rattle.auction_rules.specs.BeatQuote.{offered, is_below_quote}
+use Rattle.auction_rules.specs.BeatQuote.{need, quote_to_beat, offered, is_below_quote}
 use Rattle.auction_rules.proofs.Agents.{number_same, numbers_differ, agents_joined}
 use Rattle.auction_rules.proofs.Lists.{filter-flat_map}
 use Rattle.auction_rules.proofs.Standing.{Each, last_is, last_units, number_is}
@@ -112,7 +112,7 @@ module _ (rooms : ℕ) (live : Bool) (past : List Entry) (agent : ℕ) (points :
       own_by_bid rules past (bid_entry agent points bought sold trades) agent points le still_open (number_same agent) refl
       ∙ without_nothing (units_of (record { agent = agent; position = length past; points = points }))
 
-  agent_keeps : agent ≤ 7 → is_below_quote rooms live past agent points ≡ false → rooms ≤ units_at (stand rules past) price → rooms ≤ units_at (stand rules next) price
+  agent_keeps : agent ≤ 7 → is_below_quote (need rooms live past agent) (quote_to_beat rooms live past) points ≡ false → rooms ≤ units_at (stand rules past) price → rooms ≤ units_at (stand rules next) price
   agent_keeps le beats enough =
       let parts = count-parts (λ u. u.agent == agent) (λ u. nat_le price u.price) (stand rules next) in
       let own : units_at (filter (λ u. u.agent == agent) (stand rules next)) price ≡ offered points price = rw (own_new le) (units_offered agent (length past) 0 price points) in
@@ -127,7 +127,7 @@ module _ (rooms : ℕ) (live : Bool) (past : List Entry) (agent : ℕ) (points :
       subst (λ (us : List BidUnit). rooms ≤ units_at us price)
       (open_stand rooms live past still_open ∙ sym (strangers_bid past agent points bought sold trades le) ∙ sym (open_stand rooms live next still_open)) enough
 
-  pub bid_keeps : is_below_quote rooms live past agent points ≡ false → IsReached rooms (stand rules past) price → IsReached rooms (stand rules next) price
+  pub bid_keeps : is_below_quote (need rooms live past agent) (quote_to_beat rooms live past) points ≡ false → IsReached rooms (stand rules past) price → IsReached rooms (stand rules next) price
   bid_keeps beats (inl zero_price) = inl zero_price
   bid_keeps beats (inr enough) = inr (by_agent (cases_lt agent 8))
     where

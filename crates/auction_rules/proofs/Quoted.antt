@@ -39,9 +39,9 @@ still_open rules past caller call no_question h =
     by_test false g = refl
 
 -- an admitted bid is not below the quote
-admitted_beats : (rooms : ℕ) (live : Bool) (past : List Entry) (caller : ℕ) (points : List Point) → refusal (HotelRules rooms live) past caller (Bid points) ≡ None → is_below_quote rooms live past caller points ≡ false
+admitted_beats : (rooms : ℕ) (live : Bool) (past : List Entry) (caller : ℕ) (points : List Point) → refusal (HotelRules rooms live) past caller (Bid points) ≡ None → is_below_quote (need rooms live past caller) (quote_to_beat rooms live past) points ≡ false
 admitted_beats rooms live past caller points h =
-    by_tests (is_closed past) (is_wrong_caller caller (Bid points) || is_wrong_place (HotelRules rooms live) (Bid points)) (sells points) (is_below_quote rooms live past caller points) h
+    by_tests (is_closed past) (is_wrong_caller caller (Bid points) || is_wrong_place (HotelRules rooms live) (Bid points)) (sells points) (is_below_quote (need rooms live past caller) (quote_to_beat rooms live past) points) h
   where
     below : Reply
     below = BelowQuote (need rooms live past caller) (quote_to_beat rooms live past) (offered points (quote_to_beat rooms live past))

@@ -51,7 +51,7 @@ bid_refuses : (rules : Rules) (past : List Entry) (caller : ℕ) (points : List 
 bid_refuses (FlightRules first bound) past caller points = either (sells points) (Some Sell) None refl tt
 bid_refuses (HotelRules rooms live) past caller points =
     either (sells points) (Some Sell) _ refl
-    (either (is_below_quote rooms live past caller points)
+    (either (is_below_quote (need rooms live past caller) (quote_to_beat rooms live past) points)
     (Some (BelowQuote (need rooms live past caller) (quote_to_beat rooms live past) (offered points (quote_to_beat rooms live past)))) None refl tt)
 bid_refuses TicketRules past caller points = either (crosses_itself points) (Some SelfCross) None refl tt
 

@@ -22,6 +22,6 @@ offered_by at point = if nat_le at point.price then size_of point else 0
 abbrev pub offered : List Point → ℕ → ℕ
 offered points at = sum_by (offered_by at) points
 
--- whether the agent's bid offers too few
-abbrev pub is_below_quote : ℕ → Bool → List Entry → ℕ → List Point → Bool
-is_below_quote rooms live past agent points = nat_lt (offered points (quote_to_beat rooms live past)) (need rooms live past agent)
+-- whether the points offer fewer units than are due at a price or more
+abbrev pub is_below_quote : ℕ → ℕ → List Point → Bool
+is_below_quote due at points = nat_lt (offered points at) due

@@ -46,14 +46,17 @@ meets_own points price = list_any (λ sell. not (buys_of sell.units) && nat_le s
 abbrev pub crosses_itself : List Point → Bool
 crosses_itself points = list_any (λ buy. buys_of buy.units && meets_own points buy.price) points
 
+-- the refusals that only a hotel bid has, of which so many units are due at a price or more
+abbrev pub hotel_refusal : ℕ → ℕ → List Point → Option Reply
+hotel_refusal due at points =
+    if sells points then Some Sell
+    else if is_below_quote due at points then Some (BelowQuote due at (offered points at))
+    else None
+
 -- the refusals that only a bid has
 abbrev pub bid_refusal : Rules → List Entry → ℕ → List Point → Option Reply
 bid_refusal (FlightRules first bound) past caller points = if sells points then Some Sell else None
-bid_refusal (HotelRules rooms live) past caller points =
-    if sells points then Some Sell
-    else if is_below_quote rooms live past caller points
-    then Some (BelowQuote (need rooms live past caller) (quote_to_beat rooms live past) (offered points (quote_to_beat rooms live past)))
-    else None
+bid_refusal (HotelRules rooms live) past caller points = hotel_refusal (need rooms live past caller) (quote_to_beat rooms live past) points
 bid_refusal TicketRules past caller points = if crosses_itself points then Some SelfCross else None
 
 -- the refusals that depend on the kind of call

@@ -1,4 +1,4 @@
-//! Tests of the public calls on books, auctions, cash, the floor, scores, scripts and logs: worked rows, one after another.
+//! Tests of the public calls on books, auctions, cash, the floor and scripts: worked rows, one after another.
 #![tactic(auto)]
 
 #[cfg(test)]
@@ -12,13 +12,7 @@ mod floors;
 #[cfg(test)]
 mod hotels;
 #[cfg(test)]
-mod logs;
-#[cfg(test)]
-mod scores;
-#[cfg(test)]
 mod scripts;
-#[cfg(test)]
-mod sheets;
 #[cfg(test)]
 mod tickets;
 #[cfg(test)]

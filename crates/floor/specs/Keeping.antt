@@ -46,7 +46,7 @@ pub record IsInOrder (entries : List (ℕ × Entry)) (boards : List (ℕ × Boar
   pub past : All (λ p. p.0 < seen) entries
   pub counts : All (λ b. b.0 ≤ seen) boards
 
--- the same holds for each of the 28 goods
+-- what was answered of each of the 28 goods is in order
 pub record AreGoodsInOrder (entries : List (List (ℕ × Entry))) (boards : List (List (ℕ × Board))) (seen : List ℕ) : Type 0 where
   pub goods : length entries ≡ 28
   pub each : (good : ℕ) → good < 28 → IsInOrder (slice_index_or entries good []) (slice_index_or boards good []) (slice_index_or seen good 0)

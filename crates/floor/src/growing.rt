@@ -1,11 +1,13 @@
-ghost use Rattle.std.specs.Prelude.{◌≡◌, [], ◌∷◌, ◌++◌, OnOk};
+ghost use Rattle.std.specs.Prelude.{◌≡◌, ◌≤◌, [], ◌∷◌, ◌++◌, OnOk, OnErr, vec_len, vec_capacity};
 
 use std::alloc::AllocError;
 use tac_base::Memory;
 
-/// Adds an item at the end. If there is no memory for it, it is dropped.
+/// Adds an item at the end. If there is no memory for it, which can be only where the list is full, it is dropped.
 pub(crate) fn add<T: Drop>(list: &mut Vec<T>, item: T) -> Result<(), Memory>
-    ensures { OnOk result (list.new.items ≡ list.old.items ++ item ∷ []) }
+    ensures added { OnOk result (list.new.items ≡ list.old.items ++ item ∷ []) }
+    ensures kept { OnErr result (list.new.items ≡ list.old.items) }
+    ensures full { OnErr result (vec_capacity list.old ≤ vec_len list.old) }
 {
     match list.push(item) {
         Ok(()) => Ok(()),

@@ -63,7 +63,7 @@ fn auction_known(auction: &Auction) -> bool
     auction.len() <= AUCTION_ENTRIES
 }
 
-/// The same for each of several auctions.
+/// The history of each auction is in its ranges.
 pub(crate) fn auctions_known(auctions: &[Auction])
     ensures histories { AllByRecursion (λ auction. IsHistory auction.setup.good auction.history) auctions.now }
     ensures shown { AllByRecursion IsAuction auctions.now }

@@ -29,7 +29,7 @@ fn package_known(chosen: &Package) -> bool
     true
 }
 
-/// The same for each of the packages of eight clients.
+/// There are eight packages, and each is in its ranges.
 fn packages_known(packages: &[Package; 8])
     ensures eight { length packages.now ≡ 8 }
     ensures each { AllByRecursion IsShownPackage packages.now }
@@ -44,7 +44,7 @@ fn cert_known(cert: &Cert)
     let _root = &cert.root;
 }
 
-/// The same for a score with its packages and its certificate.
+/// The numbers of a score are in their ranges, its packages and its certificate too.
 fn score_known(scored: &AgentScore) -> bool
     ensures holds { result ≡ true }
     ensures known { IsKnownScore scored.now }
@@ -56,7 +56,7 @@ fn score_known(scored: &AgentScore) -> bool
     true
 }
 
-/// The same for a sheet, which has eight scores.
+/// A sheet has eight scores, each in its ranges.
 pub(crate) fn sheet_known(sheet: &Sheet)
     ensures count { length sheet.now ≡ 8 }
     ensures scores { AllByRecursion IsKnownScore sheet.now }

@@ -23,8 +23,8 @@ pub struct Worths {
 }
 
 impl Worths {
-    /// What one unit more of a good, 0..27, adds to the best total, in dollars. All else as it is, paying more for it
-    /// is a loss.
+    /// What one unit more of a good, 0..27, adds to the best total, in dollars. All else as it is, paying more for it is a
+    /// loss, unless it is a ticket that is owed: then this is 0, and the unit saves the penalty of 200 dollars.
     pub fn up(&self, good: usize) -> u32
         requires { good < 28 }
         ensures { result ≡ up_at (worths_of self.now.base self.now.more.items self.now.less.items) good }
@@ -32,8 +32,8 @@ impl Worths {
         self.more[good].total - self.base.total
     }
 
-    /// What one unit less of a good, 0..27, takes from the best total, in dollars. All else as it is, selling it for less
-    /// is a loss.
+    /// What one unit less of a good, 0..27, takes from the best total, in dollars. All else as it is, selling it for less is
+    /// a loss; selling a ticket that is not held costs the penalty of 200 dollars besides.
     pub fn down(&self, good: usize) -> u32
         requires { good < 28 }
         ensures { result ≡ down_at (worths_of self.now.base self.now.more.items self.now.less.items) good }

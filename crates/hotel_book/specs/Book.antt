@@ -1,10 +1,10 @@
 -- What a contract sees of a hotel auction, and the pasts that it stands for.
-use Rattle.std.specs.Prelude.{◌≡◌, ℕ, suc, ◌+◌, ◌≤◌, ◌==◌, max, ⊤, Bool, nat_lt, if◌then◌else◌, List, [], ◌∷◌, length, slice_set, Option, Some, None}
+use Rattle.std.specs.Prelude.{◌≡◌, ℕ, suc, ◌+◌, ◌≤◌, ◌==◌, max, ⊤, Bool, if◌then◌else◌, List, [], ◌∷◌, length, slice_set, Option, Some, None}
 use Rattle.std.specs.List.{filter_map}
 use Rattle.tac_base.specs.declared.bids.Point.{Point}
 use Rattle.tac_base.specs.declared.calls.Trade.{Trade}
 use Rattle.tac_base.specs.declared.calls.Reply.{Reply}
-use Rattle.tac_base.specs.declared.calls.Reply.TheVariants.{Closed, Sell, BelowQuote}
+use Rattle.tac_base.specs.declared.calls.Reply.TheVariants.{Closed}
 use Rattle.tac_base.specs.declared.units.Unit.{Unit as ShownUnit}
 use Rattle.tac_base.specs.declared.limits.TheConstants.{BID_PRICE, BID_UNITS, STANDING_UNITS}
 use Rattle.tac_base.specs.Goods.{agents, house}
@@ -16,8 +16,7 @@ use Rattle.auction_rules.specs.Units.{units_of}
 use Rattle.auction_rules.specs.Shown.{AreShown}
 use Rattle.auction_rules.specs.History.{Entry, last_bids, is_closed, units_of_bids}
 use Rattle.auction_rules.specs.Ask.{published, ask}
-use Rattle.auction_rules.specs.BeatQuote.{offered}
-use Rattle.auction_rules.specs.Refusals.{sells}
+use Rattle.auction_rules.specs.Refusals.{hotel_refusal}
 
 -- a hotel's good and its rules, the last bid of each agent in order, the published price, and whether it is closed
 pub record HotelBook : Type 0 where
@@ -65,17 +64,9 @@ with_bid book bid =
 abbrev pub hotel_units_left : HotelBook → ℕ
 hotel_units_left book = if book.closed then 0 else STANDING_UNITS
 
--- the refusal of the bid of an agent that would win this many units, if there is one
-abbrev pub open_refusal : ℕ → ℕ → List Point → Option Reply
-open_refusal won price points =
-    if sells points then Some Sell
-    else if nat_lt (offered points (price + 1)) (max 1 won)
-    then Some (BelowQuote (max 1 won) (price + 1) (offered points (price + 1)))
-    else None
-
--- the same, if the hotel may be closed
+-- the refusal of the bid of an agent that would win this many units, if there is one, by the published price
 abbrev pub book_refusal : ℕ → ℕ → Bool → List Point → Option Reply
-book_refusal won price closed points = if closed then Some Closed else open_refusal won price points
+book_refusal won price closed points = if closed then Some Closed else hotel_refusal (max 1 won) (price + 1) points
 
 -- what an agent buys that wins this many units, each at a price
 abbrev pub winner_trade : ℕ → ℕ → (ℕ → ℕ) → ℕ → Option Trade

@@ -175,58 +175,13 @@ fn agents_are_told_by_objects(rt: HostRuntime) {
             &b"{\"at\":9,\"sold\":[16,70]}"[..],
         ),
         (
-            Said::At(
-                2,
-                Reply::Own {
-                    holding: 4,
-                    left: Left::new(&[]),
-                },
-            ),
-            &b"{\"at\":2,\"own\":4,\"points\":[]}"[..],
-        ),
-        (
-            Said::Quote(Board {
-                count: 8,
-                bid: 70,
-                ask: 0,
-                closed: true,
-            }),
-            &b"{\"at\":8,\"quote\":[70,0],\"open\":false}"[..],
-        ),
-        (
-            Said::At(1, Reply::Closed),
-            &b"{\"at\":1,\"no\":\"closed\"}"[..],
-        ),
-        (
-            Said::At(1, Reply::WrongCall),
-            &b"{\"at\":1,\"no\":\"wrongcall\"}"[..],
-        ),
-        (
-            Said::At(1, Reply::NoBid),
-            &b"{\"at\":1,\"no\":\"nobid\"}"[..],
-        ),
-        (Said::At(1, Reply::Sell), &b"{\"at\":1,\"no\":\"sell\"}"[..]),
-        (
             Said::At(1, Reply::SelfCross),
             &b"{\"at\":1,\"no\":\"selfcross\"}"[..],
         ),
         (Said::Spent, &b"{\"no\":\"spent\"}"[..]),
-        (Said::TooLong, &b"{\"no\":\"toolong\"}"[..]),
-        (
-            Said::Fault(RequestFault::Syntax),
-            &b"{\"no\":\"syntax\"}"[..],
-        ),
-        (
-            Said::Fault(RequestFault::NoSuchAuction),
-            &b"{\"no\":\"auction\"}"[..],
-        ),
         (
             Said::Fault(RequestFault::Bid(BidFault::ZeroUnits)),
             &b"{\"no\":\"bid\",\"fault\":5}"[..],
-        ),
-        (
-            Said::Fault(RequestFault::Memory),
-            &b"{\"no\":\"memory\"}"[..],
         ),
         (Said::Bye, &b"{\"bye\":true}"[..]),
     ] {

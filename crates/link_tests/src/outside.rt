@@ -1,5 +1,5 @@
-// The two calls over the forms in memory, and each form through its trait.
-ghost use Rattle.std.specs.Prelude.{◌≡◌, ◌<◌, ◌∷◌, [], Bool, IfOk, IfSome, IsTrue, length, true, false};
+// The two calls over the forms in memory, and forms through their traits.
+ghost use Rattle.std.specs.Prelude.{◌≡◌, ◌<◌, ◌∷◌, [], Bool, IfOk, IfSome, length, true, false};
 ghost use Rattle.tac_io.specs.LineAnswers.{goes_on};
 ghost use Rattle.tac_io.specs.Lines.{last_of};
 ghost use Rattle.tac_io.specs.MemFiles.{files_names};
@@ -13,9 +13,8 @@ use std::test::Fail;
 use std::thread::join;
 use tac_base::Tick;
 use tac_io::{
-    Failed, FileFault, Files, HeldLink, Hold, LineGot, Lines, LinesSent, Link, Links, Look,
-    LookingTicker, MemFile, MemFiles, MemLink, MemLinks, MemSink, MemTicker, Sink, Ticker,
-    read_file, write_all,
+    FileFault, Files, HeldLink, Hold, LineGot, Lines, LinesSent, Link, Look, LookingTicker,
+    MemFile, MemFiles, MemLink, MemSink, MemTicker, Sink, Ticker, read_file, write_all,
 };
 
 // A file `hello` of these five bytes, a file `empty`, and a file `long` of 200,000 bytes.
@@ -104,61 +103,6 @@ fn a_text_is_written_whole_or_in_part(rt: HostRuntime) -> Result<(), Fail> {
             "{room} {most_at_once} {failing}"
         );
         assert_eq!(rt; sink.faults(), if whole { 0 } else { 1 });
-    }
-    Ok(())
-}
-
-// The byte that the next link gives, `-` where none is left, or `!` for a fault.
-fn next_name<N: Links>(links: &mut N) -> u8
-    requires { IsTrue (N.state links.old).listens }
-    ensures { IsTrue (N.state links.new).listens }
-{
-    let mut name = [0];
-    match links.next() {
-        Ok(Some(mut link)) => match link.read(&mut name) {
-            Ok(_) => name[0],
-            Err(Failed) => b'?',
-        },
-        Ok(None) => b'-',
-        Err(Failed) => b'!',
-    }
-}
-
-// What comes of listening and asking for four links.
-fn names<N: Links>(links: &mut N) -> Option<[u8; 4]>
-    requires { IfSome (N.state links.old).ports (λ ports. ports ≡ []) }
-{
-    links.listen(7000).ok()?;
-    Some([
-        next_name(links),
-        next_name(links),
-        next_name(links),
-        next_name(links),
-    ])
-}
-
-#[test]
-fn links_come_in_order_and_fail_where_stated(rt: HostRuntime) -> Result<(), Fail> {
-    let alloc = rt.alloc();
-    for (failing, told) in [
-        (0, Some(*b"ab--")),
-        (1, None),
-        (2, Some(*b"!ab-")),
-        (3, Some(*b"a!b-")),
-        (5, Some(*b"ab-!")),
-        (6, Some(*b"ab--")),
-    ] {
-        let mut given = Vec::new(alloc);
-        for name in [b'a', b'b'] {
-            let bytes = vec![in alloc; name]?;
-            given.push(MemLink::new(alloc, bytes, 1, 0, Vec::new(alloc), Vec::new(alloc))?)?;
-        }
-        let mut links = MemLinks::new(given, vec![in alloc; failing]?);
-        assert_eq!(rt; names(&mut links), told, "call {failing}");
-        assert_eq!(rt;
-            links.faults(),
-            if failing == 0 || failing == 6 { 0 } else { 1 }
-        );
     }
     Ok(())
 }
@@ -378,30 +322,6 @@ fn a_link_gives_the_same_lines_however_its_reads_cut_them(rt: HostRuntime) -> Re
             told,
             "in pieces of {most_at_once}, read {failing}"
         );
-    }
-    Ok(())
-}
-
-#[test]
-fn bytes_are_sent_whole_or_in_part(rt: HostRuntime) -> Result<(), Fail> {
-    let alloc = rt.alloc();
-    for (room, failing, sent) in [
-        (9, 0, "hello"),
-        (5, 2, "hello"),
-        (9, 1, ""),
-        (4, 0, "hell"),
-        (4, 2, "hell"),
-        (0, 0, ""),
-    ] {
-        let failing = vec![in alloc; failing]?;
-        let link = MemLink::new(alloc, Vec::new(alloc), 1, room, Vec::new(alloc), failing)?;
-        let mut lines = Lines::new(link);
-        let whole = lines.send(b"hello").is_ok();
-        let link = lines.into_link();
-        assert_eq!(rt; link.sent(), sent.as_bytes());
-        assert_eq!(rt; whole, sent == "hello");
-        assert_eq!(rt; link.write_faults(), if whole { 0 } else { 1 });
-        assert_eq!(rt; link.faults(), 0);
     }
     Ok(())
 }

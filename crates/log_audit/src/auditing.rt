@@ -15,13 +15,11 @@ use crate::readings::false_reading;
 use crate::replaying::{Replays, replay_all};
 use crate::scheduling::off_schedule;
 use crate::scores::false_score;
-use auction_core::Closed;
 use game_text::Game;
 use log_reader::Log;
-use score_sheet::{Accounts, settle};
+use score_sheet::{Accounts, settle_auctions};
 use std::alloc::Global;
 use tac_base::{Memory, Nets};
-use trade_ledger::CashBook;
 
 /// The first flaw of the clock's calls.
 fn clock_flaw(alloc: Global, game: &Game, log: &Log) -> Result<Option<Flaw>, Memory>
@@ -38,8 +36,6 @@ fn clock_flaw(alloc: Global, game: &Game, log: &Log) -> Result<Option<Flaw>, Mem
 fn cash_flaw(log: &Log) -> Option<Flaw>
     ensures { (game : GameFile) → IsFirstFrom game log.now 2 3 result }
 {
-    // The cash history is no longer than a game's, by the ranges of the log.
-    let _head = log.head();
     match false_reading(log.cash()) {
         Some(position) => Some(Flaw::Cash { position }),
         None => None,
@@ -84,8 +80,6 @@ pub fn audit_log(alloc: Global, game: &Game, log: &Log) -> Result<Finding, Memor
     // A flaw that is reported is one of the log, and no flaw of the log comes before it.
     ensures flaw { IfOk result (IsFound game.now log.now) }
 {
-    // The findings rest on the ranges of the log.
-    let _head = log.head();
     let (auctions, earned) = match replay_all(alloc, game, log)? {
         Replays::Fair { auctions, nets } => (auctions, nets),
         Replays::Unfair { good, position } => {
@@ -101,10 +95,7 @@ pub fn audit_log(alloc: Global, game: &Game, log: &Log) -> Result<Finding, Memor
     if let Some(flaw) = post_flaw(alloc, log, &earned)? {
         return Ok(Finding::Unsound(flaw));
     }
-    // Settling only reads the auctions.
-    let cash = CashBook::begin(alloc)?;
-    let closed = Closed { auctions, cash };
-    let accounts = settle(&closed);
+    let accounts = settle_auctions(&auctions);
     match last_flaw(game, log, &accounts) {
         Some(flaw) => Ok(Finding::Unsound(flaw)),
         None => Ok(Finding::Sound),

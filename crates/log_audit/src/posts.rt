@@ -92,8 +92,6 @@ pub(crate) fn false_post(log: &Log, earned: &[Vec<Nets>], places: &mut Places) -
     ensures lowest { IsLowest (HasDuePost log.now) result }
     ensures named { result ≡ None → AreNamed log.now.cash places.new }
 {
-    // Each entry is in its ranges.
-    let _head = log.head();
     for (position, entry) in log.cash().iter().enumerate() {
         if !is_due(log, earned, places, entry) {
             return Some(position as u32);

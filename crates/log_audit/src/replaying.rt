@@ -4,6 +4,7 @@ ghost use Rattle.auction_core.specs.Calls.{IsFit};
 ghost use Rattle.auction_rules.specs.Legal.{entry_of, reply_of, trades_of, entries_of, cap};
 ghost use Rattle.auction_rules.specs.Effects as effects;
 ghost use Rattle.auction_core.specs.Setups.{setup_of};
+ghost use Rattle.log_text.specs.LoggedGames.{IsLogged};
 ghost use Rattle.log_audit.specs.Flaws.{HasFairEntry};
 ghost use Rattle.log_audit.specs.Auditing.{AreCounts, IsStruck};
 ghost use Rattle.log_audit.specs.Replays.{IsReplay, AreReplays};
@@ -134,7 +135,9 @@ fn play_again(
 
 /// Plays the histories of all goods again. After `Memory` nothing was made.
 pub(crate) fn replay_all(alloc: Global, game: &Game, log: &Log) -> Result<Replays, Memory>
-    ensures { IfOk result (AreReplays game.now log.now) }
+    ensures played { IfOk result (AreReplays game.now log.now) }
+    // The whole log is in its ranges.
+    ensures logged { IsLogged log.now }
 {
     // There are 28 histories, by the ranges of the log.
     let _head = log.head();

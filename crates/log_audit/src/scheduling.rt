@@ -1,5 +1,5 @@
 // The clock's calls of a log, compared with those of the game's schedule.
-ghost use Rattle.std.specs.Prelude.{◌≡◌, ◌↔◌, ◌++◌, [], ◌∷◌, ◌≤◌, Some, length, slice_get, IfOk, OnOk, IsTrue};
+ghost use Rattle.std.specs.Prelude.{◌≡◌, ◌↔◌, ◌++◌, [], ◌∷◌, ℕ, ◌≤◌, Some, length, take, slice_get, IfOk, OnOk, OnErr, IsTrue};
 ghost use Rattle.game_text.specs.Schedule.{calls_at, clock_calls};
 ghost use Rattle.log_reader.specs.SoundLog.{clock_calls_in, logged_history};
 ghost use Rattle.log_audit.specs.Flaws.{IsOnSchedule};
@@ -16,7 +16,8 @@ use tac_base::{Call, Caller, Entry, Good, Memory, Tick, same_call};
 /// Adds a call, if it is one of the good. After an error it was not added.
 #[tactic(auto, using(crate::proofs::Scheduled::for_own, crate::proofs::Scheduled::for_other))]
 fn push_for(calls: &mut Vec<Call>, good: Good, next: (Good, Call)) -> Result<(), AllocError>
-    ensures { OnOk result (calls.new.items ≡ calls.old.items ++ calls_for good (next ∷ [])) }
+    ensures added { OnOk result (calls.new.items ≡ calls.old.items ++ calls_for good (next ∷ [])) }
+    ensures kept { OnErr result (calls.new.items ≡ calls.old.items) }
 {
     let (other, call) = next;
     if other != good {
@@ -26,9 +27,10 @@ fn push_for(calls: &mut Vec<Call>, good: Good, next: (Good, Call)) -> Result<(),
     Ok(())
 }
 
-/// Adds the calls that the clock makes of a good at a tick. After an error some of them may be there.
+/// Adds the calls that the clock makes of a good at a tick. After an error the first of them may be there.
 fn push_tick(calls: &mut Vec<Call>, game: &Game, good: Good, tick: Tick) -> Result<(), AllocError>
-    ensures { OnOk result (calls.new.items ≡ calls.old.items ++ calls_for good (calls_at game.now tick)) }
+    ensures added { OnOk result (calls.new.items ≡ calls.old.items ++ calls_for good (calls_at game.now tick)) }
+    ensures first { OnErr result ((n : ℕ) × (calls.new.items ≡ calls.old.items ++ calls_for good (take n (calls_at game.now tick)))) }
 {
     // That a tick has few calls is a law of the schedule, and rests on the tick's range.
     let _number = tick.get();

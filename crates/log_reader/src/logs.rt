@@ -57,7 +57,8 @@ impl Log {
 
     /// The cash history.
     pub fn cash(&self) -> &[CashEntry]
-        ensures { result.now ≡ self.now.cash }
+        ensures value { result.now ≡ self.now.cash }
+        ensures whole { IsLogged self.now }
     {
         self.cash.as_slice()
     }
@@ -66,6 +67,7 @@ impl Log {
     pub fn score(&self, agent: Agent) -> &ScoreLine
         ensures value { slice_get self.now.scores agent ≡ Some result.now }
         ensures logged { IsLoggedScore result.now }
+        ensures whole { IsLogged self.now }
     {
         &self.scores[usize::from(agent.get())]
     }

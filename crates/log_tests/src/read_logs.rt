@@ -1,211 +1,9 @@
-// A log is read, and other texts are refused at their first bad line. The log is that of a quiet game in which agent 0 buys a trip with a
-// ticket of agent 1, and agent 2 another ticket.
+// A log is read, and other texts are refused at their first bad line. The log has 619 lines.
+use crate::quiet_logs::traded_log;
 use log_reader::{LogFault, LogHead, read_log};
 use std::alloc::{AllocError, Global};
 use std::test::Fail;
 use tac_base::{Agent, Good, Reply};
-
-/// The clock's part of a flight's history.
-const UPDATES: &[u8] = b"8 update 1 10 = done
-8 update 2 10 = done
-8 update 3 10 = done
-8 update 4 10 = done
-8 update 5 10 = done
-8 update 6 10 = done
-8 update 7 10 = done
-8 update 8 10 = done
-8 update 9 10 = done
-8 update 10 10 = done
-8 update 11 10 = done
-8 update 12 10 = done
-8 update 13 10 = done
-8 update 14 10 = done
-8 update 15 10 = done
-8 update 16 10 = done
-8 update 17 10 = done
-8 update 18 10 = done
-8 update 19 10 = done
-8 update 20 10 = done
-8 update 21 10 = done
-8 update 22 10 = done
-8 update 23 10 = done
-8 update 24 10 = done
-8 update 25 10 = done
-8 update 26 10 = done
-8 update 27 10 = done
-8 update 28 10 = done
-8 update 29 10 = done
-8 update 30 10 = done
-8 update 31 10 = done
-8 update 32 10 = done
-8 update 33 10 = done
-8 update 34 10 = done
-8 update 35 10 = done
-8 update 36 10 = done
-8 update 37 10 = done
-8 update 38 10 = done
-8 update 39 10 = done
-8 update 40 10 = done
-8 update 41 10 = done
-8 update 42 10 = done
-8 update 43 10 = done
-8 update 44 10 = done
-8 update 45 10 = done
-8 update 46 10 = done
-8 update 47 10 = done
-8 update 48 10 = done
-8 update 49 10 = done
-8 update 50 10 = done
-8 update 51 10 = done
-8 update 52 10 = done
-8 update 53 10 = done
-8 close = done
-";
-
-/// The hotels, the tickets and the cash history.
-const OTHERS: &[u8] = b"auction 8 2
-0 bid ((1 50)) = taken 0 0
-8 close = sold 1 0
-trade 0 8 1 0
-auction 9 2
-8 publish = done
-8 close = sold 0 0
-auction 10 3
-8 publish = done
-8 publish = done
-8 close = sold 0 0
-auction 11 4
-8 publish = done
-8 publish = done
-8 publish = done
-8 close = sold 0 0
-auction 12 5
-8 publish = done
-8 publish = done
-8 publish = done
-8 publish = done
-8 close = sold 0 0
-auction 13 6
-8 publish = done
-8 publish = done
-8 publish = done
-8 publish = done
-8 publish = done
-8 close = sold 0 0
-auction 14 7
-8 publish = done
-8 publish = done
-8 publish = done
-8 publish = done
-8 publish = done
-8 publish = done
-8 close = sold 0 0
-auction 15 8
-8 publish = done
-8 publish = done
-8 publish = done
-8 publish = done
-8 publish = done
-8 publish = done
-8 publish = done
-8 close = sold 0 0
-auction 16 1
-8 close = done
-auction 17 1
-8 close = done
-auction 18 1
-8 close = done
-auction 19 1
-8 close = done
-auction 20 1
-8 close = done
-auction 21 1
-8 close = done
-auction 22 1
-8 close = done
-auction 23 1
-8 close = done
-auction 24 5
-1 bid ((-2 60)) = taken 0 0
-0 bid ((1 70)) = taken 1 0
-trade 0 1 1 60
-2 bid ((1 70)) = taken 1 0
-trade 2 1 1 60
-1 own = own -2 ()
-8 close = done
-auction 25 1
-8 close = done
-auction 26 1
-8 close = done
-auction 27 1
-8 close = done
-cash 6
-0 post 0 0 -300 0 0 0 0 0 0 0 300
-0 post 4 0 -300 0 0 0 0 0 0 0 300
-0 post 24 1 -60 60 0 0 0 0 0 0 0
-2 post 24 2 0 60 -60 0 0 0 0 0 0
-0 read = -660
-8 post 8 1 0 0 0 0 0 0 0 0 0
-sheet
-";
-
-/// The head of each agent's lines.
-const SCORES: [&[u8]; 8] = [
-    b"score 0 1100 -660 0 440\npackage 0 0 0 1 2 0 0 1\n",
-    b"score 1 0 120 2 -280\npackage 1 0 none\n",
-    b"score 2 0 -60 0 -60\npackage 2 0 none\n",
-    b"score 3 0 0 0 0\npackage 3 0 none\n",
-    b"score 4 0 0 0 0\npackage 4 0 none\n",
-    b"score 5 0 0 0 0\npackage 5 0 none\n",
-    b"score 6 0 0 0 0\npackage 6 0 none\n",
-    b"score 7 0 0 0 0\npackage 7 0 none\n",
-];
-
-/// The other lines of an agent, with `#` for its digit.
-const AGENT: &[u8] = b"package # 1 none
-package # 2 none
-package # 3 none
-package # 4 none
-package # 5 none
-package # 6 none
-package # 7 none
-cert # 1
-leaf 0 0 0 0 0 0 0 0 0 0 0 0 0 0 0 0 0 0 0 0 0 0 0 0 0 0 0 0
-";
-
-/// Appends a text, with a digit for each `#`.
-fn push_with(text: &mut Vec<u8>, form: &[u8], digit: u8) -> Result<(), AllocError> {
-    for byte in form {
-        text.push(if *byte == b'#' { digit } else { *byte })?;
-    }
-    Ok(())
-}
-
-/// The whole log, of 619 lines.
-fn whole_log(alloc: Global) -> Result<Vec<u8>, AllocError> {
-    let mut text = Vec::from_slice(alloc, b"taclog 1\nplay\n")?;
-    for digit in b'0'..b'8' {
-        if digit == b'0' || digit == b'4' {
-            push_with(
-                &mut text,
-                b"auction # 55\n0 bid ((1 300)) = taken 1 0\ntrade 0 8 1 300\n",
-                digit,
-            )?;
-        } else {
-            push_with(&mut text, b"auction # 54\n", digit)?;
-        }
-        text.extend_from_slice(UPDATES)?;
-    }
-    text.extend_from_slice(OTHERS)?;
-    let mut digit = b'0';
-    for score in SCORES {
-        text.extend_from_slice(score)?;
-        push_with(&mut text, AGENT, digit)?;
-        digit = digit.wrapping_add(1);
-    }
-    text.extend_from_slice(b"end\n")?;
-    Ok(text)
-}
 
 /// A log in which a line is replaced by another text, repeated.
 fn edited(
@@ -326,17 +124,23 @@ fn links(alloc: Global, count: u32) -> Result<String, AllocError> {
 #[test]
 fn the_first_line_that_no_log_has_is_bad(rt: HostRuntime) -> Result<(), Fail> {
     let alloc = rt.alloc();
-    let whole = whole_log(alloc)?;
+    let whole = traded_log(alloc, 60)?;
     for (at, new, times, line) in DRAFTS {
-        let text = edited(alloc, &whole, at, new, times)?;
+        let text = edited(alloc, whole.as_bytes(), at, new, times)?;
         assert_eq!(rt; bad_line(alloc, &text), line);
     }
     for (count, line) in [(255, 0), (256, 258)] {
-        let text = edited(alloc, &whole, 2, links(alloc, count)?.as_bytes(), 1)?;
+        let text = edited(
+            alloc,
+            whole.as_bytes(),
+            2,
+            links(alloc, count)?.as_bytes(),
+            1,
+        )?;
         assert_eq!(rt; bad_line(alloc, &text), line);
     }
     for (count, line) in CUTS {
-        let mut text = edited(alloc, &whole, 0, b"", 0)?;
+        let mut text = edited(alloc, whole.as_bytes(), 0, b"", 0)?;
         text.truncate(count);
         assert_eq!(rt; bad_line(alloc, &text), line);
     }
@@ -345,7 +149,7 @@ fn the_first_line_that_no_log_has_is_bad(rt: HostRuntime) -> Result<(), Fail> {
 
 #[test]
 fn a_log_has_what_its_lines_say(rt: HostRuntime) -> Result<(), Fail> {
-    let log = read_log(rt.alloc(), &whole_log(rt.alloc())?)?;
+    let log = read_log(rt.alloc(), traded_log(rt.alloc(), 60)?.as_bytes())?;
     assert_eq!(rt; log.head(), &LogHead::Play);
     let history = log.history(Good::new(24)?);
     assert_eq!(rt; history.len(), 5);

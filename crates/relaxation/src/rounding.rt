@@ -88,7 +88,7 @@ impl Relaxation {
         self.prices_within(f64::from(whole(self.tableau.value() + 1.0 - TOLERANCE)))
     }
 
-    /// The same where the relaxation is worth no more than a total in dollars, and else none.
+    /// `prices` where the relaxation is worth no more than a total in dollars, and else none.
     pub fn prices_if_worth_no_more(&self, total: u32) -> Option<Prices>
         ensures { IfSome result ArePrices }
     {
@@ -168,7 +168,7 @@ impl Tableau {
         None
     }
 
-    /// The same with whole prices that are worth no more than so much, if they are found: one price after the other is kept at the whole
+    /// The relaxation with whole prices that are worth no more than so much, if they are found: one price after the other is kept at the whole
     /// dollar above it or, if that is worth too much, below it.
     fn with_whole_prices(&self, worths: &WorthTable, most: f64) -> Option<Tableau> {
         let mut limits = Limits::none();

@@ -24,7 +24,7 @@ impl Relaxation {
         packages
     }
 
-    /// The same where the relaxation is worth more than a total in dollars, and else none.
+    /// `packages` where the relaxation is worth more than a total in dollars, and else none.
     pub fn packages_if_worth_more(&self, total: u32) -> Option<[Package; 8]>
         ensures eight { IfSome result (λ packages. length packages ≡ 8) }
         ensures lawful { IfSome result (All IsPackage) }

@@ -16,6 +16,12 @@ IsCall (Bid points) = fault_of points ≡ None
 IsCall (Update tick draw) = (1 ≤ tick) × (tick ≤ UPDATE_TICKS) × (draw ≤ 4294967295)
 IsCall call = ⊤
 
+-- what the type of a call keeps of its range: all but that no update is of the last tick
+abbrev pub HasCallNumbers : Call → Type 0
+HasCallNumbers (Bid points) = fault_of points ≡ None
+HasCallNumbers (Update tick draw) = (1 ≤ tick) × (draw ≤ 4294967295)
+HasCallNumbers call = ⊤
+
 -- numbers of units have eight bits, prices and holdings are those that are shown; standing points keep the limits of a bid
 abbrev pub IsReply : Reply → Type 0
 IsReply (Taken bought sold) = (bought ≤ 255) × (sold ≤ 255)
@@ -23,6 +29,14 @@ IsReply (Own holding left) = (unsigned_abs holding ≤ unsigned_abs SHOWN_HOLDIN
 IsReply (Sold units price) = (units ≤ 255) × (price ≤ SHOWN_PRICE)
 IsReply (BelowQuote need at offered) = (need ≤ 255) × (at ≤ SHOWN_PRICE) × (offered ≤ 255)
 IsReply reply = ⊤
+
+-- what the type of a reply keeps of its range: numbers of units of eight bits, and standing points within the limits of a bid
+abbrev pub HasSmallNumbers : Reply → Type 0
+HasSmallNumbers (Taken bought sold) = (bought ≤ 255) × (sold ≤ 255)
+HasSmallNumbers (Own holding left) = left_fault left ≡ None
+HasSmallNumbers (Sold units price) = units ≤ 255
+HasSmallNumbers (BelowQuote need at offered) = (need ≤ 255) × (offered ≤ 255)
+HasSmallNumbers reply = ⊤
 
 -- a trade of a good between two of the nine parties: 1 to 16 units at 0 to 10000 dollars
 pub record IsTrade (good : ℕ) (t : Trade) : Type 0 where

@@ -217,6 +217,7 @@ impl Points {
     #[tactic(auto, using(crate::proofs::Faults::bid_points, crate::proofs::Faults::bid_prices))]
     pub fn copy(&self) -> Self
         ensures value { result ≡ self.now }
+        ensures bid { fault_of self.now ≡ None }
         ensures priced { All (λ point. point.price ≤ BID_PRICE) result }
     {
         Points {
@@ -271,10 +272,12 @@ impl Left {
     {
         self.list.as_slice()
     }
+
     /// A copy of the points.
     #[tactic(auto, using(crate::proofs::Faults::list_points))]
     pub fn copy(&self) -> Self
-        ensures { result ≡ self.now }
+        ensures value { result ≡ self.now }
+        ensures within { left_fault self.now ≡ None }
     {
         Left {
             list: copied(self.list.as_slice()),

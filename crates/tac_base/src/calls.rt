@@ -1,5 +1,6 @@
 ghost use Rattle.std.specs.Prelude.{◌≡◌, ℕ, ◌+◌, ◌<◌, ◌≤◌, ◌↔◌, List, [], ◌∷◌, ◌++◌, Option, Some, None, length};
 ghost use Rattle.std.specs.Slice.Iter.{iter_rest};
+ghost use Rattle.tac_base.specs.Ranges.{HasCallNumbers, HasSmallNumbers};
 
 use crate::limits::ENTRY_TRADES;
 use crate::{Caller, Good, Left, Party, Points, Tick};
@@ -129,16 +130,20 @@ pub enum Call {
 impl Call {
     /// A copy of the call.
     pub fn copy(&self) -> Self
-        ensures { result ≡ self.now }
+        ensures value { result ≡ self.now }
+        ensures range { HasCallNumbers self.now }
     {
         match self {
             Call::Bid(points) => Call::Bid(points.copy()),
             Call::Withdraw => Call::Withdraw,
             Call::Own => Call::Own,
-            Call::Update { tick, draw } => Call::Update {
-                tick: *tick,
-                draw: *draw,
-            },
+            Call::Update { tick, draw } => {
+                let _tick = tick.get();
+                Call::Update {
+                    tick: *tick,
+                    draw: *draw,
+                }
+            }
             Call::Publish => Call::Publish,
             Call::Close => Call::Close,
         }
@@ -174,7 +179,8 @@ pub enum Reply {
 impl Reply {
     /// A copy of the reply.
     pub fn copy(&self) -> Self
-        ensures { result ≡ self.now }
+        ensures value { result ≡ self.now }
+        ensures range { HasSmallNumbers self.now }
     {
         match self {
             Reply::Taken { bought, sold } => Reply::Taken {

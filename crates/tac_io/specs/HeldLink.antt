@@ -17,6 +17,10 @@ held_link s = s.link
 abbrev pub held_hold : HeldLink → Option Hold
 held_hold s = s.hold
 
+-- how often a read that is held up looks at most
+abbrev pub held_turns : HeldLink → ℕ
+held_turns s = s.turns
+
 -- the next read is the one that is held up
 abbrev pub IsNextHeld : HeldLink → Type 0
 IsNextHeld s = option_map (λ (hold : Hold). hold.read) (held_hold s) ≡ Some (one_call_more (link_reads (held_link s)).made)

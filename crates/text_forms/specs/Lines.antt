@@ -97,6 +97,10 @@ at_line number (Err reason) = Err (record { line = number; reason = reason })
 abbrev pub text_of : List (List ℕ) → List ℕ
 text_of lines = flat_map (λ line. line ++ 10 ∷ []) lines
 
+-- a text of which the first part was there before
+abbrev pub GoesOn : List ℕ → List ℕ → Type 0
+GoesOn before after = (part : List ℕ) × (after ≡ before ++ part)
+
 -- these are the lines that are left, and the last of them has its line end
 pub record AreLinesLeft (lines : List (List ℕ)) (left : Remaining) : Type 0 where
   pub same : map (λ line. line.bytes) left.lines ≡ lines

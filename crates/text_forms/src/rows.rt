@@ -1,5 +1,6 @@
-ghost use Rattle.std.specs.Prelude.{◌≡◌, ◌+◌, ◌<◌, ◌≤◌, [], ◌∷◌, ◌++◌, length, IfOk, IfSome, IsTrue, OnOk};
+ghost use Rattle.std.specs.Prelude.{◌≡◌, ◌+◌, ◌<◌, ◌≤◌, [], ◌∷◌, ◌++◌, length, IfOk, IfSome, IsTrue, OnOk, OnErr};
 ghost use Rattle.std.specs.Fmt.{signed_decimal};
+ghost use Rattle.text_forms.specs.Lines.{GoesOn};
 ghost use Rattle.text_forms.specs.Rows as rows;
 ghost use Rattle.text_forms.specs.Words.{words_of};
 
@@ -144,9 +145,10 @@ pub fn read_row<const N: usize>(
     in_range(columns, numbers_of(columns, words))
 }
 
-/// Appends a number after a space. After an error the text may end within it.
+/// Appends a number after a space. After an error the text is as it was.
 fn print_number(out: &mut Vec<u8>, number: i64) -> Result<(), AllocError>
-    ensures { OnOk result (out.new.items ≡ out.old.items ++ 32 ∷ signed_decimal number) }
+    ensures added { OnOk result (out.new.items ≡ out.old.items ++ 32 ∷ signed_decimal number) }
+    ensures kept { OnErr result (out.new.items ≡ out.old.items) }
 {
     let mut text = Text::new();
     text.push(b' ');
@@ -156,9 +158,10 @@ fn print_number(out: &mut Vec<u8>, number: i64) -> Result<(), AllocError>
 }
 
 /// Appends a line of a keyword and numbers, with its line end.
-/// After an error the text may end within the line.
+/// After an error a part of it may follow what was there.
 pub fn print_row(out: &mut Vec<u8>, keyword: &[u8], numbers: &[i64]) -> Result<(), AllocError>
-    ensures { OnOk result (out.new.items ≡ out.old.items ++ (rows.row_text keyword.now numbers.now ++ 10 ∷ [])) }
+    ensures added { OnOk result (out.new.items ≡ out.old.items ++ (rows.row_text keyword.now numbers.now ++ 10 ∷ [])) }
+    ensures part { OnErr result (GoesOn out.old.items out.new.items) }
 {
     out.extend_from_slice(keyword)?;
     for number in numbers {

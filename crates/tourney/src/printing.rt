@@ -1,7 +1,7 @@
 // The text of the standings.
-ghost use Rattle.std.specs.Prelude.{◌≡◌, ◌++◌, ◌∷◌, [], List, OnOk, slice_index_or};
+ghost use Rattle.std.specs.Prelude.{◌≡◌, ◌++◌, ◌∷◌, [], List, OnOk, OnErr, slice_index_or};
 ghost use Rattle.std.specs.Fmt.{signed_decimal};
-ghost use Rattle.text_forms.specs.Lines.{text_of};
+ghost use Rattle.text_forms.specs.Lines.{text_of, GoesOn};
 ghost use Rattle.game_text.specs.Games.{GameFile};
 ghost use Rattle.log_text.specs.LoggedGames.{LoggedGame};
 ghost use Rattle.tourney.specs.Standings as standing;
@@ -14,9 +14,10 @@ use std::alloc::AllocError;
 use tac_base::{Memory, Text, print_signed};
 use text_forms::print_row;
 
-/// Appends a number after a byte. After an error the text may end within it.
+/// Appends a number after a byte. After an error the text is as it was.
 fn print_number(out: &mut Vec<u8>, mark: u8, number: i64) -> Result<(), AllocError>
-    ensures { OnOk result (out.new.items ≡ out.old.items ++ mark ∷ signed_decimal number) }
+    ensures added { OnOk result (out.new.items ≡ out.old.items ++ mark ∷ signed_decimal number) }
+    ensures kept { OnErr result (out.new.items ≡ out.old.items) }
 {
     let mut text = Text::new();
     text.push(mark);
@@ -25,17 +26,19 @@ fn print_number(out: &mut Vec<u8>, mark: u8, number: i64) -> Result<(), AllocErr
     Ok(())
 }
 
-/// Appends a team's average after a space. After an error the text may end within it.
+/// Appends a team's average after a space. After an error a part of it may follow what was there.
 fn print_average(row: &TeamRow, out: &mut Vec<u8>) -> Result<(), AllocError>
-    ensures { OnOk result (out.new.items ≡ out.old.items ++ 32 ∷ texts.average_text row.now) }
+    ensures added { OnOk result (out.new.items ≡ out.old.items ++ 32 ∷ texts.average_text row.now) }
+    ensures part { OnErr result (GoesOn out.old.items out.new.items) }
 {
     print_number(out, b' ', row.over)?;
     print_number(out, b'/', i64::from(row.under))
 }
 
-/// Appends what follows a team's word. After an error the text may end within it.
+/// Appends what follows a team's word. After an error a part of it may follow what was there.
 fn print_numbers(row: &TeamRow, out: &mut Vec<u8>) -> Result<(), AllocError>
-    ensures { OnOk result (out.new.items ≡ out.old.items ++ 32 ∷ texts.numbers_text row.now) }
+    ensures added { OnOk result (out.new.items ≡ out.old.items ++ 32 ∷ texts.numbers_text row.now) }
+    ensures part { OnErr result (GoesOn out.old.items out.new.items) }
 {
     print_number(out, b' ', i64::from(row.games))?;
     print_number(out, b' ', row.total)?;
@@ -43,9 +46,10 @@ fn print_numbers(row: &TeamRow, out: &mut Vec<u8>) -> Result<(), AllocError>
     print_number(out, b' ', i64::from(row.rank))
 }
 
-/// Appends the line of a team of this word. After an error the text may end within it.
+/// Appends the line of a team of this word. After an error a part of it may follow what was there.
 fn print_team(word: &[u8], row: &TeamRow, out: &mut Vec<u8>) -> Result<(), AllocError>
-    ensures { OnOk result (out.new.items ≡ out.old.items ++ (texts.team_line word.now row.now ++ 10 ∷ [])) }
+    ensures added { OnOk result (out.new.items ≡ out.old.items ++ (texts.team_line word.now row.now ++ 10 ∷ [])) }
+    ensures part { OnErr result (GoesOn out.old.items out.new.items) }
 {
     out.extend_from_slice(b"team ")?;
     out.extend_from_slice(word)?;
@@ -64,9 +68,10 @@ fn word_at(standings: &Standings, team: u16) -> &[u8]
     }
 }
 
-/// Appends the lines of the teams of these rows. After an error the text may end within them.
+/// Appends the lines of the teams of these rows. After an error a part of them may follow what was there.
 fn print_teams(standings: &Standings, rows: &[TeamRow], out: &mut Vec<u8>) -> Result<(), AllocError>
-    ensures { (played : List (GameFile × LoggedGame)) → AreStandingsOf standings.now played → OnOk result (out.new.items ≡ out.old.items ++ text_of (texts.team_lines (standing.teams played) rows.now)) }
+    ensures added { (played : List (GameFile × LoggedGame)) → AreStandingsOf standings.now played → OnOk result (out.new.items ≡ out.old.items ++ text_of (texts.team_lines (standing.teams played) rows.now)) }
+    ensures part { GoesOn out.old.items out.new.items }
 {
     for row in rows {
         print_team(word_at(standings, row.team), row, out)?;
@@ -77,7 +82,8 @@ fn print_teams(standings: &Standings, rows: &[TeamRow], out: &mut Vec<u8>) -> Re
 /// Appends the text of the standings: the line `table N`, a line `team WORD GAMES TOTAL NUM/DEN RANK` for each team in the
 /// order in which they first appear, and `end`. After `Memory` a part of it may follow what was there.
 pub fn print_standings(standings: &Standings, out: &mut Vec<u8>) -> Result<(), Memory>
-    ensures { (played : List (GameFile × LoggedGame)) → AreStandingsOf standings.now played → OnOk result (IsPrinted played out.old.items out.new.items) }
+    ensures printed { (played : List (GameFile × LoggedGame)) → AreStandingsOf standings.now played → OnOk result (IsPrinted played out.old.items out.new.items) }
+    ensures part { OnErr result (GoesOn out.old.items out.new.items) }
 {
     let rows = standings.rows()?;
     print_row(out, b"table", &[i64::from(standings.games())])?;

@@ -53,8 +53,6 @@ fn score_of(game: &Game, log: &Log, agent: Agent) -> i64
     ensures value { result ≡ slice_index_or (map (λ scored. scored.score) log.now.scores) agent (pos 0) }
     ensures small { unsigned_abs result ≤ spec.most_score }
 {
-    // The whole log's ranges are known where its head is read.
-    let _head = log.head();
     let _words = &game.words;
     log.score(agent).score
 }

@@ -72,7 +72,7 @@ pub fn was_sent(link: &AtomicU64, lines: u64, turns: u32) -> bool
 }
 
 impl HeldLink {
-    ghost use Rattle.tac_io.specs.HeldLink.{IsNextHeld, held_link};
+    ghost use Rattle.tac_io.specs.HeldLink.{IsNextHeld, held_hold, held_link, held_turns};
     ghost use Rattle.tac_io.specs.MemLink.{link_sent};
 
     /// A link over `link`. Each line end that it is sent is counted in `lines_sent`.
@@ -104,7 +104,9 @@ impl HeldLink {
 
     // Waits if the next read is held up, and says whether it answers.
     fn answers(&self) -> bool
-        ensures { result ≡ false → IsNextHeld self.now }
+        ensures held { result ≡ false → IsNextHeld self.now }
+        ensures never { IsNextHeld self.now → held_turns self.now ≡ 0 → result ≡ false }
+        ensures at_once { IfSome (held_hold self.now) (λ hold. hold.lines ≡ 0) → 0 < held_turns self.now → result ≡ true }
     {
         match &self.hold {
             Some(hold) if hold.read == self.link.next_read() => {
@@ -116,9 +118,9 @@ impl HeldLink {
 }
 
 impl Link for HeldLink {
-    ghost use Rattle.std.specs.Prelude.{◌⊎◌, ◌<◌, IsErr, IfOk, length};
+    ghost use Rattle.std.specs.Prelude.{◌≡◌, ◌⊎◌, ◌<◌, IsErr, IfOk, IfSome, length};
     ghost use Rattle.tac_io.specs.Calls.{IsNextToFail};
-    ghost use Rattle.tac_io.specs.HeldLink.{IsNextHeld, held_hold, held_link, held_share};
+    ghost use Rattle.tac_io.specs.HeldLink.{IsNextHeld, held_hold, held_link, held_share, held_turns};
     ghost use Rattle.tac_io.specs.MemLink.{ReadsNext, WritesNext, link_reads, link_state};
 
     ghost state = { λ s. link_state (held_link s) };
@@ -127,6 +129,9 @@ impl Link for HeldLink {
         requires { 0 < length into.old }
         ensures fails { IsErr result → IsNextHeld self.old ⊎ IsNextToFail (link_reads (held_link self.old)) }
         ensures failing { IsNextToFail (link_reads (held_link self.old)) → IsErr result }
+        // A read that is held up fails if it may not look, and answers at its first look if it waits for no line.
+        ensures never { IsNextHeld self.old → held_turns self.old ≡ 0 → IsErr result }
+        ensures at_once { IfSome (held_hold self.old) (λ hold. hold.lines ≡ 0) → 0 < held_turns self.old → IsErr result → IsNextToFail (link_reads (held_link self.old)) }
         ensures share { IfOk result (λ n. n ≡ held_share self.old (length into.new)) }
         ensures next { ReadsNext (held_link self.old) (held_link self.new) result into.new }
         ensures hold { held_hold self.new ≡ held_hold self.old }

@@ -34,16 +34,16 @@ explore_parts-loop-value-preserved t c =
     let child = c.in_ok-child.child in
     let total = c.explore_part.new.best.total in
     let fits : is_tree (31 - c.args.level) (tree_of child) ≡ true = subst (λ d. is_tree d (tree_of child) ≡ true) (omega arith) c.in_ok-child.ensures.fits in
-    let hold : holds c.args.account.now total (narrowed left client feature l.value) (tree_of child) ≡ true =
-    subst (λ n. holds c.args.account.now total n (tree_of child) ≡ true) c.with-next.ensures.left c.in_ok-child.ensures.holds in
+    let hold : holds c.args.search.now.account.now total (narrowed left client feature l.value) (tree_of child) ≡ true =
+    subst (λ n. holds c.args.search.now.account.now total n (tree_of child) ≡ true) c.with-next.ensures.left c.in_ok-child.ensures.holds in
     record {
       few = l.invariant.few;
       reached = c.in_ok-child.ensures.reached;
       grows = omega (arith, c.in_ok-child.ensures.grows, l.invariant.grows);
       stock = search rules;
       count = rw c.in_ok-push.ensures.items (length-append l.children.items (child ∷ []) ∙ omega (arith, l.invariant.count));
-      hold = rw c.in_ok-push.ensures.items (all_hold-push c.args.account.now total left client feature 0 l.value l.children.items child
-          (all_hold_more c.args.account.now l.best.total total left client feature 0 (forest_of l.children.items) l.invariant.hold c.in_ok-child.ensures.grows) (omega (arith, l.invariant.count)) hold);
+      hold = rw c.in_ok-push.ensures.items (all_hold-push c.args.search.now.account.now total left client feature 0 l.value l.children.items child
+          (all_hold_more c.args.search.now.account.now l.best.total total left client feature 0 (forest_of l.children.items) l.invariant.hold c.in_ok-child.ensures.grows) (omega (arith, l.invariant.count)) hold);
       fit = rw c.in_ok-push.ensures.items (are_trees-push (31 - c.args.level) l.children.items child l.invariant.fit fits);
     }
 
@@ -59,7 +59,7 @@ explore-returns-in_default-clause-fits t c = leaf_fits (32 - c.args.level) c.lea
 pub explore_parts-returns-clause-holds : goal.explore_parts-returns-clause-holds
 explore_parts-returns-clause-holds t c =
     let l = c.loop-value in
-    holds-split c.args.account.now l.best.total (chosen c.args.choice.now) c.args.split.client c.args.split.feature l.children (omega (arith, l.invariant.count, c.value_count-value-end.ensures)) l.invariant.hold
+    holds-split c.args.search.now.account.now l.best.total (chosen c.args.choice.now) c.args.split.client c.args.split.feature l.children (omega (arith, l.invariant.count, c.value_count-value-end.ensures)) l.invariant.hold
 
 pub explore_parts-returns-clause-fits : goal.explore_parts-returns-clause-fits
 explore_parts-returns-clause-fits t c =
@@ -68,7 +68,7 @@ explore_parts-returns-clause-fits t c =
 
 pub explore_parts-explore_part-requires : goal.explore_parts-explore_part-requires
 explore_parts-explore_part-requires t c =
-    let account = c.args.account.now in
+    let account = c.args.search.now.account.now in
     let ranges = subst IsAccount c.account.view_is c.account.invariant in
     let level : c.args.level + 1 ≡ fixed_count c.with-next.result = omega (arith, c.requires.level, c.with-next.ensures.count) in
     let table = c.narrow.new.self.worths.dollars in
@@ -78,6 +78,6 @@ explore_parts-explore_part-requires t c =
 
 pub explore-explore_parts-requires : goal.explore-explore_parts-requires
 explore-explore_parts-requires t c =
-    let account = c.args.account.now in
+    let account = c.args.search.now.account.now in
     let stock : c.new-quote.result.stock_value ≡ stock_value account.holdings c.new-quote.result.prices = c.new-quote.ensures.stock ∙ ap (stock_value account.holdings) (sym c.new-quote.ensures.prices) in
     (search rules, (c.requires.level, (c.requires.ceiling, (stock, (c.in-Some.ensures.client, (c.in-Some.ensures.feature, (c.in-Some.ensures.free, c.requires.reached)))))))

@@ -19,10 +19,10 @@ decreases-explore_part l = 3 * (32 - l.level) + 2
 abbrev pub invariant-explore_parts-loop-value : goal.invariant-explore_parts-loop-value
 invariant-explore_parts-loop-value l = record {
   few : l.level < 32;
-  reached : IsReached l.account l.best.allocation l.best.total;
+  reached : IsReached l.search.account.now l.best.allocation l.best.total;
   grows : l.initial.best.total ≤ l.best.total;
-  stock : l.quote.stock_value ≡ stock_value l.account.holdings l.quote.prices;
+  stock : l.quote.stock_value ≡ stock_value l.search.account.now.holdings l.quote.prices;
   count : length l.children.items ≡ l.value;
-  hold : all_hold l.account l.best.total (chosen l.choice) l.client l.feature 0 (forest_of l.children.items) ≡ true;
+  hold : all_hold l.search.account.now l.best.total (chosen l.choice) l.client l.feature 0 (forest_of l.children.items) ≡ true;
   fit : are_trees (31 - l.level) (forest_of l.children.items) ≡ true;
 }

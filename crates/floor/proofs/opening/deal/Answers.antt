@@ -24,7 +24,7 @@ loop-pass-preserved c =
       count = omega (arith, v.count, length-append c.loop-pass.yielded (c.in-Some.pass ∷ []));
       rest = whole ∙ sym (append_assoc c.loop-pass.yielded (c.in-Some.pass ∷ []) (into_iter_items c.next.new.self));
       dealt = row_more (λ hand. hand.items) c.loop-pass.hands.items rows c.loop-pass.yielded c.loop-pass.caller c.index_mut.result.now c.add.new.list c.in-Some.pass v.dealt v.count
-          (omega (arith, shorter _ _ _ _ whole, c.requires, length-map c.args.hands.now.items (λ hand. hand.items))) c.index_mut.ensures.value c.in_ok-add.ensures;
+          (omega (arith, shorter _ _ _ _ whole, c.requires, length-map c.args.hands.now.items (λ hand. hand.items))) c.index_mut.ensures.value c.in_ok-add.ensures.added;
     }
 
 pub returns : goal.returns

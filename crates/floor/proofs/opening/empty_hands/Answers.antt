@@ -5,7 +5,7 @@ use Rattle.floor.proofs.opening.empty_hands.Goals as goal
 pub loop-preserved : goal.loop-preserved
 loop-preserved c = record {
   bound = omega (arith, c.loop-test.true);
-  empty = ap (map (λ hand. hand.items)) c.in-Ok.ensures ∙ (map_push (λ hand. hand.items) c.loop.hands.items c.new.result ∙ ((λ k. c.loop.invariant.empty k ++ c.new.ensures.items k ∷ []) ∙ replicate_more c.loop.counter []));
+  empty = ap (map (λ hand. hand.items)) c.in-Ok.ensures.added ∙ (map_push (λ hand. hand.items) c.loop.hands.items c.new.result ∙ ((λ k. c.loop.invariant.empty k ++ c.new.ensures.items k ∷ []) ∙ replicate_more c.loop.counter []));
 }
 
 pub returns : goal.returns

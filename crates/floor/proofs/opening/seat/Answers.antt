@@ -18,7 +18,7 @@ invariant_of-desk c =
 
 pub loop-cash-preserved : goal.loop-cash-preserved
 loop-cash-preserved c =
-    let v = c.loop-cash.invariant in let desks = c.loop-cash.desks.items in let added = c.in_ok-add.ensures in
+    let v = c.loop-cash.invariant in let desks = c.loop-cash.desks.items in let added = c.in_ok-add.ensures.added in
     let hands_are = v.dealt ∙ ap (λ l. map (λ d. d.passes) desks ++ l) (c.next-in-loop-cash.ensures.items ∙ ap (λ o. option_to_list o ++ into_iter_items c.next-in-loop-cash.new.self) c.unwrap-hand.ensures) in
     let passes_are = v.rest ∙ ap (λ l. map (λ d. d.cash) desks ++ l) c.in-Some.ensures.steps.0 in
     record {

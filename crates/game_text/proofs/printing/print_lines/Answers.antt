@@ -23,7 +23,7 @@ returns-clause-text c =
     c.in_ok-print_header.ensures
     c.in_ok-print_seats.ensures
     c.in_ok-print_parts.ensures
-    (c.in_ok-print_row.ensures ∙ ap (λ (ns : List ℤ). c.print_parts.new.out.items ++ (row_text (codes "close") ns ++ 10 ∷ [])) c.order_numbers.ensures)
+    (c.in_ok-print_row.ensures.added ∙ ap (λ (ns : List ℤ). c.print_parts.new.out.items ++ (row_text (codes "close") ns ++ 10 ∷ [])) c.order_numbers.ensures)
     c.in_ok-print_nights.ensures
     c.in_ok-print_parts-2.ensures
     c.in_ok-print_parts-3.ensures

@@ -21,8 +21,8 @@ use Rattle.log_audit.proofs.replaying.replay_all.Goals as goal
 pub push_reserved-requires-in-Fair : goal.push_reserved-requires-in-Fair
 push_reserved-requires-in-Fair c = let v = c.loop-number.invariant in let inside = c.loop-number-test.true in let room = v.nets_room in let count = v.nets_count in omega (arith, inside, room, count)
 
-pub returns-in-Unfair : goal.returns-in-Unfair
-returns-in-Unfair c =
+pub returns-in-Unfair-clause-played : goal.returns-in-Unfair-clause-played
+returns-in-Unfair-clause-played c =
     let good = c.good_of-good.result in let log = c.args.log.now in let history : List Entry = c.history.result.now in let position = c.in-Unfair.position in
     let unfair : IsUnfair (setup_of good c.args.game.now) history position = subst (IsReplay (setup_of good c.args.game.now) history) c.in-Unfair.is c.in_ok-auction.ensures in
     let here : logged_history log good ≡ history = get_or_from_slice_get log.histories good history [] c.history.ensures.value in
@@ -54,8 +54,8 @@ loop-number-preserved c =
       fair = λ g position lt. below_more (λ (k : ℕ). (p : ℕ) → HasFairEntry (setup_of k game) (logged_history log k) p) n (λ k below p. v.fair k p below) fair g lt position;
     }
 
-pub returns : goal.returns
-returns c =
+pub returns-clause-played : goal.returns-clause-played
+returns-clause-played c =
     let v = c.loop-number.invariant in let n = c.loop-number.number in let log = c.args.log.now in let past = c.loop-number-test.false in let goods = c.head-head.ensures.logged.goods in
     let open_with : ℕ × List Entry → AuctionHistory = λ p. record { setup = setup_of p.0 c.args.game.now; history = p.1 } in
     record {

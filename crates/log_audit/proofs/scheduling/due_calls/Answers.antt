@@ -14,6 +14,6 @@ loop-number-preserved c =
     let before : List (ℕ × Call) = flat_map (calls_at game) (take n ticks) in
     let done : before ++ calls_at game (n + 1) ≡ flat_map (calls_at game) (take (n + 1) ticks) =
     ap (λ (k : ℕ). flat_map (calls_at game) (take k ticks) ++ calls_at game (n + 1)) (sym back) ∙ tick_done game (n + 1) (omega arith) (omega (arith, inside)) in
-    c.in_ok-push_tick.ensures
+    c.in_ok-push_tick.ensures.added
     ∙ ((λ i. c.loop-number.invariant i ++ calls_for good (calls_at game (c.tick_after.ensures i)))
     ∙ (sym (calls_for-append good before (calls_at game (n + 1))) ∙ ap (calls_for good) done))

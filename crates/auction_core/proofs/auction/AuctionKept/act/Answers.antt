@@ -17,6 +17,7 @@ use Rattle.auction_core.specs.Struck.{struck_of}
 use Rattle.auction_core.specs.Setups.{AreInRange}
 use Rattle.auction_core.proofs.LawsHold.{Laws, laws_hold}
 use Rattle.auction_core.proofs.Counting.{by}
+use Rattle.auction_core.proofs.Telling.{call_ranged}
 use Rattle.auction_core.proofs.Keeping.{few_stored, position_is, entries_fit, trades_fit, sound_more, history_more, few_by_call, small_holdings, struck_is}
 use Rattle.auction_core.proofs.auction.AuctionKept.act.Goals as goal
 
@@ -79,7 +80,7 @@ entries_are : (c : goal.After-store) →
     c.store.new.entries.items ≡ c.self.inside.entries.items ++ entry_behind c.self.inside.trades.items c.args.caller c.args.call.now c.act-reply.result c.act-reply.new.fills ∷ []
 entries_are c =
     c.store.ensures.entries
-    ∙ (λ i. c.self.inside.entries.items ++ entry_behind c.self.inside.trades.items c.args.caller (c.same_call-call.ensures.value i) c.act-reply.result (c.as_slice-trades.ensures.value i) ∷ [])
+    ∙ (λ i. c.self.inside.entries.items ++ entry_behind c.self.inside.trades.items c.args.caller (c.copy-call.ensures.value i) c.act-reply.result (c.as_slice-trades.ensures.value i) ∷ [])
 
 trades_are : (c : goal.After-store) → c.store.new.trades.items ≡ c.self.inside.trades.items ++ c.act-reply.new.fills
 trades_are c = c.store.ensures.trades ∙ ap (λ (ts : List Trade). c.self.inside.trades.items ++ ts) c.as_slice-trades.ensures.value
@@ -95,7 +96,7 @@ invariant_of-self c =
     subst (λ (kept : List ℤ × List StoredEntry × List Trade × ℕ × ℕ). IsAuctionSound a.terms c.act-reply.new.self kept.0 kept.1 kept.2 kept.3 kept.4)
     (sym (λ i. (held_is i, entries_are c i, trades_are c i, c.store.ensures.entry_capacity i, c.store.ensures.trade_capacity i)))
     (sound_more a.terms a.book c.act-reply.new.self a.held a.entries.items a.trades.items (vec_capacity a.entries) (vec_capacity a.trades) c.args.caller c.args.call.now c.act-reply.result c.act-reply.new.fills c.self.invariant is room
-    (follows c) c.act-reply.ensures.units few c.act-reply.ensures.short c.same_call-call.ensures.range c.same_reply.ensures.range)
+    (follows c) c.act-reply.ensures.units few c.act-reply.ensures.short (call_ranged c.args.call.now c.copy-call.ensures.range c.requires.fit) c.copy.ensures.range)
 
 pub returns-clause-legal : goal.returns-clause-legal
 returns-clause-legal c = (invariant_of-self c).kept.legal
@@ -113,8 +114,8 @@ returns-clause-appended c =
 pub returns-clause-struck : goal.returns-clause-struck
 returns-clause-struck c =
     let a = c.self.inside in
-    sym (struck_is a.terms (reverse (stored a.entries.items a.trades.items)) c.args.caller c.args.call.now c.act-reply.result c.same_reply.result c.act-reply.new.fills c.nets.result.dollars (length c.as_slice-trades.result.now)
-    (Stands c.act-reply.new.self a.terms) (follows c) c.same_reply.ensures.value (c.nets.ensures ∙ ap nets c.as_slice-trades.ensures.value) (ap (λ (ts : List Trade). length ts) c.as_slice-trades.ensures.value))
+    sym (struck_is a.terms (reverse (stored a.entries.items a.trades.items)) c.args.caller c.args.call.now c.act-reply.result c.copy.result c.act-reply.new.fills c.nets.result.dollars (length c.as_slice-trades.result.now)
+    (Stands c.act-reply.new.self a.terms) (follows c) c.copy.ensures.value (c.nets.ensures ∙ ap nets c.as_slice-trades.ensures.value) (ap (λ (ts : List Trade). length ts) c.as_slice-trades.ensures.value))
     ∙ ap (λ (h : AuctionHistory). struck_of (entry_of h.setup (reverse h.history) c.args.caller c.args.call.now)) c.self.view_is
 
 pub returns-clause-entry : goal.returns-clause-entry

@@ -33,7 +33,7 @@ loop-number-init c =
 
 pub loop-number-preserved : goal.loop-number-preserved
 loop-number-preserved c =
-    let v = c.loop-number.invariant in let n : ℕ = c.loop-number.number in let locks = c.loop-number.auctions.items in let lock = c.in_ok-lock.lock in let opened = c.in_ok-lock.ensures in let added = c.in_ok-add.ensures in
+    let v = c.loop-number.invariant in let n : ℕ = c.loop-number.number in let locks = c.loop-number.auctions.items in let lock = c.in_ok-lock.lock in let opened = c.in_ok-lock.ensures in let added = c.in_ok-add.ensures.added in
     let f : ℕ → AuctionHistory = λ good. record { setup = setup_of good c.args.game.now; history = [] } in
     let is : c.unwrap-good.result ≡ n = subst (λ r. IfOk r (λ made. made ≡ n)) c.unwrap-good.ensures c.new.ensures.value in
     record {
