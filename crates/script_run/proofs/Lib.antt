@@ -12,3 +12,11 @@ pub mod OwedPosts
 pub mod ClockParts
 pub mod LawfulSteps
 pub mod LawfulGames
+pub mod LineParts
+pub mod Hearing
+pub mod SteppedLines
+pub mod SteppedGames
+pub mod StoodScripts
+pub mod Answering
+pub mod SteppedEnds
+pub mod HeardToEnd

@@ -1,5 +1,5 @@
 -- A game that is played line by line, and then written.
-use Rattle.std.proofs.Common.{◌≡◌, ℕ, List, ◌∷◌, ◌++◌, sym, ap, ◌∙◌, subst, inl, inr, Ok, Err}
+use Rattle.std.proofs.Common.{◌≡◌, ℕ, List, [], ◌∷◌, ◌++◌, sym, ap, ◌∙◌, subst, inl, inr, Ok, Err}
 use Rattle.tac_io.specs.States.{SinkState}
 use Rattle.text_forms.specs.Words.{parts_of}
 use Rattle.game_text.specs.Games.{GameFile}
@@ -33,12 +33,12 @@ use Rattle.script_run.proofs.ScriptReading.{HasRead, stops}
 -- some lines of a script were played
 pub record IsPlaying (game : GameFile) (script rest : List ℕ) (number : ℕ) (run : GameRun) : Type 0 where
   pub lines : List GameLine
-  pub ran : HasRunGame game lines run
+  pub ran : HasRunGame game lines [] run
   pub read : HasRead judge_game_line lines script rest number
 
 -- what a bad line makes of the whole script
 pub fails : (game : GameFile) (script rest line after : List ℕ) (number : ℕ) (run run' : GameRun) (fault : ScriptFault) (playing : IsPlaying game script rest number run) →
-    parts_of 10 rest ≡ line ∷ parts_of 10 after → PlaysGameLine game playing.lines number line run' (Err fault) → PlaysLines game script (Err fault)
+    parts_of 10 rest ≡ line ∷ parts_of 10 after → PlaysGameLine game playing.lines [] number line run' (Err fault) → PlaysLines game script (Err fault)
 fails game script rest line after number run run' (Line at reason) playing e stepped =
     stops judge_game_line playing.lines script rest line after number stepped.0 playing.read e stepped.3
     ∙ (λ i. Err (sym stepped.1 i, sym stepped.2 i))

@@ -18,7 +18,7 @@ pub line_first : {Line : Type 0} (judge : List Line → List ℕ → Result Line
 line_first judge lines part [] some = absurd (some refl)
 line_first judge lines part (next ∷ parts) some = refl
 
-some_part : (bytes : List ℕ) → length (parts_of 10 bytes) ≢ 0
+pub some_part : (bytes : List ℕ) → length (parts_of 10 bytes) ≢ 0
 some_part bytes e = let count = length-slice_split (λ b. b == 10) bytes in omega (arith, count, e)
 
 next_line : {Line : Type 0} (judge : List Line → List ℕ → Result Line ScriptReason) (lines : List Line) (rest line after : List ℕ) (read : Result Line ScriptReason) →

@@ -1,5 +1,5 @@
 -- A game that is played by the lines of a script.
-use Rattle.std.specs.Prelude.{◌≡◌, ℕ, ⊤, List, ◌∷◌, Result, Ok, Err}
+use Rattle.std.specs.Prelude.{◌≡◌, ℕ, ⊤, List, [], ◌∷◌, ◌++◌, Result, Ok, Err}
 use Rattle.game_text.specs.Games.{GameFile}
 use Rattle.script_run.specs.declared.game.lines.GameLine.{GameLine}
 use Rattle.script_run.specs.declared.game.run.GameRun.{GameRun}
@@ -11,24 +11,30 @@ use Rattle.script_run.specs.GameScripts.{judge_game_line, game_script}
 use Rattle.script_run.specs.GameCounts.{AreGameCounts}
 use Rattle.script_run.specs.OneThreadRun.{played, replies}
 
--- the run has come to the end of these lines, the last line first
-pub record HasRunGame (game : GameFile) (lines : List GameLine) (run : GameRun) : Type 0 where
+-- the run has come to the end of these lines, the last line first, and the first part of their text was written and dropped
+pub record HasRunGame (game : GameFile) (lines : List GameLine) (written : List ℕ) (run : GameRun) : Type 0 where
   pub is : run.table.game ≡ game
   pub state : run.table.state ≡ played game lines
   pub counted : AreGameCounts lines run.counts
-  pub text : run.text.items ≡ replies game lines
+  pub text : written ++ run.text.items ≡ replies game lines
 
--- a line after others was played, or is bad, or memory was refused for its text
-abbrev pub PlaysGameLine : GameFile → List GameLine → ℕ → List ℕ → GameRun → Result (Unit {0}) ScriptFault → Type 0
-PlaysGameLine game lines number line run (Ok done) = (asked : GameLine) × (judge_game_line lines line ≡ Ok asked) × HasRunGame game (asked ∷ lines) run
-PlaysGameLine game lines number line run (Err (Line line_number reason)) = (why : ScriptReason) × (line_number ≡ number) × (reason ≡ script_reason_number why) × (judge_game_line lines line ≡ Err why)
-PlaysGameLine game lines number line run (Err TooLong) = ⊥
-PlaysGameLine game lines number line run (Err Failed) = ⊥
-PlaysGameLine game lines number line run (Err Memory) = ⊤
+-- a line after others was played, or is bad, and nothing was written of it, or memory was refused for its text
+abbrev pub PlaysGameLine : GameFile → List GameLine → List ℕ → ℕ → List ℕ → GameRun → Result (Unit {0}) ScriptFault → Type 0
+PlaysGameLine game lines written number line run (Ok done) = (asked : GameLine) × (judge_game_line lines line ≡ Ok asked) × HasRunGame game (asked ∷ lines) written run
+PlaysGameLine game lines written number line run (Err (Line line_number reason)) =
+    (why : ScriptReason) × (line_number ≡ number) × (reason ≡ script_reason_number why) × (judge_game_line lines line ≡ Err why) × (written ++ run.text.items ≡ replies game lines)
+PlaysGameLine game lines written number line run (Err TooLong) = ⊥
+PlaysGameLine game lines written number line run (Err Failed) = ⊥
+PlaysGameLine game lines written number line run (Err Memory) = ⊤
+
+-- memory was not refused
+abbrev pub IsGranted : Result (Unit {0}) ScriptFault → Type 0
+IsGranted (Err Memory) = ⊥
+IsGranted result = ⊤
 
 -- the lines of a script were played, or the first bad one is reported
 abbrev pub PlaysLines : GameFile → List ℕ → Result GameRun ScriptFault → Type 0
-PlaysLines game script (Ok run) = (lines : List GameLine) × (game_script script ≡ Ok lines) × HasRunGame game lines run
+PlaysLines game script (Ok run) = (lines : List GameLine) × (game_script script ≡ Ok lines) × HasRunGame game lines [] run
 PlaysLines game script (Err (Line line reason)) = game_script script ≡ Err (line, reason)
 PlaysLines game script (Err TooLong) = ⊥
 PlaysLines game script (Err Failed) = ⊥

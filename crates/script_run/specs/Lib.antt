@@ -20,3 +20,8 @@ pub mod PlayedGames
 pub mod QuietGames
 pub mod QuietRuns
 pub mod LawfulGames
+pub mod HeardScripts
+pub mod HeardReads
+pub mod SteppedGames
+pub mod HeldLines
+pub mod Stepping

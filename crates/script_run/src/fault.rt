@@ -54,6 +54,27 @@ pub enum ScriptFault {
     Memory,
 }
 
+/// Why a game that is played line by line was not played to its end, or its log not written. But for memory that was refused at the start, the
+/// replies to all lines before were written.
+#[derive(Clone, Copy, Debug, PartialEq, Eq, Error)]
+pub enum StepFault {
+    /// The first bad line, counted from 1, and the first reason, 1 to 4, that applies to it.
+    #[error("line {line} of the script is bad, reason {reason}")]
+    Line { line: u32, reason: u8 },
+    /// The script has more than 67,108,864 bytes, and no bad line among them.
+    #[error("the script is too long")]
+    TooLong,
+    /// A read failed, and the files counted it.
+    #[error("the script could not be read")]
+    Unread,
+    /// A write failed, and the sink counted it. The first bytes of the text were written, or none, but not all.
+    #[error("the sink failed")]
+    Unwritten,
+    /// Memory was refused. Nothing was read or written; or all but the last part of the log was written.
+    #[error("out of memory")]
+    Memory,
+}
+
 /// Why a game was not played, by a call that writes nothing.
 #[derive(Clone, Copy, Debug, PartialEq, Eq, Error)]
 pub enum QuietFault {

@@ -7,7 +7,7 @@ mod hotel;
 mod law;
 mod replies;
 
-pub use fault::{QuietFault, ScriptFault, ScriptReason};
-pub use game::{GameLine, PlayCount, play, play_quiet};
+pub use fault::{QuietFault, ScriptFault, ScriptReason, StepFault};
+pub use game::{GameLine, PIECE_BYTES, PlayCount, play, play_quiet, step_game};
 pub use hotel::{HotelLine, run_hotel_script};
 pub use law::script_law;

@@ -25,8 +25,13 @@ module _ (sink sink' : SinkState) (code : ℕ) (outcome : Outcome) where
   explained_only due Cause not_four cause (inl four) is = absurd (not_four (sym is ∙ four.0))
   explained_only due Cause not_four cause (inr same) is = cause (sym same ∙ is)
 
-  -- if the outcome always has the code, or that of memory, the program ends with it, or a write failed
-  pub explained_always : (due : ℕ) → (code_of outcome ≡ due) ⊎ (code_of outcome ≡ 7) → IsCoded sink sink' code outcome → (code ≡ due) ⊎ (code ≡ 4) ⊎ (code ≡ 7)
+  -- if the outcome always has the code, or that of memory or of a failed write, the program ends with it, or a write failed
+  pub explained_always : (due : ℕ) → (code_of outcome ≡ due) ⊎ (code_of outcome ≡ 7) ⊎ (code_of outcome ≡ 4) → IsCoded sink sink' code outcome → (code ≡ due) ⊎ (code ≡ 4) ⊎ (code ≡ 7)
   explained_always due either (inl four) = inr (inl four.0)
   explained_always due (inl is_due) (inr same) = inl (same ∙ is_due)
-  explained_always due (inr is_seven) (inr same) = inr (inr (same ∙ is_seven))
+  explained_always due (inr (inl is_seven)) (inr same) = inr (inr (same ∙ is_seven))
+  explained_always due (inr (inr is_four)) (inr same) = inr (inl (same ∙ is_four))
+
+  -- 4 comes only if the count of the sink rose
+  pub told_four : Reports outcome sink sink' code → code ≡ 4 → Rose sink.faults sink'.faults
+  told_four told is = let test : (code == 4) ≡ true = rw is refl in (rw test at told).1

@@ -11,7 +11,7 @@ use Rattle.tac_commands.specs.Allowed.{Allows, steps_of}
 use Rattle.tac_commands.specs.Reporting.{Reports}
 use Rattle.tac_commands.specs.Selected.{Selects}
 use Rattle.tac_commands.specs.Causes.{IsQuiet, UsageExactly, ReadFaultExactly, GameRefusedExactly, TextRefusedExactly, HasRefusedGame, HasRefusedText, HasGoodFiles, HasUnsoundLog, UnsoundExactly, IsGoodEnd, IsFaultless, IsComplete, LinkFaultExactly, ClockFaultExactly}
-use Rattle.tac_commands.proofs.CodedOutcomes.{IsCoded, coded, explained_only, explained_always}
+use Rattle.tac_commands.proofs.CodedOutcomes.{IsCoded, coded, explained_only, explained_always, told_four}
 use Rattle.tac_commands.proofs.OwnCodes.{OwnCode, own_code, last_code}
 use Rattle.tac_commands.proofs.FileCauses as causes
 
@@ -32,11 +32,11 @@ module _ (files files' : FilesState) (outcome : Outcome) where
   text_only (Some command) allowed is =
       causes.refused_only files' outcome (OwnCode command) (last_code command) 8 (inr refl) (steps_of command) (own_code command) files allowed is
 
-  game_due : (command : Option Command) → Allows command files files' outcome → HasRefusedGame files.content command → IsQuiet files.faults files'.faults → (code_of outcome ≡ 2) ⊎ (code_of outcome ≡ 7)
+  game_due : (command : Option Command) → Allows command files files' outcome → HasRefusedGame files.content command → IsQuiet files.faults files'.faults → causes.IsCodeDue files' outcome 2
   game_due None allowed refused quiet = absurd refused
   game_due (Some command) allowed refused quiet = causes.refused_due files' outcome 2 (steps_of command) files quiet refused allowed
 
-  text_due : (command : Option Command) → Allows command files files' outcome → HasRefusedText files.content command → IsQuiet files.faults files'.faults → (code_of outcome ≡ 8) ⊎ (code_of outcome ≡ 7)
+  text_due : (command : Option Command) → Allows command files files' outcome → HasRefusedText files.content command → IsQuiet files.faults files'.faults → causes.IsCodeDue files' outcome 8
   text_due None allowed refused quiet = absurd refused
   text_due (Some command) allowed refused quiet = causes.refused_due files' outcome 8 (steps_of command) files quiet refused allowed
 
@@ -51,7 +51,7 @@ module _ (files files' : FilesState) (outcome : Outcome) where
 
   -- if the files that are read are good, the code is one of these, and 9 only if a log is not sound
   abbrev IsReadyCode : Option Command → ℕ → Type 0
-  IsReadyCode command code = (code ≡ 0) ⊎ (code ≡ 5) ⊎ (code ≡ 6) ⊎ (code ≡ 7) ⊎ ((code ≡ 9) × HasUnsoundLog files.content command)
+  IsReadyCode command code = (code ≡ 0) ⊎ (code ≡ 5) ⊎ (code ≡ 6) ⊎ (code ≡ 7) ⊎ ((code ≡ 9) × HasUnsoundLog files.content command) ⊎ (code ≡ 4)
 
   own_ready : (command : Command) (code : ℕ) → OwnCode command code → IsReadyCode (Some command) code
   own_ready (Batch command) code (inl zero) = inl zero
@@ -66,10 +66,11 @@ module _ (files files' : FilesState) (outcome : Outcome) where
   ready_code (Some command) allowed ready quiet =
       either (causes.ready files' outcome (OwnCode command) (last_code command) (steps_of command) (own_code command) files quiet ready allowed)
     where
-      either : OwnCode command (code_of outcome) ⊎ (code_of outcome ≡ 7) ⊎ ((code_of outcome ≡ 9) × HasUnsoundLog files.content (Some command)) → IsReadyCode (Some command) (code_of outcome)
+      either : OwnCode command (code_of outcome) ⊎ (code_of outcome ≡ 7) ⊎ (code_of outcome ≡ 4) ⊎ ((code_of outcome ≡ 9) × HasUnsoundLog files.content (Some command)) → IsReadyCode (Some command) (code_of outcome)
       either (inl own) = own_ready command (code_of outcome) own
       either (inr (inl seven)) = inr (inr (inr (inl seven)))
-      either (inr (inr nine)) = inr (inr (inr (inr nine)))
+      either (inr (inr (inl four))) = inr (inr (inr (inr (inr four))))
+      either (inr (inr (inr nine))) = inr (inr (inr (inr (inl nine))))
 
   -- ---- the codes
 
@@ -117,10 +118,14 @@ module _ (files files' : FilesState) (outcome : Outcome) where
       always = λ bad quiet. explained_always sink sink' code outcome 8 (text_due command allowed bad quiet) either;
     }
 
+    or_four : (code_of outcome ≡ 9) ⊎ (code_of outcome ≡ 7) → causes.IsCodeDue files' outcome 9
+    or_four (inl nine) = inl nine
+    or_four (inr seven) = inr (inl seven)
+
     pub unsound : (command : Option Command) → Allows command files files' outcome → UnsoundExactly command files files' code
     unsound command allowed = record {
       only = explained_only sink sink' code outcome 9 (IfSome files.content (λ _. HasUnsoundLog files.content command)) (λ e. absurd (omega (arith, e))) (unsound_only command allowed) either;
-      always = λ unsound quiet. explained_always sink sink' code outcome 9 (unsound_due command allowed unsound quiet) either;
+      always = λ unsound quiet. explained_always sink sink' code outcome 9 (or_four (unsound_due command allowed unsound quiet)) either;
     }
 
     pub read_fault : (command : Option Command) → Allows command files files' outcome → ReadFaultExactly files files' code
@@ -156,14 +161,16 @@ module _ (files files' : FilesState) (outcome : Outcome) where
         by_own faultless same (inr (inl five)) = absurd (causes.quiet_did_not_rise links.faults links'.faults faultless.links (link.only (same ∙ five)))
         by_own faultless same (inr (inr (inl six))) = absurd (causes.quiet_did_not_rise ticker.faults ticker'.faults faultless.ticker (clock.only (same ∙ six)))
         by_own faultless same (inr (inr (inr (inl seven)))) = inr (inl (same ∙ seven))
-        by_own faultless same (inr (inr (inr (inr nine)))) = inr (inr (same ∙ nine.0))
+        by_own faultless same (inr (inr (inr (inr (inl nine))))) = inr (inr (same ∙ nine.0))
+        by_own faultless same (inr (inr (inr (inr (inr four))))) = absurd (causes.quiet_did_not_rise sink.faults sink'.faults faultless.out (told_four sink sink' code outcome told (same ∙ four)))
 
         only_unsound : code_of outcome ≡ 9 → IsReadyCode command (code_of outcome) → HasUnsoundLog files.content command
         only_unsound is (inl zero) = absurd (omega (arith, is, zero))
         only_unsound is (inr (inl five)) = absurd (omega (arith, is, five))
         only_unsound is (inr (inr (inl six))) = absurd (omega (arith, is, six))
         only_unsound is (inr (inr (inr (inl seven)))) = absurd (omega (arith, is, seven))
-        only_unsound is (inr (inr (inr (inr nine)))) = nine.1
+        only_unsound is (inr (inr (inr (inr (inl nine))))) = nine.1
+        only_unsound is (inr (inr (inr (inr (inr four))))) = absurd (omega (arith, is, four))
 
         explained_due : code ≡ code_of outcome → (code_of outcome ≡ 9) ⊎ (code_of outcome ≡ 7) → (code ≡ 9) ⊎ (code ≡ 7)
         explained_due same (inl nine) = inl (same ∙ nine)

@@ -4,18 +4,19 @@ use Rattle.std.specs.Prelude.{◌==◌, ◌⊎◌, MatchBool}
 use Rattle.tac_io.specs.States.{SinkState}
 use Rattle.game_log.proofs.Writing.{fails_both, then_whole, then_some}
 use Rattle.tac_io.specs.Taken.{TookWhole, TookPart}
-use Rattle.tac_commands.specs.declared.refusals.Refusal.TheVariants.{Memory}
+use Rattle.tac_commands.specs.declared.refusals.Refusal.{Refusal}
 use Rattle.tac_commands.specs.declared.ends.End.{End}
 use Rattle.tac_commands.specs.declared.ends.End.TheVariants as ends
-use Rattle.tac_commands.specs.Outcomes.{Outcome, Done, Unsound, Cut, Refused, refusal_end}
-use Rattle.tac_commands.specs.Ends.{Ends, EndsOrIsCut, IsCut, Finishes}
+use Rattle.tac_commands.specs.Outcomes.{Outcome, Done, Unsound, Stopped, Unwritten, Refused, refusal_end}
+use Rattle.tac_commands.specs.Ends.{Ends, EndsOrStops, Stops, Finishes}
 use Rattle.tac_commands.specs.Reporting.{Reports}
 
 -- a write of a text failed
-reports_some : (allows : Outcome → Type 0) (sink sink' : SinkState) (text : List ℕ) → allows (Done text) ⊎ allows (Unsound text) → TookPart sink sink' text →
+reports_some : (allows : Outcome → Type 0) (sink sink' : SinkState) (text : List ℕ) → allows (Done text) ⊎ allows (Unsound text) ⊎ allows (Unwritten text) → TookPart sink sink' text →
     (outcome : Outcome) × allows outcome × Reports outcome sink sink' 4
 reports_some allows sink sink' text (inl done) some = (Done text, done, some)
-reports_some allows sink sink' text (inr unsound) some = (Unsound text, unsound, some)
+reports_some allows sink sink' text (inr (inl unsound)) some = (Unsound text, unsound, some)
+reports_some allows sink sink' text (inr (inr unwritten)) some = (Unwritten text, unwritten, some)
 
 pub reports : (allows : Outcome → Type 0) (sink sink' sink'' : SinkState) (end : End) (code : ℕ) → Ends allows sink sink' end → Finishes end sink' sink'' code →
     (outcome : Outcome) × allows outcome × Reports outcome sink sink'' code
@@ -28,28 +29,30 @@ reports allows sink sink' sink'' ends.WriteFault code ended finished =
 reports allows sink sink' sink'' (ends.Refused refusal) code ended finished =
     (Refused refusal, ended.0, subst (λ (s : SinkState). Reports (Refused refusal) s sink'' code) ended.1 finished)
 
--- ---- a command whose text may be cut off
+-- ---- a command whose text may stop after a first part
 
--- the first part was written, and then the line for refused memory, or not all of it
-cut_by : (b : Bool) (text : List ℕ) (sink sink' sink'' : SinkState) (code : ℕ) → TookWhole sink sink' text →
-    MatchBool b (TookPart sink' sink'' (refusal_end Memory).1) ((code ≡ 7) × TookWhole sink' sink'' (refusal_end Memory).1) →
-    MatchBool b (TookPart sink sink'' (text ++ (refusal_end Memory).1)) ((code ≡ 7) × TookWhole sink sink'' (text ++ (refusal_end Memory).1))
-cut_by true text sink sink' sink'' code first told = then_some text (refusal_end Memory).1 sink sink' sink'' first told
-cut_by false text sink sink' sink'' code first told = (told.0, then_whole text (refusal_end Memory).1 sink sink' sink'' first told.1)
+-- the first part was written, and then the line of the refusal, or not all of it
+stopped_by : (b : Bool) (text line : List ℕ) (due : ℕ) (sink sink' sink'' : SinkState) (code : ℕ) → TookWhole sink sink' text →
+    MatchBool b (TookPart sink' sink'' line) ((code ≡ due) × TookWhole sink' sink'' line) →
+    MatchBool b (TookPart sink sink'' (text ++ line)) ((code ≡ due) × TookWhole sink sink'' (text ++ line))
+stopped_by true text line due sink sink' sink'' code first told = then_some text line sink sink' sink'' first told
+stopped_by false text line due sink sink' sink'' code first told = (told.0, then_whole text line sink sink' sink'' first told.1)
 
-reports_cut : (text : List ℕ) (sink sink' sink'' : SinkState) (end : End) (code : ℕ) → IsCut text sink sink' end → Finishes end sink' sink'' code → Reports (Cut text) sink sink'' code
-reports_cut text sink sink' sink'' ends.Done code cut finished = absurd cut
-reports_cut text sink sink' sink'' ends.Unsound code cut finished = absurd cut
-reports_cut text sink sink' sink'' ends.WriteFault code cut finished =
-    let both : TookPart sink sink' (text ++ (refusal_end Memory).1) = fails_both text text (refusal_end Memory).1 sink sink' refl cut in
-    rw finished.0 (subst (λ (s : SinkState). TookPart sink s (text ++ (refusal_end Memory).1)) (sym finished.1) both)
-reports_cut text sink sink' sink'' (ends.Refused Memory) code cut finished = cut_by (code == 4) text sink sink' sink'' code cut finished
-reports_cut text sink sink' sink'' (ends.Refused refusal) code cut finished = absurd cut
+reports_stopped : (text : List ℕ) (refusal : Refusal) (sink sink' sink'' : SinkState) (end : End) (code : ℕ) → Stops text refusal sink sink' end → Finishes end sink' sink'' code → Reports (Stopped text refusal) sink sink'' code
+reports_stopped text refusal sink sink' sink'' ends.Done code stops finished = absurd stops
+reports_stopped text refusal sink sink' sink'' ends.Unsound code stops finished = absurd stops
+reports_stopped text refusal sink sink' sink'' ends.WriteFault code stops finished =
+    let both : TookPart sink sink' (text ++ (refusal_end refusal).1) = fails_both text text (refusal_end refusal).1 sink sink' refl stops in
+    rw finished.0 (subst (λ (s : SinkState). TookPart sink s (text ++ (refusal_end refusal).1)) (sym finished.1) both)
+reports_stopped text refusal sink sink' sink'' (ends.Refused told) code stops finished =
+    let same : Reports (Refused refusal) sink' sink'' code = subst (λ (r : Refusal). Reports (Refused r) sink' sink'' code) stops.0 finished in
+    stopped_by (code == 4) text (refusal_end refusal).1 (refusal_end refusal).0 sink sink' sink'' code stops.1 same
 
-pub reports_or_cut : (allows : Outcome → Type 0) (sink sink' sink'' : SinkState) (end : End) (code : ℕ) → EndsOrIsCut allows sink sink' end → Finishes end sink' sink'' code →
+pub reports_or_stops : (allows : Outcome → Type 0) (sink sink' sink'' : SinkState) (end : End) (code : ℕ) → EndsOrStops allows sink sink' end → Finishes end sink' sink'' code →
     (outcome : Outcome) × allows outcome × Reports outcome sink sink'' code
-reports_or_cut allows sink sink' sink'' end code (inl ended) finished = reports allows sink sink' sink'' end code ended finished
-reports_or_cut allows sink sink' sink'' end code (inr cut) finished = (Cut cut.0, cut.1, reports_cut cut.0 sink sink' sink'' end code cut.2 finished)
+reports_or_stops allows sink sink' sink'' end code (inl ended) finished = reports allows sink sink' sink'' end code ended finished
+reports_or_stops allows sink sink' sink'' end code (inr stops) finished =
+    (Stopped stops.0 stops.1, stops.2, reports_stopped stops.0 stops.1 sink sink' sink'' end code stops.3 finished)
 
 -- a command that allows some outcomes allows them also if more are allowed
 ends_weaker : (P Q : Outcome → Type 0) (sink sink' : SinkState) (end : End) → ((outcome : Outcome) → P outcome → Q outcome) → Ends P sink sink' end → Ends Q sink sink' end
@@ -57,11 +60,12 @@ ends_weaker P Q sink sink' ends.Done more ended = (ended.0, more (Done ended.0) 
 ends_weaker P Q sink sink' ends.Unsound more ended = (ended.0, more (Unsound ended.0) ended.1, ended.2)
 ends_weaker P Q sink sink' ends.WriteFault more ended = (ended.0, either ended.1, ended.2)
   where
-    either : P (Done ended.0) ⊎ P (Unsound ended.0) → Q (Done ended.0) ⊎ Q (Unsound ended.0)
+    either : P (Done ended.0) ⊎ P (Unsound ended.0) ⊎ P (Unwritten ended.0) → Q (Done ended.0) ⊎ Q (Unsound ended.0) ⊎ Q (Unwritten ended.0)
     either (inl done) = inl (more (Done ended.0) done)
-    either (inr unsound) = inr (more (Unsound ended.0) unsound)
+    either (inr (inl unsound)) = inr (inl (more (Unsound ended.0) unsound))
+    either (inr (inr unwritten)) = inr (inr (more (Unwritten ended.0) unwritten))
 ends_weaker P Q sink sink' (ends.Refused refusal) more ended = (more (Refused refusal) ended.0, ended.1)
 
-pub weaker : (P Q : Outcome → Type 0) (sink sink' : SinkState) (end : End) → ((outcome : Outcome) → P outcome → Q outcome) → EndsOrIsCut P sink sink' end → EndsOrIsCut Q sink sink' end
+pub weaker : (P Q : Outcome → Type 0) (sink sink' : SinkState) (end : End) → ((outcome : Outcome) → P outcome → Q outcome) → EndsOrStops P sink sink' end → EndsOrStops Q sink sink' end
 weaker P Q sink sink' end more (inl ended) = inl (ends_weaker P Q sink sink' end more ended)
-weaker P Q sink sink' end more (inr cut) = inr (cut.0, more (Cut cut.0) cut.1, cut.2)
+weaker P Q sink sink' end more (inr stops) = inr (stops.0, stops.1, more (Stopped stops.0 stops.1) stops.2, stops.3)

@@ -8,6 +8,7 @@ use Rattle.game_text.specs.declared.fault.GameFault.TheVariants.{Line, TooLong}
 use Rattle.game_text.specs.Games.{GameFile}
 use Rattle.log_text.specs.LoggedGames.{LoggedGame}
 use Rattle.log_reader.specs.SoundLog.{IsSound}
+use Rattle.script_run.specs.declared.game.lines.GameLine.{GameLine as ScriptLine}
 use Rattle.tac_commands.specs.declared.file_kinds.FileKind.{FileKind}
 use Rattle.tac_commands.specs.declared.file_kinds.FileKind.TheVariants.{Game, HotelScript, GameScript, Account, Log}
 use Rattle.tac_commands.specs.declared.refusals.Refusal.{Refusal}
@@ -18,7 +19,8 @@ use Rattle.tac_commands.specs.Outcomes.{Outcome, Unsound, Refused, refusal_end, 
 use Rattle.tac_commands.specs.Runs.{Runs, StopsAt, with_name}
 use Rattle.tac_commands.specs.Causes.{IsQuiet, Holds, HasBad, HasRefused, AreGood, HasUnsound}
 use Rattle.tac_commands.specs.Selected.{EndsAt, EndsAtAudit, SelectsFiles}
-use Rattle.tac_commands.specs.Steps.{NamedFile, Steps, Reads, Audits, EndsWith}
+use Rattle.tac_commands.specs.Steps.{NamedFile, Steps, Reads, Audits, Hears, EndsWith, file as named}
+use Rattle.tac_commands.proofs.HeardFiles.{HeardSo, StopsSo, heard_so}
 use Rattle.tac_commands.proofs.Unambiguous.{not_both, same_file, same_value}
 use Rattle.tac_commands.proofs.OwnCodes.{EndsWithin, IsLastCode}
 
@@ -43,13 +45,6 @@ fault_code Account (Line line reason) = refl
 fault_code Account TooLong = refl
 fault_code Log (Line line reason) = refl
 fault_code Log TooLong = refl
-
--- why the run stopped at a file, with its code
-abbrev StopsSo : FilesState → FilesState → FileKind → List ℕ → ℕ → Type 0
-StopsSo files files' kind name code =
-    ((code ≡ 3) × Rose files.faults files'.faults)
-    ⊎ ((code ≡ 7) × (files'.faults ≡ files.faults))
-    ⊎ ((code ≡ refused_code kind) × ((fault : GameFault) × HasFault files.content kind name fault) × (files'.faults ≡ files.faults))
 
 stopped : (files files' : FilesState) (kind : FileKind) (name : List ℕ) (refusal : Refusal) (outcome : Outcome) → outcome ≡ Refused refusal → IsNotRead files files' kind name refusal →
     StopsSo files files' kind name (code_of outcome)
@@ -139,6 +134,17 @@ module _ (files' : FilesState) (outcome : Outcome) where
   refused_at files code file next refusing is (inr (inl memory)) = let seven = memory.0 in absurd (grind (arith, refusing, is, seven))
   refused_at files code file next refusing is (inr (inr refused)) = here_refused files.content code file next refused.1.0 (sym refused.0 ∙ is) refused.1.1
 
+  here_bad : (known : Content) (code : ℕ) (name : List ℕ) (replies : List ScriptLine → List ℕ) (allows : List ScriptLine → Outcome → Type 0) (fault : GameFault) → code ≡ 8 → HasFault known GameScript name fault →
+      IfSome known (λ _. HasRefused known code (Hears name replies allows))
+  here_bad None code name replies allows fault is has = tt
+  here_bad (Some given) code name replies allows fault is has = (is, bad given (named GameScript name) fault has)
+
+  script_refused : (files : FilesState) (code : ℕ) (name : List ℕ) (replies : List ScriptLine → List ℕ) (allows : List ScriptLine → Outcome → Type 0) → IsRefusing code → code_of outcome ≡ code →
+      StopsSo files files' GameScript name (code_of outcome) → IfSome files.content (λ _. HasRefused files.content code (Hears name replies allows))
+  script_refused files code name replies allows refusing is (inl fault) = let three = fault.0 in absurd (grind (arith, refusing, is, three))
+  script_refused files code name replies allows refusing is (inr (inl memory)) = let seven = memory.0 in absurd (grind (arith, refusing, is, seven))
+  script_refused files code name replies allows refusing is (inr (inr refused)) = here_bad files.content code name replies allows refused.1.0 (sym is ∙ refused.0) refused.1.1
+
   audit_refuses_none : (code : ℕ) (game : GameFile) (log : LoggedGame) → IsRefusing code → code_of outcome ≡ code → StoppedSo game log (code_of outcome) → ⊥
   audit_refuses_none code game log refusing is (inl unsound) = let nine = unsound.0 in grind (arith, refusing, is, nine)
   audit_refuses_none code game log refusing is (inr seven) = grind (arith, refusing, is, seven)
@@ -154,10 +160,14 @@ module _ (files' : FilesState) (outcome : Outcome) where
   behind_sound None P Q f p = tt
   behind_sound (Some given) P Q f p = f p
 
-  -- it always comes then, or that of memory
-  due_at : (files : FilesState) (code : ℕ) (file : NamedFile) → refused_code file.kind ≡ code → IsQuiet files.faults files'.faults → StopsSo files files' file.kind file.name (code_of outcome) → (code_of outcome ≡ code) ⊎ (code_of outcome ≡ 7)
+  -- a code is due, or that of memory, or of a failed write
+  abbrev pub IsCodeDue : ℕ → Type 0
+  IsCodeDue code = (code_of outcome ≡ code) ⊎ (code_of outcome ≡ 7) ⊎ (code_of outcome ≡ 4)
+
+  -- it always comes then
+  due_at : (files : FilesState) (code : ℕ) (file : NamedFile) → refused_code file.kind ≡ code → IsQuiet files.faults files'.faults → StopsSo files files' file.kind file.name (code_of outcome) → IsCodeDue code
   due_at files code file is quiet (inl fault) = absurd (quiet_did_not_rise files.faults files'.faults quiet fault.1)
-  due_at files code file is quiet (inr (inl memory)) = inr memory.0
+  due_at files code file is quiet (inr (inl memory)) = inr (inl memory.0)
   due_at files code file is quiet (inr (inr refused)) = inl (refused.0 ∙ is)
 
   -- a file that is good is not refused, but memory may be refused for it
@@ -171,8 +181,7 @@ module _ (files' : FilesState) (outcome : Outcome) where
   sound_at game log sound (inl unsound) = absurd (unsound.1 sound)
   sound_at game log sound (inr seven) = seven
 
-  pub refused_due : (code : ℕ) (steps : Steps) (files : FilesState) → IsQuiet files.faults files'.faults → HasRefused files.content code steps → Runs steps files files' outcome →
-      (code_of outcome ≡ code) ⊎ (code_of outcome ≡ 7)
+  pub refused_due : (code : ℕ) (steps : Steps) (files : FilesState) → IsQuiet files.faults files'.faults → HasRefused files.content code steps → Runs steps files files' outcome → IsCodeDue code
   refused_due code (Reads file next) files quiet (inl here) (inl read) = absurd (read_not_bad files.content file read.0 read.1 here.1)
   refused_due code (Reads file next) files quiet (inl here) (inr stop) =
       due_at files code file here.0 quiet (stopped files files' file.kind file.name stop.0 outcome stop.1 stop.2)
@@ -180,9 +189,15 @@ module _ (files' : FilesState) (outcome : Outcome) where
       refused_due code (next later.0) (with_name files file.name) quiet later.2
       (subst (λ (v : Value file.kind). Runs (next v) (with_name files file.name) files' outcome) (same_read files.content file later.0 read.0 later.1 read.1) read.2)
   refused_due code (Reads file next) files quiet (inr later) (inr stop) =
-      inr (good_at files file later.0 later.1 quiet (stopped files files' file.kind file.name stop.0 outcome stop.1 stop.2))
+      inr (inl (good_at files file later.0 later.1 quiet (stopped files files' file.kind file.name stop.0 outcome stop.1 stop.2)))
   refused_due code (Audits game log IsDue next) files quiet refused (inl run) = refused_due code next files quiet refused.1 run.1
-  refused_due code (Audits game log IsDue next) files quiet refused (inr stop) = inr (sound_at game log refused.0 (audit_stopped game log IsDue outcome stop.0))
+  refused_due code (Audits game log IsDue next) files quiet refused (inr stop) = inr (inl (sound_at game log refused.0 (audit_stopped game log IsDue outcome stop.0)))
+  refused_due code (Hears name replies allows) files quiet refused run = heard_due (heard_so replies allows files files' name outcome run.0)
+    where
+      heard_due : HeardSo files files' allows name outcome → IsCodeDue code
+      heard_due (inl stop) = due_at files code (named GameScript name) (sym refused.0) quiet stop
+      heard_due (inr (inl four)) = inr (inr four.0)
+      heard_due (inr (inr whole)) = absurd (read_not_bad files.content (named GameScript name) whole.lines whole.read refused.1)
   refused_due code (EndsWith allows) files quiet refused run = absurd refused
 
   -- ---- a log that is not sound
@@ -201,6 +216,7 @@ module _ (files' : FilesState) (outcome : Outcome) where
   unsound_due (Audits game log IsDue next) files quiet (inl not_sound) (inl run) = absurd (not_sound run.0)
   unsound_due (Audits game log IsDue next) files quiet (inr later) (inl run) = unsound_due next files quiet later.1 run.1
   unsound_due (Audits game log IsDue next) files quiet unsound (inr stop) = unsound_at game log (audit_stopped game log IsDue outcome stop.0)
+  unsound_due (Hears name replies allows) files quiet unsound run = absurd unsound
   unsound_due (EndsWith allows) files quiet unsound run = absurd unsound
 
   no_unsound_file : (files : FilesState) (file : NamedFile) → code_of outcome ≡ 9 → StopsSo files files' file.kind file.name (code_of outcome) → ⊥
@@ -229,6 +245,12 @@ module _ (files' : FilesState) (outcome : Outcome) where
     read_explained (Reads file next) own files (inr stop) = explained_at files file.kind file.name (stopped files files' file.kind file.name stop.0 outcome stop.1 stop.2)
     read_explained (Audits game log IsDue next) own files (inl run) = read_explained next own files run.1
     read_explained (Audits game log IsDue next) own files (inr stop) = explained_at_audit files game log (audit_stopped game log IsDue outcome stop.0) stop.1.1
+    read_explained (Hears name replies allows) own files run = heard_told (heard_so replies allows files files' name outcome run.0)
+      where
+        heard_told : HeardSo files files' allows name outcome → IsExplained files
+        heard_told (inl stop) = explained_at files GameScript name stop
+        heard_told (inr (inl four)) = let is = four.0 in inr (λ three. omega (arith, is, three), four.1)
+        heard_told (inr (inr whole)) = inr ((last (code_of outcome) (own whole.lines outcome whole.allowed)).no_fault, whole.quiet)
     read_explained (EndsWith allows) own files run = inr ((last (code_of outcome) (own outcome run.0)).no_fault, run.1.1)
 
     own_refuses_none : (code : ℕ) → IsRefusing code → Own (code_of outcome) → code_of outcome ≡ code → ⊥
@@ -245,6 +267,12 @@ module _ (files' : FilesState) (outcome : Outcome) where
     refused_only code refusing (Audits game log IsDue next) own files (inl run) is =
         behind_sound files.content (HasRefused files.content code next) (IsSound game log × HasRefused files.content code next) (λ refused. (run.0, refused)) (refused_only code refusing next own files run.1 is)
     refused_only code refusing (Audits game log IsDue next) own files (inr stop) is = absurd (audit_refuses_none code game log refusing is (audit_stopped game log IsDue outcome stop.0))
+    refused_only code refusing (Hears name replies allows) own files run is = heard_refused (heard_so replies allows files files' name outcome run.0)
+      where
+        heard_refused : HeardSo files files' allows name outcome → IfSome files.content (λ _. HasRefused files.content code (Hears name replies allows))
+        heard_refused (inl stop) = script_refused files code name replies allows refusing is stop
+        heard_refused (inr (inl four)) = let same = four.0 in absurd (grind (arith, refusing, is, same))
+        heard_refused (inr (inr whole)) = absurd (own_refuses_none code refusing (own whole.lines outcome whole.allowed) is)
     refused_only code refusing (EndsWith allows) own files run is = absurd (own_refuses_none code refusing (own outcome run.0) is)
 
     -- that of an unsound log only if such a log is audited
@@ -257,24 +285,32 @@ module _ (files' : FilesState) (outcome : Outcome) where
         behind_sound files.content (HasUnsound files.content next) (HasUnsound files.content (Audits game log IsDue next)) (λ unsound. inr (run.0, unsound)) (unsound_only next own files run.1 is)
     unsound_only (Audits game log IsDue next) own files (inr stop) is =
         here_unsound files.content game log IsDue next (unsound_here game log is (audit_stopped game log IsDue outcome stop.0))
+    unsound_only (Hears name replies allows) own files run is = absurd (heard_sound (heard_so replies allows files files' name outcome run.0))
+      where
+        heard_sound : HeardSo files files' allows name outcome → ⊥
+        heard_sound (inl stop) = no_unsound_file files (named GameScript name) is stop
+        heard_sound (inr (inl four)) = let same = four.0 in omega (arith, is, same)
+        heard_sound (inr (inr whole)) = (last (code_of outcome) (own whole.lines outcome whole.allowed)).no_unsound is
     unsound_only (EndsWith allows) own files run is = absurd ((last (code_of outcome) (own outcome run.0)).no_unsound is)
 
-    -- if all files that are read are good, the code is one of the last step, or that of memory, or a log is not sound
+    -- if all files that are read are good, the code is one of the last step, or that of memory, or of a failed write, or a log is not sound
     abbrev IsReadyEnd : Content → Steps → Type 0
-    IsReadyEnd content steps = Own (code_of outcome) ⊎ (code_of outcome ≡ 7) ⊎ ((code_of outcome ≡ 9) × HasUnsound content steps)
+    IsReadyEnd content steps = Own (code_of outcome) ⊎ (code_of outcome ≡ 7) ⊎ (code_of outcome ≡ 4) ⊎ ((code_of outcome ≡ 9) × HasUnsound content steps)
 
     ready_later : (content : Content) (file : NamedFile) (next : Value file.kind → Steps) (value : Value file.kind) → Holds content file value → IsReadyEnd content (next value) → IsReadyEnd content (Reads file next)
     ready_later content file next value good (inl own) = inl own
     ready_later content file next value good (inr (inl seven)) = inr (inl seven)
-    ready_later content file next value good (inr (inr unsound)) = inr (inr (unsound.0, (value, good, unsound.1)))
+    ready_later content file next value good (inr (inr (inl four))) = inr (inr (inl four))
+    ready_later content file next value good (inr (inr (inr unsound))) = inr (inr (inr (unsound.0, (value, good, unsound.1))))
 
     ready_behind : (content : Content) (game : GameFile) (log : LoggedGame) (IsDue : List ℕ → Type 0) (next : Steps) → IsSound game log → IsReadyEnd content next → IsReadyEnd content (Audits game log IsDue next)
     ready_behind content game log IsDue next sound (inl own) = inl own
     ready_behind content game log IsDue next sound (inr (inl seven)) = inr (inl seven)
-    ready_behind content game log IsDue next sound (inr (inr unsound)) = inr (inr (unsound.0, inr (sound, unsound.1)))
+    ready_behind content game log IsDue next sound (inr (inr (inl four))) = inr (inr (inl four))
+    ready_behind content game log IsDue next sound (inr (inr (inr unsound))) = inr (inr (inr (unsound.0, inr (sound, unsound.1))))
 
     ready_at_audit : (content : Content) (game : GameFile) (log : LoggedGame) (IsDue : List ℕ → Type 0) (next : Steps) → StoppedSo game log (code_of outcome) → IsReadyEnd content (Audits game log IsDue next)
-    ready_at_audit content game log IsDue next (inl unsound) = inr (inr (unsound.0, inl unsound.1))
+    ready_at_audit content game log IsDue next (inl unsound) = inr (inr (inr (unsound.0, inl unsound.1)))
     ready_at_audit content game log IsDue next (inr seven) = inr (inl seven)
 
     pub ready : (steps : Steps) → EndsWithin Own steps → (files : FilesState) → IsQuiet files.faults files'.faults → AreGood files.content steps → Runs steps files files' outcome → IsReadyEnd files.content steps
@@ -286,13 +322,19 @@ module _ (files' : FilesState) (outcome : Outcome) where
     ready (Audits game log IsDue next) own files quiet are_good (inl run) =
         ready_behind files.content game log IsDue next run.0 (ready next own files quiet (are_good run.0) run.1)
     ready (Audits game log IsDue next) own files quiet are_good (inr stop) = ready_at_audit files.content game log IsDue next (audit_stopped game log IsDue outcome stop.0)
+    ready (Hears name replies allows) own files quiet are_good run = heard_ready (heard_so replies allows files files' name outcome run.0)
+      where
+        heard_ready : HeardSo files files' allows name outcome → IsReadyEnd files.content (Hears name replies allows)
+        heard_ready (inl stop) = inr (inl (good_at files (named GameScript name) are_good.0 are_good.1 quiet stop))
+        heard_ready (inr (inl four)) = inr (inr (inl four.0))
+        heard_ready (inr (inr whole)) = inl (own whole.lines outcome whole.allowed)
     ready (EndsWith allows) own files quiet are_good run = inl (own outcome run.0)
 
     -- ---- all codes
 
-    -- the codes of files and audits
+    -- the codes of files and audits, and of a failed write
     abbrev pub IsEarlyCode : ℕ → Type 0
-    IsEarlyCode code = (code ≡ 2) ⊎ (code ≡ 3) ⊎ (code ≡ 7) ⊎ (code ≡ 8) ⊎ (code ≡ 9)
+    IsEarlyCode code = (code ≡ 2) ⊎ (code ≡ 3) ⊎ (code ≡ 7) ⊎ (code ≡ 8) ⊎ (code ≡ 9) ⊎ (code ≡ 4)
 
     file_code_at : (files : FilesState) (kind : FileKind) (name : List ℕ) → StopsSo files files' kind name (code_of outcome) → IsEarlyCode (code_of outcome)
     file_code_at files kind name (inl fault) = inr (inl fault.0)
@@ -304,7 +346,7 @@ module _ (files' : FilesState) (outcome : Outcome) where
         by_kind (inr eight) = inr (inr (inr (inl (refused.0 ∙ eight))))
 
     audit_code : (game : GameFile) (log : LoggedGame) → StoppedSo game log (code_of outcome) → IsEarlyCode (code_of outcome)
-    audit_code game log (inl unsound) = inr (inr (inr (inr unsound.0)))
+    audit_code game log (inl unsound) = inr (inr (inr (inr (inl unsound.0))))
     audit_code game log (inr seven) = inr (inr (inl seven))
 
     -- the code is one of the last step, or of a file or an audit
@@ -313,6 +355,12 @@ module _ (files' : FilesState) (outcome : Outcome) where
     codes (Reads file next) own files (inr stop) = inr (file_code_at files file.kind file.name (stopped files files' file.kind file.name stop.0 outcome stop.1 stop.2))
     codes (Audits game log IsDue next) own files (inl run) = codes next own files run.1
     codes (Audits game log IsDue next) own files (inr stop) = inr (audit_code game log (audit_stopped game log IsDue outcome stop.0))
+    codes (Hears name replies allows) own files run = heard_code (heard_so replies allows files files' name outcome run.0)
+      where
+        heard_code : HeardSo files files' allows name outcome → Own (code_of outcome) ⊎ IsEarlyCode (code_of outcome)
+        heard_code (inl stop) = inr (file_code_at files GameScript name stop)
+        heard_code (inr (inl four)) = inr (inr (inr (inr (inr (inr four.0)))))
+        heard_code (inr (inr whole)) = inl (own whole.lines outcome whole.allowed)
     codes (EndsWith allows) own files run = inl (own outcome run.0)
 
     -- ---- the files that were selected
@@ -339,6 +387,19 @@ module _ (files' : FilesState) (outcome : Outcome) where
           inl (stop.3, ends_at files file.kind file.name (stopped files files' file.kind file.name stop.0 outcome stop.1 stop.2) known)
       selects (Audits game log IsDue next) own files (inl run) = inr (run.0, selects next own files run.1)
       selects (Audits game log IsDue next) own files (inr stop) = inl (stop.1.0, ends_at_audit game log (audit_stopped game log IsDue outcome stop.0) known)
+      selects (Hears name replies allows) own files run =
+          let none = heard_code (heard_so replies allows files files' name outcome run.0) in (
+            run.1,
+            not_code 2 none.0 (omega arith) known,
+            not_code 9 none.1 (omega arith) known,
+          )
+        where
+          heard_code : HeardSo files files' allows name outcome → (code_of outcome ≡ 2 → ⊥) × (code_of outcome ≡ 9 → ⊥)
+          heard_code (inl (inl fault)) = let three = fault.0 in (λ two. omega (arith, three, two), λ nine. omega (arith, three, nine))
+          heard_code (inl (inr (inl memory))) = let seven = memory.0 in (λ two. omega (arith, seven, two), λ nine. omega (arith, seven, nine))
+          heard_code (inl (inr (inr refused))) = let eight = refused.0 in (λ two. omega (arith, eight, two), λ nine. omega (arith, eight, nine))
+          heard_code (inr (inl four)) = let is = four.0 in (λ two. omega (arith, is, two), λ nine. omega (arith, is, nine))
+          heard_code (inr (inr whole)) = let none = last (code_of outcome) (own whole.lines outcome whole.allowed) in (none.no_game, none.no_unsound)
       selects (EndsWith allows) own files run =
           let none = last (code_of outcome) (own outcome run.0) in (
             run.1.0,

@@ -11,7 +11,10 @@ pub mod CodedOutcomes
 pub mod Endings
 pub mod ReadFiles
 pub mod RanScripts
+pub mod SteppedScripts
+pub mod PromptSteps
 pub mod OwnCodes
+pub mod HeardFiles
 pub mod Pairs
 pub mod TableRuns
 pub mod FileCauses

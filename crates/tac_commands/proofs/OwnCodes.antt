@@ -3,17 +3,19 @@ use Rattle.std.proofs.Common.{◌≡◌, ℕ, List, [], ◌∷◌, ◌++◌, ref
 use Rattle.std.specs.Prelude.{◌⊎◌}
 use Rattle.game_text.specs.Games.{GameFile}
 use Rattle.log_text.specs.LoggedGames.{LoggedGame}
+use Rattle.script_run.specs.declared.game.lines.GameLine.{GameLine as ScriptLine}
 use Rattle.tac_commands.specs.declared.refusals.Refusal.TheVariants.{LinkFault, Memory}
-use Rattle.tac_commands.specs.Allowed.{WritesDue, WritesInParts, IsServiceEnd, table_steps, batch_steps, steps_of}
-use Rattle.tac_commands.specs.Commands.{BatchCommand, Hotel, Show, Upgrade, Make, Solve, Worth, Play, Trial, Audit, Table, Command, Batch, Serve}
+use Rattle.tac_commands.specs.Allowed.{WritesDue, WritesInParts, WritesOrStops, IsServiceEnd, table_steps, batch_steps, steps_of}
+use Rattle.tac_commands.specs.Commands.{BatchCommand, Hotel, Show, Upgrade, Make, Solve, Worth, Play, Step, Trial, Audit, Table, Command, Batch, Serve}
 use Rattle.tac_commands.specs.FileKinds.{Value}
-use Rattle.tac_commands.specs.Outcomes.{Outcome, Done, Lapsed, Cut, Refused, code_of}
-use Rattle.tac_commands.specs.Steps.{Steps, Reads, Audits, EndsWith}
+use Rattle.tac_commands.specs.Outcomes.{Outcome, Done, Lapsed, Stopped, Refused, code_of}
+use Rattle.tac_commands.specs.Steps.{Steps, Reads, Audits, Hears, EndsWith}
 
 -- the codes of what the last step allows, whatever the files hold
 abbrev pub EndsWithin : (ℕ → Type 0) → Steps → Type 0
 EndsWithin Own (Reads file next) = (value : Value file.kind) → EndsWithin Own (next value)
 EndsWithin Own (Audits game log IsDue next) = EndsWithin Own next
+EndsWithin Own (Hears name replies allows) = (lines : List ScriptLine) (outcome : Outcome) → allows lines outcome → Own (code_of outcome)
 EndsWithin Own (EndsWith allows) = (outcome : Outcome) → allows outcome → Own (code_of outcome)
 
 -- for a text that is written
@@ -25,11 +27,14 @@ writes IsDue (Done text) allowed = inl refl
 writes IsDue (Refused Memory) allowed = inr refl
 writes IsDue outcome allowed = absurd allowed
 
+or_stops : (IsDue IsFirst : List ℕ → Type 0) (outcome : Outcome) → WritesOrStops IsDue IsFirst outcome → IsWritten (code_of outcome)
+or_stops IsDue IsFirst (Done text) allowed = inl refl
+or_stops IsDue IsFirst (Stopped text Memory) allowed = inr refl
+or_stops IsDue IsFirst outcome allowed = absurd allowed
+
 in_parts : (IsDue IsFirst : List ℕ → Type 0) (outcome : Outcome) → WritesInParts IsDue IsFirst outcome → IsWritten (code_of outcome)
-in_parts IsDue IsFirst (Done text) allowed = inl refl
-in_parts IsDue IsFirst (Cut text) allowed = inr refl
 in_parts IsDue IsFirst (Refused Memory) allowed = inr refl
-in_parts IsDue IsFirst outcome allowed = absurd allowed
+in_parts IsDue IsFirst outcome allowed = or_stops IsDue IsFirst outcome allowed
 
 table_code : (pairs : List (List ℕ × List ℕ)) (played : List (GameFile × LoggedGame)) → EndsWithin IsWritten (table_steps played pairs)
 table_code [] played = λ outcome allowed. writes _ outcome allowed
@@ -44,6 +49,7 @@ batch_code (Make seed) = λ outcome allowed. writes _ outcome allowed
 batch_code (Solve name) = λ account outcome allowed. writes _ outcome allowed
 batch_code (Worth name) = λ account outcome allowed. writes _ outcome allowed
 batch_code (Play name script) = λ game lines outcome allowed. in_parts _ _ outcome allowed.0
+batch_code (Step name script) = λ game lines outcome allowed. or_stops _ _ outcome allowed.0
 batch_code (Trial seed count) = λ outcome allowed. writes _ outcome allowed
 batch_code (Audit name log_name) = λ game log outcome allowed. writes _ outcome allowed
 batch_code (Table pairs) = table_code pairs []
@@ -57,7 +63,7 @@ service : (outcome : Outcome) → IsServiceEnd outcome → (code_of outcome ≡ 
 service (Done text) allowed = inl refl
 service (Refused LinkFault) allowed = inr (inl refl)
 service (Lapsed text) allowed = inr (inr (inl refl))
-service (Cut text) allowed = inr (inr (inr refl))
+service (Stopped text Memory) allowed = inr (inr (inr refl))
 service (Refused Memory) allowed = inr (inr (inr refl))
 service outcome allowed = absurd allowed
 

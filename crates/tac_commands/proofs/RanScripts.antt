@@ -23,7 +23,7 @@ use Rattle.tac_commands.specs.declared.refusals.Refusal.TheVariants as refusals
 use Rattle.tac_commands.specs.declared.ends.End.TheVariants as ends
 use Rattle.tac_commands.specs.Allowed.{batch_steps, play_steps}
 use Rattle.tac_commands.specs.Commands.{Hotel}
-use Rattle.tac_commands.specs.Outcomes.{Done, Cut}
+use Rattle.tac_commands.specs.Outcomes.{Done, Stopped}
 use Rattle.tac_commands.specs.Runs.{Runs}
 use Rattle.tac_commands.specs.SoundTexts.{log_of_game, EndsInSoundLog}
 use Rattle.tac_commands.specs.Ends.{EndsBatch, EndsSteps, script_end}
@@ -55,18 +55,18 @@ module _ (files files' : FilesState) (name bytes : List ℕ) (sink sink' : SinkS
         ends : (played : IsPlayOut game bytes text) → EndsInSoundLog game (log_of_game Play (closed_game game played.lines) played.sheet) (replies game played.lines) text
         ends played = played_soundly game played.lines played.sheet text (law bytes played.lines played.good.good) played.scores played.shown played.due
 
-    first_run : (text : List ℕ) → IsFirstOut game bytes text → Runs (play_steps game name) files files' (Cut text)
+    first_run : (text : List ℕ) → IsFirstOut game bytes text → Runs (play_steps game name) files files' (Stopped text refusals.Memory)
     first_run text out = inl (out.lines, (bytes, is, good_script bytes out.lines out.good.within out.good.good), ((out.due, cash_of_script game out.lines), (selected, quiet)))
 
     -- a write failed
     failed : (text : List ℕ) → IsFirstOut game bytes text ⊎ IsPlayOut game bytes text → TookPart sink sink' text → EndsSteps (play_steps game name) files files' sink sink' ends.WriteFault
-    failed text (inl first) some = inr (text, first_run text first, some)
+    failed text (inl first) some = inr (text, refusals.Memory, first_run text first, some)
     failed text (inr whole) some = inl (text, inl (play_run text whole), some)
 
     no_memory : (sink' ≡ sink) ⊎ ((text : List ℕ) × IsFirstOut game bytes text × TookWhole sink sink' text) →
         EndsSteps (play_steps game name) files files' sink sink' (ends.Refused refusals.Memory)
     no_memory (inl same) = inl (inr (refusals.Memory, refl, inr (inl (refl, quiet)), selected), same)
-    no_memory (inr first) = inr (first.0, first_run first.0 first.1, first.2)
+    no_memory (inr first) = inr (first.0, refusals.Memory, first_run first.0 first.1, (refl, first.2))
 
     pub played : (result : Result PlayCount ScriptFault) → PlaysScript game bytes sink sink' result → EndsSteps (play_steps game name) files files' sink sink' (script_end result)
     played (Ok count) ran = inl (ran.0, play_run ran.0 ran.1, ran.3)

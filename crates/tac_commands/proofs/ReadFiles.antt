@@ -1,16 +1,20 @@
 -- How a command ends whose files were read, or not.
 use Rattle.std.proofs.Common.{◌≡◌, ℕ, List, [], ◌∷◌, refl, ap, ◌∙◌, subst, inl, inr}
+use Rattle.std.specs.Prelude.{◌⊎◌}
 use Rattle.tac_io.specs.Counts.{Rose}
 use Rattle.tac_io.specs.States.{FilesState, SinkState}
 use Rattle.tac_io.specs.Known.{known_then}
+use Rattle.script_run.specs.HeardScripts.{standing}
+use Rattle.script_run.specs.HeardReads.{HasReadCause}
 use Rattle.tac_commands.specs.declared.ends.End.{End}
 use Rattle.tac_commands.specs.declared.file_kinds.FileKind.{FileKind}
 use Rattle.tac_commands.specs.declared.refusals.Refusal.{Refusal}
 use Rattle.tac_commands.specs.FileKinds.{Value}
 use Rattle.tac_commands.specs.Files.{Content, IsFileRead, IsNotRead, HasFault}
+use Rattle.tac_commands.specs.HeardFiles.{IsGiven, IsHeard, IsUnheard}
 use Rattle.tac_commands.specs.Outcomes.{Outcome}
 use Rattle.tac_commands.specs.Runs.{Runs, with_name}
-use Rattle.tac_commands.specs.Steps.{NamedFile, Steps, Reads, Audits, EndsWith}
+use Rattle.tac_commands.specs.Steps.{NamedFile, Steps, Reads, Audits, Hears, EndsWith}
 use Rattle.tac_commands.specs.Ends.{Ends, EndsSteps}
 use Rattle.tac_commands.proofs.Endings.{weaker}
 
@@ -38,6 +42,20 @@ module _ (last : FilesState) (outcome : Outcome) where
   )
   runs_from (Audits game log IsDue next) files files' same selected quiet (inl run) = inl (run.0, runs_from next files files' same selected quiet run.1)
   runs_from (Audits game log IsDue next) files files' same selected quiet (inr stop) = inr (stop.0, (stop.1.0 ∙ selected, stop.1.1 ∙ quiet))
+  runs_from (Hears name replies allows) files files' same selected quiet run =
+      (still_heard run.0, run.1 ∙ ap (λ names. known_then names (name ∷ [])) selected)
+    where
+      still_heard : IsUnheard files' last outcome ⊎ IsHeard replies allows files' last name outcome → IsUnheard files last outcome ⊎ IsHeard replies allows files last name outcome
+      still_heard (inl (inl fault)) = inl (inl (fault.0, subst (λ (n : ℕ). Rose n last.faults) quiet fault.1))
+      still_heard (inl (inr memory)) = inl (inr (memory.0, memory.1 ∙ quiet))
+      still_heard (inr heard) = inr (
+        heard.0,
+        heard.1,
+        subst (λ (c : Content). IsGiven c name heard.0 last.left) same heard.2,
+        heard.3,
+        subst (λ (n : ℕ). HasReadCause (standing heard.0 heard.1) n last.faults) quiet heard.4,
+        heard.5,
+      )
   runs_from (EndsWith allows) files files' same selected quiet run = (run.0, (run.1.0 ∙ selected, run.1.1 ∙ quiet))
 
 module _ (files between : FilesState) (file : NamedFile) (next : Value file.kind → Steps) (value : Value file.kind) (is : IsFileRead files.content file.kind file.name value)

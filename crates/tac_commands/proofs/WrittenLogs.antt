@@ -17,7 +17,7 @@ use Rattle.tac_commands.specs.declared.file_kinds.FileKind.TheVariants.{Log}
 use Rattle.tac_commands.specs.declared.refusals.Refusal.TheVariants.{Memory}
 use Rattle.tac_commands.specs.Allowed.{WritesDue, IsFlawText, audit_steps}
 use Rattle.tac_commands.specs.FileKinds.{read_as, logged_or_fault}
-use Rattle.tac_commands.specs.Outcomes.{Outcome, Done, Lapsed, Unsound, Cut, Refused}
+use Rattle.tac_commands.specs.Outcomes.{Outcome, Done, Lapsed, Unsound, Stopped, Unwritten, Refused}
 use Rattle.tac_commands.specs.Runs.{StopsAt, Runs}
 use Rattle.tac_commands.specs.SoundTexts.{EndsInSoundLog}
 use Rattle.tac_commands.proofs.LoggedNumbers.{head_is, game_in, game_is, same_histories}
@@ -56,7 +56,8 @@ written : (outcome : Outcome) → WritesDue (λ (text : List ℕ). text ≡ code
 written (Done text) due = inl (ap Done due)
 written (Lapsed text) due = absurd due
 written (Unsound text) due = absurd due
-written (Cut text) due = absurd due
+written (Stopped text refusal) due = absurd due
+written (Unwritten text) due = absurd due
 written (Refused Memory) due = inr refl
 written (Refused refusal) due = absurd due
 
@@ -64,7 +65,8 @@ stopped : (game : GameFile) (log : LoggedGame) (outcome : Outcome) → IsSound g
 stopped game log (Done text) sound stops = absurd stops
 stopped game log (Lapsed text) sound stops = absurd stops
 stopped game log (Unsound text) sound stops = absurd (stops.0 sound)
-stopped game log (Cut text) sound stops = absurd stops
+stopped game log (Stopped text refusal) sound stops = absurd stops
+stopped game log (Unwritten text) sound stops = absurd stops
 stopped game log (Refused Memory) sound stops = inr refl
 stopped game log (Refused refusal) sound stops = absurd stops
 

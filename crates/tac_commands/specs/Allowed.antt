@@ -25,12 +25,12 @@ use Rattle.tourney.specs.StandingsTexts.{IsPrinted}
 use Rattle.tac_commands.specs.declared.file_kinds.FileKind.TheVariants.{Game, HotelScript, GameScript, Account, Log}
 use Rattle.tac_commands.specs.declared.refusals.Refusal.TheVariants.{Usage, LinkFault, Memory}
 use Rattle.tac_commands.specs.Cash.{IsCashOfPosts}
-use Rattle.tac_commands.specs.Commands.{BatchCommand, Hotel, Show, Upgrade, Make, Solve, Worth, Play, Trial, Audit, Table, Command, Batch, Serve}
+use Rattle.tac_commands.specs.Commands.{BatchCommand, Hotel, Show, Upgrade, Make, Solve, Worth, Play, Step, Trial, Audit, Table, Command, Batch, Serve}
 use Rattle.tac_commands.specs.FlawTexts.{flaw_text, unsound_text}
-use Rattle.tac_commands.specs.Outcomes.{Outcome, Done, Lapsed, Unsound, Cut, Refused}
+use Rattle.tac_commands.specs.Outcomes.{Outcome, Done, Lapsed, Unsound, Stopped, Unwritten, Refused}
 use Rattle.tac_commands.specs.Runs.{AreUnasked, Runs}
 use Rattle.tac_commands.specs.SoundTexts.{log_of_game, EndsInSoundLog}
-use Rattle.tac_commands.specs.Steps.{Steps, Reads, Audits, EndsWith, file}
+use Rattle.tac_commands.specs.Steps.{Steps, Reads, Audits, Hears, EndsWith, file}
 use Rattle.tac_commands.specs.Trials.{trial_text}
 
 -- the text that is due is written, or memory was refused
@@ -39,12 +39,16 @@ WritesDue IsDue (Done text) = IsDue text
 WritesDue IsDue (Refused Memory) = ⊤
 WritesDue IsDue outcome = ⊥
 
--- the text that is due is written, or its first part alone if memory was refused for the rest, or memory was refused before
+-- the text that is due is written, or its first part alone, if memory was refused for the rest
+abbrev pub WritesOrStops : (List ℕ → Type 0) → (List ℕ → Type 0) → Outcome → Type 0
+WritesOrStops IsDue IsFirst (Done text) = IsDue text
+WritesOrStops IsDue IsFirst (Stopped text Memory) = IsFirst text
+WritesOrStops IsDue IsFirst outcome = ⊥
+
+-- the same, or memory was refused before anything was written
 abbrev pub WritesInParts : (List ℕ → Type 0) → (List ℕ → Type 0) → Outcome → Type 0
-WritesInParts IsDue IsFirst (Done text) = IsDue text
-WritesInParts IsDue IsFirst (Cut text) = IsFirst text
 WritesInParts IsDue IsFirst (Refused Memory) = ⊤
-WritesInParts IsDue IsFirst outcome = ⊥
+WritesInParts IsDue IsFirst outcome = WritesOrStops IsDue IsFirst outcome
 
 -- the replies and the log of a game by the lines of a script, with some sheet of it; that log is sound, and in its ranges
 abbrev pub IsPlayText : GameFile → List ScriptLine → List ℕ → Type 0
@@ -75,6 +79,10 @@ IsValued account text =
 abbrev pub PlayAllows : GameFile → List ScriptLine → Outcome → Type 0
 PlayAllows game lines outcome = WritesInParts (IsPlayText game lines) (λ text. text ≡ first_out game lines) outcome × IsCashOfPosts (closed_game game lines)
 
+-- The same for a game whose replies were written line by line: memory may be refused for its sheet, and not before.
+abbrev pub StepAllows : GameFile → List ScriptLine → Outcome → Type 0
+StepAllows game lines outcome = WritesOrStops (IsPlayText game lines) (λ text. text ≡ first_out game lines) outcome × IsCashOfPosts (closed_game game lines)
+
 -- the text of the first flaw of a log
 pub record IsFlawText (game : GameFile) (log : LoggedGame) (text : List ℕ) : Type 0 where
   pub flaw : Flaw
@@ -84,6 +92,10 @@ pub record IsFlawText (game : GameFile) (log : LoggedGame) (text : List ℕ) : T
 -- a game is played by the script of that name
 abbrev pub play_steps : GameFile → List ℕ → Steps
 play_steps game script = Reads (file GameScript script) (λ lines. EndsWith (PlayAllows game lines))
+
+-- a game is played line by line, as the script of that name is heard
+abbrev pub step_steps : GameFile → List ℕ → Steps
+step_steps game script = Hears script (replies game) (StepAllows game)
 
 -- a log is judged by its game: it is sound, or its first flaw is reported
 abbrev pub audit_steps : GameFile → LoggedGame → Steps
@@ -113,6 +125,8 @@ batch_steps (Solve name) = Reads (file Account name) (λ account. EndsWith (Writ
 batch_steps (Worth name) = Reads (file Account name) (λ account. EndsWith (WritesDue (IsValued account)))
 -- a game, played by a script
 batch_steps (Play name script) = Reads (file Game name) (λ game. play_steps game script)
+-- a game, played line by line
+batch_steps (Step name script) = Reads (file Game name) (λ game. step_steps game script)
 -- the summary of the made game by the made script
 batch_steps (Trial seed count) = EndsWith (WritesDue (IsTrial seed count))
 -- whether the log of a game is sound
@@ -125,7 +139,9 @@ batch_steps (Table pairs) = table_steps [] pairs
 abbrev pub IsServiceEnd : Outcome → Type 0
 IsServiceEnd (Done text) = ⊤
 IsServiceEnd (Lapsed text) = ⊤
-IsServiceEnd (Cut text) = ⊤
+IsServiceEnd (Stopped text Memory) = ⊤
+IsServiceEnd (Stopped text refusal) = ⊥
+IsServiceEnd (Unwritten text) = ⊥
 IsServiceEnd (Refused LinkFault) = ⊤
 IsServiceEnd (Refused Memory) = ⊤
 IsServiceEnd (Refused refusal) = ⊥

@@ -5,12 +5,14 @@ use Rattle.tac_io.specs.Counts.{Rose}
 use Rattle.tac_io.specs.States.{FilesState, SinkState, LinksState, TickerState}
 use Rattle.game_text.specs.declared.fault.GameFault.{GameFault}
 use Rattle.log_reader.specs.SoundLog.{IsSound}
+use Rattle.script_run.specs.declared.game.lines.GameLine.{GameLine as ScriptLine}
+use Rattle.tac_commands.specs.declared.file_kinds.FileKind.TheVariants.{GameScript}
 use Rattle.tac_commands.specs.Allowed.{steps_of}
 use Rattle.tac_commands.specs.Commands.{Command}
 use Rattle.tac_commands.specs.FileKinds.{Value, read_as, refused_code}
 use Rattle.tac_commands.specs.Files.{Content}
 use Rattle.tac_commands.specs.Outsides.{Outside}
-use Rattle.tac_commands.specs.Steps.{NamedFile, Steps, Reads, Audits, EndsWith}
+use Rattle.tac_commands.specs.Steps.{NamedFile, Steps, Reads, Audits, Hears, EndsWith, file}
 
 -- no call failed: the count is as before, and below its last value
 pub record IsQuiet (before now : ℕ) : Type 0 where
@@ -56,18 +58,21 @@ HasRefused content code (Reads file next) =
     ((refused_code file.kind ≡ code) × HasBad content file)
     ⊎ ((value : Value file.kind) × Holds content file value × HasRefused content code (next value))
 HasRefused content code (Audits game log IsDue next) = IsSound game log × HasRefused content code next
+HasRefused content code (Hears name replies allows) = (code ≡ 8) × HasBad content (file GameScript name)
 HasRefused content code (EndsWith allows) = ⊥
 
 -- all files that are read are there and good; after a log that is not sound none is read
 abbrev pub AreGood : Content → Steps → Type 0
 AreGood content (Reads file next) = (value : Value file.kind) × Holds content file value × AreGood content (next value)
 AreGood content (Audits game log IsDue next) = IsSound game log → AreGood content next
+AreGood content (Hears name replies allows) = (lines : List ScriptLine) × Holds content (file GameScript name) lines
 AreGood content (EndsWith allows) = ⊤
 
 -- a log that is audited is not sound: the files read before it are good, and the logs audited before it are sound
 abbrev pub HasUnsound : Content → Steps → Type 0
 HasUnsound content (Reads file next) = (value : Value file.kind) × Holds content file value × HasUnsound content (next value)
 HasUnsound content (Audits game log IsDue next) = (IsSound game log → ⊥) ⊎ (IsSound game log × HasUnsound content next)
+HasUnsound content (Hears name replies allows) = ⊥
 HasUnsound content (EndsWith allows) = ⊥
 
 -- a game file of the command is refused

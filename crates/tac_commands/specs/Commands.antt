@@ -17,6 +17,7 @@ pub data BatchCommand : Type 0 where
   Solve : (account : List ℕ) → BatchCommand
   Worth : (account : List ℕ) → BatchCommand
   Play : (game : List ℕ) → (script : List ℕ) → BatchCommand
+  Step : (game : List ℕ) → (script : List ℕ) → BatchCommand
   Trial : (seed : ℕ) → (count : ℕ) → BatchCommand
   Audit : (game : List ℕ) → (log : List ℕ) → BatchCommand
   Table : (pairs : List (List ℕ × List ℕ)) → BatchCommand
@@ -48,6 +49,7 @@ trial_of seed count = None
 abbrev pub batch_with_two : List ℕ → List ℕ → List ℕ → Option BatchCommand
 batch_with_two word first second =
     if bytes_eq word (codes "play") then Some (Play first second)
+    else if bytes_eq word (codes "step") then Some (Step first second)
     else if bytes_eq word (codes "audit") then Some (Audit first second)
     else if bytes_eq word (codes "trial") then trial_of (below (2 ^ 64) (numeral 20 first)) (below (MADE_REQUESTS + 1) (numeral 5 second))
     else None
@@ -96,6 +98,7 @@ seen_batch (batch.Make seed) = Make seed
 seen_batch (batch.Solve account) = Solve account.now
 seen_batch (batch.Worth account) = Worth account.now
 seen_batch (batch.Play game script) = Play game.now script.now
+seen_batch (batch.Step game script) = Step game.now script.now
 seen_batch (batch.Trial seed count) = Trial seed count
 seen_batch (batch.Audit game log) = Audit game.now log.now
 seen_batch (batch.Table names) = Table (in_pairs (map (λ name. string_bytes name) names.now))

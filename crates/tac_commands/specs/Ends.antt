@@ -4,12 +4,15 @@ use Rattle.tac_io.specs.States.{FilesState, SinkState}
 use Rattle.tac_io.specs.Taken.{TookWhole, TookPart}
 use Rattle.script_run.specs.declared.fault.ScriptFault.{ScriptFault}
 use Rattle.script_run.specs.declared.fault.ScriptFault.TheVariants as faults
-use Rattle.tac_commands.specs.declared.refusals.Refusal.TheVariants.{Memory, TextLine, TextTooLong}
+use Rattle.script_run.specs.declared.fault.StepFault.{StepFault}
+use Rattle.script_run.specs.declared.fault.StepFault.TheVariants as steps
+use Rattle.tac_commands.specs.declared.refusals.Refusal.{Refusal}
+use Rattle.tac_commands.specs.declared.refusals.Refusal.TheVariants.{Memory, ReadFault, TextLine, TextTooLong}
 use Rattle.tac_commands.specs.declared.ends.End.{End}
 use Rattle.tac_commands.specs.declared.ends.End.TheVariants as ends
 use Rattle.tac_commands.specs.Allowed.{batch_steps}
 use Rattle.tac_commands.specs.Commands.{BatchCommand}
-use Rattle.tac_commands.specs.Outcomes.{Outcome, Done, Unsound, Cut, Refused}
+use Rattle.tac_commands.specs.Outcomes.{Outcome, Done, Unsound, Stopped, Unwritten, Refused}
 use Rattle.tac_commands.specs.Runs.{Runs}
 use Rattle.tac_commands.specs.Steps.{Steps}
 use Rattle.tac_commands.specs.Reporting.{Reports}
@@ -19,24 +22,23 @@ use Rattle.tac_commands.specs.Reporting.{Reports}
 abbrev pub Ends : (Outcome → Type 0) → SinkState → SinkState → End → Type 0
 Ends allows sink sink' ends.Done = (text : List ℕ) × allows (Done text) × TookWhole sink sink' text
 Ends allows sink sink' ends.Unsound = (text : List ℕ) × allows (Unsound text) × TookWhole sink sink' text
-Ends allows sink sink' ends.WriteFault = (text : List ℕ) × (allows (Done text) ⊎ allows (Unsound text)) × TookPart sink sink' text
+Ends allows sink sink' ends.WriteFault = (text : List ℕ) × (allows (Done text) ⊎ allows (Unsound text) ⊎ allows (Unwritten text)) × TookPart sink sink' text
 Ends allows sink sink' (ends.Refused refusal) = allows (Refused refusal) × (sink' ≡ sink)
 
--- a first part of a text was written, and then memory was refused for the rest; or only the first bytes of that part
-abbrev pub IsCut : List ℕ → SinkState → SinkState → End → Type 0
-IsCut text sink sink' ends.Done = ⊥
-IsCut text sink sink' ends.Unsound = ⊥
-IsCut text sink sink' ends.WriteFault = TookPart sink sink' text
-IsCut text sink sink' (ends.Refused Memory) = TookWhole sink sink' text
-IsCut text sink sink' (ends.Refused refusal) = ⊥
+-- a first part of a text was written, and this is to be written in place of the rest; or only the first bytes of that part were
+abbrev pub Stops : List ℕ → Refusal → SinkState → SinkState → End → Type 0
+Stops text refusal sink sink' ends.Done = ⊥
+Stops text refusal sink sink' ends.Unsound = ⊥
+Stops text refusal sink sink' ends.WriteFault = TookPart sink sink' text
+Stops text refusal sink sink' (ends.Refused told) = (told ≡ refusal) × TookWhole sink sink' text
 
--- a command that allows these outcomes, some of which may be cut off, ended so, and left the sink so
-abbrev pub EndsOrIsCut : (Outcome → Type 0) → SinkState → SinkState → End → Type 0
-EndsOrIsCut allows sink sink' end = Ends allows sink sink' end ⊎ ((text : List ℕ) × allows (Cut text) × IsCut text sink sink' end)
+-- a command that allows these outcomes, some of which may stop after a first part, ended so, and left the sink so
+abbrev pub EndsOrStops : (Outcome → Type 0) → SinkState → SinkState → End → Type 0
+EndsOrStops allows sink sink' end = Ends allows sink sink' end ⊎ ((text : List ℕ) × (refusal : Refusal) × allows (Stopped text refusal) × Stops text refusal sink sink' end)
 
 -- a command with these steps over its files ended so, and left the files and the sink so
 abbrev pub EndsSteps : Steps → FilesState → FilesState → SinkState → SinkState → End → Type 0
-EndsSteps steps files files' sink sink' end = EndsOrIsCut (Runs steps files files') sink sink' end
+EndsSteps steps files files' sink sink' end = EndsOrStops (Runs steps files files') sink sink' end
 
 -- a command that needs no links ended so
 abbrev pub EndsBatch : BatchCommand → FilesState → FilesState → SinkState → SinkState → End → Type 0
@@ -53,6 +55,15 @@ script_end (Err (faults.Line line reason)) = ends.Refused (TextLine line reason)
 script_end (Err faults.TooLong) = ends.Refused TextTooLong
 script_end (Err faults.Failed) = ends.WriteFault
 script_end (Err faults.Memory) = ends.Refused Memory
+
+-- how a command ends that played a game line by line
+abbrev pub step_end : {A : Type 0} → Result A StepFault → End
+step_end (Ok run) = ends.Done
+step_end (Err (steps.Line line reason)) = ends.Refused (TextLine line reason)
+step_end (Err steps.TooLong) = ends.Refused TextTooLong
+step_end (Err steps.Unread) = ends.Refused ReadFault
+step_end (Err steps.Unwritten) = ends.WriteFault
+step_end (Err steps.Memory) = ends.Refused Memory
 
 -- the effect on the sink of writing a command's whole text
 abbrev pub WritesWhole : List ℕ → SinkState → SinkState → End → Type 0

@@ -8,6 +8,7 @@ pub mod Words
 pub mod Outcomes
 pub mod Steps
 pub mod Files
+pub mod HeardFiles
 pub mod Outsides
 pub mod Runs
 pub mod Cash
@@ -19,3 +20,4 @@ pub mod Reporting
 pub mod Ends
 pub mod Causes
 pub mod Selected
+pub mod Prompt

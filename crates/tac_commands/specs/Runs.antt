@@ -11,10 +11,11 @@ use Rattle.tac_commands.specs.declared.refusals.Refusal.{Refusal}
 use Rattle.tac_commands.specs.declared.refusals.Refusal.TheVariants.{Memory}
 use Rattle.tac_commands.specs.FileKinds.{Value}
 use Rattle.tac_commands.specs.Files.{IsFileRead, IsNotRead}
+use Rattle.tac_commands.specs.HeardFiles.{IsUnheard, IsHeard}
 use Rattle.tac_commands.specs.Outcomes.{Outcome, Unsound, Refused}
-use Rattle.tac_commands.specs.Steps.{Steps, Reads, Audits, EndsWith}
+use Rattle.tac_commands.specs.Steps.{Steps, Reads, Audits, Hears, EndsWith}
 
--- The files once one more name was selected. A run says nothing of which file is selected, and of what is left of it.
+-- The files once one more name was selected. A run says of what is left of a file only what a script that was heard has left.
 abbrev pub with_name : FilesState → List ℕ → FilesState
 with_name files name = record files { names = known_then files.names (name ∷ []) }
 
@@ -35,4 +36,6 @@ Runs (Reads file next) files files' outcome =
 Runs (Audits game log IsDue next) files files' outcome =
     (IsSound game log × Runs next files files' outcome)
     ⊎ (StopsAt game log IsDue outcome × AreUnasked files files')
+Runs (Hears name replies allows) files files' outcome =
+    (IsUnheard files files' outcome ⊎ IsHeard replies allows files files' name outcome) × (files'.names ≡ known_then files.names (name ∷ []))
 Runs (EndsWith allows) files files' outcome = allows outcome × AreUnasked files files'

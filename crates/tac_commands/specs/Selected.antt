@@ -9,7 +9,7 @@ use Rattle.tac_commands.specs.Commands.{Command}
 use Rattle.tac_commands.specs.FileKinds.{Value, refused_code}
 use Rattle.tac_commands.specs.Files.{IsFileRead}
 use Rattle.tac_commands.specs.Runs.{with_name}
-use Rattle.tac_commands.specs.Steps.{Steps, Reads, Audits, EndsWith}
+use Rattle.tac_commands.specs.Steps.{Steps, Reads, Audits, Hears, EndsWith}
 
 -- the codes with which a run may end at a file of a kind
 abbrev pub EndsAt : FileKind → ℕ → Type 0
@@ -20,8 +20,8 @@ abbrev pub EndsAtAudit : ℕ → Type 0
 EndsAtAudit code = (code ≡ 4) ⊎ (code ≡ 7) ⊎ (code ≡ 9)
 
 -- The files are selected in order, once each, up to the one, or to the audit, at which the run ended; a later file is selected only if those
--- before it are there, within their limits, and good, and the logs that are audited before it are sound. At the last step the code is not that of
--- a file or of an audit.
+-- before it are there, within their limits, and good, and the logs that are audited before it are sound. At a script that is
+-- heard, and at the last step, the code is not that of a file or an audit before.
 abbrev pub SelectsFiles : Steps → FilesState → FilesState → ℕ → Type 0
 SelectsFiles (Reads file next) files files' code =
     ((files'.names ≡ known_then files.names (file.name ∷ [])) × EndsAt file.kind code)
@@ -29,6 +29,7 @@ SelectsFiles (Reads file next) files files' code =
 SelectsFiles (Audits game log IsDue next) files files' code =
     ((files'.names ≡ files.names) × EndsAtAudit code)
     ⊎ (IsSound game log × SelectsFiles next files files' code)
+SelectsFiles (Hears name replies allows) files files' code = (files'.names ≡ known_then files.names (name ∷ [])) × (code ≢ 2) × (code ≢ 9)
 SelectsFiles (EndsWith allows) files files' code = (files'.names ≡ files.names) × (code ≢ 2) × (code ≢ 3) × (code ≢ 8) × (code ≢ 9)
 
 -- a command selects the files of its steps so; without a command none is selected

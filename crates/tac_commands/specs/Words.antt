@@ -13,6 +13,7 @@ IsShortBatch (batch.Make seed) = ⊤
 IsShortBatch (batch.Solve account) = length account.now ≤ NAME_BYTES
 IsShortBatch (batch.Worth account) = length account.now ≤ NAME_BYTES
 IsShortBatch (batch.Play game script) = (length game.now ≤ NAME_BYTES) × (length script.now ≤ NAME_BYTES)
+IsShortBatch (batch.Step game script) = (length game.now ≤ NAME_BYTES) × (length script.now ≤ NAME_BYTES)
 IsShortBatch (batch.Trial seed count) = count ≤ MADE_REQUESTS
 IsShortBatch (batch.Audit game log) = (length game.now ≤ NAME_BYTES) × (length log.now ≤ NAME_BYTES)
 IsShortBatch (batch.Table names) = All (λ name. string_len name ≤ NAME_BYTES) names.now × (length names.now ≤ FILE_NAMES)

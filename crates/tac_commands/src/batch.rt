@@ -7,6 +7,7 @@ ghost use Rattle.tac_commands.specs.Allowed.{WritesDue};
 ghost use Rattle.tac_commands.specs.Commands as commands;
 ghost use Rattle.tac_commands.specs.Commands.{seen_batch};
 ghost use Rattle.tac_commands.specs.Ends.{Ends, EndsBatch};
+ghost use Rattle.tac_commands.specs.Prompt.{IsPromptBatch};
 ghost use Rattle.tac_commands.specs.Words.{IsShortBatch};
 ghost use Rattle.tac_io.specs.States.{MaySelect};
 
@@ -15,6 +16,7 @@ use crate::ends::End;
 use crate::reading::read_value;
 use crate::refusals::Refusal;
 use crate::script_commands::{hotel_by_file, play_files};
+use crate::step_command::step_files;
 use crate::table_command::table_files;
 use crate::trial_command::trial;
 use crate::words::BatchCommand;
@@ -113,7 +115,8 @@ pub(crate) fn run_batch<R: Threads + Sync, F: Files, K: Sink>(
 ) -> End
     requires names { IfSome (F.state files.old).names (λ names. names ≡ []) }
     requires short { IsShortBatch command }
-    ensures { EndsBatch (seen_batch command.entry) (F.state files.old) (F.state files.new) (K.state out.old) (K.state out.new) result }
+    ensures ends { EndsBatch (seen_batch command.entry) (F.state files.old) (F.state files.new) (K.state out.old) (K.state out.new) result }
+    ensures prompt { IsPromptBatch (seen_batch command.entry) (F.state files.old) (F.state files.new) (K.state out.old) (K.state out.new) }
 {
     match command {
         BatchCommand::Hotel { script } => hotel_by_file(alloc, script, files, out),
@@ -123,6 +126,7 @@ pub(crate) fn run_batch<R: Threads + Sync, F: Files, K: Sink>(
         BatchCommand::Solve { account } => solve_file(alloc, account, files, out),
         BatchCommand::Worth { account } => worth_file(alloc, account, files, out),
         BatchCommand::Play { game, script } => play_files(rt, alloc, game, script, files, out),
+        BatchCommand::Step { game, script } => step_files(rt, alloc, game, script, files, out),
         BatchCommand::Trial { seed, count } => trial(rt, alloc, seed, count, out),
         BatchCommand::Audit { game, log } => audit_files(alloc, game, log, files, out),
         BatchCommand::Table { names } => table_files(alloc, names, files, out),

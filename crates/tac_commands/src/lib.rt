@@ -13,6 +13,7 @@ mod refusals;
 mod running;
 mod script_commands;
 mod services;
+mod step_command;
 mod table_command;
 mod trial_command;
 mod words;

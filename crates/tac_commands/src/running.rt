@@ -5,6 +5,7 @@ ghost use Rattle.tac_commands.specs.Allowed.{Allows};
 ghost use Rattle.tac_commands.specs.Codes.{code_number};
 ghost use Rattle.tac_commands.specs.Commands.{batch_of, service_or_batch};
 ghost use Rattle.tac_commands.specs.Outcomes.{Outcome};
+ghost use Rattle.tac_commands.specs.Prompt.{IsPromptCommand};
 ghost use Rattle.tac_commands.specs.Reporting.{Reports};
 
 use crate::batch::run_batch;
@@ -27,8 +28,9 @@ pub fn run_words<R: Threads + Sync, F: Files, K: Sink>(
 ) -> Code
     requires names { IfSome (F.state files.old).names (λ names. names ≡ []) }
     requires short { All (λ word. string_len word ≤ NAME_BYTES) words.now }
-    ensures { (outcome : Outcome) × Allows (service_or_batch None (batch_of (map (λ word. string_bytes word) words.now))) (F.state files.old) (F.state files.new) outcome
+    ensures outcome { (outcome : Outcome) × Allows (service_or_batch None (batch_of (map (λ word. string_bytes word) words.now))) (F.state files.old) (F.state files.new) outcome
         × Reports outcome (K.state out.old) (K.state out.new) (code_number result) }
+    ensures prompt { IsPromptCommand (service_or_batch None (batch_of (map (λ word. string_bytes word) words.now))) (F.state files.old) (F.state files.new) (K.state out.old) (K.state out.new) }
 {
     match batch_asked(words) {
         Some(command) => {

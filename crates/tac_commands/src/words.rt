@@ -25,6 +25,8 @@ pub(crate) enum BatchCommand<'a> {
     Worth { account: &'a str },
     /// A game, played by a script.
     Play { game: &'a str, script: &'a str },
+    /// A game, played line by line as a script is read.
+    Step { game: &'a str, script: &'a str },
     /// The made game, played by the made script of this many requests, 0 to 50,000.
     Trial { seed: u64, count: u32 },
     /// The log of a game, judged by the game.
@@ -100,6 +102,11 @@ fn batch_with_two<'a>(word: &str, first: &'a str, second: &'a str) -> Option<Bat
 {
     if word == "play" {
         Some(BatchCommand::Play {
+            game: first,
+            script: second,
+        })
+    } else if word == "step" {
+        Some(BatchCommand::Step {
             game: first,
             script: second,
         })

@@ -10,7 +10,8 @@ use Rattle.tacd.specs.declared.answer.Played.{Played}
 use Rattle.tac_commands.specs.declared.code.Code.{Code}
 use Rattle.tac_commands.specs.declared.code.Code.TheVariants.{Success}
 use Rattle.tac_commands.specs.Codes.{code_number}
-use Rattle.tac_commands.specs.Outcomes.{Outcome, Done, Lapsed, Unsound, Cut, Refused}
+use Rattle.tac_commands.specs.declared.refusals.Refusal.TheVariants.{Memory}
+use Rattle.tac_commands.specs.Outcomes.{Outcome, Done, Lapsed, Unsound, Stopped, Unwritten, Refused}
 use Rattle.tac_commands.specs.Reporting.{Reports}
 use Rattle.game_run.specs.Outcomes.{missed_of}
 use Rattle.tacd.specs.Finishing.{LogAllows, lapsed_code}
@@ -40,7 +41,9 @@ kept : (game : GameFile) (played : Played) (sink sink' : SinkState) (code : ℕ)
 kept game played sink sink' code (Done text) log told none = kept_by (code == 4) game played text sink sink' code log none refl told
 kept game played sink sink' code (Lapsed text) log told none = absurd log
 kept game played sink sink' code (Unsound text) log told none = absurd log
-kept game played sink sink' code (Cut text) first told none = (Cut text, first, told)
+kept game played sink sink' code (Stopped text Memory) first told none = (Stopped text Memory, first, told)
+kept game played sink sink' code (Stopped text refusal) log told none = absurd log
+kept game played sink sink' code (Unwritten text) log told none = absurd log
 kept game played sink sink' code (Refused refusal) log told none = absurd log
 
 -- code 6 replaces 0 if a tick lapsed
@@ -49,7 +52,9 @@ lapsed : (game : GameFile) (played : Played) (sink sink' : SinkState) (outcome :
 lapsed game played sink sink' (Done text) log told some = (Lapsed text, (log, some), (refl, told.1))
 lapsed game played sink sink' (Lapsed text) log told some = absurd log
 lapsed game played sink sink' (Unsound text) log told some = absurd log
-lapsed game played sink sink' (Cut text) first told some = let is = told.0 in absurd (omega (arith, is))
+lapsed game played sink sink' (Stopped text Memory) first told some = let is = told.0 in absurd (omega (arith, is))
+lapsed game played sink sink' (Stopped text refusal) log told some = absurd log
+lapsed game played sink sink' (Unwritten text) log told some = absurd log
 lapsed game played sink sink' (Refused refusal) log told some = absurd log
 
 -- the code that is returned is 6 in place of 0 if a tick lapsed

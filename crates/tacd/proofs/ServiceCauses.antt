@@ -9,7 +9,7 @@ use Rattle.tacd.specs.declared.answer.Answer.{Answer}
 use Rattle.tacd.specs.declared.answer.Played.{Played}
 use Rattle.tac_commands.specs.declared.file_kinds.FileKind.TheVariants.{Game}
 use Rattle.tac_commands.specs.declared.refusals.Refusal.TheVariants.{LinkFault, Memory}
-use Rattle.tac_commands.specs.Outcomes.{Outcome, Done, Lapsed, Unsound, Cut, Refused, code_of}
+use Rattle.tac_commands.specs.Outcomes.{Outcome, Done, Lapsed, Unsound, Stopped, Unwritten, Refused, code_of}
 use Rattle.tac_commands.specs.Commands.{Serve}
 use Rattle.tac_commands.specs.Services.{Service}
 use Rattle.tac_commands.specs.Allowed.{Allows, IsServiceEnd}
@@ -81,21 +81,27 @@ module _ {L : Type 0} (state : L → LinkState) (hosted : HostedGame) (before af
     ended_played : (outcome : Outcome) → IsServed outcome → IsServiceEnd outcome
     ended_played (Done text) plays = tt
     ended_played (Lapsed text) plays = tt
-    ended_played (Cut text) plays = tt
+    ended_played (Stopped text Memory) plays = tt
+    ended_played (Stopped text refusal) plays = absurd plays.2
+    ended_played (Unwritten text) plays = absurd plays.2
     ended_played (Unsound text) plays = absurd plays.2
     ended_played (Refused refusal) plays = absurd plays.2
 
     links_played : (outcome : Outcome) → IsServed outcome → IsExplained 5 before.links.faults after.links.faults (code_of outcome)
     links_played (Done text) plays = inr (omega arith, plays.0.no_fault)
     links_played (Lapsed text) plays = inr (omega arith, plays.0.no_fault)
-    links_played (Cut text) plays = inr (omega arith, plays.0.no_fault)
+    links_played (Stopped text Memory) plays = inr (omega arith, plays.0.no_fault)
+    links_played (Stopped text refusal) plays = absurd plays.2
+    links_played (Unwritten text) plays = absurd plays.2
     links_played (Unsound text) plays = absurd plays.2
     links_played (Refused refusal) plays = absurd plays.2
 
     clock_played : (outcome : Outcome) → IsServed outcome → IsTimed before.ticker.faults after.ticker.faults (code_of outcome)
     clock_played (Done text) plays = inr (inl (omega arith, plays.1.cause.same plays.2.1))
     clock_played (Lapsed text) plays = inl (refl, plays.1.cause.rose plays.2.1)
-    clock_played (Cut text) plays = inr (inr refl)
+    clock_played (Stopped text Memory) plays = inr (inr refl)
+    clock_played (Stopped text refusal) plays = absurd plays.2
+    clock_played (Unwritten text) plays = absurd plays.2
     clock_played (Unsound text) plays = absurd plays.2
     clock_played (Refused refusal) plays = absurd plays.2
 

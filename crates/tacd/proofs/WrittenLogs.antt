@@ -1,20 +1,25 @@
 -- The log of a game is written in two parts.
-use Rattle.std.proofs.Common.{◌≡◌, ℕ, List, ◌++◌, refl, inl, Ok, Err}
+use Rattle.std.proofs.Common.{◌++◌, refl, inl, inr, Ok, Err}
 use Rattle.tac_io.specs.States.{SinkState}
 use Rattle.game_text.specs.Games.{GameFile}
 use Rattle.game_log.specs.SheetText.{sheet_part}
 use Rattle.game_log.specs.declared.fault.LogWriteFault.TheVariants as log
 use Rattle.game_log.proofs.Writing.{then_whole, then_some}
 use Rattle.game_log.specs.SheetWritten.{WritesSheet}
-use Rattle.tac_io.specs.Taken.{TookWhole}
+use Rattle.tac_io.specs.Taken.{TookPart, TookWhole}
 use Rattle.tacd.specs.declared.answer.Played.{Played}
 use Rattle.tac_commands.specs.declared.ends.End.TheVariants as ends
-use Rattle.tac_commands.specs.Ends.{EndsOrIsCut}
+use Rattle.tac_commands.specs.declared.refusals.Refusal.TheVariants.{Memory}
+use Rattle.tac_commands.specs.Ends.{EndsOrStops}
 use Rattle.tacd.specs.Finishing.{LogAllows, first_part}
+
+-- a write of the first part failed
+pub cut_in_first : (game : GameFile) (played : Played) (s0 s1 : SinkState) → TookPart s0 s1 (first_part played) → EndsOrStops (LogAllows game played) s0 s1 ends.WriteFault
+cut_in_first game played s0 s1 some = inr (first_part played, Memory, refl, some)
 
 module _ (game : GameFile) (played : Played) (s0 s1 s2 : SinkState) (first : TookWhole s0 s1 (first_part played)) where
   -- both parts were written
-  pub whole : WritesSheet game played.closed s1 s2 (Ok tt) → EndsOrIsCut (LogAllows game played) s0 s2 ends.Done
+  pub whole : WritesSheet game played.closed s1 s2 (Ok tt) → EndsOrStops (LogAllows game played) s0 s2 ends.Done
   whole second = inl (
     first_part played ++ sheet_part second.0,
     record { sheet = second.0; scores = second.1; due = refl },
@@ -22,7 +27,7 @@ module _ (game : GameFile) (played : Played) (s0 s1 s2 : SinkState) (first : Too
   )
 
   -- a write of the second part failed
-  pub cut_in_second : WritesSheet game played.closed s1 s2 (Err log.Failed) → EndsOrIsCut (LogAllows game played) s0 s2 ends.WriteFault
+  pub cut_in_second : WritesSheet game played.closed s1 s2 (Err log.Failed) → EndsOrStops (LogAllows game played) s0 s2 ends.WriteFault
   cut_in_second second = inl (
     first_part played ++ sheet_part second.0,
     inl (record { sheet = second.0; scores = second.1; due = refl }),

@@ -5,7 +5,8 @@ use Rattle.game_log.specs.LogText.{play_part}
 use Rattle.game_text.specs.Games.{GameFile}
 use Rattle.tac_commands.specs.declared.code.Code.{Code}
 use Rattle.tac_commands.specs.declared.code.Code.TheVariants.{Success, ClockFault}
-use Rattle.tac_commands.specs.Outcomes.{Outcome, Done, Cut}
+use Rattle.tac_commands.specs.declared.refusals.Refusal.TheVariants.{Memory}
+use Rattle.tac_commands.specs.Outcomes.{Outcome, Done, Stopped}
 use Rattle.tacd.specs.declared.answer.Played.{Played}
 use Rattle.tacd.specs.Service.{IsLogOf}
 
@@ -16,7 +17,7 @@ first_part played = play_part (head_of played.head) played.closed
 -- the log of the game is written, or its first part alone
 abbrev pub LogAllows : GameFile → Played → Outcome → Type 0
 LogAllows game played (Done text) = IsLogOf game played text
-LogAllows game played (Cut text) = text ≡ first_part played
+LogAllows game played (Stopped text Memory) = text ≡ first_part played
 LogAllows game played outcome = ⊥
 
 -- the code of a game that was played is that of a lapsed tick if no other applies

@@ -30,7 +30,7 @@ use Rattle.tac_commands.specs.declared.refusals.Refusal.TheVariants.{ReadFault, 
 use Rattle.tac_commands.specs.declared.services.Form.{Form}
 use Rattle.tac_commands.specs.declared.services.Form.TheVariants.{Lines, Json}
 use Rattle.tac_commands.specs.FileKinds.{game_refusal}
-use Rattle.tac_commands.specs.Outcomes.{Outcome, Done, Lapsed, Cut, Refused}
+use Rattle.tac_commands.specs.Outcomes.{Outcome, Done, Lapsed, Stopped, Refused}
 use Rattle.tac_commands.specs.Outsides.{Outside}
 use Rattle.tac_commands.specs.Services.{Service}
 use Rattle.tac_commands.specs.Reporting.{Reports}
@@ -63,7 +63,7 @@ pub record IsLogOf (game : GameFile) (played : Played) (text : List ℕ) : Type 
 abbrev pub PlayedAllows : GameFile → Played → Outcome → Type 0
 PlayedAllows game played (Done text) = IsLogOf game played text × (missed_of (head_of played.head) ≡ 0)
 PlayedAllows game played (Lapsed text) = IsLogOf game played text × (0 < missed_of (head_of played.head))
-PlayedAllows game played (Cut text) = text ≡ play_part (head_of played.head) played.closed
+PlayedAllows game played (Stopped text Memory) = text ≡ play_part (head_of played.head) played.closed
 PlayedAllows game played outcome = ⊥
 
 -- ---- the form of lines

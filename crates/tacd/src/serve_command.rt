@@ -3,7 +3,7 @@ ghost use Rattle.std.specs.Prelude.{◌≡◌, ◌∷◌, [], IfSome};
 ghost use Rattle.tac_io.specs.Known.{known_then};
 ghost use Rattle.tac_commands.specs.Codes.{code_number};
 ghost use Rattle.tac_commands.specs.Commands.{seen_service};
-ghost use Rattle.tac_commands.specs.Ends.{EndsOrIsCut};
+ghost use Rattle.tac_commands.specs.Ends.{EndsOrStops};
 ghost use Rattle.tac_commands.specs.Reporting.{Reports};
 ghost use Rattle.tac_commands.specs.Outcomes.{Outcome};
 ghost use Rattle.tacd.specs.Finishing as finishing;
@@ -45,7 +45,7 @@ fn write_log<R: Threads + Sync, K: Sink>(
     played: &Played,
     out: &mut K,
 ) -> End
-    ensures { EndsOrIsCut (finishing.LogAllows game.now played.now) (K.state out.old) (K.state out.new) result }
+    ensures { EndsOrStops (finishing.LogAllows game.now played.now) (K.state out.old) (K.state out.new) result }
 {
     match write_first(out, played) {
         Ok(()) => match write_scores(rt, alloc, game, &played.closed, out) {

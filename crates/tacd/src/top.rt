@@ -8,6 +8,7 @@ ghost use Rattle.tac_commands.specs.Services.{service_of};
 ghost use Rattle.tac_commands.specs.Allowed.{Allows};
 ghost use Rattle.tac_commands.specs.Reporting.{Reports};
 ghost use Rattle.tac_commands.specs.Outcomes.{Outcome};
+ghost use Rattle.tac_commands.specs.Prompt.{IsPromptCommand};
 ghost use Rattle.tac_commands.specs.Selected.{Selects};
 ghost use Rattle.tac_commands.specs.Outsides.{outside_of};
 ghost use Rattle.tacd.specs.Service.{Serves};
@@ -58,6 +59,8 @@ pub fn tac<R: Threads + Sync + Wait + Clock, F: Files, K: Sink, N: Links, T: Tic
     ensures complete { IsComplete (command_of (map (λ word. string_bytes word) words.now))
         (outside_of (F.state files.old) (K.state out.old) (N.state links.old) (T.state ticker.old))
         (outside_of (F.state files.new) (K.state out.new) (N.state links.new) (T.state ticker.new)) result.code }
+    // A game that is played line by line is answered at once.
+    ensures prompt { IsPromptCommand (command_of (map (λ word. string_bytes word) words.now)) (F.state files.old) (F.state files.new) (K.state out.old) (K.state out.new) }
     ensures names { Selects (command_of (map (λ word. string_bytes word) words.now)) (F.state files.old) (F.state files.new) result.code }
 {
     match service_asked(words) {

@@ -1,7 +1,8 @@
 // A game that is played from a script.
-ghost use Rattle.std.specs.Prelude.{◌≡◌, ◌≤◌, length};
+ghost use Rattle.std.specs.Prelude.{◌≡◌, ◌≤◌, ℕ, List, length};
 ghost use Rattle.tac_io.specs.Written.{WritesPiece};
 ghost use Rattle.script_run.specs.PlayOuts.{PlaysScript};
+ghost use Rattle.script_run.specs.declared.game.lines.GameLine.{GameLine};
 ghost use Rattle.script_run.specs.GameRuns.{PlaysLines};
 ghost use Rattle.script_run.specs.PlayedGames.{PlaysToEnd, WritesPlayed, first_text};
 ghost use Rattle.script_run.specs.QuietRuns.{PlaysQuietly, IsQuietFault, quiet_of};
@@ -26,12 +27,26 @@ pub(crate) struct FinishedGame {
     closed: Closed,
 }
 
+impl FinishedGame {
+    ghost use Rattle.script_run.specs.GameRuns.{HasRunGame};
+    ghost use Rattle.script_run.specs.PlayedGames.{IsEnd};
+
+    /// The game after its last line, once the ticks that are left are made.
+    pub(crate) fn end(game: &Game, run: GameRun<'_>) -> FinishedGame
+        ensures { (lines : List GameLine) (written : List ℕ) → HasRunGame game.now lines written run.entry → IsEnd game.now lines written result }
+    {
+        let (replies, closed) = run.close();
+        log_ranges(game, &LogHead::Play, &closed);
+        FinishedGame { replies, closed }
+    }
+}
+
 /// The game after all lines of a script.
 fn play_lines<'a>(alloc: Global, game: &'a Game, script: &[u8]) -> Result<GameRun<'a>, ScriptFault>
     requires { length script.now ≤ TEXT_BYTES }
     ensures { PlaysLines game.now script.now result }
 {
-    let Ok(mut run) = GameRun::begin(alloc, game) else {
+    let Ok(mut run) = GameRun::begin(alloc, game, 0) else {
         return Err(ScriptFault::Memory);
     };
     let mut rest = script;
@@ -59,11 +74,7 @@ fn play_to_end(alloc: Global, game: &Game, script: &[u8]) -> Result<FinishedGame
         return Err(ScriptFault::TooLong);
     }
     match play_lines(alloc, game, script) {
-        Ok(run) => {
-            let (replies, closed) = run.close();
-            log_ranges(game, &LogHead::Play, &closed);
-            Ok(FinishedGame { replies, closed })
-        }
+        Ok(run) => Ok(FinishedGame::end(game, run)),
         Err(fault) => Err(fault),
     }
 }
@@ -78,8 +89,8 @@ fn write_first<K: Sink>(sink: &mut K, played: &FinishedGame) -> Result<(), Faile
     }
 }
 
-/// Writes the replies of a game and its log.
-fn write_played<R: Threads + Sync, K: Sink>(
+/// Writes what is left to write of a game: replies, and its log.
+pub(crate) fn write_played<R: Threads + Sync, K: Sink>(
     rt: &R,
     alloc: Global,
     game: &Game,

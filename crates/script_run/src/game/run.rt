@@ -1,5 +1,5 @@
 // A game that is played line by line.
-ghost use Rattle.std.specs.Prelude.{◌≡◌, ◌++◌, [], List, IfOk, OnOk};
+ghost use Rattle.std.specs.Prelude.{◌≡◌, ◌+◌, ◌≤◌, ◌++◌, ℕ, [], List, IfOk, IsOk, OnOk, vec_capacity, vec_len};
 ghost use Rattle.game_text.specs.Games.{GameFile};
 ghost use Rattle.script_run.specs.OneThreadRun as run;
 ghost use Rattle.script_run.specs.declared.game.lines.GameLine.{GameLine};
@@ -12,6 +12,7 @@ use auction_core::Closed;
 use game_text::Game;
 use line_protocol::{Said, print_reply};
 use std::alloc::{AllocError, Global};
+use tac_base::limits::REPLY_TEXT;
 use tac_base::{Agent, Memory, Text, print_numeral};
 
 /// The table, how many lines there were, and the text that is to be written of them.
@@ -34,11 +35,14 @@ fn line_to_agent(agent: Agent, said: &Said) -> Text
     line
 }
 
-/// Plays a line, and appends what is written of it.
+/// Plays a line, and appends what is written of it: at most 640 bytes.
 fn play_line(table: &mut Table, text: &mut Vec<u8>, line: &GameLine) -> Result<(), AllocError>
     ensures game { table.new.game ≡ table.old.game }
     ensures state { table.new.state ≡ run.after_line table.old.game line.now table.old.state }
     ensures text { OnOk result (text.new.items ≡ text.old.items ++ run.line_text table.old.game line.now table.old.state) }
+    ensures len { vec_len text.new ≤ vec_len text.old + REPLY_TEXT }
+    ensures capacity { vec_capacity text.old ≤ vec_capacity text.new }
+    ensures room { vec_len text.old + REPLY_TEXT ≤ vec_capacity text.old → IsOk result }
 {
     match line {
         GameLine::Tick => {
@@ -53,23 +57,30 @@ fn play_line(table: &mut Table, text: &mut Vec<u8>, line: &GameLine) -> Result<(
 }
 
 impl<'a> GameRun<'a> {
-    ghost use Rattle.script_run.specs.GameRuns.{HasRunGame, PlaysGameLine};
+    ghost use Rattle.script_run.specs.GameRuns.{HasRunGame, IsGranted, PlaysGameLine};
+    ghost use Rattle.script_run.specs.OneThreadRun.{replies};
 
-    /// The game before the first line.
-    pub(crate) fn begin(alloc: Global, game: &'a Game) -> Result<GameRun<'a>, Memory>
-        ensures { IfOk result (HasRunGame game.now []) }
+    /// The game before the first line, with room for so many bytes of text.
+    pub(crate) fn begin(alloc: Global, game: &'a Game, room: usize) -> Result<GameRun<'a>, Memory>
+        ensures run { IfOk result (HasRunGame game.now [] []) }
+        ensures empty { IfOk result (λ run. run.text.items ≡ []) }
+        ensures len { IfOk result (λ run. vec_len run.text ≡ 0) }
+        ensures room { IfOk result (λ run. room ≤ vec_capacity run.text) }
     {
         let table = Table::begin(alloc, game)?;
         Ok(GameRun {
             table,
             counts: GameCounts::new(),
-            text: Vec::new(alloc),
+            text: Vec::with_capacity(alloc, room)?,
         })
     }
 
-    /// Plays the line of this number. After an error the run is unusable.
+    /// Plays the line of this number. If there is room for 640 bytes of text, no memory is asked for. After an error no further line may follow.
     pub(crate) fn step(&mut self, number: u32, line: &[u8]) -> Result<(), ScriptFault>
-        ensures { (game : GameFile) (lines : List GameLine) → HasRunGame game lines self.old → PlaysGameLine game lines number line.now self.new result }
+        ensures steps { (game : GameFile) (lines : List GameLine) (written : List ℕ) → HasRunGame game lines written self.old → PlaysGameLine game lines written number line.now self.new result }
+        ensures len { vec_len self.new.text ≤ vec_len self.old.text + REPLY_TEXT }
+        ensures capacity { vec_capacity self.old.text ≤ vec_capacity self.new.text }
+        ensures room { vec_len self.old.text + REPLY_TEXT ≤ vec_capacity self.old.text → IsGranted result }
     {
         let asked = match self.counts.judge(line) {
             Ok(asked) => asked,
@@ -86,10 +97,27 @@ impl<'a> GameRun<'a> {
         }
     }
 
+    /// What is to be written of the lines, since text was dropped last.
+    pub(crate) fn text(&self) -> &[u8]
+        ensures { result.now ≡ self.now.text.items }
+    {
+        self.text.as_slice()
+    }
+
+    /// Drops the text, once it was written.
+    pub(crate) fn drop_text(&mut self)
+        ensures run { (game : GameFile) (lines : List GameLine) (written : List ℕ) → HasRunGame game lines written self.old → HasRunGame game lines (replies game lines) self.new }
+        ensures empty { self.new.text.items ≡ [] }
+        ensures len { vec_len self.new.text ≡ 0 }
+        ensures capacity { vec_capacity self.new.text ≡ vec_capacity self.old.text }
+    {
+        self.text.clear();
+    }
+
     /// Makes the ticks that are left. Returns what is to be written of the lines, and the histories.
     pub(crate) fn close(self) -> (Vec<u8>, Closed)
         ensures text { result.0.items ≡ self.entry.text.items }
-        ensures closed { (game : GameFile) (lines : List GameLine) → HasRunGame game lines self.entry → result.1 ≡ run.closed_of game (run.whole_game game lines) }
+        ensures closed { (game : GameFile) (lines : List GameLine) (written : List ℕ) → HasRunGame game lines written self.entry → result.1 ≡ run.closed_of game (run.whole_game game lines) }
     {
         let mut table = self.table;
         table.finish();

@@ -21,6 +21,9 @@ returns-in-Some-clause-cash g c =
     let after = outside_of (g.F.Files.state c.serve.new.files) (g.K.Sink.state c.serve.new.out) (g.N.Links.state c.serve.new.links) (g.T.Ticker.state c.serve.new.ticker) in
     in_service _ _ before after c.serve.result served.0 served.1
 
+pub returns-in-Some-clause-prompt : goal.returns-in-Some-clause-prompt
+returns-in-Some-clause-prompt g c = rw c.in-Some.ensures.service tt
+
 pub returns-in-Some-clause-usage : goal.returns-in-Some-clause-usage
 returns-in-Some-clause-usage g c =
     let outcome = returns-in-Some-clause-outcome g c in
@@ -71,7 +74,10 @@ returns-in-Some-clause-complete g c =
 -- ---- other words
 
 pub returns-in-None-clause-outcome : goal.returns-in-None-clause-outcome
-returns-in-None-clause-outcome g c = rw (c.in-None.ensures.service, c.coded.ensures.code) c.run_words-code.ensures
+returns-in-None-clause-outcome g c = rw (c.in-None.ensures.service, c.coded.ensures.code) c.run_words-code.ensures.outcome
+
+pub returns-in-None-clause-prompt : goal.returns-in-None-clause-prompt
+returns-in-None-clause-prompt g c = rw c.in-None.ensures.service c.run_words-code.ensures.prompt
 
 pub returns-in-None-clause-usage : goal.returns-in-None-clause-usage
 returns-in-None-clause-usage g c =

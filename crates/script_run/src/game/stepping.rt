@@ -1,0 +1,248 @@
+// A game that is played line by line, as its script is read.
+ghost use Rattle.std.specs.Prelude.{◌≡◌, ◌+◌, ◌*◌, ◌-◌, ◌^◌, ◌<◌, ◌≤◌, ◌++◌, ◌∷◌, ℕ, [], List, length, take, IsTrue, IfOk, MatchResult, vec_capacity, vec_len};
+ghost use Rattle.tac_base.specs.declared.limits.TheConstants.{REPLY_TEXT, TEXT_BYTES};
+ghost use Rattle.tac_io.specs.Counts.{HasCause};
+ghost use Rattle.tac_io.specs.States.{SinkState};
+ghost use Rattle.tac_io.specs.Known.{IsAtEnd, then_known};
+ghost use Rattle.tac_io.specs.Written.{WritesPiece};
+ghost use Rattle.game_text.specs.Games.{GameFile};
+ghost use Rattle.script_run.specs.SteppedGames.{StepsGame};
+ghost use Rattle.script_run.specs.Stepping.{Answered, Ends, HasAnswered, HearsLines, IsStepping, StopsAt, TookMore, stopped_by};
+
+use crate::fault::{ScriptFault, ScriptReason, StepFault};
+use crate::game::held_line::HeldLine;
+use crate::game::playing::{FinishedGame, write_played};
+use crate::game::run::GameRun;
+use game_text::Game;
+use std::alloc::Global;
+use std::thread::Threads;
+use tac_base::Memory;
+use tac_base::limits::{REPLY_TEXT, TEXT_BYTES};
+use tac_io::{Failed, Files, Sink, write_all};
+use text_forms::cut;
+
+/// The most bytes of a script that are read at once.
+pub const PIECE_BYTES: usize = 1_024;
+
+/// The most bytes of the replies to a piece of a script.
+const ANSWER_BYTES: usize = PIECE_BYTES * REPLY_TEXT;
+
+/// A game that is played line by line: the run, the line that is not at its end yet, and its number.
+#[derive(Drop)]
+pub(crate) struct Stepper<'a> {
+    run: GameRun<'a>,
+    held: HeldLine,
+    number: u32,
+}
+
+/// The same fault of a line or of a write, as it is told of a game that is played line by line.
+fn step_fault(fault: ScriptFault) -> StepFault
+    ensures { result ≡ stopped_by fault }
+{
+    match fault {
+        ScriptFault::Line { line, reason } => StepFault::Line { line, reason },
+        ScriptFault::TooLong => StepFault::TooLong,
+        ScriptFault::Failed => StepFault::Unwritten,
+        ScriptFault::Memory => StepFault::Memory,
+    }
+}
+
+impl<'a> Stepper<'a> {
+    /// The game before the first line, with room for the replies to one piece.
+    fn begin(alloc: Global, game: &'a Game) -> Result<Stepper<'a>, Memory>
+        ensures stepping { IfOk result (IsStepping game.now [] []) }
+        ensures empty { IfOk result (λ stepper. stepper.run.text.items ≡ []) }
+        ensures len { IfOk result (λ stepper. vec_len stepper.run.text ≡ 0) }
+        ensures room { IfOk result (λ stepper. PIECE_BYTES * REPLY_TEXT ≤ vec_capacity stepper.run.text) }
+        ensures number { IfOk result (λ stepper. stepper.number ≡ 1) }
+    {
+        Ok(Stepper {
+            run: GameRun::begin(alloc, game, ANSWER_BYTES)?,
+            held: HeldLine::new(),
+            number: 1,
+        })
+    }
+
+    /// Plays the line whose end has come, or says why it is bad.
+    fn end_line(&mut self) -> Result<(), ScriptFault>
+        requires number { self.old.number < 2 ^ 32 - 1 }
+        requires room { vec_len self.old.run.text + REPLY_TEXT ≤ vec_capacity self.old.run.text }
+        ensures line { (game : GameFile) (given written : List ℕ) → IsStepping game given written self.old →
+            MatchResult result (λ _. IsStepping game (given ++ 10 ∷ []) written self.new) (StopsAt game (given ++ 10 ∷ []) written self.new) }
+        ensures number { IfOk result (λ _. self.new.number ≡ self.old.number + 1) }
+        ensures len { vec_len self.new.run.text ≤ vec_len self.old.run.text + REPLY_TEXT }
+        ensures capacity { vec_capacity self.old.run.text ≤ vec_capacity self.new.run.text }
+    {
+        let Some(line) = self.held.line() else {
+            return Err(ScriptFault::Line {
+                line: self.number,
+                reason: ScriptReason::Form.number(),
+            });
+        };
+        match self.run.step(self.number, line) {
+            Ok(()) => {
+                self.held.clear();
+                self.number += 1;
+                Ok(())
+            }
+            Err(fault) => Err(fault),
+        }
+    }
+
+    /// Plays the lines that end in a piece of the script, up to a bad one, and holds what stands behind the last of them.
+    fn hear(&mut self, piece: &[u8]) -> Result<(), ScriptFault>
+        requires number { self.old.number + length piece.now < 2 ^ 32 }
+        requires room { vec_len self.old.run.text + length piece.now * REPLY_TEXT ≤ vec_capacity self.old.run.text }
+        ensures lines { (game : GameFile) (given written : List ℕ) → IsStepping game given written self.old →
+            MatchResult result (λ _. IsStepping game (given ++ piece.now) written self.new) (StopsAt game (given ++ piece.now) written self.new) }
+        ensures number { IfOk result (λ _. self.new.number ≤ self.old.number + length piece.now) }
+        ensures capacity { vec_capacity self.old.run.text ≤ vec_capacity self.new.run.text }
+    {
+        let mut rest = piece;
+        while let Some((part, after)) = cut(rest, b'\n') {
+            self.held.join(part);
+            self.end_line()?;
+            rest = after;
+        }
+        self.held.join(rest);
+        Ok(())
+    }
+
+    /// Writes the replies that were not written yet.
+    fn flush<K: Sink>(&mut self, out: &mut K) -> Result<(), Failed>
+        ensures writes { WritesPiece self.old.run.text.items (K.state out.old) (K.state out.new) result }
+        ensures stepping { (game : GameFile) (given written : List ℕ) → IsStepping game given written self.old → IsStepping game given (written ++ self.old.run.text.items) self.new }
+        ensures number { self.new.number ≡ self.old.number }
+        ensures empty { self.new.run.text.items ≡ [] }
+        ensures len { vec_len self.new.run.text ≡ 0 }
+        ensures capacity { vec_capacity self.new.run.text ≡ vec_capacity self.old.run.text }
+    {
+        let wrote = write_all(out, self.run.text());
+        self.run.drop_text();
+        wrote
+    }
+
+    /// Plays a piece of the script, and writes the replies to it.
+    fn answer<K: Sink>(&mut self, piece: &[u8], out: &mut K) -> Result<(), StepFault>
+        requires number { self.old.number + length piece.now < 2 ^ 32 }
+        requires len { vec_len self.old.run.text ≡ 0 }
+        requires room { length piece.now * REPLY_TEXT ≤ vec_capacity self.old.run.text }
+        ensures answered { (game : GameFile) (given : List ℕ) (start : SinkState) → HasAnswered game given start self.old (K.state out.old) →
+            Answered game (given ++ piece.now) start self.new (K.state out.new) result }
+        ensures more { TookMore (K.state out.old) (K.state out.new) }
+        ensures number { IfOk result (λ _. self.new.number ≤ self.old.number + length piece.now) }
+        ensures len { vec_len self.new.run.text ≡ 0 }
+        ensures capacity { vec_capacity self.old.run.text ≤ vec_capacity self.new.run.text }
+    {
+        let heard = self.hear(piece);
+        match self.flush(out) {
+            Ok(()) => match heard {
+                Ok(()) => Ok(()),
+                Err(bad) => Err(step_fault(bad)),
+            },
+            Err(Failed) => Err(StepFault::Unwritten),
+        }
+    }
+
+    /// The run at the end of the script, or that its last line has no end.
+    fn end(self) -> Result<GameRun<'a>, StepFault>
+        ensures { (game : GameFile) (given written : List ℕ) (stepping : IsStepping game given written self.entry) → Ends game stepping.lines stepping.rest written result }
+    {
+        match self.held.line() {
+            Some([]) => Ok(self.run),
+            _ => Err(StepFault::Line {
+                line: self.number,
+                reason: ScriptReason::NoLineEnd.number(),
+            }),
+        }
+    }
+}
+
+/// How many bytes are read next of a script that gave so many: one more than it may have, if it gave all of these.
+fn next_most(given: u32) -> usize
+    requires { given ≤ TEXT_BYTES }
+    ensures some { 0 < result }
+    ensures few { result ≤ PIECE_BYTES }
+    ensures within { given < TEXT_BYTES → given + result ≤ TEXT_BYTES }
+{
+    if given == TEXT_BYTES {
+        return 1;
+    }
+    ((TEXT_BYTES - given) as usize).min(PIECE_BYTES)
+}
+
+/// Reads at most so many bytes of the selected file into the piece.
+fn read_piece<F: Files>(files: &mut F, piece: &mut [u8], most: usize) -> Result<usize, Failed>
+    requires most { 0 < most }
+    requires room { most ≤ length piece.old }
+    requires selected { IsTrue (F.state files.old).selected }
+    ensures len { length piece.new ≡ length piece.old }
+    ensures size { IfOk result (λ n. length (take n piece.new) ≡ n) }
+    ensures given { MatchResult result
+        (λ n. (n ≤ most) × ((F.state files.old).left ≡ then_known (take n piece.new) (F.state files.new).left) × (n ≡ 0 → IsAtEnd (F.state files.old).left))
+        (λ _. (F.state files.new).left ≡ (F.state files.old).left) }
+    ensures selected { IsTrue (F.state files.new).selected }
+    ensures names { (F.state files.new).names ≡ (F.state files.old).names }
+    ensures content { (F.state files.new).content ≡ (F.state files.old).content }
+    ensures cause { HasCause (F.state files.old).faults (F.state files.new).faults result }
+{
+    files.read(&mut piece[..most])
+}
+
+/// Plays the lines of the selected script as they come, and writes the replies to each piece before the next one is read.
+fn hear_lines<'a, F: Files, K: Sink>(
+    alloc: Global,
+    game: &'a Game,
+    files: &mut F,
+    out: &mut K,
+) -> Result<GameRun<'a>, StepFault>
+    requires { IsTrue (F.state files.old).selected }
+    ensures lines { HearsLines game.now (F.state files.old) (F.state files.new) (K.state out.old) (K.state out.new) result }
+    ensures names { (F.state files.new).names ≡ (F.state files.old).names }
+    ensures content { (F.state files.new).content ≡ (F.state files.old).content }
+{
+    let Ok(mut stepper) = Stepper::begin(alloc, game) else {
+        return Err(StepFault::Memory);
+    };
+    let mut piece = [0; PIECE_BYTES];
+    let mut given = 0;
+    'pieces: loop {
+        let Ok(count) = read_piece(files, &mut piece, next_most(given)) else {
+            return Err(StepFault::Unread);
+        };
+        if count == 0 {
+            return stepper.end();
+        }
+        if given == TEXT_BYTES {
+            return Err(StepFault::TooLong);
+        }
+        stepper.answer(&piece[..count], out)?;
+        given += count as u32;
+    }
+}
+
+/// Plays a whole game on one thread by the lines of the selected file, each as it comes: the replies to all lines that one read gave are written
+/// before the next read. After the last line the ticks that are left are made, and the log is written. The text is that of `play`, and so is the
+/// first bad line, which is told after the replies to the lines before it. Memory is refused before anything is read, or for the last part of the log.
+pub fn step_game<R: Threads + Sync, F: Files, K: Sink>(
+    rt: &R,
+    alloc: Global,
+    game: &Game,
+    files: &mut F,
+    out: &mut K,
+) -> Result<(), StepFault>
+    requires { IsTrue (F.state files.old).selected }
+    ensures game { StepsGame game.now (F.state files.old) (F.state files.new) (K.state out.old) (K.state out.new) result }
+    ensures names { (F.state files.new).names ≡ (F.state files.old).names }
+    ensures content { (F.state files.new).content ≡ (F.state files.old).content }
+{
+    let run = match hear_lines(alloc, game, files, out) {
+        Ok(run) => run,
+        Err(fault) => return Err(fault),
+    };
+    let played = FinishedGame::end(game, run);
+    match write_played(rt, alloc, game, &played, out) {
+        Ok(()) => Ok(()),
+        Err(fault) => Err(step_fault(fault)),
+    }
+}

@@ -1,0 +1,191 @@
+// A whole game by a script.
+use crate::tests::{BIDS, Case, NO_FAULT, TRADES, check, check_all};
+use std::test::Fail;
+
+// What the agents are told there.
+const TRADES_TOLD: &str =
+    "0 @0 taken 1 0\n0 @0 taken 1 0\n0 @0 taken 0 0\n1 @0 taken 0 0\n0 @1 taken 1 0\n2 @2 taken 1 0\n1 @3 own -2 ()\n0 @4 cash -660\n0 @1 quote 0 0 open\ntaclog 1\nplay\nauction 0 55\n";
+
+// What the agent is told of them.
+const BIDS_TOLD: &str =
+    "0 @0 taken 16 0\n0 no bid 3\n0 no bid 4\n0 no bid 4\n0 no bid 5\n0 no bid 1\n0 no bid 2\n0 no auction\n0 no syntax\ntaclog 1\nplay\nauction 0 55\n";
+
+const GAMES: &[Case<'static>] = &[
+    (
+        "play game script",
+        "",
+        0,
+        0,
+        &[
+            "taclog 1\nplay\nauction 0 54\n",
+            "\ncash 0\nsheet\nscore 0 0 0 0 0\npackage 0 0 none\n",
+            "\nscore 7 0 0 0 0\npackage 7 0 none\n",
+        ],
+    ),
+    (
+        "play game script",
+        "0 quit\n",
+        0,
+        0,
+        &[
+            "0 bye\ntaclog 1\nplay\nauction 0 54\n",
+            "\ncash 0\nsheet\n",
+            "\nscore 7 0 0 0 0\n",
+        ],
+    ),
+    (
+        "play game script",
+        "0 bid 24 ((-1 60))\n1 bid 24 ((2 70))\n1 quote 24\n",
+        0,
+        0,
+        &[
+            "0 @0 taken 0 0\n1 @1 taken 1 0\n1 @2 quote 70 0 open\ntaclog 1\nplay\n",
+            "\n1 bid ((2 70)) = taken 1 0\ntrade 1 0 1 60\n",
+            "\nscore 0 0 60 1 -140\n",
+        ],
+    ),
+    (
+        "play game script",
+        BIDS,
+        0,
+        0,
+        &[
+            BIDS_TOLD,
+            "\n0 bid ((16 10000)) = taken 16 0\ntrade 0 8 16 300\n",
+            "\ncash 1\n0 post 0 0 -4800 0 0 0 0 0 0 0 4800\nsheet\n",
+            "\nscore 0 0 -4800 0 -4800\n",
+        ],
+    ),
+    (
+        "play game script",
+        TRADES,
+        0,
+        0,
+        &[
+            TRADES_TOLD,
+            "\nauction 8 2\n",
+            "\nauction 15 8\n",
+            "\nauction 16 1\n",
+            "\nauction 24 5\n1 bid ((-2 60)) = taken 0 0\n0 bid ((1 70)) = taken 1 0\ntrade 0 1 1 60\n2 bid ((1 70)) = taken 1 0\ntrade 2 1 1 60\n1 own = own -2 ()\n8 close = done\n",
+            "\ncash 6\n0 post 0 0 -300 0 0 0 0 0 0 0 300\n0 post 4 0 -300 0 0 0 0 0 0 0 300\n0 post 24 1 -60 60 0 0 0 0 0 0 0\n2 post 24 2 0 60 -60 0 0 0 0 0 0\n0 read = -660\n8 post 8 1 0 0 0 0 0 0 0 0 0\nsheet\n",
+            "\nscore 0 1100 -660 0 440\n",
+            "\nscore 1 0 120 2 -280\n",
+            "\nscore 2 0 -60 0 -60\n",
+            "\nscore 3 0 0 0 0\n",
+            "\nscore 4 0 0 0 0\n",
+            "\nscore 5 0 0 0 0\n",
+            "\nscore 6 0 0 0 0\n",
+            "\nscore 7 0 0 0 0\n",
+        ],
+    ),
+    (
+        "play live script",
+        "0 bid 8 ((1 50))\n0 quote 8\n1 bid 8 ((1 50))\n1 bid 8 ((1 51))\n1 quote 8\n",
+        0,
+        0,
+        &[
+            "0 @0 taken 0 0\n0 @1 quote 0 50 open\n1 @1 no belowquote 1 51 0\n1 @2 taken 0 0\n1 @3 quote 0 51 open\ntaclog 1\n",
+            "\nauction 8 4\n",
+            "\n8 close = sold 1 51\ntrade 1 8 1 51\n",
+        ],
+    ),
+];
+
+#[test]
+fn games_are_made_played_and_scored(rt: HostRuntime) -> Result<(), Fail> {
+    check_all(&rt, rt.alloc(), GAMES)
+}
+
+// A line, a line of its script and how many of these there are, and what is due.
+const SPENT: &[(&str, &str, usize, u8, &[&str])] = &[
+    (
+        "hotel script",
+        "0 bid ((1 1))\n",
+        1025,
+        8,
+        &["text 1025 5\n"],
+    ),
+    ("hotel script", "0 own\n", 1025, 8, &["text 1025 5\n"]),
+    ("hotel script", "publish\n", 65, 8, &["text 65 5\n"]),
+    (
+        "play game script",
+        "0 own 24\n",
+        1025,
+        0,
+        &[
+            "0 @0 own 0 ()\n",
+            "\n0 @1023 own 0 ()\n0 no spent\ntaclog 1\n",
+            "\nauction 24 1025\n",
+            "\n0 own = own 0 ()\n8 close = done\n",
+        ],
+    ),
+];
+
+#[test]
+fn an_agent_has_1024_calls_and_a_clock_64(rt: HostRuntime) -> Result<(), Fail> {
+    let alloc = rt.alloc();
+    for (line, one, count, code, parts) in SPENT {
+        let script = one.repeat(alloc, *count)?;
+        check(&rt, alloc, line, script.as_str(), NO_FAULT, *code, parts)?;
+    }
+    Ok(())
+}
+
+// Lines of a script, how many times they come, the last line, and what is due.
+const LARGE: &[(&str, usize, &str, &[&str])] = &[
+    // A seat costs 300, so 1023 bids of 16 cost 4800 each; they make no trip.
+    (
+        "0 bid 0 ((16 300))\n",
+        1_023,
+        "0 own 0\n0 cash\n",
+        &[
+            "0 @0 taken 16 0\n0 @1 taken 16 0\n",
+            "\n0 @1022 taken 16 0\n0 @1023 own 16368 ()\n0 @1023 cash -4910400\ntaclog 1\n",
+            "\nscore 0 0 -4910400 0 -4910400\n",
+        ],
+    ),
+    // Agent 1 sells 16 tickets for a dollar each 512 times: it has 8192 dollars, and 8192 tickets short cost it 1638400.
+    (
+        "1 bid 24 ((-16 1))\n0 bid 24 ((16 1))\n",
+        512,
+        "1 own 24\n",
+        &[
+            "1 @0 taken 0 0\n0 @1 taken 16 0\n1 @2 taken 0 0\n",
+            "\n0 @1023 taken 16 0\n1 @1024 own -8192 ()\ntaclog 1\n",
+            "\nscore 0 0 -8192 0 -8192\n",
+            "\nscore 1 0 8192 8192 -1630208\n",
+        ],
+    ),
+    // The script has 66000 bytes.
+    (
+        "0 cash\n1 own 27\n2 bid 0 ((17 1))\n",
+        2_000,
+        "",
+        &[
+            "0 @0 cash 0\n1 @0 own 0 ()\n2 no bid 3\n0 @1 cash 0\n",
+            "\n0 @1023 cash 0\n1 @1023 own 0 ()\n2 no bid 3\n0 no spent\n1 no spent\n2 no bid 3\n",
+            "\n1 no spent\n2 no bid 3\ntaclog 1\n",
+            "\nauction 27 1025\n",
+            "\ncash 1024\n",
+        ],
+    ),
+];
+
+#[test]
+fn large_scripts_and_scores_are_played(rt: HostRuntime) -> Result<(), Fail> {
+    let alloc = rt.alloc();
+    for (lines, count, last, parts) in LARGE {
+        let mut script = lines.repeat(alloc, *count)?;
+        script.push_str(last)?;
+        check(
+            &rt,
+            alloc,
+            "play game script",
+            script.as_str(),
+            NO_FAULT,
+            0,
+            parts,
+        )?;
+    }
+    Ok(())
+}

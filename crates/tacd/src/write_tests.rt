@@ -1,0 +1,99 @@
+// Failed writes, and the system's files and output.
+use crate::host_files::HostFiles;
+use crate::std_sink::StdSink;
+use crate::tests::{FIRST_CLIENT, Faults, NO_FAULT, ONE_SEAT, TRADES, check, plain_game, run};
+use std::alloc::Global;
+use std::fs;
+use std::fs::File;
+use std::rt::Clock;
+use std::sync::Wait;
+use std::test::Fail;
+use std::thread::Threads;
+use tac_io::{Files, Sink, read_file};
+
+// Agent 0 buys 15 rooms.
+const HOTEL: &str = "0 bid ((15 100))\nclose\n";
+
+// How many runs end at a failed write, where the first write fails in the first of them, the second in the next, and so on until no write
+// fails; each has code 4 and a first part of the text that is due, but not all of it.
+fn count_failed<R: Threads + Sync + Wait + Clock>(
+    rt: &R,
+    alloc: Global,
+    line: &str,
+    files: &[(&str, &[u8])],
+    most_at_once: usize,
+) -> Result<u64, Fail> {
+    let due = run(rt, alloc, line, files, NO_FAULT)?;
+    for failed in 0..10_000 {
+        let faults = Faults {
+            write: failed + 1,
+            most_at_once,
+            ..NO_FAULT
+        };
+        let ran = run(rt, alloc, line, files, faults)?;
+        if ran.code == 0 && ran.text == due.text {
+            return Ok(failed);
+        }
+        if ran.code != 4 || ran.text.len() >= due.text.len() || !due.text.starts_with(&ran.text) {
+            return Err(Fail::from("another end"));
+        }
+    }
+    Err(Fail::from("too many writes"))
+}
+
+// A line, how many bytes the sink takes at once, and how many writes fail at least.
+const WRITES: &[(&str, usize, u64)] = &[
+    ("hotel hotel", 1, 41),
+    ("show game", 100, 9),
+    ("solve account", 20, 9),
+    ("play game script", 1_000_000, 9),
+    ("step game script", 1_000, 9),
+];
+
+#[test]
+fn each_write_fails_in_its_place(rt: HostRuntime) -> Result<(), Fail> {
+    let alloc = rt.alloc();
+    let game = plain_game(alloc, FIRST_CLIENT)?;
+    let files = [
+        ("game", game.as_bytes()),
+        ("account", ONE_SEAT),
+        ("script", TRADES.as_bytes()),
+        ("hotel", HOTEL.as_bytes()),
+    ];
+    for (line, most_at_once, least) in WRITES {
+        if count_failed(&rt, alloc, line, &files, *most_at_once)? < *least {
+            return Err(Fail::from(*line));
+        }
+    }
+    let no_byte = Faults {
+        most_at_once: 0,
+        ..NO_FAULT
+    };
+    check(&rt, alloc, "hotel script", HOTEL, no_byte, 4, &[""])
+}
+
+// Writes a line to a file of the system, and gives how many bytes its sink took, and how many faults it counts.
+fn write_line(rt: &HostRuntime, name: &str) -> Result<(Option<usize>, u64), Fail> {
+    let mut sink = StdSink::new(File::create(rt, name)?);
+    let taken = sink.write(b"close\n").ok();
+    Ok((taken, sink.faults()))
+}
+
+#[test]
+fn the_ends_of_the_system_pass_bytes_on_and_count_faults(rt: HostRuntime) -> Result<(), Fail> {
+    let name = "written-by-a-test";
+    assert_eq!(rt; write_line(&rt, name)?, (Some(6), 0));
+    assert_eq!(rt; write_line(&rt, "/dev/full")?, (None, 1));
+    let mut files = HostFiles::new(&rt);
+    let bytes = read_file(rt.alloc(), &mut files, name, 6)
+        .ok()
+        .ok_or("read")?;
+    assert_eq!(rt; bytes.as_slice(), b"close\n".as_slice());
+    fs::remove_file(&rt, name)?;
+    assert!(rt; files.select("no-such-file-of-a-test").is_err());
+    assert_eq!(rt; files.faults(), 1);
+    // A folder is opened, and cannot be read.
+    assert!(rt; read_file(rt.alloc(), &mut files, ".", 6).is_err());
+    assert_eq!(rt; files.faults(), 2);
+    Ok(())
+}
