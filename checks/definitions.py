@@ -1,19 +1,19 @@
-"""The definitions of the repository's `specs/` folders, read as text, and what a name in them leads to.
+"""The definitions of `specs/`, read as text, and what a name in them leads to.
 
-A module is a file of a crate's `specs/`. Its path is `CRATE.specs.NAME`, as imports write it. A name is followed
-through imports, aliases and modules that are given again, to definitions, types of the code (`declared`), limits and
-words of the toolchain's library.
+A module is a file of a crate's `specs/`. Its path is `CRATE.specs.NAME`, as imports write it. A
+name is followed through imports, aliases and modules that are given again, to definitions, types of
+the code (`declared`), limits and words of the toolchain's library.
 """
 
 import os
 import re
 from dataclasses import dataclass, field
-from typing import Dict, Iterable, List, Optional, Tuple
+from typing import Dict, Iterable, List, Optional, Set, Tuple
 
 ROOT = os.path.dirname(os.path.dirname(os.path.abspath(__file__)))
 CRATES = os.path.join(ROOT, "crates")
 LIMITS = "tac_base.specs.declared.limits.TheConstants"
-WORD = re.compile(r"[A-Za-z_][A-Za-z0-9_']*(?:\.[A-Za-z_][A-Za-z0-9_']*)*")
+WORD = re.compile(r"[A-Za-z_][A-Za-z0-9_'?]*(?:\.[A-Za-z_][A-Za-z0-9_'?]*)*")
 HEADS = r"(?:(?:pub|abbrev|unfoldable) )*"
 Target = Tuple[str, str]  # the path of a module, and a name in it
 
@@ -36,6 +36,7 @@ class Module:
         self.imports: Dict[str, Target] = {}
         self.aliases: Dict[str, str] = {}
         self.given_again: List[str] = []
+        self.passed_on: Set[str] = set()
         self.definitions: Dict[str, Definition] = {}
         self.renamed: List[str] = []
         self.parameters: Dict[str, List[str]] = {}
@@ -44,16 +45,21 @@ class Module:
         self.about = " ".join(line[2:].strip() for line in leading_comment(lines))
         self._read_imports(lines)
         self._read_definitions(lines)
-        self.operators = {name.replace("◌", ""): name for name in [*self.imports, *self.definitions]
-                          if "◌" in name and not re.match(r"[\w◌]+$", name)}
+        self.operators = {
+            name.replace("◌", ""): name
+            for name in [*self.imports, *self.definitions]
+            if "◌" in name and not re.match(r"[\w◌]+$", name)
+        }
 
     def _read_imports(self, lines: Iterable[str]) -> None:
         for line in lines:
-            several = re.match(r"(?:pub )?use Rattle\.([\w.]+)\.\{(.*)\}$", line)
+            several = re.match(r"(?:pub )?use (?:Rattle\.)?([\w.]+)\.\{(.*)\}$", line)
             whole = re.match(r"use Rattle\.([\w.]+) as (\w+)$", line)
             given = re.match(r"pub use Rattle\.([\w.]+)$", line)
             if several:
-                self.imports.update(imported(several.group(1), several.group(2)))
+                names = imported(several.group(1), several.group(2))
+                self.imports.update(names)
+                self.passed_on.update(names if line.startswith("pub ") else [])
             elif whole:
                 self.aliases[whole.group(2)] = whole.group(1)
             if whole or " as " in line and line.startswith("use "):
@@ -76,8 +82,9 @@ class Module:
                 level, current = depth + 2, None
                 continue
             if depth == level:
-                named = (re.match(HEADS + r"(?:record|data) ([^\s:({]+)", text)
-                         or re.match(HEADS + r"([^\s(){}:]+) :", text))
+                named = re.match(HEADS + r"(?:record|data) ([^\s:({]+)", text) or re.match(
+                    HEADS + r"([^\s(){}:]+) :", text
+                )
                 equation = re.match(r"[^\s(){}]+", text)
                 if named:
                     current = named.group(1)
@@ -92,7 +99,7 @@ class Module:
                 block.append(line)
 
     def target(self, word: str) -> Optional[Target]:
-        """What a word stands for here: an imported name, one behind an alias, or one of the module itself."""
+        """What a word stands for: an imported name, one behind an alias, or one of the module."""
         first, _, rest = word.partition(".")
         if first in self.imports:
             return self.imports[first]
@@ -103,9 +110,30 @@ class Module:
     def targets(self, name: str) -> List[Target]:
         """What the words and operators of a definition stand for, each once, in order."""
         text = "\n".join(self.definitions[name].lines + self.parameters.get(name, []))
-        words = WORD.findall(text) + [sign for sign in self.operators if f" {sign} " in text.replace("\n", " ")]
+        words = WORD.findall(text) + [
+            sign for sign in self.operators if f" {sign} " in text.replace("\n", " ")
+        ]
         found = (self.target(self.operators.get(word, word)) for word in words)
         return list(dict.fromkeys(target for target in found if target))
+
+    def unused_imports(self) -> List[str]:
+        """The names that an import brings and no other line has, but those that are passed on."""
+        with open(self.file, encoding="utf-8") as source:
+            lines = [
+                line
+                for line in source.read().split("\n")
+                if not line.lstrip().startswith(("--", "use ", "pub use "))
+            ]
+        used = set(re.split(r"[\s(){},;.]+", "\n".join(lines)))
+        if "do" in used:
+            used.add(">>=")  # what a `do` block stands for
+        return [
+            name
+            for name in [*self.imports, *self.aliases]
+            if name not in used
+            and name not in self.passed_on
+            and not used.issuperset(part for part in name.split("◌") if part)
+        ]
 
 
 def leading_comment(lines: Iterable[str]) -> Iterable[str]:
@@ -134,15 +162,22 @@ class Definitions:
                     continue
                 module = Module(crate, file[:-5], os.path.join(folder, file))
                 if file == "Lib.antt":
-                    self.given.update({f"{crate}.specs.{path.split('.')[-1]}": path for path in module.given_again})
+                    self.given.update(
+                        {
+                            f"{crate}.specs.{path.split('.')[-1]}": path
+                            for path in module.given_again
+                        }
+                    )
                 else:
                     self.modules[module.path] = module
-        self.crates = set(module.crate for module in self.modules.values()) | set(os.listdir(CRATES))
+        self.crates = set(module.crate for module in self.modules.values()) | set(
+            os.listdir(CRATES)
+        )
 
     def reached(self, start: Iterable[Target], stop: Iterable[Target] = ()) -> Dict[Target, None]:
-        """All that these names lead to: definitions, types of the code, limits and words of the library, in the
-        order in which they were met. A field or a constructor stands for its type. What the names of `stop` say is
-        not followed."""
+        """All that these names lead to, in the order in which it was met: definitions, types of the
+        code, limits and words of the library. A field or a constructor stands for its type. What
+        the names of `stop` say is not followed."""
         todo, met, found = list(start), set(), {}
         while todo:
             path, name = todo.pop(0)
@@ -158,15 +193,20 @@ class Definitions:
                 todo += [] if (path, name) in stop else module.targets(name)
             else:
                 row = re.compile(r"\s+(?:pub )?%s :" % re.escape(name))
-                todo += [(path, owner.name) for owner in module.definitions.values()
-                         if any(row.match(line) for line in owner.lines[1:])]
+                todo += [
+                    (path, owner.name)
+                    for owner in module.definitions.values()
+                    if any(row.match(line) for line in owner.lines[1:])
+                ]
         return found
 
     def used_modules(self, path: str, names: Iterable[str]) -> List[str]:
         """The other modules that these definitions of a module use."""
         targets = [target[0] for name in names for target in self.modules[path].targets(name)]
         targets = [self.given.get(target, target) for target in targets]
-        return list(dict.fromkeys(target for target in targets if target in self.modules and target != path))
+        return list(
+            dict.fromkeys(target for target in targets if target in self.modules and target != path)
+        )
 
 
 def clauses_of(file: str, call: str) -> Dict[str, List[Target]]:
@@ -176,15 +216,20 @@ def clauses_of(file: str, call: str) -> Dict[str, List[Target]]:
     names: Dict[str, Target] = {}
     for several in re.finditer(r"ghost use Rattle\.([\w.]+)\.\{(.*?)\};", text):
         names.update(imported(several.group(1), several.group(2)))
-    body = text[text.index(f"pub fn {call}"):]
+    body = text[text.index(f"pub fn {call}") :]
     pattern = r"(?:ensures|requires) (\w+) \{(.*?)\}\n(?=    ensures|    requires|    //|\{)"
-    return {clause.group(1): [names[word.split(".")[0]] for word in WORD.findall(clause.group(2))
-                              if word.split(".")[0] in names]
-            for clause in re.finditer(pattern, body, re.S)}
+    return {
+        clause.group(1): [
+            names[word.split(".")[0]]
+            for word in WORD.findall(clause.group(2))
+            if word.split(".")[0] in names
+        ]
+        for clause in re.finditer(pattern, body, re.S)
+    }
 
 
 def line_of(file: str, pattern: str, after: int = 0) -> Optional[int]:
-    """The number of the first line of a file, behind a given one, that a pattern matches at its beginning."""
+    """The first line of a file, behind a given one, that begins with a pattern, if one does."""
     with open(file, encoding="utf-8") as source:
         for number, line in enumerate(source, 1):
             if number > after and re.match(pattern, line):

@@ -4,53 +4,93 @@
     checks/reading.py            compares the pages with the sources, and fails if they differ
     checks/reading.py --write    writes the pages
 
-From the clauses of `tac` (crates/tacd/src/top.rt) it follows every name through the modules of `specs/`. It fails if
-a definition is used before its row stands, if a word of the library has no explanation, or if a listed module imports
-one that is not listed: a reader would then open a file that says nothing of what is promised.
+From the clauses of `tac` (crates/tacd/src/top.rt) it follows every name through the modules of
+`specs/`. It fails if a definition is used before its row stands, if a word of the library has no
+explanation, if a listed module imports one that is not listed, since a reader would then open a
+file that says nothing of what is promised, or if a worked row is not what its words say.
 """
 
 import argparse
 import os
 import re
 import sys
-import textwrap
-from typing import Dict, Iterable, List, Tuple
+from typing import Dict, Iterable, List, Set, Tuple
 
 from definitions import CRATES, LIMITS, ROOT, Definitions, Module, Target, clauses_of, line_of
+from reading_aids import (
+    cases_sentence,
+    causes_table,
+    glance_table,
+    map_table,
+    only_beside,
+    row_words,
+    rowless_table,
+    skipped_of,
+    times_table,
+)
+from reading_guides import (
+    FIELDS,
+    GUIDES,
+    MINUTES,
+    NOTES,
+    OUTSIDE,
+    PLAYED,
+    RULES_NOTE,
+    SKIPPED,
+    TIMES,
+)
+from reading_print import print_chapters, print_types
+from reading_rows import ROWS, Lemmas, Row, numbers_of
+from reading_text import (
+    Rows,
+    anchor_of,
+    filled,
+    filled_blocks,
+    filled_items,
+    line_count,
+    link,
+    rows_of,
+    target_of,
+)
 from rules import rules_page
-from reading_words import (BESIDE, CHAPTERS, HOW_TO_READ, IN_WORDS, INTRODUCTION, LIBRARY, NOTATION, SENTENCES,
-                           TRUTHS)
+from reading_words import (
+    ALIKE,
+    BESIDE,
+    CHAPTERS,
+    HOW_TO_READ,
+    IN_WORDS,
+    INTRODUCTION,
+    LIBRARY,
+    NOTATION,
+    PLAIN,
+    ROWLESS,
+    ROW_WORDS,
+    SENTENCES,
+    STEP_SENTENCES,
+    STEP_TRUTHS,
+    TRUTHS,
+)
 
 PAGE = os.path.join(ROOT, "docs", "READING.md")
 RULES_PAGE = os.path.join(ROOT, "docs", "RULES.md")
 TOP = os.path.join(CRATES, "tacd", "src", "top.rt")
 # Types that definitions meet only as the values that contracts see of them.
-SEEN_AS_VALUES = ["tac_base.bids.Points", "tac_base.bids.Left", "tac_base.numbers.Agent", "tac_base.numbers.Good", "auction_core.auction.Auction",
-                  "auction_core.closed.Closed", "game_text.games.Game", "trade_ledger.cash_book.CashBook", "score_sheet.scores.Sheet"]
-Rows = Dict[str, List[str]]  # the names that are used of each module
-
-
-def filled(text: str) -> str:
-    """A paragraph in lines of at most 100 columns."""
-    return textwrap.fill(" ".join(text.split()), 100, break_long_words=False, break_on_hyphens=False)
-
-
-def filled_items(text: str) -> str:
-    """The items of a list, each in lines of at most 100 columns."""
-    return "\n".join(textwrap.fill(" ".join(item.split()), 100, initial_indent="- ", subsequent_indent="  ", break_long_words=False, break_on_hyphens=False)
-                     for item in re.split(r"(?:^|\n)- ", text) if item)
-
-
-def link(name: str, file: str, line: int) -> str:
-    return f"[`{name}`](../{os.path.relpath(file, ROOT)}#L{line})"
-
-
-def rows_of(definitions: Definitions, found: Iterable[Target]) -> Rows:
-    rows: Rows = {}
-    for path, name in found:
-        if path in definitions.modules:
-            rows.setdefault(path, []).append(name)
-    return rows
+SEEN_AS_VALUES = [
+    "tac_base.bids.Points",
+    "tac_base.bids.Left",
+    "tac_base.numbers.Agent",
+    "tac_base.numbers.Good",
+    "auction_core.auction.Auction",
+    "auction_core.closed.Closed",
+    "game_text.games.Game",
+    "trade_ledger.cash_book.CashBook",
+    "score_sheet.scores.Sheet",
+]
+LEMMAS = Lemmas()
+# The names behind which the parts beside begin, each with a mark at its place.
+ENTRY_MARKS: Dict[Target, str] = {}
+# What may be left out for code 0, with why.
+SKIP_MARKS: Dict[Target, str] = {}
 
 
 def chapters_of(definitions: Definitions, rows: Rows) -> Dict[str, List[str]]:
@@ -69,8 +109,13 @@ def chapters_of(definitions: Definitions, rows: Rows) -> Dict[str, List[str]]:
     named = {each: heading for heading, _, places in CHAPTERS for each in places if "." in each}
     for heading, _, places in CHAPTERS:
         chapter = chapters.setdefault(heading, [])
-        for path, module in sorted(definitions.modules.items()):
-            full = f"{module.crate}.{module.name}"
+        modules = [
+            (f"{module.crate}.{module.name}", path, module)
+            for path, module in sorted(definitions.modules.items())
+        ]
+        for full, path, module in sorted(
+            modules, key=lambda one: places.index(one[0]) if one[0] in places else len(places)
+        ):
             if named.get(full) == heading or (module.crate in places and full not in named):
                 place(path, chapter)
     for path in rows:
@@ -95,18 +140,97 @@ def in_order(definitions: Definitions, rows: Rows) -> List[str]:
     return order
 
 
-def line_count(definitions: Definitions, rows: Rows, paths: Iterable[str]) -> int:
-    return sum(len(definitions.modules[path].definitions[name].lines) for path in paths for name in rows[path])
-
-
 def table(definitions: Definitions, rows: Rows, paths: Iterable[str]) -> List[str]:
     text = ["| module | lines | what it says | in words | definitions |", "|---|---|---|---|---|"]
+    notes = {target_of(full): f" ({note})" for full, note in NOTES.items()}
     for path in paths:
         module = definitions.modules[path]
         named = sorted((module.definitions[name] for name in rows[path]), key=lambda one: one.line)
-        links = " · ".join(link(one.name, module.file, one.line) for one in named)
-        text.append(f"| `{module.crate}/{module.name}` | {line_count(definitions, rows, [path])} | {module.about} | {in_words(module)} | {links} |")
+        links = " · ".join(
+            link(one.name, module.file, one.line)
+            + (" °" if (path, one.name) in SKIP_MARKS else "")
+            + notes.get((path, one.name), "")
+            + ENTRY_MARKS.get((path, one.name), "")
+            for one in named
+        )
+        text.append(
+            f"| `{module.crate}/{module.name}` | {line_count(definitions, rows, [path])} |"
+            f" {module.about} | {in_words(module)} | {links} |"
+        )
     return text
+
+
+def worked(definitions: Definitions, part: Rows, faults: List[str]) -> List[str]:
+    """The table of the worked rows of a part of the page, empty if it has none.
+
+    A row stands where the first definition that it tries has its row.
+    """
+    text: List[str] = []
+    for row in ROWS:
+        path, name = target_of(row.tries[0])
+        if name in part.get(path, []):
+            text.append(
+                f"| {row.words} | {lemma_links(definitions, row, faults)} | "
+                f"{tried_links(definitions, row)} |"
+            )
+    head = ["", "Worked rows, which compute:", "", "| case | lemma | tries |", "|---|---|---|"]
+    return head + text if text else []
+
+
+def reached_by_rows(definitions: Definitions) -> Set[Target]:
+    """What some worked row leads to."""
+    reads = [LEMMAS.read(definitions, lemma) for row in ROWS for lemma in row.lemmas]
+    return {target for read in reads if read for target in read[2]}
+
+
+def tried_count(definitions: Definitions, rows: Rows) -> int:
+    """How many lines of these definitions some worked row leads to."""
+    reached = reached_by_rows(definitions)
+    tried = {
+        path: [name for name in names if (path, name) in reached] for path, names in rows.items()
+    }
+    return line_count(definitions, tried, tried)
+
+
+def lemma_links(definitions: Definitions, row: Row, faults: List[str]) -> str:
+    """Links to a row's lemmas; what is wrong with the row is added to the faults."""
+    links, reached, text = [], set(), ""
+    for lemma in row.lemmas:
+        read = LEMMAS.read(definitions, lemma)
+        if read is None:
+            faults.append(f"there is no lemma {lemma}")
+            continue
+        file, line, targets, said = read
+        links.append(link(lemma.split(":")[1], file, line))
+        reached |= targets
+        text += said
+    faults += [
+        f"{row.lemmas[0]} does not lead to {full}"
+        for full in row.tries
+        if links and target_of(full) not in reached
+    ]
+    faults += [
+        f"{row.lemmas[0]} has no {number}, which its words have"
+        for number in sorted(numbers_of(row.words) - numbers_of(text))
+        if links
+    ]
+    return " · ".join(links)
+
+
+def tried_links(definitions: Definitions, row: Row) -> str:
+    """Links to the definitions that a row tries."""
+    links = []
+    for path, name in map(target_of, row.tries):
+        module = definitions.modules[path]
+        links.append(link(name, module.file, module.definitions[name].line))
+    return " · ".join(links)
+
+
+def row_link(definitions: Definitions, full: str) -> str:
+    """A link to a definition, which is written as CRATE/MODULE.NAME."""
+    path, name = target_of(full)
+    module = definitions.modules[path]
+    return link(name, module.file, module.definitions[name].line)
 
 
 def in_words(module: Module) -> str:
@@ -115,15 +239,17 @@ def in_words(module: Module) -> str:
     with open(os.path.join(ROOT, "docs", document + ".md"), encoding="utf-8") as page_file:
         if not re.search(r"^##+ %s$" % re.escape(heading), page_file.read(), re.M):
             raise KeyError(f"docs/{document}.md has no heading {heading}")
-    anchor = re.sub(r"[^a-z0-9 -]", "", heading.lower()).replace(" ", "-")
-    return f"[{document}, {heading}]({document}.md#{anchor})"
+    return f"[{document}, {heading}]({document}.md#{anchor_of(heading)})"
 
 
 def backward(definitions: Definitions, rows: Rows, order: List[str]) -> List[str]:
     """The modules that use one whose row stands below theirs."""
-    return [f"{path} uses {used}, whose row stands below"
-            for place, path in enumerate(order) for used in definitions.used_modules(path, rows[path])
-            if used in order[place + 1:]]
+    return [
+        f"{path} uses {used}, whose row stands below"
+        for place, path in enumerate(order)
+        for used in definitions.used_modules(path, rows[path])
+        if used in order[place + 1 :]
+    ]
 
 
 def inner_imports(definitions: Definitions, rows: Rows) -> List[str]:
@@ -138,7 +264,7 @@ def inner_imports(definitions: Definitions, rows: Rows) -> List[str]:
 
 
 def types_of(found: Iterable[Target]) -> Tuple[Dict[Tuple[str, str], Tuple[str, int]], List[str]]:
-    """The types of the code that definitions name, each with its file and line; and what could not be found."""
+    """The types of the code that definitions name, with their places; and what is missing."""
     places, types, missing = {}, {}, []
     for path, _ in found:
         named = re.match(r"(\w+)\.specs\.declared\.(.+?)\.(\w+)(?:\.TheVariants)?$", path)
@@ -149,12 +275,26 @@ def types_of(found: Iterable[Target]) -> Tuple[Dict[Tuple[str, str], Tuple[str, 
         crate, module, name = place.split(".")
         places[crate, name] = os.path.join(CRATES, crate, "src", module + ".rt")
     for (crate, name), file in sorted(places.items()):
-        line = line_of(file, r"pub(?:\(crate\))? (?:struct|enum) %s\b" % name) if os.path.exists(file) else None
+        line = (
+            line_of(file, r"pub(?:\(crate\))? (?:struct|enum) %s\b" % name)
+            if os.path.exists(file)
+            else None
+        )
         if line is None:
             missing.append(f"{os.path.relpath(file, ROOT)} has no type {name}")
         else:
             types[crate, name] = (file, line)
     return types, missing
+
+
+def value_of(source: str, name: str) -> str:
+    """What contracts see of a type of a source file; empty if they see its fields or variants."""
+    model = re.search(
+        r"impl(?:<.*?>)? Model for %s\b[^\n]*\n(?:(?!\n\}).)*?ghost Value = \{ (.*?) \};" % name,
+        source,
+        re.S,
+    )
+    return " ".join(model.group(1).split()) if model else ""
 
 
 def types_table(found: Iterable[Target]) -> Tuple[List[str], List[str]]:
@@ -168,8 +308,11 @@ def types_table(found: Iterable[Target]) -> Tuple[List[str], List[str]]:
         while lines[above].startswith(("#[", "///")):
             about[:0] = [lines[above][4:]] if lines[above].startswith("///") else []
             above -= 1
-        model = re.search(r"impl(?:<.*?>)? Model for %s\b[^\n]*\n(?:(?!\n\}).)*?ghost Value = \{ (.*?) \};" % name, "\n".join(lines), re.S)
-        text.append(f"| {link(f'{crate}::{name}', file, line)} | {' '.join(about)} | {'`' + ' '.join(model.group(1).split()) + '`' if model else ''} |")
+        value = value_of("\n".join(lines), name)
+        text.append(
+            f"| {link(f'{crate}::{name}', file, line)} | {' '.join(about)} |"
+            f" {f'`{value}`' if value else ''} |"
+        )
     return text, missing
 
 
@@ -178,60 +321,153 @@ def limits_table(found: Iterable[Target]) -> List[str]:
     file = os.path.join(CRATES, "tac_base", "src", "limits.rt")
     text = ["| limit | value | what it is |", "|---|---|---|"]
     with open(file, encoding="utf-8") as source:
-        for about, name, value in re.findall(r"/// (.*)\npub const (\w+): \w+ = (\w+)(?: as \w+)?;", source.read()):
+        for about, name, value in re.findall(
+            r"/// (.*)\npub const (\w+): \w+ = (\w+)(?: as \w+)?;", source.read()
+        ):
             if name in named:
                 shown = value.replace("_", ",") if value[0].isdigit() else f"`{value}`"
-                text.append(f"| {link(name, file, line_of(file, f'pub const {name}:'))} | {shown} | {about} |")
+                text.append(
+                    f"| {link(name, file, line_of(file, f'pub const {name}:'))} | {shown} |"
+                    f" {about} |"
+                )
     return text
 
 
 def outside_tables() -> List[str]:
-    """The traits whose ghost `state` the clauses speak of, and the objects in memory that state it."""
+    """The traits with the ghost `state` of the clauses, and the objects in memory that state it."""
     folder = os.path.join(CRATES, "tac_io", "src")
-    files = sorted(os.path.join(place, file) for place, _, names in os.walk(folder) for file in names if file.endswith(".rt"))
-    traits, objects = ["| trait | its `state` | what it says |", "|---|---|---|"], ["| object in memory | trait | its `state` is said by |", "|---|---|---|"]
+    files = sorted(
+        os.path.join(place, file)
+        for place, _, names in os.walk(folder)
+        for file in names
+        if file.endswith(".rt")
+    )
+    traits, objects = ["| trait | its `state` | what it says |", "|---|---|---|"], [
+        "| object in memory | trait | its `state` is said by |",
+        "|---|---|---|",
+    ]
     for file in files:
         with open(file, encoding="utf-8") as source:
             text = source.read()
         for trait in re.finditer(r"((?:    ///.*\n)+)    ghost state: \{ Self → (.*?) \};", text):
-            name = re.findall(r"pub trait (\w+)", text[:trait.start()])[-1]
+            name = re.findall(r"pub trait (\w+)", text[: trait.start()])[-1]
             about = " ".join(line.strip()[4:] for line in trait.group(1).strip().split("\n"))
-            traits.append(f"| {link(name, file, line_of(file, f'pub trait {name}'))} | `{trait.group(2)}` | {about} |")
+            traits.append(
+                f"| {link(name, file, line_of(file, f'pub trait {name}'))} | `{trait.group(2)}` |"
+                f" {about} |"
+            )
         for made in re.finditer(r"impl(?:<.*?>)? (Files|Sink|Links|Link|Ticker) for (\w+)", text):
-            specs = sorted(set(re.findall(r"Rattle\.tac_io\.specs\.(\w+)\.", text[:made.start()] + text[made.start():])))
-            own = [word for word in specs if os.path.exists(os.path.join(CRATES, "tac_io", "specs", word + ".antt"))]
+            specs = sorted(
+                set(
+                    re.findall(
+                        r"Rattle\.tac_io\.specs\.(\w+)\.",
+                        text[: made.start()] + text[made.start() :],
+                    )
+                )
+            )
+            own = [
+                word
+                for word in specs
+                if os.path.exists(os.path.join(CRATES, "tac_io", "specs", word + ".antt"))
+            ]
             links = ", ".join(f"[`{word}`](../crates/tac_io/specs/{word}.antt)" for word in own)
-            objects.append(f"| {link(made.group(2), file, line_of(file, f'pub struct {made.group(2)}'))} | `{made.group(1)}` | {links} |")
-    memory = ("The objects in memory state all of it, so the premises can be met; the tests run over them. They need not be read to believe the promise. "
-              "The system's own (`HostFiles`, `StdSink`, `TcpLinks`, `TcpLink`, `SleepTicker` of `crates/tacd/src`) state `None` and their counts of faults.")
+            objects.append(
+                f"| {link(made.group(2), file, line_of(file, f'pub struct {made.group(2)}'))} |"
+                f" `{made.group(1)}` | {links} |"
+            )
+    memory = (
+        "The objects in memory state all of it, so the premises can be met; the tests run over"
+        " them. They need not be read to believe the promise. The system's own (`HostFiles`,"
+        " `StdSink`, `TcpLinks`, `TcpLink`, `SleepTicker` of `crates/tacd/src`) state `None` and"
+        " their counts of faults."
+    )
     return traits + ["", filled(memory), ""] + objects
 
 
-def target_of(full: str) -> Target:
-    """The target of a name that is written as CRATE/MODULE.NAME."""
-    place, name = full.rsplit(".", 1)
-    return place.replace("/", ".specs.", 1), name
+def fields_table(definitions: Definitions) -> Tuple[List[str], List[str]]:
+    """The fields of the states of the outside in words; and the fields that have none."""
+    module = definitions.modules["tac_io.specs.States"]
+    text = [
+        "| state | field | what it is | what is assumed of the system's own |",
+        "|---|---|---|---|",
+    ]
+    for record, field, meaning, assumed in OUTSIDE:
+        shown = link(record, module.file, module.definitions[record].line)
+        text.append(f"| {shown} | `{field}` | {meaning} | {assumed} |")
+    fields = {
+        (name, line.split()[1])
+        for name, one in module.definitions.items()
+        for line in one.lines[1:]
+        if line.strip().startswith("pub ")
+    }
+    told = {(record, field) for record, field, _, _ in OUTSIDE}
+    missing = [
+        f"no words for the field {field} of {record}" for record, field in sorted(fields ^ told)
+    ]
+    return text, missing
 
 
-def sentences_table(definitions: Definitions, rows: Rows) -> Tuple[List[str], List[str]]:
-    text, missing = ["| of the headline | said by |", "|---|---|"], []
-    for sentence, names in SENTENCES:
+def guided(definitions: Definitions, rows: Rows, heading: str, faults: List[str]) -> List[str]:
+    """The guide of a chapter, if it has one, with its paragraphs and lists in lines, and with its
+    table; what is wrong with the table is added to the faults."""
+    text = ["", filled_blocks(GUIDES[heading])] if heading in GUIDES else []
+    if heading == "The rules of the auctions":
+        by_kind, missing = map_table(definitions, rows)
+        faults += missing
+        text += ["", "The map, by kinds of auction:", ""] + by_kind + ["", filled(RULES_NOTE)]
+    if heading == "The session of a link":
+        at_a_glance, missing = glance_table()
+        faults += missing
+        text += ["", "The causes of a session's end, in words:", ""] + causes_table()
+        text += ["", "And by rows:", ""] + at_a_glance
+    if heading == "The command `serve`":
+        text += ["", "Which `played` is which:", ""]
+        text += ["| where | type | what it says |", "|---|---|---|"]
+        text += [f"| {' | '.join(cells)} |" for cells in PLAYED]
+    return text
+
+
+def sentences_table(
+    definitions: Definitions, rows: Rows, what: str, sentences: List[Tuple[str, List[str]]]
+) -> Tuple[List[str], List[str]]:
+    """The half sentences of a promise with what says them; and what of that it does not rest on."""
+    text, missing = [f"| of {what} | said by |", "|---|---|"], []
+    for sentence, names in sentences:
         links = []
         for full in names:
             path, name = target_of(full)
             if name in rows.get(path, []):
-                links.append(link(name, definitions.modules[path].file, definitions.modules[path].definitions[name].line))
+                links.append(
+                    link(
+                        name,
+                        definitions.modules[path].file,
+                        definitions.modules[path].definitions[name].line,
+                    )
+                )
             else:
-                missing.append(f"{full} of the table of sentences is not what the headline rests on")
+                missing.append(f"{full} of a table of sentences is not what {what} rests on")
         text.append(f"| {sentence} | {' · '.join(links)} |")
     return text, missing
 
 
 def library_words(definitions: Definitions, found: Iterable[Target]) -> Tuple[str, List[str]]:
     own = definitions.crates
-    words = sorted({name for path, name in found if path.split(".")[0] not in own and "◌" not in name and re.match(r"\w", name)}, key=str.lower)
-    missing = [f"no explanation of the library's word {word}" for word in words if word not in LIBRARY]
-    return " · ".join(f"`{word}` {LIBRARY.get(word, '?')}" for word in words), missing
+    words = sorted(
+        {
+            name
+            for path, name in found
+            if path.split(".")[0] not in own and "◌" not in name and re.match(r"\w", name)
+        },
+        key=lambda word: (word.lower(), word),
+    )
+    missing = [
+        f"no explanation of the library's word {word}"
+        for word in words
+        if word not in LIBRARY and word not in PLAIN
+    ]
+    told = " · ".join(f"`{word}` {LIBRARY[word]}" for word in words if word in LIBRARY)
+    plain = ", ".join(f"`{word}`" for word in words if word in PLAIN)
+    return f"{told}\n\nPlain by their names, in Rust or in mathematics: {plain}.", missing
 
 
 def page(definitions: Definitions) -> Tuple[str, List[str], str]:
@@ -244,80 +480,232 @@ def page(definitions: Definitions) -> Tuple[str, List[str], str]:
     rows, all_rows = rows_of(definitions, headline), rows_of(definitions, everything)
     chapters = chapters_of(definitions, rows)
     order = [path for paths in chapters.values() for path in paths]
-    core = line_count(definitions, rows, order) - sum(len(definitions.modules[path].definitions[name].lines) for path, name in entries)
-    sentences, faults = sentences_table(definitions, rows)
+    core = line_count(definitions, rows, order)
+    mark_entries(definitions, rows)
+    SKIP_MARKS.update(skipped_of(definitions, start, entries, headline))
+    kept = {
+        path: [name for name in names if (path, name) not in SKIP_MARKS]
+        for path, names in rows.items()
+    }
+    sentences, faults = sentences_table(definitions, rows, "the headline", SENTENCES)
+    faults += [
+        f"{full} may be left out, and is not what the headline rests on"
+        for full in SKIPPED
+        if target_of(full) not in SKIP_MARKS
+    ]
+    steps, wrong_steps = sentences_table(
+        definitions, all_rows, "the command `step`", STEP_SENTENCES
+    )
+    faults += wrong_steps
     types, wrong_types = types_table(headline)
     words, wrong_words = library_words(definitions, everything)
-    faults += wrong_types + wrong_words + backward(definitions, rows, order) + inner_imports(definitions, all_rows)
+    faults += (
+        wrong_types
+        + wrong_words
+        + backward(definitions, rows, order)
+        + inner_imports(definitions, all_rows)
+    )
     listed = {(path, name) for path, names in rows.items() for name in names} - set(entries)
     beside = []
     for heading, about, names in BESIDE:
-        part = rows_of(definitions, [target for target in definitions.reached(target_of(name) for name in names) if target not in listed])
+        part = rows_of(
+            definitions,
+            [
+                target
+                for target in definitions.reached(target_of(name) for name in names)
+                if target not in listed
+            ],
+        )
         listed |= {(path, name) for path, names_of in part.items() for name in names_of}
         beside.append((heading, about, part))
-    others = {path: [name for name in names if (path, name) not in listed] for path, names in all_rows.items()}
+    others = {
+        path: [name for name in names if (path, name) not in listed]
+        for path, names in all_rows.items()
+    }
     others = {path: names for path, names in others.items() if names}
-    in_all = core + sum(line_count(definitions, part, part) for _, _, part in beside)
-    text = ["# What must be believed", "", filled(INTRODUCTION), "", filled(HOW_TO_READ), "",
-            filled(f"The headline over lines of words takes {core:,} lines of definitions. Beside it are four parts that may be left out at first ({in_all:,} lines with "
-                   "them); the chapters need nothing of what they say: " + "; ".join(heading for heading, _, _ in BESIDE) + "."),
-            "", "## The headline, half sentence by half sentence", ""] + sentences
-    text += ["", "What the clause does not say in so many words:", "", filled_items(TRUTHS), "", "## Key", "", "| notation | what it means |", "|---|---|"]
+    tried = tried_count(definitions, rows)
+    twice = rows_of(definitions, entries)
+    in_all = core - line_count(definitions, twice, twice)
+    in_all += sum(line_count(definitions, part, part) for _, _, part in beside)
+    text = [
+        "# What must be believed",
+        "",
+        filled(INTRODUCTION),
+        "",
+        filled(HOW_TO_READ),
+        "",
+        filled(
+            f"The headline over lines of words takes {core:,} lines of definitions. Beside it are"
+            f" four parts that may be left out at first ({in_all:,} lines with them); the chapters"
+            " need nothing of what they say: "
+            + "; ".join(heading for heading, _, _ in BESIDE)
+            + f". Worked rows reach {tried:,} of the {core:,} lines; most"
+            " of the others state what holds of whole games, and compute nothing."
+        ),
+        "",
+        "## The headline, half sentence by half sentence",
+        "",
+    ] + sentences
+    text += [
+        "",
+        "What the clause does not say in so many words:",
+        "",
+        filled_items(TRUTHS),
+        "",
+        "## How long it takes",
+        "",
+        filled_blocks(TIMES),
+        "",
+    ]
+    text += times_table(
+        {
+            heading: (line_count(definitions, rows, paths), line_count(definitions, kept, paths))
+            for heading, paths in chapters.items()
+            if paths
+        }
+    )
+    faults += [f"no minutes for {heading}" for heading in chapters
+               if chapters[heading] and heading not in MINUTES]
+    text += ["", "## What has no worked row", "", filled(ROWLESS), ""]
+    text += rowless_table(
+        definitions, chapters, rows, reached_by_rows(definitions), SKIP_MARKS
+    )
+    text += ["", filled(cases_sentence(definitions, rows))]
+    text += ["", "## Names that are alike", "", filled_items(ALIKE)]
+    borrowed = row_words(definitions, rows)
+    faults += [f"no words for {name} of rows" for name in borrowed if name not in ROW_WORDS]
+    faults += [f"no row names {name}" for name in ROW_WORDS if name not in borrowed]
+    text += ["", "## Key", "", "| notation | what it means |", "|---|---|"]
     text += [f"| {sign} | {meaning} |" for sign, meaning in NOTATION]
-    text += ["", filled("Words of the toolchain's library (`rt lemma WORD` in the folder of a crate prints the definition of one):"), "", filled(words), "",
-             "## Types of the code", "", "Each in `src/` of its crate; its ranges are kept by its own calls.", ""] + types
-    text += ["", "## Limits", ""] + limits_table({**headline, **dict.fromkeys(name for names in clauses.values() for name in names)})
-    text += ["", "## The objects of the outside", "", filled("`F.state`, `K.state`, `N.state`, `N.Link.state` and `T.state` in the clauses of `tac` are the ghost `state` of these traits."), ""]
-    text += outside_tables()
+    text += [
+        "",
+        filled(
+            "Words of the toolchain's library (`rt lemma WORD` in the folder of a crate prints the"
+            " definition of one):"
+        ),
+        "",
+        filled_blocks(words),
+        "",
+        filled(
+            "Names that rows have and no chapter defines: "
+            + "; ".join(
+                f"{row_link(definitions, name)}: {ROW_WORDS[name]}"
+                for name in borrowed
+                if name in ROW_WORDS
+            )
+            + "."
+        ),
+        "",
+        "## Types of the code",
+        "",
+        "Each in `src/` of its crate; its ranges are kept by its own calls.",
+        "",
+    ] + types
+    text += ["", "## Limits", ""] + limits_table(everything)
+    text += [
+        "",
+        "## The objects of the outside",
+        "",
+        filled(
+            "`F.state`, `K.state`, `N.state`, `N.Link.state` and `T.state` in the clauses of `tac`"
+            " are the ghost `state` of these traits."
+        ),
+        "",
+    ]
+    fields, missing = fields_table(definitions)
+    faults += missing
+    text += outside_tables() + ["", filled(FIELDS), ""] + fields
     for heading, about, _ in CHAPTERS:
         paths = chapters[heading]
         if paths:
-            text += ["", f"## {heading}", "", filled(f"{about} {line_count(definitions, rows, paths)} lines."), ""] + table(definitions, rows, paths)
+            text += [
+                "",
+                f"## {heading}",
+                "",
+                filled(f"{about} {line_count(definitions, rows, paths)} lines."),
+            ]
+            text += guided(definitions, rows, heading, faults) + [""]
+            text += table(definitions, rows, paths)
+            text += worked(definitions, {path: rows[path] for path in paths}, faults)
     for heading, about, part in beside:
-        text += ["", f"## Beside: {heading[0].lower() + heading[1:]}", "", filled(f"{about} {line_count(definitions, part, part)} lines."), ""]
-        text += table(definitions, part, in_order(definitions, part))
-    text += ["", "## For the other commands and the codes", "",
-             filled("The other clauses of `tac`: what each command writes, and when each exit code comes. "
-                    f"{line_count(definitions, others, others):,} lines beside those above."),
-             ""] + table(definitions, others, in_order(definitions, others))
-    figures = (f"{core} lines for the headline over lines of words, {in_all} with what is beside it, "
-               f"{line_count(definitions, all_rows, all_rows)} in {len(all_rows)} modules in all")
+        text += [
+            "",
+            f"## Beside: {heading[0].lower() + heading[1:]}",
+            "",
+            filled(f"{about} {line_count(definitions, part, part)} lines."),
+            "",
+        ]
+        text += table(definitions, part, in_order(definitions, part)) + worked(
+            definitions, part, faults
+        )
+    text += (
+        [
+            "",
+            "## For the other commands and the codes",
+            "",
+            filled(
+                "The other clauses of `tac`: what each command writes, and when each exit code"
+                f" comes. {line_count(definitions, others, others):,} lines beside those above."
+            ),
+            "",
+            filled(STEP_TRUTHS),
+            "",
+        ]
+        + steps
+        + [""]
+        + table(definitions, others, in_order(definitions, others))
+        + worked(definitions, others, faults)
+    )
+    on_page = {(path, name) for path, names in all_rows.items() for name in names}
+    faults += [
+        f"the row of {row.lemmas[0]} tries {row.tries[0]}, which has no row on the page"
+        for row in ROWS
+        if target_of(row.tries[0]) not in on_page
+    ]
+    figures = (
+        f"{core} lines for the headline over lines of words, {in_all} with what is beside it, "
+        f"{line_count(definitions, all_rows, all_rows)} in {len(all_rows)} modules in all"
+    )
     return "\n".join(text) + "\n", faults, figures
 
 
-def print_definitions(definitions: Definitions) -> None:
-    """Prints what the headline rests on in the order of the page: the clauses of `tac`, the types of the code, and each
-    definition with its comment, without the imports that change no name."""
+def open_text(file: str) -> str:
+    """The text of a file."""
+    with open(file, encoding="utf-8") as source:
+        return source.read()
+
+
+def mark_entries(definitions: Definitions, rows: Rows) -> None:
+    """Marks each name behind which a part beside begins with what of it stands there alone."""
+    for heading, _, names in BESIDE:
+        for path, name in map(target_of, names):
+            words = ", ".join(f"`{word}`" for word in only_beside(definitions, rows, path, name))
+            ENTRY_MARKS[path, name] = f" ({words}: [beside](#{anchor_of(f'Beside: {heading}')}))"
+
+
+def print_all(definitions: Definitions) -> None:
+    """Prints the clauses of `tac`, the types of the code, and the definitions of the headline."""
     clauses = clauses_of(TOP, "tac")
     entries = [target_of(name) for _, _, names in BESIDE for name in names]
     found = definitions.reached(clauses["service"] + clauses["cash"], entries)
     rows = rows_of(definitions, found)
+    mark_entries(definitions, rows)
+    skipped = skipped_of(definitions, clauses["service"] + clauses["cash"], entries, found)
     with open(TOP, encoding="utf-8") as source:
         text = source.read()
-    print(text[text.index("/// Runs the command"):text.index("\n{\n")])
-    heading = "Types of the code"
-    print(f"\n{'=' * 80}\n{heading}\n{'=' * 80}\n")
-    for file, line in types_of(found)[0].values():
-        with open(file, encoding="utf-8") as source:
-            lines = source.read().split("\n")
-        end = next(place for place in range(line - 1, len(lines)) if lines[place].startswith("}") or lines[place].endswith(";"))
-        print("\n".join(lines[line - 1:end + 1]) + "\n")
-    for heading, paths in chapters_of(definitions, rows).items():
-        print(f"\n{'=' * 80}\n{heading}\n{'=' * 80}")
-        for path in paths:
-            module = definitions.modules[path]
-            print("\n".join(["", f"-- {os.path.relpath(module.file, ROOT)}: {module.about}", *module.renamed, ""]))
-            with open(module.file, encoding="utf-8") as source:
-                lines = source.read().split("\n")
-            header = None
-            for one in sorted((module.definitions[name] for name in rows[path]), key=lambda each: each.line):
-                if module.parameters.get(one.name) not in (None, header):
-                    header = module.parameters[one.name]
-                    print("\n".join(header))
-                above = one.line - 2
-                while above >= 0 and lines[above].lstrip().startswith("--"):
-                    above -= 1
-                print("\n".join(lines[above + 1:one.line - 1] + one.lines) + "\n")
+    print(text[text.index("/// Runs the command") : text.index("\n{\n")])
+    print_types(
+        (name, file, line, value_of(open_text(file), name))
+        for (_, name), (file, line) in types_of(found)[0].items()
+    )
+    print_chapters(
+        definitions,
+        rows,
+        chapters_of(definitions, rows),
+        reached_by_rows(definitions),
+        ENTRY_MARKS,
+        skipped,
+    )
 
 
 def compare(file: str, text: str, write: bool) -> List[str]:
@@ -331,20 +719,39 @@ def compare(file: str, text: str, write: bool) -> List[str]:
             same = page_file.read() == text
     except FileNotFoundError:
         same = False
-    return [] if same else [f"{os.path.relpath(file, ROOT)} is not what the sources say: run checks/reading.py --write"]
+    return (
+        []
+        if same
+        else [
+            f"{os.path.relpath(file, ROOT)} is not what the sources say: run checks/reading.py"
+            " --write"
+        ]
+    )
 
 
 def main() -> int:
-    parser = argparse.ArgumentParser(description=__doc__, formatter_class=argparse.RawDescriptionHelpFormatter)
+    parser = argparse.ArgumentParser(
+        description=__doc__, formatter_class=argparse.RawDescriptionHelpFormatter
+    )
     parser.add_argument("--write", action="store_true", help="write the pages")
-    parser.add_argument("--print", action="store_true", help="print the definitions of the headline themselves, chapter by chapter")
+    parser.add_argument(
+        "--print",
+        action="store_true",
+        help="print the definitions of the headline themselves, chapter by chapter",
+    )
     options = parser.parse_args()
     if options.print:
-        print_definitions(Definitions())
+        try:
+            print_all(Definitions())
+            sys.stdout.flush()
+        except BrokenPipeError:  # the reader has seen enough
+            os.dup2(os.open(os.devnull, os.O_WRONLY), sys.stdout.fileno())
         return 0
     text, faults, figures = page(Definitions())
     rules, wrong_rules = rules_page()
-    faults += wrong_rules + compare(PAGE, text, options.write) + compare(RULES_PAGE, rules, options.write)
+    faults += (
+        wrong_rules + compare(PAGE, text, options.write) + compare(RULES_PAGE, rules, options.write)
+    )
     for fault in faults:
         print(f"reading.py: {fault}")
     print(f"reading.py: {figures}; {f'{len(faults)} faults' if faults else 'as the page says'}")

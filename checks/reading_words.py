@@ -1,23 +1,58 @@
-"""The prose of docs/READING.md: its key, its chapters, and the sentences of the headline with their definitions."""
+"""The prose of docs/READING.md: its key, its chapters, and the sentences of the headline."""
 
 from typing import Dict, List, NamedTuple, Tuple
 
 INTRODUCTION = """\
-A proof says that the code meets its contract. Whether the contract says what a game is, a reader has
-to judge. This page is for one who has an evening: it has every definition that the contract of the
-top call `tac` (`crates/tacd/src/top.rt`) rests on, each before it is used, with the lines at which
-it stands. No other definition and no proof has to be read to know what is promised; the README says
-what else has to be trusted. `checks/reading.py --write` makes the page from the sources. Without
-`--write` it runs after the gate: it fails if the page is not what the sources say, if something is
-used before it stands, or if a module listed here imports one that is not."""
+A proof says that the code meets its contract. Whether the contract says what a game is, a reader
+has to judge. This page is for one who has an evening: it has every definition that the contract of
+the top call `tac` (`crates/tacd/src/top.rt`) rests on, each before it is used, with the lines at
+which it stands. No other definition and no proof has to be read to know what is promised; the
+README says what else has to be trusted. `checks/reading.py --write` makes the page from the
+sources. Without `--write` it runs after the gate: it fails if the page is not what the sources say,
+if something is used before it stands, or if a module listed here imports one that is not."""
 
 HOW_TO_READ = """\
-Compare each definition with the rule in words that its row links. Begin with the next table: each half sentence of the headline, and the definitions that say it. Then
-read the chapters in their order, the definitions that are named and nothing else; a module may hold
-more. `checks/reading.py --print` prints them one after the other, each with its comment. The column of lines counts them without comments and imports. Where a name is met for the
-first time that is not on this page, it is a word of the toolchain's library (the key below), a type
-of the code, or a limit; all three have their tables. The last chapter, on the other commands and the
-codes, is no part of the headline."""
+Compare each definition with the rule in words that its row links. Begin with the next table: each
+half sentence of the headline, and the definitions that say it. Then read the chapters in their
+order, the definitions that are named and nothing else; a module may hold more. `checks/reading.py
+--print` prints them one after the other, each with its comment. The column of lines counts them
+without comments and imports. Below a chapter's definitions stand worked rows: small cases in words,
+each with the lemma that the toolchain checks, so that a definition can be tried on numbers;
+`--print` has each row directly below the definition that it tries first. The long chapters begin
+with a guide. "What has no worked row" lists the definitions that no row tries, and `--print` marks
+them: read those slowly. Where a name is met for the first time
+that is not on this page, it is a word of the toolchain's library (the key below), a type of the
+code, or a limit; all three have their tables, which need not be read at first. The last chapter, on
+the other commands and the codes, is no part of the headline. Whoever asks only for the headline
+over lines of words need not believe the definitions of that chapter, nor those of the four parts
+beside the headline; nobody need believe what only proofs or private functions use, nor how a
+certificate is found."""
+
+ALIKE = """\
+- **Lawful, legal.** `IsLawful` is of one auction's past, by its rules; `Legal` of a whole history,
+  with callers and caps; `IsLegalCash` of the cash history; `IsLegalGame` of all 29. `IsLawfulTurn`
+  and `AreLawful` are of the turns of a session.
+- **Stand, left.** `stand` has the standing units, `left` an agent's standing units put together as
+  points, `standing_points` those of all agents. `left` of a link or of files is what they still
+  have to give. The turn `Left` is that of `quit`.
+- **Gone, sold.** `gone` has the units that all calls traded away, `gone_by` those of one call.
+  `sold` counts units that a party sells, `sold_units` the rooms of a closing; `is_sold` asks it of
+  a point at a flight, whose trade is `sale`.
+- **Ask, published.** `ask` is computed from units, `published` is the ask that was shown last,
+  `quote_to_beat` one dollar more.
+- **Winning.** `wins` asks it of a unit, `winning` counts an agent's among given units,
+  `winning_number` among those that stand, and `need` is that, but 1 at least.
+- **Taken.** Of a sink or a link the bytes that were taken; of seats whether each is; `Taken` is the
+  reply to a bid, and a verdict on a link.
+- **Closed.** `Closed` is a refusal, `is_closed` asks whether the auction ended, and `closed`, a
+  `ClosedGame`, has the histories of a game of which all calls are over.
+- **Part.** `part` has a caller's entries of one history with their positions, `caller_parts` those
+  of all 28 auctions. `play_part` is the first part of a log, and `TookPart` is of a text."""
+
+ROWLESS = """\
+No worked row leads to these definitions, so read them slowly; all others can be tried on numbers.
+Most state what holds of whole games or of any number of turns. Those of the outside are records of
+fields, which a table explains."""
 
 TRUTHS = """\
 - **For which objects.** `tac` is generic: the body that is proved over objects that say what they
@@ -27,13 +62,31 @@ TRUTHS = """\
 - **Reading ahead, or answering late.** No clause forbids it in words, and a body that did so would
   not meet them: a failed write cuts the turns at its line, and after a failed read every whole line
   must have been answered. Any read or write may fail, so each reply goes out before the next read.
-- **When the clock makes its calls.** The clause `service` says that they are the schedule's, good by
-  good, and that the ticks were waited for; that a tick's calls are made after its wait and before
-  the next one is tested (`docs/PROOFS.md`, "What is not proved"). Their order across the goods is a
-  clause of `run_clock` (`crates/clock_events`), and not of `tac`.
-- **How far a reading of cash may lag.** The desk's clause bounds it, and not that of `tac`: every desk
-  has posted what is due before its call returns. A body that appended the clock's posts at the end
-  would meet the clauses of `tac`."""
+- **When the clock makes its calls.** The clause `service` says that they are the schedule's, good
+  by good, and that the ticks were waited for; that a tick's calls are made after its wait and
+  before the next one is tested (`docs/PROOFS.md`, "What is not proved"). Their order across the
+  goods is a clause of `run_clock` (`crates/clock_events`), and not of `tac`.
+- **How far a reading of cash may lag.** The desk's clause bounds it, and not that of `tac`: every
+  desk has posted what is due before its call returns. A body that appended the clock's posts at the
+  end would meet the clauses of `tac`.
+- **That a game file is well formed.** That there are eight clients for each agent, that the seats'
+  words differ, and that the closing order has each hotel night once, no chapter says: it follows
+  from how a text is read (`game_in`, in the part beside, "How the text of a game file is read"),
+  since the clauses speak of a game that some text is read as."""
+
+# What rows name and no chapter defines, as CRATE/MODULE.NAME, in words.
+ROW_WORDS: Dict[str, str] = {
+    "auction_rules/Legal.past_of":
+        ("`past_of setup calls` is the past that these calls make, newest first: of each call, a "
+         "pair of caller and call, the entry is `entry_of` of the past of those before it"),
+    "auction_rules/Part.callers_part":
+        "a caller's entries of a history, each in a pair with its position, as `part` has them",
+    "game_text/QuietGames.quiet_game":
+        ("a game in which flights stay at 300 dollars (first price 300, bound 10, each draw 10), "
+         "nobody has a ticket at first, each hotel night has 16 rooms, quotes are not live, the "
+         "hotels close in the order 8 to 15, the seats' words are `seat0` to `seat7`, and each "
+         "client prefers day 1 to 2, with 100 for the better hotel and 100 for the museum"),
+}
 
 NOTATION: List[Tuple[str, str]] = [
     ("`abbrev pub f : A → B`, then `f x = ..`",
@@ -65,7 +118,7 @@ NOTATION: List[Tuple[str, str]] = [
      "0, 1, 2 .., the whole numbers, n, and -(n + 1)"),
     ("`+`, `-`, `+ℤ`, `-ℤ`, `≤ℤ`, `^`",
      "sums and differences; `-` of ℕ stops at 0"),
-    ("`a || b`, `a && b`, `not a`",
+    ("`a \\|\\| b`, `a && b`, `not a`",
      "computed or, and, not"),
     ("`*`, `/`, `%`, `*ℤ`, `neg_ℤ`",
      "product, quotient and remainder of ℕ; product and negation of ℤ. They bind as in Rust"),
@@ -86,6 +139,9 @@ NOTATION: List[Tuple[str, str]] = [
       "the module tell which is meant")),
     ("`module _ (x : A) where`",
      "each definition in it has the parameter x"),
+    ("`(k : ℕ) (n : A) → get_elem? xs k ≡ some n → P n`",
+     ("each item n of xs, at whichever place k from 0 on, has P. `slice_get xs k ≡ Some n` says "
+      "the same; `some` is the library's other spelling of `Some`")),
     ("a type of the code",
      ("appears in a definition as its value for contracts: a struct that has a row \"appears as\" "
       "below as that value, every other struct as a record of its fields, an enum as its variants, "
@@ -96,37 +152,14 @@ NOTATION: List[Tuple[str, str]] = [
 ]
 
 LIBRARY: Dict[str, str] = {
-    "List": "lists",
-    "Option": "`Some x` or `None`",
-    "Some": "a value that is there",
-    "None": "no value",
-    "Bool": "`true` or `false`",
-    "true": "yes",
-    "false": "no",
-    "Result": "`Ok x` or `Err e`",
-    "Ok": "a result",
-    "Err": "an error",
     "Vec": "Rust's vector; `.items` is its list",
     "Global": "Rust's vector; `.items` is its list",
     "codes": "the bytes of a text",
-    "map": "f of each item",
-    "length": "how many items",
     "pos": "a whole number from 0 on",
     "negsuc": "`negsuc n` is -(n + 1)",
-    "zero": "0",
     "suc": "one more",
-    "not": "no for yes",
     "flat_map": "the lists that f gives, one after another",
-    "concat": "lists, one after another",
-    "filter": "the items for which p says yes",
     "filter_map": "the values that f gives, where it gives one",
-    "nat_le": "at most, computed",
-    "nat_lt": "below, computed",
-    "int_le": "at most, computed",
-    "int_lt": "below, computed",
-    "max": "the greater number",
-    "min": "the lesser number",
-    "int_max": "the greater number",
     "slice_index": "the item at a place; 0 past the end",
     "slice_index_or": "the item at a place, or the given value past the end",
     "slice_get": "the item at a place, if there is one",
@@ -136,7 +169,6 @@ LIBRARY: Dict[str, str] = {
     "slice_split": "the parts between the items for which p says yes",
     "decimal": "a number in decimal digits",
     "signed_decimal": "a whole number in decimal digits, with `-` below 0",
-    "bytes_eq": "equal bytes, computed",
     "unsigned_abs": "a number without its sign",
     "list_any": "p says yes of some item",
     "list_all": "p says yes of each item",
@@ -147,17 +179,10 @@ LIBRARY: Dict[str, str] = {
     "All": "P holds of each item",
     "AllByRecursion": "P holds of each item",
     "AllZip": "R holds of the items of two lists of one length, place by place",
-    "Contains": "the list has the item",
-    "replicate": "n times the same item",
-    "take": "the first n items",
-    "drop": "what follows the first n items",
-    "reverse": "the items backwards",
-    "zip": "pairs, place by place",
     "enumerate_from": "each item with its number, from n on",
     "join_with_byte": "lists with a byte between them",
     "position": "the first place where p says yes",
     "find": "the first item for which p says yes",
-    "option_map": "f of the value, if there is one",
     "option_and_then": "f of the value, if both are there",
     "option_or": "the first value that is there",
     "get_or":
@@ -175,35 +200,29 @@ LIBRARY: Dict[str, str] = {
     "Members": "the members of a JSON object, repeated keys too",
     "Items": "the items of a JSON array",
     "read": "the JSON value of a text, by `serde_json`",
-    "as_object": "the members, of an object",
-    "as_array": "the items, of an array",
-    "as_str": "the bytes, of a string",
-    "as_number": "the number, of a number",
     "as_i64": "the whole number of 64 bits, of a number that is one",
     "get_member": "the last value of a key",
-    "member": "one member before others",
-    "no_members": "no member",
-    "item": "one item before others",
-    "no_items": "no item",
-    "string_bytes": "the bytes of a string",
-    "string_len": "how many bytes",
     "first_words": "the first words that a generator gives",
     "increment_of": "the increment of a generator, by its stream",
-    "int_min": "the lesser number",
     "IsGcd": "the number is the greatest common divisor",
     "Lcg": "a linear congruential generator",
     "multiplier_64": "the multiplier of PCG",
     "pcg32": "the generator PCG32",
-    "range_with_len": "so many numbers in a row, from the first",
     "set": "the list with another item at a place",
     "started": "a generator after its first step",
-    "swap": "the list with two items exchanged",
     "cond": "`if .. then .. else ..`",
     "eqb": "equal, computed",
-    "snd": "the second part",
-    "fst": "the first part",
 }
 
+# Words of the library that their names explain.
+PLAIN = set(
+    """
+    as_array as_number as_object as_str Bool bytes_eq concat Contains drop Err false filter fst
+    int_le int_lt int_max int_min item length List map max member min nat_le nat_lt no_items
+    no_members None not Ok Option option_map range_with_len replicate Result reverse snd Some
+    string_bytes string_len swap take true zero zip
+    """.split()
+)
 
 # Where the rule of a crate, or of one of its modules, stands in words: a document and its heading.
 IN_WORDS: Dict[str, Tuple[str, str]] = {
@@ -252,7 +271,7 @@ IN_WORDS: Dict[str, Tuple[str, str]] = {
     "line_protocol.Heads": ("FORMATS", "The log"),
     "line_protocol.Ranges": ("FORMATS", "Requests and replies"),
     "json_dialect": ("FORMATS", "Requests and replies in JSON"),
-    "tac_io": ("PROOFS", "The program"),
+    "tac_io": ("PROOFS", "The outside"),
     "agent_gate": ("PROOFS", "The headline: a game over links"),
     "agent_gate.Gates": ("PROTOCOL", "Admission"),
     "agent_gate.Welcome": ("PROTOCOL", "Admission"),
@@ -289,7 +308,12 @@ CHAPTERS = [
     Chapter("The rules of the auctions",
             ("Over whole histories: which units stand, each refusal, what trades, and the entry "
              "that is due."),
-            ["auction_rules"]),
+            ["auction_rules.Units", "auction_rules.History", "auction_rules.Setup",
+             "auction_rules.Effects", "auction_rules.FlightRule", "auction_rules.TicketMatch",
+             "auction_rules.Standing", "auction_rules.FlightSales", "auction_rules.Ask",
+             "auction_rules.Precedence", "auction_rules.WinningNumber", "auction_rules.BeatQuote",
+             "auction_rules.HotelClosing", "auction_rules.Refusals", "auction_rules.Board",
+             "auction_rules"]),
     Chapter("The cash book",
             "Posts and readings of cash, and which posts are due.",
             ["trade_ledger"]),
@@ -329,8 +353,8 @@ CHAPTERS = [
             ["tacd"]),
 ]
 
-# Parts of the promise that a reader may leave out at first: a heading, why, and the names behind which they begin, as
-# CRATE/MODULE.NAME. What these names say is not needed to read the chapters.
+# Parts of the promise that a reader may leave out at first: a heading, why, and the names behind
+# which they begin, as CRATE/MODULE.NAME. What these names say is not needed to read the chapters.
 BESIDE: List[Tuple[str, str, List[str]]] = [
     ("How the text of a game file is read",
      ("Whoever believes that a file says what `tac show` prints of it may leave this out: that "
@@ -346,6 +370,31 @@ BESIDE: List[Tuple[str, str, List[str]]] = [
     ("That the log is sound, as `audit` has it",
      "The same log, judged by the definition of `audit`.",
      ["tacd/SoundLogs.ReportsSoundly"]),
+]
+
+STEP_TRUTHS = """\
+The command `step` plays by the same definitions as `play`, over the lines that came; its promise by
+half sentences comes first. That a reply is written before the next read is said where nothing
+failed and it is known how much of the script came: of what one read gave, some may be unanswered.
+Of the system's own files that is not known, as of all their bytes."""
+
+# What `tac step` promises, half sentence by half sentence.
+STEP_SENTENCES: List[Tuple[str, List[str]]] = [
+    ("`tac step GAME SCRIPT` reads the game, and hears the script, ..",
+     ["tac_commands/Allowed.step_steps", "tac_commands/Steps.Steps", "tac_commands/Runs.Runs"]),
+    ("its bytes cut at the line ends into lines, up to the first bad one,",
+     ["tac_commands/HeardFiles.IsGiven", "script_run/HeardScripts.heard",
+      "script_run/HeardScripts.heard_from"]),
+    ("(too many bytes, a read that failed, the end, or more to come)",
+     ["script_run/HeardScripts.standing", "script_run/HeardScripts.Reading",
+      "script_run/HeardScripts.Standing"]),
+    ("and writes the replies to the good lines, and then what is due:",
+     ["tac_commands/HeardFiles.IsHeard", "tac_commands/HeardFiles.Answers",
+      "script_run/OneThreadRun.replies"]),
+    ("after a whole script the log, as `play` does,",
+     ["tac_commands/Allowed.StepAllows", "tac_commands/Allowed.IsPlayText"]),
+    ("each reply before it reads on.",
+     ["tac_commands/Prompt.IsPromptCommand", "tac_commands/Prompt.HearsPromptly"]),
 ]
 
 # The headline, half sentence by half sentence: what says it, as CRATE/MODULE.NAME.

@@ -1,8 +1,11 @@
-"""The table of the rules, docs/RULES.md: where each rule of docs/GAME.md is defined, carried out, proved and tried.
+"""The table of the rules, docs/RULES.md: where each rule of docs/GAME.md is told, defined, carried
+out, proved and tried.
 
-A place is written as CRATE/FILE:NAME, without `src/`, `specs/` or endings. A definition stands in `specs/`, code in
-`src/`, and so does a clause, as CALL.CLAUSE or as the call whose clause has no name. An edit is CRATE/NAME of
-`must-fail/`, and a row is a lemma of `auction_rules/proofs/Rows.antt` that computes, or a test.
+A place is written as CRATE/FILE:NAME, without `src/`, `specs/` or endings. A definition stands in
+`specs/`, code in `src/`, and so does a clause, as CALL.CLAUSE or as the call whose clause has no
+name. An edit is CRATE/NAME of `must-fail/`, and a row is a lemma of `proofs/` that computes, with
+no file one of `auction_rules/proofs/Rows.antt`, or a test. Words are DOCUMENT/HEADING of docs/,
+with no heading for a whole page.
 """
 
 import os
@@ -13,10 +16,11 @@ from definitions import CRATES, ROOT, line_of
 
 
 class Rule(NamedTuple):
-    """A rule of a heading of GAME.md, with its places."""
+    """A rule of a heading of GAME.md, with its places; `words` are the other pages that tell it."""
 
     heading: str
     rule: str
+    words: List[str]
     definitions: List[str]
     code: List[str]
     clauses: List[str]
@@ -27,6 +31,7 @@ class Rule(NamedTuple):
 RULES = [
     Rule("Goods, parties and callers",
          "numbers of goods, parties and callers",
+         ["FORMATS/The histories"],
          ["tac_base/Goods:agents", "tac_base/Kinds:kind_of"],
          ["tac_base/numbers:kind"],
          ["tac_base/numbers:kind"],
@@ -34,6 +39,7 @@ RULES = [
          ["hotel_nights_are_8_to_15", "ticket_nights_are_16_to_27"]),
     Rule("Histories",
          "one entry for each call, with its reply and trades",
+         ["FORMATS/The histories", "AUDIT/"],
          ["auction_rules/History:Entry", "auction_rules/Legal:entry_of",
           "auction_rules/Legal:Legal"],
          ["auction_core/auction:act"],
@@ -42,36 +48,42 @@ RULES = [
          ["auction_tests/auctions:history_is_shown"]),
     Rule("Bids and units",
          "points and units of a bid",
+         ["PROTOCOL/Refusals", "FORMATS/Bid strings", "GAME/Limits"],
          ["tac_base/Bids:fault_of"],
          ["tac_base/bids:new"],
          ["tac_base/bids:new"],
          ["tac_base/forgets_units_so_far", "bid_strings/accepts_zero_units"],
-         ["text_tests/numbers:the_first_fault_from_the_left_is_told"]),
+         ["bid_strings/Worked:too_many_units", "bid_strings/Worked:units_before_price",
+          "text_tests/numbers:the_first_fault_from_the_left_is_told"]),
     Rule("Bids and units",
          "the index of a unit, and its place in time",
+         [],
          ["auction_rules/Units:units_of"],
          ["auction_rules/units:push_units"],
          ["auction_rules/units:push_units"],
          ["auction_rules/units_share_an_index", "auction_rules/points_are_numbered_anew"],
-         ["auction_tests/units:units_are_numbered_through_the_points"]),
+         ["worked_rows/Units:units_go_on_through_the_points",
+          "auction_tests/units:units_are_numbered_through_the_points"]),
     Rule("Bids and units",
          "a new bid replaces the whole earlier one",
+         ["PROTOCOL/Requests", "GAME/Where this differs from TAC Classic"],
          ["auction_rules/History:last_bid", "auction_rules/Standing:stand"],
          ["hotel_book/book:bid", "flight_auction/book:bid", "ticket_book/book:bid"],
          ["hotel_book/book:bid.follows", "flight_auction/book:bid.follows",
           "ticket_book/book:bid.follows"],
-         ["hotel_book/old_units_kept_beside_new_bid", "flight_auction/new_bid_keeps_old_points",
-          "ticket_book/old_units_kept_beside_new_bid"],
+         ["ticket_book/old_units_kept_beside_new_bid"],
          ["new_bid_takes_its_own_place_in_time", "old_unit_is_not_shown"]),
     Rule("Bids and units",
          "what is left of a bid",
+         ["PROTOCOL/Replies"],
          ["auction_rules/Standing:left"],
          ["hotel_book/book:own", "flight_auction/book:own", "ticket_book/book:own"],
          ["hotel_book/book:own.left", "flight_auction/book:own.left", "ticket_book/book:own.left"],
-         ["flight_auction/sold_points_stand", "ticket_book/traded_unit_kept"],
+         ["ticket_book/own_forgets_standing_units"],
          ["rest_of_a_bid_is_shown", "part_of_a_sale_is_left"]),
     Rule("Refusals",
          "closed, before every other refusal",
+         ["PROTOCOL/Refusals"],
          ["auction_rules/Refusals:refusal"],
          ["auction_rules/wrong_calls:wrong_reply"],
          ["auction_core/auction:act.closed"],
@@ -79,6 +91,7 @@ RULES = [
          ["closed_hotel_refuses"]),
     Rule("Refusals",
          "wrong call",
+         ["PROTOCOL/Refusals"],
          ["auction_rules/Refusals:is_wrong_caller", "auction_rules/Refusals:is_wrong_place"],
          ["auction_rules/wrong_calls:wrong_reply"],
          ["auction_rules/wrong_calls:wrong_reply"],
@@ -86,13 +99,15 @@ RULES = [
          ["withdrawal_from_a_hotel_is_wrong"]),
     Rule("Refusals",
          "no bid to withdraw",
+         ["PROTOCOL/Refusals"],
          ["auction_rules/Refusals:has_standing"],
          ["flight_auction/book:withdraw", "ticket_book/book:withdraw"],
          ["flight_auction/book:withdraw.follows"],
-         [],
+         ["flight_auction/withdrawn_without_a_bid"],
          ["self_crossing_bid_leaves_nothing_to_withdraw"]),
     Rule("Refusals",
          "no selling at a flight or in a hotel",
+         ["PROTOCOL/Refusals"],
          ["auction_rules/Refusals:sells"],
          ["auction_rules/units:sells"],
          ["auction_rules/units:sells"],
@@ -100,6 +115,7 @@ RULES = [
          ["seller_of_a_flight_is_refused"]),
     Rule("Refusals",
          "a bid for tickets does not cross itself",
+         ["PROTOCOL/Refusals"],
          ["auction_rules/Refusals:crosses_itself"],
          ["ticket_book/refusals:meets_own"],
          ["ticket_book/book:bid.follows"],
@@ -107,21 +123,24 @@ RULES = [
          ["self_crossing_bid_leaves_nothing_to_withdraw"]),
     Rule("Flights",
          "how a draw moves a price",
+         ["FORMATS/Game file", "GAME/Where this differs from TAC Classic"],
          ["auction_rules/FlightRule:next_price", "auction_rules/FlightRule:drift"],
          ["flight_auction/prices:next_price"],
          ["flight_auction/prices:next_price.value"],
-         ["flight_auction/rounds_a_fall_to_zero"],
+         ["flight_auction/rounds_a_fall_to_zero", "flight_auction/update_forgets_the_draw"],
          ["rising_price", "drift_is_rounded_down", "price_stops_at_800", "price_stops_at_150"]),
     Rule("Flights",
          "points at or above the price are sold whole, at the price",
+         ["PROTOCOL/Replies"],
          ["auction_rules/FlightSales:flight_trades"],
          ["flight_auction/sales:sell"],
          ["flight_auction/book:bid.follows", "flight_auction/book:update.follows",
           "auction_core/auction:act.paid"],
-         ["flight_auction/sells_at_own_price", "flight_auction/update_does_not_sell"],
+         ["flight_auction/sells_at_own_price"],
          ["points_above_the_price_are_sold_one_by_one", "falling_price_reaches_a_bid"]),
     Rule("Hotels",
          "which unit comes first",
+         ["GAME/Where this differs from TAC Classic"],
          ["auction_rules/Precedence:precedes"],
          ["hotel_book/order:precedes"],
          ["hotel_book/book:units.order"],
@@ -129,6 +148,7 @@ RULES = [
          ["earlier_of_equal_bids_wins"]),
     Rule("Hotels",
          "the ask",
+         ["PROTOCOL/What a hotel bid would win"],
          ["auction_rules/Ask:ask"],
          ["hotel_book/ranking:last_price"],
          ["hotel_book/book:ask.ask"],
@@ -136,37 +156,43 @@ RULES = [
          ["sixteenth_price_is_the_ask"]),
     Rule("Hotels",
          "the published price, by the minute or live",
+         ["PROTOCOL/Replies", "PROTOCOL/What a hotel bid would win", "FORMATS/Game file"],
          ["auction_rules/Ask:published"],
          ["hotel_book/quotes:after_bid", "hotel_book/book:publish"],
          ["hotel_book/book:publish.follows", "auction_core/auction:act.quote"],
-         ["hotel_book/live_bid_publishes_old_ask"],
+         ["hotel_book/publishes_nothing", "auction_core/live_dropped_and_rooms_widened"],
          ["unpublished_ask_is_not_shown", "live_bid_is_shown", "refused_live_bid_is_not_shown"]),
     Rule("Hotels",
          "beating the quote",
+         ["PROTOCOL/Refusals", "PROTOCOL/What a hotel bid would win"],
          ["auction_rules/BeatQuote:is_below_quote", "auction_rules/WinningNumber:winning_number"],
          ["hotel_book/quotes:refusal", "hotel_book/ranking:won"],
          ["hotel_book/book:bid.follows"],
-         ["hotel_book/forgets_winning_number", "hotel_book/winning_counts_all_units"],
+         ["hotel_book/forgets_winning_number"],
          ["two_units_do_not_replace_three_that_win", "one_unit_does_not_replace_fifteen",
           "live_bid_must_beat_the_last_one"]),
     Rule("Hotels",
          "the closing",
+         ["PROTOCOL/Replies"],
          ["auction_rules/HotelClosing:closing_trades", "auction_rules/Precedence:wins"],
          ["hotel_book/closing:fill", "hotel_book/book:close"],
          ["hotel_book/book:close.follows", "hotel_book/book:close.sells",
           "auction_core/auction:act.sells"],
-         ["hotel_book/sells_at_own_bid", "hotel_book/sells_at_seventeenth_price"],
+         ["hotel_book/sells_at_own_bid", "hotel_book/sells_at_seventeenth_price",
+          "hotel_book/units_kept_after_closing"],
          ["sixteenth_price_is_paid_for_all", "fifteen_units_are_sold_at_0",
           "sixty_four_rooms_are_sold"]),
     Rule("Tickets",
          "the partner of an arriving unit, and the price",
+         ["GAME/Where this differs from TAC Classic"],
          ["auction_rules/TicketMatch:partner", "auction_rules/TicketMatch:ticket_trades"],
          ["ticket_book/matching:partner", "ticket_book/matching:match_unit"],
          ["ticket_book/book:bid.follows", "ticket_book/book:bid.priced"],
-         ["ticket_book/trades_at_arriving_price", "ticket_book/later_unit_first_at_equal_price"],
+         ["ticket_book/trades_at_arriving_price"],
          ["trade_is_at_the_standing_price", "largest_bid_is_taken"]),
     Rule("Tickets",
          "nobody trades with itself",
+         [],
          ["auction_core/Laws:HasNoSelfTrade"],
          ["ticket_book/matching:partner"],
          ["ticket_book/book:bid.with_others", "auction_core/auction:act.parties"],
@@ -174,6 +200,7 @@ RULES = [
          ["new_bid_does_not_meet_the_old_one"]),
     Rule("Tickets",
          "tickets may be sold short",
+         ["PROTOCOL/Replies"],
          ["auction_rules/Effects:holding"],
          ["trade_ledger/good_book:apply"],
          ["auction_core/auction:act.sum"],
@@ -181,6 +208,7 @@ RULES = [
          ["holding_may_be_negative"]),
     Rule("Boards",
          "what a board shows",
+         ["PROTOCOL/Replies"],
          ["auction_rules/Board:board"],
          ["auction_core/book:board"],
          ["auction_core/book:board.board", "auction_core/auction:act.uncrossed"],
@@ -188,63 +216,92 @@ RULES = [
          ["closed_board_shows_the_closing_ask"]),
     Rule("The schedule",
          "the 480 calls of the clock",
+         ["PROTOCOL/How an agent knows the time", "FORMATS/Game file"],
          ["game_text/Schedule:schedule", "game_text/Schedule:clock_calls"],
          ["clock_events/calls:schedule", "clock_events/clock:run_clock"],
          ["clock_events/clock:run_clock.calls"],
          ["clock_events/closes_hotels_backwards", "clock_events/skips_calls_of_lapsed_tick"],
-         ["link_tests/clocks:clock_makes_the_calls_of_lapsed_ticks_too"]),
+         ["clock_events/Worked:all_calls", "clock_events/Worked:others_publish",
+          "link_tests/clocks:clock_makes_the_calls_of_lapsed_ticks_too"]),
+    Rule("The schedule",
+         "the order in which the hotels close",
+         ["FORMATS/Game file", "FORMATS/Made games"],
+         ["game_text/ClosingOrders:IsOrder", "game_text/Schedule:hotel_calls_at",
+          "draw_maker/ClosingOrders:made_order"],
+         ["clock_events/calls:hotel_call", "game_text/closing_orders:order_of",
+          "draw_maker/closing_orders:draw_order"],
+         ["clock_events/calls:schedule", "game_text/closing_orders:order_of",
+          "draw_maker/closing_orders:draw_order.value"],
+         ["clock_events/closes_hotels_backwards"],
+         ["clock_events/Worked:first_hotel_closes", "clock_events/Worked:last_hotel_closes",
+          "clock_events/Worked:third_hotel"]),
     Rule("Cash",
          "each entry with trades has one post",
+         ["FORMATS/The histories"],
          ["trade_ledger/Posts:Matched"],
          ["floor/desk:clock_call"],
          ["floor/floor:close.matched"],
          ["floor/never_posts", "floor/posts_twice", "floor/posts_for_another"],
-         ["auction_tests/floors:tickets_are_traded_and_posted"]),
+         ["worked_rows/Cash:posts_match_in_any_order",
+          "auction_tests/floors:tickets_are_traded_and_posted"]),
     Rule("Cash",
          "the nets of a post",
+         ["FORMATS/The histories"],
          ["auction_rules/Effects:nets"],
          ["auction_core/effects:nets"],
          ["auction_core/auction:act.struck"],
-         ["auction_core/turns_sign_of_nets"],
+         ["auction_core/strikes_no_nets"],
          ["two_flights_and_a_ticket_cost_660", "nets_add_up_to_0"]),
     Rule("Cash",
          "a reading of cash",
+         ["PROTOCOL/Requests", "PROTOCOL/Replies"],
          ["trade_ledger/CashHistory:cash_reply_of", "trade_ledger/CashHistory:IsLegalCash"],
          ["trade_ledger/cash_book:act"],
          ["floor/floor:close.cash"],
          ["trade_ledger/answers_from_older_state"],
-         ["auction_tests/cash:callers_take_turns_at_the_cash_book"]),
+         ["worked_rows/Cash:reading_sums_the_posts_before_it",
+          "auction_tests/cash:callers_take_turns_at_the_cash_book"]),
     Rule("Packages",
          "what a package is, and what it uses",
+         ["FORMATS/A best allocation"],
          ["packages/Packages:is_package", "packages/Packages:use_of"],
          ["packages/listing:package", "packages/goods_used:uses"],
          ["packages/listing:package", "packages/goods_used:uses"],
          ["packages/rooms_of_both_hotels", "packages/seat_out_on_last_day",
           "packages/package_392_missing"],
-         ["allocation_tests/trips:museum_trip_is_worth_1200_and_uses_four_goods"]),
+         ["worked_rows/Trips:museum_trip_uses_four_goods", "worked_rows/Trips:no_packages",
+          "allocation_tests/trips:museum_trip_is_worth_1200_and_uses_four_goods"]),
     Rule("Packages",
          "what a package is worth",
+         ["PROTOCOL/Admission"],
          ["packages/Packages:utility_of"],
          ["packages/utilities:utility"],
          ["packages/utilities:utility"],
          ["packages/early_days_are_free"],
-         ["allocation_tests/trips:museum_trip_is_worth_1200_and_uses_four_goods"]),
+         ["packages/Worked:museum_trip", "worked_rows/Trips:long_trip_is_worth_830",
+          "allocation_tests/trips:museum_trip_is_worth_1200_and_uses_four_goods"]),
     Rule("Scores",
          "the best total of a feasible allocation",
+         ["FORMATS/A best allocation", "FORMATS/The sheet"],
          ["packages/BestTotal:IsFeasible", "packages/BestTotal:IsBest"],
          ["allocator/solving:solve"],
          ["allocator/solving:solve"],
          ["allocator/one_ticket_for_two", "allocator/stops_at_first_allocation"],
-         ["allocation_tests/allocations:accounts_have_their_best_totals_and_print_them_first"]),
+         ["worked_rows/Trips:second_traveller_has_no_seat",
+          "allocation_tests/allocations:accounts_have_their_best_totals_and_print_them_first"]),
     Rule("Scores",
          "the score, and the penalty for tickets short",
+         ["FORMATS/The sheet", "GAME/Where this differs from TAC Classic"],
          ["score_sheet/Score:score_of", "score_sheet/Score:short_of"],
          ["score_sheet/scores:short", "score_sheet/joining:sheet"],
          ["score_sheet/scores:short", "score_sheet/joining:sheet"],
          ["score_sheet/forgets_the_shortage", "score_sheet/counts_flights_and_rooms_short"],
-         ["auction_tests/scores:few_calls_are_settled_and_scored"]),
+         ["worked_rows/Scores:three_tickets_short",
+          "worked_rows/Scores:two_tickets_short_cost_400",
+          "tacd/play_tests:games_are_made_played_and_scored"]),
     Rule("Judging a log",
          "a sound log",
+         ["FORMATS/The audit of a log", "AUDIT/"],
          ["log_reader/SoundLog:IsSound"],
          ["log_audit/auditing:audit_log"],
          ["log_audit/auditing:audit_log"],
@@ -252,12 +309,22 @@ RULES = [
          ["log_tests/audits:first_flaw_of_a_changed_log_is_told"]),
     Rule("Limits",
          "1024 calls of an agent, 64 of the clock",
+         ["PROTOCOL/Limits"],
          ["auction_rules/Legal:cap"],
          ["floor/desk:bid"],
          ["floor/desk:bid"],
          ["floor/spent_one_call_early"],
          ["auction_tests/floors:calls_are_spent_after_1024"]),
 ]
+
+INTRODUCTION = """\
+A row for each rule of `docs/GAME.md`: the pages that tell it in words, its definition, the code
+that carries it out, the clause that ties the two, an edit that the clause refuses (a wrong body,
+which fails the gate if it is still proved), and a worked row that computes, or a test. Whoever
+changes a rule changes each of them, and its choice in `docs/DECISIONS.md`. `checks/reading.py
+--write` makes this page, and fails if one of these places is not there."""
+
+OTHERS = ["FORMATS/Game script"]  # headings of other pages that have rules, with their page
 
 UNRULED = {"Where this differs from TAC Classic"}  # headings of GAME.md that repeat rules
 
@@ -273,16 +340,42 @@ def place_of(kind: str, place: str) -> Tuple[str, Optional[int], str]:
         return file, line_of(file, re.escape(place) + " :"), place
     module, name = place.split(":")
     crate, path = module.split("/", 1)
+    if kind == "row" and os.path.exists(os.path.join(CRATES, crate, "proofs", path + ".antt")):
+        file = os.path.join(CRATES, crate, "proofs", path + ".antt")
+        return file, line_of(file, re.escape(name) + " :"), name
     if kind == "definition":
         file = os.path.join(CRATES, crate, "specs", path + ".antt")
         pattern = r"\s*(?:(?:pub|abbrev|unfoldable|record|data) )*%s[ :]" % re.escape(name)
         return file, line_of(file, pattern) if os.path.exists(file) else None, name
     file = os.path.join(CRATES, crate, "src", path + ".rt")
     call, _, clause = name.partition(".")
-    line = line_of(file, r"\s*(?:pub(?:\(\w+\))? )?(?:const )?fn %s\b" % call) if os.path.exists(file) else None
+    line = None
+    if os.path.exists(file):
+        line = line_of(file, r"\s*(?:pub(?:\(\w+\))? )?(?:const )?fn %s\b" % call)
     if line and clause:
         line = line_of(file, r"\s*ensures %s \{" % clause, line)
     return file, line, name
+
+
+def words_cell(rule: Rule, faults: List[str]) -> str:
+    """Links to where a rule is told: its heading of GAME.md, and the other pages."""
+    shown = []
+    for place in [f"GAME/{rule.heading}", *rule.words]:
+        document, heading = place.split("/", 1)
+        with open(os.path.join(ROOT, "docs", document + ".md"), encoding="utf-8") as page:
+            there = not heading or re.search(r"^##+ %s$" % re.escape(heading), page.read(), re.M)
+        if not there:
+            faults.append(f"rules.py: docs/{document}.md has no heading {heading}")
+        if heading:
+            shown.append(f"[{document}, {heading}]({document}.md#{anchor_of(heading)})")
+        else:
+            shown.append(f"[{document}]({document}.md)")
+    return " · ".join(shown)
+
+
+def anchor_of(heading: str) -> str:
+    """The anchor of a heading on a page."""
+    return re.sub(r"[^a-z0-9 -]", "", heading.lower()).replace(" ", "-")
 
 
 def cell(kind: str, places: List[str], faults: List[str]) -> str:
@@ -301,19 +394,17 @@ def rules_page() -> Tuple[str, List[str]]:
         headings = re.findall(r"^###? (.*)$", game.read(), re.M)
     faults = [f"rules.py: no rule of the heading {heading} of docs/GAME.md" for heading in headings
               if heading not in UNRULED and not any(rule.heading == heading for rule in RULES)]
-    text = ["# Where each rule stands", "",
-            "A row for each rule of `docs/GAME.md`: its definition, the code that carries it out, the clause that",
-            "ties the two, an edit that the clause refuses (a wrong body, which fails the gate if it is still",
-            "proved), and a worked row that computes, or a test. `checks/reading.py --write` makes this page, and",
-            "fails if one of these places is not there.", "",
-            "| rule | definition | code | clause | refused edit | worked row or test |", "|---|---|---|---|---|---|"]
+    text = ["# Where each rule stands", "", INTRODUCTION, "",
+            "| rule | in words | definition | code | clause | refused edit | worked row or test |",
+            "|---|---|---|---|---|---|---|"]
     heading = ""
-    for rule in sorted(RULES, key=lambda one: headings.index(one.heading) if one.heading in headings else -1):
+    place = {heading: number for number, heading in enumerate(headings)}
+    for rule in sorted(RULES, key=lambda one: place.get(one.heading, -1)):
         if rule.heading != heading:
             heading = rule.heading
-            anchor = re.sub(r"[^a-z0-9 -]", "", heading.lower()).replace(" ", "-")
-            text.append(f"| **[{heading}](GAME.md#{anchor})** | | | | | |")
-        cells = [cell("definition", rule.definitions, faults), cell("code", rule.code, faults), cell("clause", rule.clauses, faults),
+            text.append(f"| **[{heading}](GAME.md#{anchor_of(heading)})** | | | | | | |")
+        cells = [words_cell(rule, faults), cell("definition", rule.definitions, faults),
+                 cell("code", rule.code, faults), cell("clause", rule.clauses, faults),
                  cell("edit", rule.edits, faults), cell("row", rule.rows, faults)]
         text.append(f"| {rule.rule} | {' | '.join(cells)} |")
     return "\n".join(text) + "\n", faults

@@ -1,0 +1,192 @@
+"""Tables of docs/READING.md that save a reader time: how long each part takes, the rules by kinds
+of auction, the causes of a session's end in words, and what has no worked row."""
+
+import os
+import re
+from typing import Dict, Iterable, List, Set, Tuple
+
+from definitions import ROOT, Definitions, Target
+from reading_guides import CAUSE_ROWS, MINUTES, RULES_MAP, SKIPPED, SKIPS
+from reading_rows import ROWS, Lemmas
+from reading_text import Rows, anchor_of, line_count, link, target_of
+
+
+def skipped_of(
+    definitions: Definitions,
+    start: Iterable[Target],
+    entries: Iterable[Target],
+    found: Iterable[Target],
+) -> Dict[Target, str]:
+    """What of these definitions may be left out for code 0, with why: what is said to be, and what
+    that alone leads to."""
+    said = {target_of(full): why for full, why in SKIPPED.items()}
+    needed = definitions.reached(start, [*entries, *said])
+    return {
+        (path, name): said.get((path, name), "only what may be left out uses it")
+        for path, name in found
+        if path in definitions.modules and ((path, name) in said or (path, name) not in needed)
+    }
+
+
+def times_table(counts: Dict[str, Tuple[int, int]]) -> List[str]:
+    """How long each chapter takes, how much of it is for code 0, and who may leave it out."""
+    text = [
+        "| chapter | lines | for code 0 | minutes | may be left out by |",
+        "|---|---|---|---|---|",
+    ]
+    for part, minutes in MINUTES.items():
+        if part in counts:
+            text.append(
+                f"| [{part}](#{anchor_of(part)}) | {counts[part][0]} | {counts[part][1]} |"
+                f" {minutes} | {SKIPS[part]} |"
+            )
+        else:
+            text.append(f"| {part} | | | {minutes} | {SKIPS[part]} |")
+    return text
+
+
+def causes_table() -> List[str]:
+    """The table of the causes of a session's end, as docs/PROOFS.md has it."""
+    with open(os.path.join(ROOT, "docs", "PROOFS.md"), encoding="utf-8") as proofs:
+        lines = [line.strip() for line in proofs]
+    first = next(at for at, line in enumerate(lines) if line.startswith("| cause | what the link"))
+    return lines[first : lines.index("", first)]
+
+
+def rowless_table(
+    definitions: Definitions,
+    chapters: Dict[str, List[str]],
+    rows: Rows,
+    reached: Set[Target],
+    skipped: Dict[Target, str],
+) -> List[str]:
+    """The definitions of each chapter that are none of those to which a worked row leads, with
+    their lines; those that may be left out with a sign."""
+    text = ["| chapter | lines | definitions |", "|---|---|---|"]
+    for heading, paths in chapters.items():
+        alone = {
+            path: [name for name in rows[path] if (path, name) not in reached] for path in paths
+        }
+        found = [
+            (definitions.modules[path], one)
+            for path in paths
+            for one in sorted(
+                (definitions.modules[path].definitions[name] for name in alone[path]),
+                key=lambda each: each.line,
+            )
+        ]
+        links = [
+            link(one.name, module.file, one.line)
+            + (" °" if (module.path, one.name) in skipped else "")
+            for module, one in found
+        ]
+        if links:
+            text.append(
+                f"| {heading} | {line_count(definitions, alone, paths)} | {' · '.join(links)} |"
+            )
+    return text
+
+
+def cases_without_row(
+    definitions: Definitions, rows: Rows, lemmas: Lemmas
+) -> Dict[Target, List[str]]:
+    """Of each statement by cases to which a row leads, the constructors that have an equation of
+    their own and that stand in no lemma that leads to it, nor in the lemma's helpers."""
+    said: Dict[Target, str] = {}
+    for lemma in (each for row in ROWS for each in row.lemmas):
+        read = lemmas.read(definitions, lemma)
+        text = "\n".join(sum(lemmas.helpers(lemma), []) + lemmas.statement(lemma))
+        for target in read[2] if read else ():
+            said[target] = said.get(target, "") + text + "\n"
+    missing: Dict[Target, List[str]] = {}
+    for path, names in rows.items():
+        for name in names:
+            head, *lines = definitions.modules[path].definitions[name].lines
+            if (path, name) not in said or not head.rstrip().endswith("Type 0"):
+                continue
+            for line in lines:
+                equation = re.match(r"\s*%s (.*?) =" % re.escape(name), line)
+                for word in re.findall(r"\b[A-Z]\w*", equation.group(1) if equation else ""):
+                    if not re.search(r"\b%s\b" % word, said[path, name]):
+                        missing.setdefault((path, name), []).append(word)
+    return missing
+
+
+def cases_sentence(definitions: Definitions, rows: Rows) -> str:
+    """Which cases of statements that have rows have none themselves."""
+    found = cases_without_row(definitions, rows, Lemmas())
+    told = "; ".join(
+        f"`{name}`: {', '.join(f'`{word}`' for word in words)}"
+        for (_, name), words in sorted(found.items())
+    )
+    return (
+        f"Of these statements by cases other cases have a row, and these have none: {told}."
+        if found
+        else "Of each statement by cases that a row tries, each case that it names has a row."
+    )
+
+
+def row_words(definitions: Definitions, rows: Rows) -> List[str]:
+    """The names of definitions that are in rows at these definitions, and in no chapter; sorted,
+    each as CRATE/MODULE.NAME."""
+    lemmas, found = Lemmas(), set()
+    for row in ROWS:
+        path, name = target_of(row.tries[0])
+        if name in rows.get(path, []):
+            for lemma in row.lemmas:
+                found |= {
+                    f"{used.replace('.specs.', '/')}.{word}"
+                    for used, word in lemmas.borrowed(definitions, lemma)
+                    if word not in rows.get(used, [])
+                }
+    return sorted(found)
+
+
+def glance_table() -> Tuple[List[str], List[str]]:
+    """For each cause of a session's end the rows that show it and those that exclude it; and what
+    of that is not there."""
+    lemmas, missing = Lemmas(), []
+    text = ["| cause | a session that ends so | one that does not |", "|---|---|---|"]
+    for cause, shown in CAUSE_ROWS:
+        cells = []
+        for names in shown:
+            links = []
+            for name in names:
+                module = lemmas.module("worked_rows/Ends")
+                if module and name in module.definitions:
+                    links.append(link(name, module.file, module.definitions[name].line))
+                else:
+                    missing.append(f"there is no lemma worked_rows/Ends:{name} for the causes")
+            cells.append(" · ".join(links))
+        text.append(f"| `{cause}` | {' | '.join(cells)} |")
+    return text, missing
+
+
+def map_table(definitions: Definitions, rows: Rows) -> Tuple[List[str], List[str]]:
+    """The rules by kinds of auction; and what of that is not on the page."""
+    text, missing = ["| question | flights | hotels | tickets |", "|---|---|---|---|"], []
+    for question, cells in RULES_MAP:
+        shown = []
+        for words, names in cells:
+            links = []
+            for full in names:
+                path, name = target_of(full)
+                if name in rows.get(path, []):
+                    module = definitions.modules[path]
+                    links.append(link(name, module.file, module.definitions[name].line))
+                else:
+                    missing.append(f"{full} of the map of the rules has no row on the page")
+            shown.append(words.format(*links))
+        text.append(f"| {question} | {' | '.join(shown)} |")
+    return text, missing
+
+
+def only_beside(definitions: Definitions, rows: Rows, path: str, name: str) -> List[str]:
+    """What a name behind which a part beside begins uses, and that stands in that part alone."""
+    return [
+        word
+        for used, word in definitions.modules[path].targets(name)
+        if definitions.given.get(used, used) in definitions.modules
+        and word in definitions.modules[definitions.given.get(used, used)].definitions
+        and word not in rows.get(definitions.given.get(used, used), [])
+    ]

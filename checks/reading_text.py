@@ -1,0 +1,85 @@
+"""Paragraphs, lists and links of docs/READING.md, and counts of the lines of definitions."""
+
+import os
+import re
+import textwrap
+from typing import Dict, Iterable, List
+
+from definitions import ROOT, Definitions, Target
+
+Rows = Dict[str, List[str]]  # the names that are used of each module
+
+
+def filled(text: str) -> str:
+    """A paragraph in lines of at most 100 columns."""
+    return textwrap.fill(
+        " ".join(text.split()), 100, break_long_words=False, break_on_hyphens=False
+    )
+
+
+def filled_items(text: str) -> str:
+    """The items of a list, each in lines of at most 100 columns."""
+    return "\n".join(
+        textwrap.fill(
+            " ".join(item.split()),
+            100,
+            initial_indent="- ",
+            subsequent_indent="  ",
+            break_long_words=False,
+            break_on_hyphens=False,
+        )
+        for item in re.split(r"(?:^|\n)- ", text)
+        if item
+    )
+
+
+def filled_blocks(text: str) -> str:
+    """Paragraphs and lists, with an empty line between them, in lines of at most 100 columns."""
+    blocks = []
+    for block in text.strip().split("\n\n"):
+        items = []
+        for item in re.split(r"\n(?=- |\d\. )", block):
+            sign, words = re.match(r"(- |\d\. )?(.*)", item, re.S).groups("")
+            items.append(
+                textwrap.fill(
+                    " ".join(words.split()),
+                    100,
+                    initial_indent=sign,
+                    subsequent_indent=" " * len(sign),
+                    break_long_words=False,
+                    break_on_hyphens=False,
+                )
+            )
+        blocks.append("\n".join(items))
+    return "\n\n".join(blocks)
+
+
+def link(name: str, file: str, line: int) -> str:
+    return f"[`{name}`](../{os.path.relpath(file, ROOT)}#L{line})"
+
+
+def anchor_of(heading: str) -> str:
+    """The anchor of a heading of a page."""
+    return re.sub(r"[^a-z0-9 -]", "", heading.lower()).replace(" ", "-")
+
+
+def rows_of(definitions: Definitions, found: Iterable[Target]) -> Rows:
+    rows: Rows = {}
+    for path, name in found:
+        if path in definitions.modules:
+            rows.setdefault(path, []).append(name)
+    return rows
+
+
+def line_count(definitions: Definitions, rows: Rows, paths: Iterable[str]) -> int:
+    return sum(
+        len(definitions.modules[path].definitions[name].lines)
+        for path in paths
+        for name in rows[path]
+    )
+
+
+def target_of(full: str) -> Target:
+    """The target of a name that is written as CRATE/MODULE.NAME."""
+    place, name = full.rsplit(".", 1)
+    return place.replace("/", ".specs.", 1), name

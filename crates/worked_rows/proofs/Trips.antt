@@ -1,0 +1,95 @@
+-- What trips use and are worth, which lists are no trip, and two allocations over one seat.
+use Rattle.std.proofs.Common.{◌≡◌, ◌<◌, ◌≤◌, ℕ, ℤ, true, false, [], ◌∷◌, List, pos, negsuc, map, refl, arith}
+use Rattle.std.specs.Prelude.{◌++◌, ◌-◌, replicate, filter, nat_lt}
+use Rattle.std.specs.List.{range_with_len}
+use Rattle.game_text.specs.Accounts.{AccountFile}
+use Rattle.packages.specs.declared.travel_packages.Package.{Package}
+use Rattle.packages.specs.declared.travel_packages.Package.TheVariants.{None, Trip}
+use Rattle.packages.specs.Packages.{is_package, use_of, utility_of}
+use Rattle.packages.specs.Stocks.{stock_of}
+use Rattle.packages.specs.BestTotal.{used_by, total_of, IsFeasible}
+
+-- Shoreline Shanties from day 1 to day 5, with alligator wrestling on night 1 and the amusement park on night 3
+abbrev long_trip : Package
+long_trip = Trip 0 1 5 (1 ∷ 3 ∷ 0 ∷ [])
+
+-- the goods that a package uses
+abbrev goods_of : Package → List ℕ
+goods_of p = filter (λ good. nat_lt 0 (use_of p good)) (range_with_len 0 28)
+
+museum_trip_uses_four_goods : goods_of (Trip 1 2 3 (0 ∷ 0 ∷ 2 ∷ [])) ≡ 1 ∷ 5 ∷ 13 ∷ 25 ∷ []
+museum_trip_uses_four_goods = refl
+
+long_trip_uses_eight_goods : goods_of long_trip ≡ 0 ∷ 7 ∷ 8 ∷ 9 ∷ 10 ∷ 11 ∷ 16 ∷ 22 ∷ []
+long_trip_uses_eight_goods = refl
+
+-- 1000, less 100 for each of the two days, and the values 10 and 20; no premium in the other hotel
+long_trip_is_worth_830 : utility_of (record { arrive = 2; depart = 4; premium = 80; values = 10 ∷ 20 ∷ 30 ∷ [] }) long_trip ≡ 830
+long_trip_is_worth_830 = refl
+
+staying_at_home_is_worth_0 : utility_of (record { arrive = 2; depart = 4; premium = 80; values = 10 ∷ 20 ∷ 30 ∷ [] }) None ≡ 0
+staying_at_home_is_worth_0 = refl
+
+good_packages : map is_package (None ∷ long_trip ∷ Trip 1 2 3 (0 ∷ 0 ∷ 2 ∷ []) ∷ []) ≡ true ∷ true ∷ true ∷ []
+good_packages = refl
+
+-- a third hotel, no night, a sixth day, a ticket on the day of departure, two tickets on one night, and a fourth ticket type
+no_packages : map is_package
+    (Trip 2 1 2 (0 ∷ 0 ∷ 0 ∷ []) ∷ Trip 0 2 2 (0 ∷ 0 ∷ 0 ∷ []) ∷ Trip 0 4 6 (0 ∷ 0 ∷ 0 ∷ []) ∷ Trip 0 1 2 (2 ∷ 0 ∷ 0 ∷ []) ∷ Trip 0 1 3 (1 ∷ 1 ∷ 0 ∷ []) ∷ Trip 0 1 2 (0 ∷ 0 ∷ 0 ∷ 0 ∷ []) ∷ [])
+    ≡ replicate 6 false
+no_packages = refl
+
+-- one seat in on day 1, two seats out on day 2, two rooms of Shoreline Shanties on night 1, and one museum ticket owed for night 4
+abbrev one_seat : AccountFile
+one_seat = record {
+  clients = replicate 8 (record { arrive = 1; depart = 2; premium = 50; values = 0 ∷ 0 ∷ 0 ∷ [] });
+  holdings = pos 1 ∷ replicate 3 (pos 0) ++ (pos 2 ∷ replicate 3 (pos 0)) ++ (pos 2 ∷ replicate 7 (pos 0)) ++ (replicate 11 (pos 0) ++ negsuc 0 ∷ []);
+}
+
+-- the first clients travel, and the others stay at home
+abbrev travelling : ℕ → List Package
+travelling n = replicate n (Trip 0 1 2 (0 ∷ 0 ∷ 0 ∷ [])) ++ replicate (8 - n) None
+
+-- the goods of which an allocation uses more than there is
+abbrev lacking_for : List Package → List ℕ
+lacking_for allocation = filter (λ good. nat_lt (stock_of one_seat.holdings good) (used_by allocation good)) (range_with_len 0 28)
+
+one_traveller_is_feasible : lacking_for (travelling 1) ≡ []
+one_traveller_is_feasible = refl
+
+second_traveller_has_no_seat : lacking_for (travelling 2) ≡ 0 ∷ []
+second_traveller_has_no_seat = refl
+
+one_traveller_is_worth_1000 : total_of one_seat.clients (travelling 1) ≡ 1000
+one_traveller_is_worth_1000 = refl
+
+owed_ticket_is_none : stock_of one_seat.holdings 27 ≡ 0
+owed_ticket_is_none = refl
+
+-- an agent that holds these goods, eight of each being enough for all
+abbrev holder : List ℤ → AccountFile
+holder goods = record { clients = one_seat.clients; holdings = goods }
+
+no_trip_without_a_seat_in : IsFeasible (holder (pos 0 ∷ replicate 27 (pos 8))) (travelling 1) → ⊥
+no_trip_without_a_seat_in feasible = never (feasible.enough 0 first)
+  where
+    first : 0 < 28
+    first = omega arith
+
+    never : 1 ≤ 0 → ⊥
+    never below = omega (arith, below)
+
+no_museum_on_night_4_without_a_ticket : IsFeasible (holder (replicate 27 (pos 8) ++ negsuc 0 ∷ [])) (Trip 0 4 5 (0 ∷ 0 ∷ 4 ∷ []) ∷ replicate 7 None) → ⊥
+no_museum_on_night_4_without_a_ticket feasible = never (feasible.enough 27 last)
+  where
+    last : 27 < 28
+    last = omega arith
+
+    never : 1 ≤ 0 → ⊥
+    never below = omega (arith, below)
+
+seven_packages_are_too_few : IsFeasible (holder (replicate 28 (pos 8))) (replicate 7 None) → ⊥
+seven_packages_are_too_few feasible = never feasible.eight
+  where
+    never : ◌≡◌ {A = ℕ} 7 8 → ⊥
+    never e = omega (arith, e)
