@@ -1,16 +1,16 @@
 #!/usr/bin/env python3
 """Measures what the lobby adds to a request and its reply, and what it costs.
 
-    bench/lobby_cost.py
+    taskset -c 2 bench/lobby_cost.py --hosts-on 3
 
 One agent asks a quote every millisecond, or eight agents every two, in lock step with their
 replies: of the server itself, through the lobby with its journal, with the page, and with 50
 viewers of the page and one that hangs. The ways are taken in turn. It writes for each the
 microseconds of a request (median, 90th and 99th of 100), and the microseconds of a processor that
-the lobby spent for a request since the game began; at the end the size of the last journal.
+the lobby spent for a request since the game began; at the end the size of the last journal. With
+--hosts-on the server, the lobby and its page have a processor of their own, which needs Linux.
 """
 
-import argparse
 import contextlib
 import json
 import os
@@ -27,6 +27,7 @@ TOP = Path(__file__).resolve().parent.parent
 sys.path.insert(0, str(TOP / "python"))
 
 from geesefuton import program
+from geesefuton.arguments import Parser, whole
 from geesefuton.processes import Children, command, free_port
 
 PACE = 2000  # milliseconds; a round ends long before the game does
@@ -95,8 +96,17 @@ def view(port: int, is_reading: bool) -> None:
         time.sleep(0.1)
 
 
-def measure(way: str, agents: int, count: int, folder: Path) -> "Dict[str, float]":
-    """One round: microseconds of requests, and of the lobby's processor for one."""
+def measure(way: str, agents: int, count: int, folder: Path,
+            before: List[str]) -> "Dict[str, float]":
+    """One round: microseconds of requests, and of the lobby's processor for one.
+
+    Args:
+        way: One of `WAYS`.
+        agents: How many agents ask.
+        count: How many requests each of them makes.
+        folder: A folder for files.
+        before: Words that stand before those of the lobby or of the server.
+    """
     game, port, page = folder / "game", free_port(), free_port()
     game.write_text(program.make(42))
     journal = folder / f"{time.monotonic_ns()}.journal"
@@ -107,8 +117,8 @@ def measure(way: str, agents: int, count: int, folder: Path) -> "Dict[str, float
             words = [sys.executable, str(TOP / "tools/lobby"), str(game), str(port), str(PACE),
                      "--start", "2", "--after", "0", "--journal", str(journal)]
             words += ["--page", str(page)] if way != WAYS[1] else []
-        host = children.start(words, stdin=subprocess.DEVNULL, stdout=subprocess.DEVNULL,
-                              stderr=subprocess.DEVNULL)
+        host = children.start([*before, *words], stdin=subprocess.DEVNULL,
+                              stdout=subprocess.DEVNULL, stderr=subprocess.DEVNULL)
         meter = Meter(host.pid)
         meter.start()
         if way == WAYS[3]:
@@ -147,12 +157,14 @@ def leave(port: int, word: str) -> socket.socket:
 
 
 def main() -> int:
-    parser = argparse.ArgumentParser(description=__doc__,
-                                     formatter_class=argparse.RawDescriptionHelpFormatter)
-    parser.add_argument("--rounds", type=int, default=3, metavar="N", help="of each way; 3")
-    parser.add_argument("--requests", type=int, default=5000, metavar="N",
+    parser = Parser("lobby_cost", __doc__)
+    parser.add_argument("--rounds", type=whole(1), default=3, metavar="N", help="of each way; 3")
+    parser.add_argument("--requests", type=whole(1, 20000), default=5000, metavar="N",
                         help="of each agent in a round; 5000")
+    parser.add_argument("--hosts-on", type=whole(0, 4095), metavar="PROCESSOR",
+                        help="where server, lobby and page run; by default on any")
     given = parser.parse_args()
+    before = [] if given.hosts_on is None else ["taskset", "-c", str(given.hosts_on)]
     size = 0.0
     with Children() as children:
         folder = children.folder("lobby_cost")
@@ -160,7 +172,7 @@ def main() -> int:
             rows: Dict[str, List[Dict[str, float]]] = {way: [] for way in WAYS}
             for _ in range(given.rounds):
                 for way in WAYS:
-                    rows[way].append(measure(way, agents, given.requests, folder))
+                    rows[way].append(measure(way, agents, given.requests, folder, before))
                     size = rows[way][-1]["journal"] or size
             for way in WAYS:
                 line = [f"{key} {min(row[key] for row in rows[way]):.0f} to "

@@ -7,8 +7,9 @@ steady rate.
 Each game is a process of `tac serve` of its own; all agents are links of this process. An agent
 asks for quotes, and every fourth request is a bid for rooms. The output has the requests, the
 median and the 99th percentile of the time from a request to its reply, the memory that the servers
-have resident in sum and at most each, their share of one processor, how late the games ended after
-their 54 ticks, and how many of the logs are sound. It takes 54 times the pace and some seconds.
+have resident in sum and at most each, the processor time that they used, how late the games ended
+after their 54 ticks, and how many of the logs are sound. It takes 54 times the pace and some
+seconds.
 """
 
 import asyncio
@@ -29,7 +30,6 @@ from geesefuton.games import TICKS
 from geesefuton.processes import Children, free_port
 
 PAGE = os.sysconf("SC_PAGE_SIZE")
-TICK = os.sysconf("SC_CLK_TCK")
 MEGA = 1e6
 
 
@@ -117,15 +117,15 @@ def resident(process: int) -> int:
     return int(Path(f"/proc/{process}/statm").read_text().split()[1]) * PAGE
 
 
-def spent(process: int) -> float:
-    """The seconds of a processor that a process has used."""
-    words = Path(f"/proc/{process}/stat").read_text().rsplit(")", 1)[1].split()
-    return (int(words[11]) + int(words[12])) / TICK
+def spent() -> float:
+    """The seconds of a processor that all processes have used that were started here, and whose end
+    was seen."""
+    used = resource.getrusage(resource.RUSAGE_CHILDREN)
+    return used.ru_utime + used.ru_stime
 
 
-async def play(servers: List[Server], seconds: float, rate: float) -> Tuple[Seen, List[int], float]:
-    """Plays all games. Gives what agents saw, the bytes of each server late in the game, and the
-    seconds of a processor that all have used by then."""
+async def play(servers: List[Server], seconds: float, rate: float) -> Tuple[Seen, List[int]]:
+    """Plays all games. Gives what agents saw, and the bytes of each server late in the game."""
     seen = Seen()
     agents = asyncio.gather(*(agent(server, seat, seconds, rate, seen)
                               for server in servers for seat in range(8)))
@@ -133,10 +133,9 @@ async def play(servers: List[Server], seconds: float, rate: float) -> Tuple[Seen
     while not seen.times and not agents.done():
         await asyncio.sleep(0.05)
     await asyncio.wait([agents], timeout=0.9 * seconds)
-    processes = [server.process.pid for server in servers if server.process.poll() is None]
-    memory, processor = [resident(process) for process in processes], sum(map(spent, processes))
+    memory = [resident(server.process.pid) for server in servers if server.process.poll() is None]
     await agents
-    return seen, memory, processor
+    return seen, memory
 
 
 def main() -> int:
@@ -160,8 +159,10 @@ def main() -> int:
     with tempfile.TemporaryDirectory() as folder, Children() as children:
         servers = [start(tac, children, Path(folder), number, given.pace)
                    for number in range(given.games)]
-        seen, memory, processor = asyncio.run(play(servers, seconds, given.rate))
+        seen, memory = asyncio.run(play(servers, seconds, given.rate))
+        before = spent()
         statuses = [server.process.wait(60) for server in servers]
+        processor = spent() - before
         over = time.monotonic()
         sound = sum(run([tac, "audit", server.game, server.log], allowed=(0, 8, 9)).text
                     == "sound\n" for server in servers)
@@ -173,7 +174,7 @@ def main() -> int:
           f"percentile {1000 * times[int(0.99 * len(times))]:.2f} ms, longest "
           f"{1000 * times[-1]:.1f} ms")
     print(f"resident {sum(memory) / MEGA:.0f} MB in sum, {max(memory) / MEGA:.1f} MB at most; "
-          f"servers used {processor / (0.9 * seconds):.3f} of one processor")
+          f"servers used {processor:.2f} s of a processor, {processor / seconds:.3f} of one")
     print(f"the last server ended {late:.2f} s after its ticks; statuses other than 0: "
           f"{sum(status != 0 for status in statuses)}; sound {sound} of {given.games}")
     return 0 if sound == given.games else 1

@@ -38,42 +38,64 @@ impl Good {
     pub fn hotel_night(hotel: u8, night: u8) -> Good { Good(8 + 4 * hotel + night - 1) }
     pub fn ticket_night(kind: u8, night: u8) -> Good { Good(16 + 4 * kind + night - 1) }
 }
-pub mod limits { pub const DUAL_PRICE: u16 = 14_001; pub const BEST_TOTAL: u32 = 14_000; }
+pub mod limits {
+    pub const AGENTS: u8 = 8;
+    pub const GOODS: u8 = 28;
+    pub const DUAL_PRICE: u16 = 14_001;
+    pub const BEST_TOTAL: u32 = 14_000;
+}
 pub struct AllocError;
 pub struct AllocFailed<T>(pub T);
 pub struct Memory;
 impl From<AllocError> for Memory { fn from(_: AllocError) -> Memory { Memory } }
 """,
-    "game_text.rs": "pub struct Account { pub clients: [crate::tac_base::Client; 8], pub holdings: [i32; 28] }\n",
-    "bound_cert.rs": """pub enum CertNode { Leaf(crate::packages::Prices), Split { client: u8, feature: u8, children: Vec<CertNode> } }
+    "game_text.rs": """pub struct Account {
+    pub clients: [crate::tac_base::Client; 8],
+    pub holdings: [i32; 28],
+}
+""",
+    "bound_cert.rs": """pub enum CertNode {
+    Leaf(crate::packages::Prices),
+    Split { client: u8, feature: u8, children: Vec<CertNode> },
+}
 pub struct Cert { pub root: CertNode }
 impl CertNode {
     /// The lines and the leaves.
     pub fn count(&self) -> (usize, usize) {
         match self {
             CertNode::Leaf(_) => (1, 1),
-            CertNode::Split { children, .. } => children.iter().map(CertNode::count).fold((1, 0), |sum, one| (sum.0 + one.0, sum.1 + one.1)),
+            CertNode::Split { children, .. } => children
+                .iter()
+                .map(CertNode::count)
+                .fold((1, 0), |sum, one| (sum.0 + one.0, sum.1 + one.1)),
         }
     }
 }
 """,
     "main.rs": """#![allow(unused)]
-mod tac_base; mod game_text; mod bound_cert; mod packages; mod relaxation; mod dual_bound; mod allocator;
+mod tac_base; mod game_text; mod bound_cert; mod packages;
+mod relaxation; mod dual_bound; mod allocator;
 
 fn read(file: &str) -> game_text::Account {
     let text = std::fs::read_to_string(file).unwrap();
-    let rows: Vec<Vec<i32>> = text.lines().filter(|line| line.starts_with("hold") || line.starts_with("client"))
+    let rows: Vec<Vec<i32>> = text.lines()
+        .filter(|line| line.starts_with("hold") || line.starts_with("client"))
         .map(|line| line.split(' ').skip(1).map(|word| word.parse().unwrap()).collect()).collect();
     let clients: Vec<_> = rows[1..].iter().map(|row| tac_base::Client {
-        arrive: row[1] as u8, depart: row[2] as u8, premium: row[3] as u8, values: [row[4] as u8, row[5] as u8, row[6] as u8],
+        arrive: row[1] as u8, depart: row[2] as u8, premium: row[3] as u8,
+        values: [row[4] as u8, row[5] as u8, row[6] as u8],
     }).collect();
-    game_text::Account { clients: clients.try_into().ok().unwrap(), holdings: rows[0].clone().try_into().unwrap() }
+    game_text::Account {
+        clients: clients.try_into().ok().unwrap(),
+        holdings: rows[0].clone().try_into().unwrap(),
+    }
 }
 
 /// The leaves of plain branching; from ten million on it splits no more.
 fn plain_leaves(left: &relaxation::Relaxation, total: u32, leaves: &mut u64) {
     let priorities = left.priorities();
-    let greatest = (0..32).fold(0, |most, place| if priorities[place] > priorities[most] { place } else { most });
+    let greatest = (0..32)
+        .fold(0, |most, place| if priorities[place] > priorities[most] { place } else { most });
     if *leaves >= 10_000_000 || !left.is_worth_more(total) || priorities[greatest] == 0.0 {
         *leaves += 1;
         return;
@@ -150,8 +172,8 @@ def as_rust(text: str, crate: str) -> str:
     text = re.sub(r"use std::(marker::Model|alloc::[^;]*|num::saturating_f64_to_u16);\n", "", text)
     text = re.sub(r"\bsaturating_f64_to_u16\(", "(|number: f64| number as u16)(", text)
     text = re.sub(r"derive\(([^)]*)\)", derived, text)
-    text = re.sub(r"\balloc: Global,|\balloc,", "", text)
-    text = text.replace("Vec::new(alloc)", "Vec::new()")
+    text = re.sub(r"(pub\(crate\) )?\balloc: Global,|\balloc,", "", text)
+    text = re.sub(r"Vec::new\((search\.)?alloc\)", "Vec::new()", text)
     text = text.replace("children.push(child)?", "children.push(child)")
     text = text.replace("crate::", f"crate::{crate}::").replace("pub(crate)", "pub")
     text = re.sub(r"\b(AllocError|AllocFailed)\b", r"crate::tac_base::\1", text)

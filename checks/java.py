@@ -29,6 +29,7 @@ LAYER = TOP / "examples/java"
 TESTS = TOP / "checks/java"
 FEW_ROOMS = TOP / "examples/few_rooms.game"
 PACE = 250  # milliseconds
+SLOW_PACE = 750  # of the layer's test, which asks much before the first auctions close
 PATIENCE = 120  # seconds that a game may take beyond its ticks, on a busy machine
 LINGER = 20  # seconds that agents have to end after their game
 NO_FILE = "-XX:-UsePerfData"  # otherwise a JVM leaves a file in the folder of temporary ones
@@ -55,13 +56,15 @@ def build(children: Children, classes: Path) -> None:
 class Game:
     """A served game, whose files are in a folder of its own."""
 
-    def __init__(self, children: Children, place: Path, classes: Path, game: Path) -> None:
+    def __init__(self, children: Children, place: Path, classes: Path, game: Path,
+                 pace: int = PACE) -> None:
         place.mkdir()
+        self.pace = pace
         self.children, self.place, self.classes, self.game = children, place, classes, game
         self.port = free_port()
         self.agents: Dict[str, "subprocess.Popen[bytes]"] = {}
         self.log = place / "log"
-        words = [program.find(), "serve", str(game), str(self.port), str(PACE)]
+        words = [program.find(), "serve", str(game), str(self.port), str(pace)]
         with self.log.open("wb") as log:
             self.server = children.start(words, stdout=log)
 
@@ -87,7 +90,7 @@ class Game:
             java: the seats of the Java agents.
         """
         try:
-            status = self.server.wait(PATIENCE + TICKS * PACE / 1000)
+            status = self.server.wait(PATIENCE + TICKS * self.pace / 1000)
         except subprocess.TimeoutExpired:
             yield "the server had not ended"
             return
@@ -132,7 +135,7 @@ def play(children: Children, place: Path) -> Iterator[str]:
             mixed.start_java(seat, "TripAgent")
             mixed.start_python(seat + 1, PYTHON[seat // 2])
         yield from (f"{name}: {fault}" for fault in mixed.faults([0, 2, 4, 6]))
-    tested = Game(children, place / "tested", classes, made)
+    tested = Game(children, place / "tested", classes, made, SLOW_PACE)
     tested.start_java(0, "LayerTest")
     yield from (f"the layer's test: {fault}" for fault in tested.faults([0]))
     told = (place / "tested/seat0").read_text()

@@ -1,14 +1,14 @@
 #!/usr/bin/env python3
 """Plays games through the lobby, and recovers them from their journals.
 
-    checks/journals.py --games N
+    checks/journals.py --games N --at-once M
 
 N served games, whose agents crash, hang, flood and come back, must be recovered with the histories
 and the sheet of the served log, byte for byte. In N games lobby and server are killed at a random
 moment: the recovered log must be sound, and hold every entry whose reply an agent has. And each
 journal of the served games is cut at random places, with the last replies of some agents taken
-away: what is recovered must be sound. It is run by hand, takes some 30 seconds a game, and ends
-with 0 if all is right, and with 1 if not.
+away: what is recovered must be sound. It is run by hand, takes some 30 seconds a seed, M seeds at a
+time, and ends with 0 if all is right, and with 1 if not.
 """
 
 import argparse
@@ -20,7 +20,8 @@ import signal
 import subprocess
 import sys
 import time
-from collections import defaultdict
+from collections import Counter, defaultdict
+from concurrent.futures import ThreadPoolExecutor
 from pathlib import Path
 from typing import Dict, List, Optional, Sequence
 
@@ -28,13 +29,21 @@ TOP = Path(__file__).resolve().parent.parent
 sys.path.insert(0, str(TOP / "python"))
 
 from geesefuton import program
+from geesefuton.arguments import Parser, whole
 from geesefuton.dialects import asked_by, reply_of
 from geesefuton.processes import Children, command, free_port
 
 LOBBY, RECOVER = TOP / "tools/lobby", TOP / "tools/recover"
 AGENTS = TOP / "examples/agents"
+MOST = 300.0  # seconds that a served game may take
 SERVED = ["calm", "pipe", "crash", "vanish", "hang", "flood", "deaf", "back", "back", "garbage"]
 KILLED = ["calm", "pipe", "pipe", "flood", "flood", "deaf", "back"]
+
+
+def say(line: str) -> None:
+    """Prints a line whole, beside what other games print."""
+    sys.stdout.write(line + "\n")
+    sys.stdout.flush()
 
 
 class Game:
@@ -135,10 +144,14 @@ def serve(game: Game) -> bool:
     if game.seed % 5 == 0:
         kinds[3] = None
     with Children() as children:
-        status = game.start(children, kinds, range(28)).wait(300)
+        lobby = game.start(children, kinds, range(28))
+        try:
+            status: Optional[int] = lobby.wait(MOST)
+        except subprocess.TimeoutExpired:
+            status = None
     recovered = game.recover(game.folder / "journal", game.folder / "recovered")
     here, there = ((game.folder / name).read_text() for name in ("log", "recovered"))
-    if status or recovered.returncode:
+    if status != 0 or recovered.returncode:
         different = [f"status {status}, recovered with {recovered.returncode}"]
     else:
         ours, theirs = parts_of(here), parts_of(there)
@@ -146,10 +159,10 @@ def serve(game: Game) -> bool:
     different += game.wrongs()
     audit = game.audit(game.folder / "recovered")
     is_right = not different and audit == "sound"
-    print(f"served {game.seed} {game.form} {' '.join(str(kind) for kind in kinds)}: "
-          f"{here.count(' = ')} entries, {here.count('trade ')} trades, journal "
-          f"{(game.folder / 'journal').stat().st_size:,} bytes: {audit}"
-          f"{'' if is_right else f' WRONG {different} {recovered.stderr[-300:]}'}", flush=True)
+    say(f"served {game.seed} {game.form} {' '.join(str(kind) for kind in kinds)}: "
+        f"{here.count(' = ')} entries, {here.count('trade ')} trades, journal "
+        f"{(game.folder / 'journal').stat().st_size:,} bytes: {audit}"
+        f"{'' if is_right else f' WRONG {different} {recovered.stderr[-300:]}'}")
     return is_right
 
 
@@ -173,6 +186,9 @@ def kill(game: Game) -> bool:
     with Children() as children:
         lobby = game.start(children, kinds, goods)
         while "begins" not in (game.folder / "told").read_text():
+            if lobby.poll() is not None:
+                say(f"killed {game.seed}: WRONG: the lobby ended with {lobby.returncode}")
+                return False
             time.sleep(0.01)
         time.sleep(game.dice.random() * 0.9 * 54 * game.pace / 1000)
         numbers = [lobby.pid, server_of(lobby.pid)]
@@ -186,10 +202,10 @@ def kill(game: Game) -> bool:
     wrongs = game.wrongs()
     is_right = not recovered.returncode and audit == "sound" and not missing and not wrongs
     told = recovered.stderr.split("\n")
-    print(f"killed {game.seed} {game.form} {' '.join(kinds)}: {noted} entries noted, {missing} "
-          f"missing, {sum('in the log' in line for line in told)} made and "
-          f"{sum('left out: ' in line for line in told)} left out without a reply: {audit}"
-          f"{'' if is_right else f' WRONG {wrongs} {recovered.stderr[-300:]}'}", flush=True)
+    say(f"killed {game.seed} {game.form} {' '.join(kinds)}: {noted} entries noted, {missing} "
+        f"missing, {sum('in the log' in line for line in told)} made and "
+        f"{sum('left out: ' in line for line in told)} left out without a reply: {audit}"
+        f"{'' if is_right else f' WRONG {wrongs} {recovered.stderr[-300:]}'}")
     return is_right
 
 
@@ -240,43 +256,51 @@ def cut(game: Game, count: int) -> "tuple[int, int]":
             right += 1
             journal.unlink()
         else:
-            print(f"cut {game.seed}: {journal}: {audit} WRONG {recovered.stderr[-300:]}",
-                  flush=True)
+            say(f"cut {game.seed}: {journal}: {audit} WRONG {recovered.stderr[-300:]}")
     return right, made
 
 
+def play(given: argparse.Namespace, folder: Path, seed: int) -> "Counter[str]":
+    """The games of a seed, and the cuts of its journal. How many of each kind were right."""
+    right: "Counter[str]" = Counter()
+    for kind, way in (("served", serve), ("killed", kill)):
+        if given.only in (None, kind):
+            place = folder / f"{kind}{seed}"
+            place.mkdir(parents=True)
+            game = Game(seed, place, given.pace)
+            right[kind] += way(game)
+            if kind == "served":
+                right["cut"], right["made"] = cut(game, given.cuts)
+    return right
+
+
 def main() -> int:
-    parser = argparse.ArgumentParser(description=__doc__,
-                                     formatter_class=argparse.RawDescriptionHelpFormatter)
-    parser.add_argument("--games", type=int, default=3, metavar="N", help="of each kind; 3")
-    parser.add_argument("--first", type=int, default=1, metavar="SEED", help="the first seed; 1")
-    parser.add_argument("--pace", type=int, default=80, metavar="MS", help="80")
-    parser.add_argument("--cuts", type=int, default=4, metavar="N", help="of each journal; 4")
-    parser.add_argument("--keep", type=Path, metavar="FOLDER", help="keep the files here")
-    parser.add_argument("--only", choices=["served", "killed"], help="this kind alone")
+    parser = Parser("journals", __doc__)
+    add = parser.add_argument
+    add("--games", type=whole(1), default=3, metavar="N", help="of each kind; 3")
+    add("--first", type=whole(1), default=1, metavar="SEED", help="the first seed; 1")
+    add("--at-once", type=whole(1, 16), default=1, metavar="M",
+        help="how many seeds at a time; 1")
+    add("--pace", type=whole(1, 60000), default=80, metavar="MS",
+        help="milliseconds from tick to tick; 80")
+    add("--cuts", type=whole(0), default=4, metavar="N", help="of each journal; 4")
+    add("--keep", type=Path, metavar="FOLDER", help="keep the files here")
+    add("--only", choices=["served", "killed"], help="this kind alone")
     given = parser.parse_args()
-    right = {"served": 0, "killed": 0, "cut": 0}
-    made = 0
+    right: "Counter[str]" = Counter()
     with Children() as children:
         folder = given.keep or children.folder("journals")
-        for seed in range(given.first, given.first + given.games):
-            for kind, play in (("served", serve), ("killed", kill)):
-                if given.only in (None, kind):
-                    place = folder / f"{kind}{seed}"
-                    place.mkdir(parents=True)
-                    game = Game(seed, place, given.pace)
-                    right[kind] += play(game)
-                    if kind == "served":
-                        cuts, evident = cut(game, given.cuts)
-                        right["cut"] += cuts
-                        made += evident
+        with ThreadPoolExecutor(given.at_once) as pool:
+            for found in pool.map(lambda seed: play(given, folder, seed),
+                                  range(given.first, given.first + given.games)):
+                right += found
     served = given.games if given.only != "killed" else 0
     due = {"served": served, "cut": served * given.cuts,
            "killed": given.games if given.only != "served" else 0}
-    for kind, count in right.items():
-        print(f"{kind}: {count} of {due[kind]} right")
-    print(f"in {made} of the cut journals a request without a reply had been made")
-    return 0 if right == due else 1
+    for kind, count in due.items():
+        say(f"{kind}: {right[kind]} of {count} right")
+    say(f"in {right['made']} of the cut journals a request without a reply had been made")
+    return 0 if all(right[kind] == count for kind, count in due.items()) else 1
 
 
 if __name__ == "__main__":

@@ -14,7 +14,7 @@ import tempfile
 from pathlib import Path
 from typing import Callable, Iterator, List, Tuple, Union
 
-from trying import TOP, EightAgents, parser_with_program, program_of
+from trying import TOP, LinesInOrder, parser_with_program, program_of
 
 from geesefuton.processes import command, free_port
 from geesefuton.program import ProgramError
@@ -57,9 +57,9 @@ def served(program: str, game: Path) -> "Tuple[subprocess.CompletedProcess[bytes
     """A served game of eight agents: how the program ended, and whether each agent was sent its
     last line."""
     port = free_port()
-    with EightAgents(port, lines_of) as agents:
+    with LinesInOrder(port, [lines_of(seat) for seat in range(8)]) as agents:
         done = ran(program, ["serve", game, str(port), "5"])
-    return done, all(agents.sent.get(seat, b"").endswith(b"bye\n") for seat in range(8))
+    return done, all(sent.endswith(b"bye\n") for sent in agents.sent)
 
 
 def log_in(text: bytes) -> bytes:

@@ -66,13 +66,16 @@ def scripts(hanger: str) -> Iterator[List[str]]:
     yield ["quick start", "quickstart"]
     yield ["tournament", "tools/tournament", "--games", "3", "--pace", "40", "--after", "1",
            hanger, planner]
+    yield ["tournament in turns", "tools/tournament", "--games", "3", "--turns", "10", "--patience",
+           "1", "--after", "1", hanger, planner]
     yield ["lobby, waiting", "tools/lobby", game, "PORT", "100", "--start", "4", "--after", "1"]
     yield ["lobby, game", "tools/lobby", game, "PORT", "100", "--start", "0.1", "--after", "1"]
     yield ["lobby, page", "tools/lobby", game, "PORT", "100", "--start", "0.1", "--after", "1",
            "--page", "PORT"]
     yield ["live page", "tools/live", journal, "PORT", "--until-over"]
     yield ["recovery", "tools/recover", journal]
-    yield ["learner", "examples/learner.py", "2"]
+    yield ["learner", "examples/learner.py", "--rounds", "2", "--games", "2", "--unseen", "10"]
+    yield ["game in steps", "examples/step.py"]
 
 
 def left(mark: str) -> Iterator["tuple[int, str]"]:

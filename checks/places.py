@@ -1,8 +1,9 @@
 #!/usr/bin/env python3
-"""Whether what the documents name is there: files and folders, and a call beside the file that it stands in.
+"""Whether what the documents name is there: files, folders, and a call beside its file.
 
-A name in backquotes that begins with a folder of the repository is a path; it may stand for several files by `*` or
-`{..}`. `NAME` followed by (`PATH`) is a call, a type or a definition of that file, where PATH may leave out `crates/`.
+A name in backquotes that begins with a folder of the repository is a path; it may stand for several
+files by `*` or `{..}`. `NAME` followed by (`PATH`) is a call, a type or a definition of that file,
+where PATH may leave out `crates/`.
 Also no line of prose of a document is longer than 100 columns; tables, code and links may be.
 """
 
@@ -26,20 +27,35 @@ def documents() -> List[str]:
 def paths_of(text: str) -> Iterator[str]:
     for quoted in re.findall(r"`([^`\s]+)", text):
         placeholder = re.search(r"/[A-Z]+$", quoted)  # as in `tools/NAME`
-        if quoted.startswith(FOLDERS) and not quoted.startswith(MADE) and ".." not in quoted and not placeholder:
+        if (
+            quoted.startswith(FOLDERS)
+            and not quoted.startswith(MADE)
+            and ".." not in quoted
+            and not placeholder
+        ):
             yield quoted.rstrip(".,:;")
 
 
 def is_there(path: str) -> bool:
     choices = re.match(r"(.*)\{(.*)\}(.*)$", path)
     if choices:
-        return all(is_there(choices.group(1) + each + choices.group(3)) for each in choices.group(2).split(","))
+        return all(
+            is_there(choices.group(1) + each + choices.group(3))
+            for each in choices.group(2).split(",")
+        )
     return bool(glob.glob(os.path.join(ROOT, path)))
 
 
 def missing_calls(text: str) -> Iterator[str]:
     for name, path in re.findall(r"`([\w:]+)`\s+\(`([\w/.]+\.(?:rt|antt|py))`\)", text):
-        file = next((place for place in (os.path.join(ROOT, path), os.path.join(ROOT, "crates", path)) if os.path.exists(place)), None)
+        file = next(
+            (
+                place
+                for place in (os.path.join(ROOT, path), os.path.join(ROOT, "crates", path))
+                if os.path.exists(place)
+            ),
+            None,
+        )
         if file is None:
             yield f"there is no file {path}"
             continue
@@ -52,7 +68,12 @@ def wide_lines(text: str) -> Iterator[int]:
     fenced = False
     for number, line in enumerate(text.split("\n"), 1):
         fenced ^= line.startswith("```")
-        if len(line) > WIDTH and not (fenced or line.lstrip().startswith(("|", "![")) or line.startswith("    ") or "](" in line):
+        if len(line) > WIDTH and not (
+            fenced
+            or line.lstrip().startswith(("|", "!["))
+            or line.startswith("    ")
+            or "](" in line
+        ):
             yield number
 
 
@@ -62,7 +83,11 @@ def main() -> int:
         with open(file, encoding="utf-8") as source:
             text = source.read()
         name = os.path.relpath(file, ROOT)
-        faults += [f"{name}: there is no {path}" for path in sorted(set(paths_of(text))) if not is_there(path)]
+        faults += [
+            f"{name}: there is no {path}"
+            for path in sorted(set(paths_of(text)))
+            if not is_there(path)
+        ]
         faults += [f"{name}: {fault}" for fault in missing_calls(text)]
         faults += [f"{name}:{number}: wider than {WIDTH} columns" for number in wide_lines(text)]
     for fault in faults:

@@ -1,6 +1,7 @@
-/* Refuses one growth of memory. refused_memory.py loads it before the C library: of the calls of malloc and realloc after the process has
-   begun, the one with the number REFUSED fails. The file COUNTED has their number in eight bytes; it is mapped while the process runs, since
-   a program may end without running exit handlers. */
+/* Refuses growths of memory. refused_memory.py loads it before the C library: of the calls of
+   malloc and realloc after the process has begun, the one with the number REFUSED fails, or each
+   from the number REFUSED_FROM on. The file COUNTED has their number in eight bytes; it is mapped
+   while the process runs, since a program may end without running exit handlers. */
 #define _GNU_SOURCE
 #include <dlfcn.h>
 #include <fcntl.h>
@@ -12,6 +13,7 @@
 static atomic_long own_calls;
 static atomic_long *calls = &own_calls;
 static long refused = -1;
+static long refused_from = -1;
 static int begun;
 static void *(*own_malloc)(size_t);
 static void *(*own_realloc)(void *, size_t);
@@ -20,8 +22,10 @@ __attribute__((constructor)) static void begin(void) {
     own_malloc = dlsym(RTLD_NEXT, "malloc");
     own_realloc = dlsym(RTLD_NEXT, "realloc");
     const char *number = getenv("REFUSED");
+    const char *from = getenv("REFUSED_FROM");
     const char *name = getenv("COUNTED");
     refused = number ? atol(number) : -1;
+    refused_from = from ? atol(from) : -1;
     if (name) {
         int file = open(name, O_RDWR | O_CREAT, 0600);
         if (file >= 0 && ftruncate(file, sizeof(long)) == 0) {
@@ -32,7 +36,11 @@ __attribute__((constructor)) static void begin(void) {
     begun = 1;
 }
 
-static int is_refused(void) { return begun && atomic_fetch_add(calls, 1) + 1 == refused; }
+static int is_refused(void) {
+    if (!begun) return 0;
+    long number = atomic_fetch_add(calls, 1) + 1;
+    return number == refused || (refused_from > 0 && number >= refused_from);
+}
 
 void *malloc(size_t size) {
     if (!own_malloc) own_malloc = dlsym(RTLD_NEXT, "malloc");

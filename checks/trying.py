@@ -1,12 +1,14 @@
-"""What the checks share: the package, the program to try, eight agents, and one line for errors."""
+"""What the checks share: the package, the program to try, links, and one line for errors."""
 
+import contextlib
 import sys
 import threading
 import time
+from functools import partial
 from pathlib import Path
-from socket import create_connection
+from socket import SHUT_WR, create_connection, socket
 from types import TracebackType
-from typing import Callable, Dict, List, Optional, Type
+from typing import List, Optional, Sequence, Type
 
 TOP = Path(__file__).resolve().parent.parent
 sys.path.insert(0, str(TOP / "python"))
@@ -38,37 +40,49 @@ def program_of(given: Optional[str]) -> str:
     return str(file)
 
 
-class EightAgents:
-    """A context in which agent `seat` sends `lines_of(seat)` once the port listens.
+class LinesInOrder:
+    """A context in which links come to a port one after the other, as soon as it listens, each
+    sends its lines, and is then read to its end.
 
     Attributes:
-        sent: All that each agent was sent, once its link has ended.
+        sent: All that each link was sent, once the context has ended.
     """
 
-    def __init__(self, port: int, lines_of: Callable[[int], str]) -> None:
-        self.port, self.ended = port, threading.Event()
-        self.sent: Dict[int, bytes] = {}
-        self.threads: List[threading.Thread] = [
-            threading.Thread(target=self._run, args=(seat, lines_of(seat).encode()))
-            for seat in range(8)]
+    def __init__(self, port: int, lines: Sequence[str]) -> None:
+        self.port, self.lines, self.ended = port, lines, threading.Event()
+        self.sent: List[bytes] = [b""] * len(lines)
+        self.thread = threading.Thread(target=self._run)
 
-    def _run(self, seat: int, lines: bytes) -> None:
+    def _run(self) -> None:
+        with contextlib.ExitStack() as stack:
+            links = []
+            for lines in self.lines:
+                link = self._connected()
+                if link is None:
+                    return
+                links.append(stack.enter_context(link))
+                with contextlib.suppress(OSError):
+                    link.sendall(lines.encode())
+                    link.shutdown(SHUT_WR)
+            for number, link in enumerate(links):
+                with contextlib.suppress(OSError):
+                    for piece in iter(partial(link.recv, 4096), b""):
+                        self.sent[number] += piece
+
+    def _connected(self) -> Optional[socket]:
+        """A link to the port; None if the server ended before."""
         while not self.ended.is_set():
             try:
-                with create_connection(("127.0.0.1", self.port), 10) as link:
-                    link.sendall(lines)
-                    self.sent[seat] = b"".join(iter(lambda: link.recv(4096), b""))
-                return
+                return create_connection(("127.0.0.1", self.port), 10)
             except OSError:
                 time.sleep(0.01)
+        return None
 
-    def __enter__(self) -> "EightAgents":
-        for thread in self.threads:
-            thread.start()
+    def __enter__(self) -> "LinesInOrder":
+        self.thread.start()
         return self
 
     def __exit__(self, kind: Optional[Type[BaseException]], fault: Optional[BaseException],
                  trace: Optional[TracebackType]) -> None:
         self.ended.set()
-        for thread in self.threads:
-            thread.join()
+        self.thread.join()

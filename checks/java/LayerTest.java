@@ -131,7 +131,8 @@ public class LayerTest extends AgentImpl {
   private void testRefusals() {
     check(bid(16, 1, 0.5f).isRejected(), "a buying price below 1 alone");
     check(bid(16, 1, Float.NaN).isRejected(), "a price that is no number");
-    check(bid(8, -1, 5).getRejectReason() == Bid.SELL_NOT_ALLOWED, "selling in a hotel");
+    // The hotel that closes last, since on a busy machine the first may have closed by now.
+    check(bid(11, -1, 5).getRejectReason() == Bid.SELL_NOT_ALLOWED, "selling in a hotel");
     check(bid(8, 17, 5).isRejected(), "17 units");
     check(bid(16, 1, 50, -1, 50).getRejectReason() == Bid.SELF_CROSS, "buying at one's own price");
   }
@@ -170,14 +171,14 @@ public class LayerTest extends AgentImpl {
     others[1].ask("bid " + ROOM + " ((15 40))");
     others[2].ask("bid " + ROOM + " ((2 40))");
     bid(ROOM, 3, 40, 1, 90); // of 16 rooms the others' units at 40 come first, so it wins one
-    Thread thread = new Thread(() -> bid(12, 1, 33));
+    Thread thread = new Thread(() -> bid(14, 1, 33));
     thread.start();
     try {
       thread.join();
     } catch (InterruptedException e) {
       throw new IllegalStateException(e);
     }
-    check(agent.getBid(12) != null, "another thread bids");
+    check(agent.getBid(14) != null, "another thread bids");
   }
 
   private void testTickets() {

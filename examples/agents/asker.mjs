@@ -95,7 +95,8 @@ async function bidForRooms(link, rooms, standing) {
 }
 
 async function main() {
-  const { values, positionals } = parseArgs({ allowPositionals: true, options: { pause: { type: "string", default: "2" }, help: { type: "boolean", short: "h" } } });
+  const options = { pause: { type: "string", default: "2" }, seed: { type: "string" }, help: { type: "boolean", short: "h" } };
+  const { values, positionals } = parseArgs({ allowPositionals: true, options }); // it draws nothing, so any seed does
   if (values.help) {
     console.log("usage: node asker.mjs HOST PORT WORD [--pause SECONDS]");
     return;

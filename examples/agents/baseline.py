@@ -18,21 +18,21 @@ way of better agents of the competition, in six parts that can each be replaced 
    after each closing and halfway to the next; where quotes are live, at every second tick.
 
 No line says how many rooms a night has. Once every night has a price they are scarce: then prices
-rise by another table, seats wait for their rooms, and a room has to gain LEAST_GAIN: the price of
-a night is its lowest winning bid, so that who bids less pays less for all.
+rise by another table, seats wait for their rooms, and a room has to gain LEAST_GAIN: a night's
+price is its lowest winning bid, so that who bids less pays less for all.
 """
-
 from __future__ import annotations
 
-import argparse
 import math
 import random
 import time
 from functools import lru_cache
-from itertools import accumulate, cycle, islice, product
+from itertools import accumulate, count, cycle, islice, product, takewhile
 from typing import Dict, List, Optional, Sequence, Tuple
-
-from link import HOTELS, TICKETS, Client, Link, inbound, outbound, room, ticket
+try:
+    from link import HOTELS, TICKETS, Client, Link, arguments, inbound, outbound, room, ticket
+except ModuleNotFoundError:  # a copy elsewhere: the package
+    from geesefuton.link import *  # noqa: F403
 
 # Rises in dollars, if 0, 1, .. 7 nights have closed, of Shanties' outer (1 and 4) and inner nights
 # and Towers' outer and inner ones: if rooms are plenty, and if they are scarce.
@@ -47,7 +47,6 @@ BUY, KEEP = 75, 60  # dollars: what a plan takes a ticket to cost, and one that 
 LEAST_OFFER, MARGINS = 40, (40, 5)  # dollars: for a ticket; what a trade gains at first and last
 NEVER, UNITS = 10 ** 6, 17  # the price of what cannot be had; the units of a good that have costs
 LAST, BOUNDS = 54, range(-10, 31)  # the tick at which all is over; the bounds of flights
-
 Goods = Tuple[int, ...]
 Trip = Tuple[float, Goods]  # what a trip is worth to its client, in dollars, and the goods it uses
 HOME: Trip = (0, ())
@@ -176,7 +175,7 @@ class Baseline:
         self.flights = [Flight(link.quote(good).ask) for good in range(8)]
         self.open, self.quotes = set(HOTELS), dict.fromkeys(HOTELS, 0)
         self.bids: Dict[int, List[int]] = {good: [] for good in HOTELS}  # that stand
-        self.scarce, self.tick = False, -1
+        self.scarce, self.tick, self.seen = False, -1, 0  # `seen` counts the ticks it acted in
         self.plan = Plan(self.clients, [[0] * UNITS] * 28)
 
     def round(self) -> bool:
@@ -185,7 +184,7 @@ class Baseline:
         moved = [board.ask for board in boards] != [flight.price for flight in self.flights]
         if boards[0].closed or self.tick >= 0 and not moved:
             return not boards[0].closed
-        self.tick = min(self.tick + 1, LAST - 1)
+        self.tick, self.seen = min(self.tick + 1, LAST - 1), self.seen + 1
         for good, flight in enumerate(self.flights):  # the first look may have come between moves
             flight.move(self.link.quote(good).ask, self.tick)
         quotes, hotels = dict(self.quotes), sorted(self.open)
@@ -256,8 +255,7 @@ class Baseline:
                 need, beaten = int(words[3]), min(int(words[4]), 10000)
                 bids = [max(bid, beaten) for bid in (bids + [0] * need)[:need]] + bids[need:]
                 words = self.link.bid(good, *((1, bid) for bid in bids)).split()
-            if words[1] == "taken":
-                self.bids[good] = bids
+            self.bids[good] = bids if words[1] == "taken" else self.bids[good]
 
     def trade(self) -> None:
         """Bids for one more of each ticket and offers one, at what that changes in these stays."""
@@ -277,22 +275,24 @@ class Baseline:
                 less = plan.worth() - plan.with_units(good, have - 1).worth() + margin
                 price = max(LEAST_OFFER, math.ceil(less))
                 points = [point for point in points if point[1] < price] + [(-1, price)]
-            self.link.bid(good, *points) if points else self.link.ask(f"withdraw {good}")
+            if max(0, self.link.own(good)) == have:  # else an offer might sell what is sold by now
+                self.link.bid(good, *points) if points else self.link.ask(f"withdraw {good}")
+
+
+def wait(pause: float, elapsed: float, looks: int) -> float:
+    """The seconds to the next look: more once they are many, so that the lines of a link last."""
+    return max(pause / 3, elapsed / 500 if looks > 1500 else 0.0)
 
 
 def main() -> None:
-    parser = argparse.ArgumentParser(description=__doc__.splitlines()[0])
-    for name, kind in (("host", str), ("port", int), ("word", str)):
-        parser.add_argument(name, type=kind)
-    parser.add_argument("--pause", type=float, default=2.0, help="seconds of a tick, or fewer")
-    parser.add_argument("--seed", type=int, help="whence it draws, in place of the system")
-    given = parser.parse_args()
-    link = Link.greet(given.host, given.port, given.word)
-    agent, begun = Baseline(link, random.Random(given.seed)), time.monotonic()
-    while agent.round():  # it looks more rarely in a long game, so that the lines of a link last
-        time.sleep(max(given.pause / 3, (time.monotonic() - begun) / 500))
+    host, port, word, pause = arguments(__doc__.splitlines()[0])
+    link = Link.greet(host, port, word)
+    agent, begun = Baseline(link, random.Random(random.random())), time.monotonic()
+    for looks in takewhile(lambda _: agent.round(), count()):
+        time.sleep(wait(pause, time.monotonic() - begun, looks))
     print(f"agent {link.agent} planned {sum(trip != HOME for trip in agent.plan.trips)} trips, has "
-          f"{sum(agent.have[:8])} seats, {sum(agent.have[8:16])} rooms, cash {link.cash()}")
+          f"{sum(agent.have[:8])} seats, {sum(agent.have[8:16])} rooms, cash {link.cash()}, "
+          f"missed {max(0, LAST - agent.seen)} of {LAST} ticks")
     link.quit()
 
 

@@ -8,7 +8,10 @@ the game is over. It keeps its tickets.
 import time
 from collections import Counter
 
-from link import HOTELS, Link, arguments, inbound, outbound, room, solve
+try:
+    from link import HOTELS, Link, arguments, inbound, outbound, room, solve
+except ModuleNotFoundError:  # a copy elsewhere: the package
+    from geesefuton.link import HOTELS, Link, arguments, inbound, outbound, room, solve
 
 MOST_FOR_A_SEAT = 600  # dollars
 MOST_FOR_A_ROOM = 300  # dollars

@@ -9,7 +9,10 @@ least, a little above that value. It repeats this at most 500 times, and then wa
 import time
 from collections import Counter
 
-from link import Link, arguments, ticket
+try:
+    from link import Link, arguments, ticket
+except ModuleNotFoundError:  # a copy elsewhere: the package
+    from geesefuton.link import Link, arguments, ticket
 from planner import bid_for_rooms, buy_seats, plan
 
 MOST_FOR_A_ROOM = 350  # dollars

@@ -3,7 +3,10 @@
 
 import time
 
-from link import Link, arguments
+try:
+    from link import Link, arguments
+except ModuleNotFoundError:  # a copy elsewhere: the package
+    from geesefuton.link import Link, arguments
 
 
 def main():

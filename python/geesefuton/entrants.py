@@ -59,7 +59,8 @@ def read_entrant(command: str) -> Entrant:
         if found is None:
             raise EntrantError(f"there is no program {first}")
         run = [os.path.abspath(found)]
-    stem = Path(words[-1]).stem
+    files = [word for word in words[1:] if Path(word).is_file()]  # as in `java -jar mine.jar -x 5`
+    stem = Path(first if first.endswith(".py") else (files or words)[-1]).stem
     root = re.sub("[^a-z0-9]", "", stem.lower())[:12] or "agent"
     return Entrant(command, tuple(run + words[1:]), stem, root)
 

@@ -43,6 +43,9 @@ class Journal:
 
     Once the file takes no more, `warn` is called and nothing more is written.
 
+    Attributes:
+        is_whole: Whether the file has taken all so far.
+
     Args:
         file: A new file.
         warn: Is told why the file takes no more.
@@ -61,6 +64,10 @@ class Journal:
         self._is_dirty, self._closed = False, threading.Event()
         self._syncing = threading.Thread(target=self._sync, args=(self._number,), daemon=True)
         self._syncing.start()
+
+    @property
+    def is_whole(self) -> bool:
+        return self._number is not None
 
     def head(self, pace: int, form: str, game: str) -> None:
         """Writes the first line; `game` is the canonical text of the game file."""

@@ -10,12 +10,15 @@ the form, and the calls are the same. `ask` takes and gives lines of words in ei
 """
 
 import argparse
+import os
+import random
 import socket
 import time
 from dataclasses import dataclass, field
 from typing import BinaryIO, Callable, Dict, List, NamedTuple, Optional, Sequence, Tuple
 
 from geesefuton import program as tac
+from geesefuton.arguments import seconds
 from geesefuton.games import (FLIGHTS, HOTELS, INBOUND, OUTBOUND, TICKETS, Client, inbound,
                               outbound, room, ticket)
 from geesefuton.replies import (Cash, No, Own, Quote, Reply, ReplyError, Request, read_json,
@@ -223,14 +226,25 @@ def solve(holdings: Sequence[int], clients: Sequence[Client]) -> Optional[int]:
 
 
 def arguments(what: str) -> Tuple[str, int, str, float]:
-    """The host, the port, the seat word and the pause in seconds of an agent's command line."""
+    """The host, the port, the seat word and the pause in seconds of an agent's command line.
+
+    With `--seed` in it, or the variable AGENT_SEED, Python's `random` draws from that number.
+
+    Args:
+        what: What the agent does, for its help text.
+    """
     raw = argparse.RawDescriptionHelpFormatter
     parser = argparse.ArgumentParser(description=what, formatter_class=raw)
     parser.add_argument("host")
     parser.add_argument("port", type=int)
     parser.add_argument("word", help="the seat word of the agent")
     # A session has 65,536 lines: with a pause of two seconds they last for the slowest game.
-    parser.add_argument("--pause", type=float, default=2.0, metavar="SECONDS",
+    parser.add_argument("--pause", type=seconds, default=2.0, metavar="SECONDS",
                         help="the time between two rounds of requests; a tick or less is good")
+    parser.add_argument("--seed", type=int, default=os.environ.get("AGENT_SEED"),
+                        help="the number from which the agent draws, if it draws; default: the "
+                             "variable AGENT_SEED, and without it anew each time")
     given = parser.parse_args()
+    if given.seed is not None:
+        random.seed(given.seed)
     return given.host, given.port, given.word, given.pause

@@ -130,8 +130,8 @@ class Lobby:
             on_event: Is told each event, in the calling thread.
 
         Returns:
-            The server's exit status; 130 if the game was interrupted, 4 if the log's output took
-            no more.
+            The server's exit status, 128 plus the number of a signal that ended it; 130 if the game
+            was interrupted, 4 if the log's output took no more.
 
         Raises:
             LobbyError: The journal cannot be made.
@@ -203,20 +203,16 @@ class Lobby:
         self._gather(relay, reader)
         if self._is_stopped:
             return self._stop(journal)
-        game = folder / "game"
-        game.write_text(self._text, encoding="ascii")
-        server = self._begin(children, game, relay)
-        self.is_playing = True
-        self._play(relay, server, reader)
+        status = self._serve(children, folder, relay, reader)
         if self._is_stopped:
-            children.end(server)
             return self._stop(journal)
-        status = server.wait()
+        if status < 0:  # ended by a signal: as a shell tells it
+            status = 128 - status
         relay.settle()
         self._end_links(relay)
         if journal:
             journal.timed(over=status)
-        return self._finish(status)
+        return self._finish(status, journal, relay.started is not None)
 
     # Before the game.
 
@@ -243,6 +239,15 @@ class Lobby:
                 self._warn(HINT)
 
     # The game.
+
+    def _serve(self, children: Children, folder: Path, relay: Relay, reader: Orders) -> int:
+        """Plays the game, and gives the server's exit status."""
+        game = folder / "game"
+        game.write_text(self._text, encoding="ascii")
+        server = self._begin(children, game, relay)
+        self.is_playing = True
+        self._play(relay, server, reader)
+        return children.end(server) if self._is_stopped else server.wait()
 
     def _begin(self, children: Children, game: Path, relay: Relay) -> "subprocess.Popen[bytes]":
         """Starts the server, takes all seats there, and lets the relay begin."""
@@ -329,16 +334,20 @@ class Lobby:
         self._emit(events.Finished(time.time(), STOPPED, None))
         return STOPPED
 
-    def _finish(self, status: int) -> int:
+    def _finish(self, status: int, journal: Optional[Journal], has_begun: bool) -> int:
         """Writes the log, and tells the end."""
         given = self.settings
+        if status not in (program.OK, program.CLOCK) and has_begun and journal and given.journal:
+            self._warn("the server failed; this makes a log of the journal: "
+                       f"{recovery_line(given.journal)}")
         beside = given.journal.with_suffix(".log") if given.journal else None
         kept = log_files.keep(b"".join(self._log), given.log, beside)
         if kept.fault is not None and status in (program.OK, program.CLOCK):
             status = FULL
             where = f"the log is in {kept.file}" if kept.file else "the log is lost"
-            if not kept.file and given.journal:
-                where += f", and this makes it again: {recovery_line(given.journal)}"
+            if not kept.file and journal and given.journal:
+                made = "it again" if journal.is_whole else "one of what the journal has"
+                where += f", and this makes {made}: {recovery_line(given.journal)}"
             self._warn(f"the output of the log took no more ({kept.fault}): {where}")
         file = str(kept.file) if kept.file else None
         self._emit(events.Finished(time.time(), status, file))
@@ -365,6 +374,7 @@ def _enter(server: "subprocess.Popen[bytes]", port: int,
         except OSError:
             time.sleep(0.02)
             continue
+        link.setsockopt(socket.IPPROTO_TCP, socket.TCP_NODELAY, 1)
         link.sendall(f"hello {words[len(links)]}\n".encode("ascii"))
         links.append(link)
     return links

@@ -1,9 +1,11 @@
 """Where the log of a game goes: to the output that was asked for, and to a file beside the journal,
-so that a full disk or a pipe whose reader has gone does not lose it."""
+so that a full disk or a pipe whose reader has gone does not lose it; if neither takes it, to a file
+where temporary files stand."""
 
 from __future__ import annotations
 
 import os
+import tempfile
 from dataclasses import dataclass
 from pathlib import Path
 from typing import BinaryIO, Optional, Union
@@ -43,16 +45,37 @@ def keep(log: bytes, target: Target, beside: Optional[Path]) -> Kept:
         target: The output; None if there is none.
         beside: A file for a second copy. Where it is there already another name is taken, and if
             it is the output itself there is no copy.
+
+    If an output that is no path takes no more, and no copy could be made, a new file is made where
+    temporary files stand.
     """
     copy = None
     if beside is not None and not _is_same(target, beside):
         copy = free_name(beside)
         if _write(log, copy) is not None:
+            copy.unlink(missing_ok=True)
             copy = None
     fault = "there is none" if target is None else _write(log, target)
     if fault is None and isinstance(target, Path):
         return Kept(None, target)
+    if fault is not None and copy is None and not isinstance(target, Path):
+        copy = _keep_elsewhere(log)
     return Kept(fault, copy)
+
+
+def _keep_elsewhere(log: bytes) -> Optional[Path]:
+    """Writes a log where temporary files stand; None if that takes no more either."""
+    try:
+        number, name = tempfile.mkstemp(".log", "tac-")
+    except OSError:
+        return None
+    output = Output(number)
+    is_whole = output.write(log)
+    os.close(number)
+    if not is_whole:
+        os.remove(name)
+        return None
+    return Path(name)
 
 
 def _write(log: bytes, target: Union[BinaryIO, Path]) -> Optional[str]:

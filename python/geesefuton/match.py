@@ -1,10 +1,11 @@
 """One game of a tournament, in a process of its own.
 
 The process is started with the number of a connection's file: it is sent a `Job` there, and sends
-back events of the lobby, notes, and in the end a `Result`. It hosts the game with a `Lobby`, and
-starts the agents, each in a process group of its own that ends with it.
+back events of the lobby, notes, and in the end a `Result`. It hosts the game with a `Lobby`, or a
+`TurnLobby`, and starts the agents, each in a process group of its own that ends with it.
 """
 
+import hashlib
 import os
 import re
 import subprocess
@@ -23,13 +24,14 @@ from geesefuton.events import End
 from geesefuton.lobby import Lobby, LobbyError, LobbySettings
 from geesefuton.logs import LogError, read_scores
 from geesefuton.processes import Children, command, why
-from geesefuton.results import Outcome
+from geesefuton.results import Kind, Outcome
+from geesefuton.turns import TurnLobby
 
 LOOK = 0.02  # seconds between two looks at the agents' processes
 LEAVE = 2.0  # seconds that an agent has to end after its game
 MOST_KEPT = 1 << 20  # bytes that are kept of what an agent prints
 MOST_PRINTED = 131072  # blocks of 512 bytes that an agent may print, as `ulimit -f` counts
-PATIENCE = 30.0  # seconds for the first line of a link
+PATIENCE = 30.0  # seconds for the first line of a link, and in turns for each line
 LATE = 36  # the tick after which the last third of a game begins
 
 
@@ -48,6 +50,8 @@ class Job:
         pace: The milliseconds from tick to tick.
         start: The seconds that the game waits for its agents.
         linger: The seconds after the last tick until the links that are left are ended.
+        turns: How many turns each agent has between two ticks; 0 for a game by the clock.
+        patience: In turns: the seconds without a word after which an agent is passed over.
     """
 
     name: str
@@ -59,6 +63,8 @@ class Job:
     pace: int = 100
     start: float = 20.0
     linger: float = 5.0
+    turns: int = 0
+    patience: float = PATIENCE
 
 
 @dataclass(frozen=True)
@@ -76,11 +82,13 @@ class Result:
         scores: The scores of the eight seats in dollars; none if the game was lost.
         outcomes: How each seat's game went.
         fault: Why the game was lost; "" if it was not.
+        kind: How it was played.
     """
 
     scores: Tuple[int, ...] = ()
     outcomes: Tuple[Outcome, ...] = ()
     fault: str = ""
+    kind: Kind = Kind.SERVED
 
 
 Message = Union[events.Event, Note, Result]
@@ -139,6 +147,13 @@ def _how(exited: Exit, reason: Optional[End]) -> str:
     return "ended without taking its seat" if reason is End.ABSENT else ""
 
 
+def repeated(name: str) -> Dict[str, str]:
+    """The variables of an agent that is to do the same each time: the number from which it draws,
+    `AGENT_SEED`, made from a name, and the order in which Python goes over a set."""
+    digest = hashlib.sha256(name.encode()).digest()
+    return {"AGENT_SEED": str(int.from_bytes(digest[:4], "big")), "PYTHONHASHSEED": "0"}
+
+
 class Match:
     """A game with its agents."""
 
@@ -165,10 +180,12 @@ class Match:
         with open(reading, encoding="ascii") as orders, open(writing, "wb", 0) as self._orders, \
                 self._events:
             try:
-                lobby = Lobby(LobbySettings(
+                settings = LobbySettings(
                     game=self._game, port=0, pace=job.pace, log=self._log, form=job.form,
                     start=job.start, linger=job.linger, patience=max(job.start, PATIENCE),
-                    orders=orders))
+                    orders=orders)
+                lobby = (TurnLobby(settings, job.turns, job.patience) if job.turns
+                         else Lobby(settings))
                 self._start_agents(lobby.port)
                 over = threading.Event()
                 watcher = threading.Thread(target=self._watch, args=(over,), daemon=True)
@@ -180,7 +197,8 @@ class Match:
                     watcher.join()
             except (LobbyError, program.ProgramError) as fault:
                 return Result(fault=str(fault))
-        return self._result(status)
+        passed = lobby.passed if job.turns and isinstance(lobby, TurnLobby) else None
+        return self._result(status, passed)
 
     def _take(self, event: events.Event) -> None:
         """Takes an event of the lobby."""
@@ -190,6 +208,8 @@ class Match:
             self._refused.append(event)
         if isinstance(event, events.Ticked):
             self._lines[event.tick] = event.lines
+        if isinstance(event, events.Departed) and event.seat in self._exits:
+            self._order(f"without {event.word}")  # an earlier one came while it was still here
         self._events.write(f"{event}\n")
         self._send(event)
 
@@ -197,9 +217,11 @@ class Match:
         job = self._job
         variables = environment(program.find(), self._children.folder("agents"))
         limited = ["sh", "-c", f'ulimit -f {MOST_PRINTED}; exec "$@"', "agent"]
+        pause = 0 if job.turns else job.pace / 1000
         for seat, (entrant, word) in enumerate(zip(job.entrants, job.words)):
-            words = [*limited, *entrant.words, "localhost", str(port), word, "--pause",
-                     str(job.pace / 1000)]
+            words = [*limited, *entrant.words, "localhost", str(port), word, "--pause", str(pause)]
+            if job.turns:
+                variables.update(repeated(f"{job.name} {seat}"))
             with self._printed(seat).open("wb") as out:
                 self._running[seat] = self._children.start(
                     words, stdin=subprocess.DEVNULL, stdout=out, stderr=subprocess.STDOUT,
@@ -231,7 +253,13 @@ class Match:
         except OSError:
             pass  # the lobby has ended
 
-    def _result(self, status: int) -> Result:
+    def _result(self, status: int, passed: Optional[List[int]]) -> Result:
+        """What the game came to.
+
+        Args:
+            status: The lobby's.
+            passed: In how many turns each agent was passed over; None for a game by the clock.
+        """
         job = self._job
         try:
             text = self._log.read_bytes() if self._log.exists() else b""
@@ -252,7 +280,17 @@ class Match:
                                        self._was_asking(seat)))
             self._tell(seat, exited, reason, outcomes[-1])
             self._shorten(seat)
-        return Result(scores, tuple(outcomes))
+        if passed is None:
+            return Result(scores, tuple(outcomes))
+        for seat, count in enumerate(passed):
+            if count:
+                self._send(Note(f"{self._name(seat)} was passed over in {count} turns, so the game "
+                                "is not one that can be repeated"))
+        kind = Kind.UNREPEATABLE if any(passed) else Kind.TURNS
+        return Result(scores, tuple(outcomes), kind=kind)
+
+    def _name(self, seat: int) -> str:
+        return f"{self._job.entrants[seat].name} at seat {seat} ({self._job.words[seat]})"
 
     def _was_refused(self, seat: int) -> bool:
         """Whether a refused first line has the agent's word.
@@ -273,8 +311,7 @@ class Match:
         how = _how(exited, reason)
         if not how and outcome is Outcome.PLAYED:
             return
-        job = self._job
-        text = f"{job.entrants[seat].name} at seat {seat} ({job.words[seat]}) "
+        text = f"{self._name(seat)} "
         told = [f"counts as {outcome.value}" if outcome is not Outcome.PLAYED else "", how]
         text += ": ".join(part for part in told if part)
         printed = self._printed(seat).read_bytes()[-2000:].decode("utf-8", "replace").strip()

@@ -259,7 +259,7 @@ def _teams(game: Game, log: Log, events: Sequence[Event]) -> Iterator[str]:
 
 
 def _head(game: Game, log: Log, heading: Heading) -> str:
-    how = "over links" if log.kind == "serve" else "from a script"
+    how = "over links" if log.kind == "serve" else "from a script or in turns"
     rooms = "" if game.rooms == (ROOMS,) * 8 else \
         f" Rooms: Shanties {' '.join(map(str, game.rooms[:4]))}, " \
         f"Towers {' '.join(map(str, game.rooms[4:]))}."

@@ -11,8 +11,8 @@ from pathlib import Path
 from typing import List, Optional, Sequence, Tuple, Union
 
 __all__ = [
-    "INPUT", "MEANINGS", "OK", "CLOCK", "UNSOUND", "ProgramError", "audit", "find", "make", "play",
-    "run", "served_words", "show", "solve", "table", "top", "upgrade", "worth",
+    "INPUT", "MEANINGS", "OK", "CLOCK", "UNSOUND", "ProgramError", "audit", "ended", "find", "make",
+    "play", "run", "served_words", "show", "solve", "table", "top", "upgrade", "worth",
 ]
 
 Word = Union[str, int, "os.PathLike[str]"]
@@ -96,12 +96,21 @@ def run(command: str, *words: Word, given: bytes = b"", allowed: Sequence[int] =
         raise ProgramError(f"the file of tac cannot be run: {fault.strerror}") from None
     text = done.stdout.decode("ascii", "replace")
     if done.returncode not in allowed:
-        line = text.split("\n", 1)[0]
-        meaning = MEANINGS.get(done.returncode, "")
-        told = ": ".join(part for part in (meaning, line[:100]) if part)
-        raise ProgramError(f"tac {command} ended with exit status {done.returncode}"
-                           + (f" ({told})" if told else ""), done.returncode, line)
+        raise ended(command, done.returncode, text.split("\n", 1)[0])
     return text
+
+
+def ended(command: str, status: int, line: str) -> ProgramError:
+    """The error of a command that ended otherwise than asked.
+
+    Args:
+        command: Its first word.
+        status: Its exit status, negative for a signal.
+        line: The line of its output that says why; "" if there is none.
+    """
+    told = ": ".join(part for part in (MEANINGS.get(status, ""), line[:100]) if part)
+    return ProgramError(f"tac {command} ended with exit status {status}"
+                        + (f" ({told})" if told else ""), status, line)
 
 
 def make(seed: int) -> str:

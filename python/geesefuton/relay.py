@@ -99,7 +99,6 @@ class Session:
         self.has_ended, self.wants = False, 0
         self._tail = b""
         link.setblocking(False)
-        link.setsockopt(socket.IPPROTO_TCP, socket.TCP_NODELAY, 1)
 
     def feed(self, data: bytes) -> List[bytes]:
         """The lines that are whole now, without their ends."""
@@ -160,7 +159,9 @@ class Relay:
                 handler()
                 continue
             try:
-                if mask & selectors.EVENT_WRITE:
+                if mask & selectors.EVENT_WRITE and isinstance(link, OuterLink):
+                    self._owe(link, b"")  # the journal is written first
+                elif mask & selectors.EVENT_WRITE:
                     self._write(link)
                 if mask & selectors.EVENT_READ:
                     self._read(link)

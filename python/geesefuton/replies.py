@@ -272,6 +272,36 @@ def read_json(line: str) -> Reply:
     raise ReplyError(f"{line[:60]!r} is no reply")
 
 
+def reply_json(reply: Reply) -> str:
+    """The JSON object of a reply, without a line end."""
+    value: dict[str, Any] = {}
+    at = reply.count if isinstance(reply, Quote) else getattr(reply, "at", None)
+    if at is not None:
+        value["at"] = at
+    if isinstance(reply, Taken):
+        value["taken"] = [reply.bought, reply.sold]
+    elif isinstance(reply, Done):
+        value["done"] = True
+    elif isinstance(reply, Sold):
+        value["sold"] = [reply.units, reply.price]
+    elif isinstance(reply, Own):
+        value.update(own=reply.holding, points=[list(point) for point in reply.points])
+    elif isinstance(reply, Cash):
+        value["cash"] = reply.dollars
+    elif isinstance(reply, Quote):
+        value.update(quote=[reply.bid, reply.ask], open=not reply.closed)
+    elif isinstance(reply, Bye):
+        value["bye"] = True
+    else:
+        value["no"] = reply.reason
+        if reply.below is not None:
+            below = reply.below
+            value.update(need=below.need, price=below.price, offered=below.offered)
+        if reply.reason == "bid":
+            value["fault"] = reply.fault
+    return json.dumps(value, separators=(",", ":"))
+
+
 def _read_json_refusal(value: Any, at: Optional[int]) -> No:
     reason, rest = value["no"], set(value) - {"no", "at"}
     if at is not None and reason in CLOSING_REASONS and not rest:

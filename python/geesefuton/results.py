@@ -7,6 +7,14 @@ from dataclasses import astuple, dataclass, fields
 from typing import Iterable, List, Sequence
 
 
+class Kind(enum.Enum):
+    """How a game was played."""
+
+    SERVED = "served"  # by a clock
+    TURNS = "turns"  # in turns, without a clock
+    UNREPEATABLE = "unrepeatable"  # in turns, of which some were passed over
+
+
 class Outcome(enum.Enum):
     """How an agent's game went."""
 
@@ -29,7 +37,7 @@ class Row:
         score: In dollars.
         end: How it went.
         luck: What the seat's clients are worth at fixed prices, in dollars (`luck.worth_of`).
-        kind: How the game was played: `served`, by a clock, or `turns`.
+        kind: How the game was played.
     """
 
     deal: str
@@ -39,7 +47,7 @@ class Row:
     score: int
     end: Outcome
     luck: int
-    kind: str = "served"
+    kind: Kind = Kind.SERVED
 
 
 HEAD = [field.name for field in fields(Row)]
@@ -58,7 +66,7 @@ def csv_of(lines: Iterable[Sequence[object]]) -> str:
 
 def text_of(rows: Iterable[Row]) -> str:
     """The rows as lines of CSV, without a head."""
-    return csv_of([*astuple(row)[:5], row.end.value, row.luck, row.kind] for row in rows)
+    return csv_of([*astuple(row)[:5], row.end.value, row.luck, row.kind.value] for row in rows)
 
 
 def read_rows(text: str, name: str) -> List[Row]:
@@ -81,7 +89,7 @@ def read_rows(text: str, name: str) -> List[Row]:
         try:
             deal, rotation, seat, agent, score, end, luck, kind = words
             rows.append(Row(deal, int(rotation), int(seat), agent, int(score), Outcome(end),
-                            int(luck), kind))
+                            int(luck), Kind(kind)))
         except ValueError:
             raise ResultsError(f"{name}: line {number} is no row: {','.join(words)[:60]!r}") \
                 from None

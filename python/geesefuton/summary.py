@@ -12,7 +12,7 @@ from itertools import combinations
 from typing import Any, Callable, Dict, List, Optional, Sequence, Tuple
 
 from geesefuton.comparisons import Estimate, adjusted, estimate, mean_of
-from geesefuton.results import Outcome, Row, csv_of
+from geesefuton.results import Kind, Outcome, Row, csv_of
 
 Cells = Dict[str, Dict[int, List[Row]]]  # of one agent: its rows that played, by deal and seat
 
@@ -71,6 +71,7 @@ class Summary:
         differences: One for each pair.
         games: How many games were scored.
         deals: How many deals they had.
+        kinds: How many of the games were played how.
         swapped: Whether deals were played with swapped seats: pairs are then compared by clients
             that both agents had, and otherwise by games.
         lost: What was lost or could not be written, each in a line.
@@ -80,6 +81,7 @@ class Summary:
     differences: List[Difference]
     games: int
     deals: int
+    kinds: Dict[Kind, int]
     swapped: bool
     lost: List[str]
 
@@ -99,8 +101,9 @@ def summarize(rows: Sequence[Row], lost: Sequence[str] = ()) -> Summary:
     standings.sort(key=lambda standing: (standing.score is None, -_mean(standing.score)))
     differences = [_difference(first.agent, second.agent, cells, swapped)
                    for first, second in combinations(standings, 2)]
-    return Summary(standings, differences, len({(row.deal, row.rotation) for row in rows}),
-                   len({row.deal for row in rows}), swapped, list(lost))
+    kinds = Counter({(row.deal, row.rotation): row.kind for row in rows}.values())
+    return Summary(standings, differences, sum(kinds.values()), len({row.deal for row in rows}),
+                   dict(kinds), swapped, list(lost))
 
 
 def _mean(score: Optional[Estimate]) -> float:
@@ -182,10 +185,19 @@ def _reasons(standing: Standing) -> str:
     return f"{standing.failed} of {standing.seats}" + (f": {', '.join(told)}" if told else "")
 
 
+def _kinds(summary: Summary) -> List[str]:
+    """How the games were played, if some of them were in turns."""
+    turns, broken = (summary.kinds.get(kind, 0) for kind in (Kind.TURNS, Kind.UNREPEATABLE))
+    if not turns + broken:
+        return []
+    return [f"in turns: {_count(turns, 'game')} that can be repeated" +
+            (f", and {broken} in which an agent was passed over" if broken else "")]
+
+
 def as_text(summary: Summary) -> str:
     """The summary in lines for a reader."""
     lines = [f"{_count(summary.games, 'game')} of {_count(summary.deals, 'deal')}; dollars with "
-             "95 % intervals by deals (Student's t)", ""]
+             "95 % intervals by deals (Student's t)", *_kinds(summary), ""]
     rows = [["agent", "mean", "luck", "mean adjusted for luck", "did not play"]]
     rows += [[standing.agent, _number(standing.score),
               "-" if standing.luck is None else f"{standing.luck:.0f}",
@@ -238,6 +250,7 @@ def as_json(summary: Summary) -> str:
     pairs = [{"first": pair.first, "second": pair.second, "score": of(pair.score),
               "adjusted": of(pair.adjusted)} for pair in summary.differences]
     value = {"games": summary.games, "deals": summary.deals, "level": 0.95,
+             "kinds": {kind.value: count for kind, count in summary.kinds.items()},
              "paired_by": "clients" if summary.swapped else "games", "agents": agents,
              "differences": pairs, "lost": summary.lost}
     return json.dumps(value, indent=1) + "\n"

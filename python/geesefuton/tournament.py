@@ -6,6 +6,12 @@ An agent is a Python file, a program, or a command in quotes, such as 'java -jar
 run with the words HOST PORT WORD --pause SECONDS, like those of examples/agents. Each game goes
 through a lobby, so an agent that fails or hangs costs only its own seat.
 
+With --turns R there is no clock: in each turn one request of an agent is asked, and each has R of
+them between two ticks. So agents whose requests follow from what they were sent, such as those of
+examples/agents, play the same games for the same seed on any machine, busy or not. They are run
+with --pause 0, and draw from the variable AGENT_SEED. An agent that says nothing for --patience
+seconds is passed over, and its game is marked as `unrepeatable`.
+
 A deal has the clients, the tickets, the flights and the order of the hotels of a game. Between two
 agents each deal is played twice, with swapped seats, so that both have the same clients; with
 --swap any number of agents play each deal once for each of them.
@@ -33,15 +39,19 @@ from geesefuton import events, program
 from geesefuton.arguments import Parser, seconds, whole
 from geesefuton.deals import (MOST_SEED, DealError, Rule, Table, read_rooms, seated, tables)
 from geesefuton.entrants import PACKAGE, Entrant, EntrantError, read_entrants, seat_words
+from geesefuton.games import SEATS, TICKS
 from geesefuton.luck import worths_of
-from geesefuton.match import PROGRAM, Job, Note, Result
+from geesefuton.match import PATIENCE, PROGRAM, Job, Note, Result
 from geesefuton.processes import Children, Output, Stopped, command, tell, why
 from geesefuton.results import HEAD, ResultsError, Row, csv_of, read_rows, text_of
 from geesefuton.summary import FORMS, Summary, as_text, summarize
+from geesefuton.turns import MOST_TURNS
 
 AGENTS = ("planner", "trader", "watcher")  # those of examples/agents that play by default
 SUFFIXES = (".game", ".log", ".events")
 MARGIN = 300.0  # seconds that a game may take beyond what it is given, on a machine that is full
+PACE = 100  # milliseconds
+LINGER, LINGER_IN_TURNS = 5.0, 30.0  # seconds
 
 
 @dataclass(frozen=True)
@@ -54,7 +64,9 @@ class Plan:
         games: How many games are played.
         rotations: How many of each deal.
         at_once: How many at a time.
-        pace: The milliseconds from tick to tick.
+        pace: The milliseconds from tick to tick, in games by the clock.
+        turns: How many turns each agent has between two ticks; 0 for games by the clock.
+        patience: In turns: the seconds without a word after which an agent is passed over.
         form: What agents speak, `words` or `json`.
         start: The seconds that a game waits for its agents.
         linger: The seconds after the last tick until links are ended.
@@ -68,11 +80,19 @@ class Plan:
     rotations: int
     at_once: int
     pace: int
+    turns: int
+    patience: float
     form: str
     start: float
     linger: float
     keep: Optional[Path]
     summaries: Sequence[Path]
+
+    def seconds(self) -> float:
+        """The seconds that a game may take, and in turns those until it has its next tick."""
+        if self.turns:
+            return self.start + self.turns * SEATS * self.patience + self.linger + MARGIN
+        return self.start + TICKS * self.pace / 1000 + self.linger + MARGIN
 
 
 @dataclass
@@ -165,7 +185,8 @@ class Tournament:
         words = seat_words(entrants)
         folder = plan.keep or children.folder("game")
         job = Job(table.name, folder, table.deal.game.named(words).text(), tuple(entrants),
-                  tuple(words), plan.form, plan.pace, plan.start, plan.linger)
+                  tuple(words), plan.form, plan.pace, plan.start, plan.linger, plan.turns,
+                  plan.patience)
         ours, theirs = Pipe()
         path = os.pathsep.join(filter(None, [str(PACKAGE), os.environ.get("PYTHONPATH")]))
         process = children.start(
@@ -177,9 +198,8 @@ class Tournament:
             ours.send(job)
         except OSError:
             pass  # it has ended, which is seen when its messages are read
-        seconds = plan.start + 54 * plan.pace / 1000 + plan.linger + MARGIN
         return Running(number, table, entrants, folder, ours, process,
-                       time.monotonic() + seconds)
+                       time.monotonic() + plan.seconds())
 
     def _hear(self, running: Sequence[Running]) -> None:
         """Takes the messages that the games send."""
@@ -200,6 +220,8 @@ class Tournament:
                 self._say(game, f"refused {message.answer} to a link that said {message.line!r}")
             elif isinstance(message, events.Warned):
                 self._say(game, message.text)
+            elif isinstance(message, events.Ticked) and self._plan.turns:
+                game.deadline = time.monotonic() + self._plan.seconds()
 
     def _say(self, game: Running, text: str) -> None:
         tell(f"game {game.table.name}: {text}")
@@ -221,12 +243,13 @@ class Tournament:
             lucks = worths_of(table.deal.game)
             for seat, entrant in enumerate(game.entrants):
                 rows.append(Row(table.deal.name, table.rotation, seat, entrant.name,
-                                result.scores[seat], result.outcomes[seat], lucks[seat]))
+                                result.scores[seat], result.outcomes[seat], lucks[seat],
+                                result.kind))
         self.report.rows[game.number] = rows
         each = (time.monotonic() - self._began) / self._done
-        left = each * (self._plan.games - self._done)
+        left = round(each * (self._plan.games - self._done))
         tell(f"game {self._done} of {self._plan.games} ({table.name}): "
-             f"{'scored' if rows else 'lost'}; {left // 60:.0f}:{left % 60:02.0f} left")
+             f"{'scored' if rows else 'lost'}; {left // 60}:{left % 60:02} left")
         while self._written in self.report.rows:
             self._write(self._written + 1)
 
@@ -320,13 +343,19 @@ def _parser() -> Parser:
     add("--live", action="store_true", help="hotel prices move with each bid")
     add("--game", type=Path, metavar="FILE", help="play this game file in place of made games")
     add("--at-once", type=whole(1), default=2, metavar="N", help="how many games at a time; 2")
-    add("--pace", type=whole(1, 60000), default=100, metavar="MILLISECONDS",
-        help="from tick to tick; 100")
+    add("--pace", type=whole(1, 60000), metavar="MILLISECONDS",
+        help=f"from tick to tick; {PACE}")
+    add("--turns", type=whole(1, MOST_TURNS), default=0, metavar="R",
+        help="no clock: each agent has R turns between two ticks, and asks one request in each")
+    add("--patience", type=seconds, metavar="SECONDS",
+        help="in turns: how long an agent says nothing before it is passed over; "
+             f"{PATIENCE:g}")
     add("--json", action="store_true", help="agents speak JSON objects in place of words")
     add("--start", type=seconds, default=20.0, metavar="SECONDS",
         help="how long a game waits for its agents; 20")
-    add("--after", type=seconds, default=5.0, metavar="SECONDS",
-        help="how long after the last tick links are ended; 5")
+    add("--after", type=seconds, metavar="SECONDS",
+        help=f"how long after the last tick links are ended; {LINGER:g}, in turns "
+             f"{LINGER_IN_TURNS:g}")
     add("--keep", type=Path, metavar="FOLDER",
         help="where to keep game files, logs, events and what agents printed")
     add("--summary", type=_summary_file, action="append", default=[], metavar="FILE",
@@ -346,6 +375,10 @@ def _default_agents(parser: Parser) -> List[str]:
 def _plan(parser: Parser, given: argparse.Namespace) -> Plan:
     if given.game and (given.rooms or given.live):
         parser.error("--rooms and --live are for made games, not for a game file")
+    if given.turns and given.pace is not None:
+        parser.error("--pace is for games by the clock, and --turns for those without")
+    if given.patience is not None and not given.turns:
+        parser.error("--patience is for games in turns: see --turns")
     try:
         entrants = read_entrants(given.agents or _default_agents(parser))
         rule = Rule(given.seed, given.game, given.rooms, given.live)
@@ -358,11 +391,13 @@ def _plan(parser: Parser, given: argparse.Namespace) -> Plan:
     games = -(-given.games // rotations) * rotations
     if games != given.games:
         tell(f"{games} games are played, so that each deal is played {rotations} times")
-    if given.seed + games // rotations > MOST_SEED:
+    if given.seed + games // rotations - 1 > MOST_SEED:
         parser.error(f"seeds are at most {MOST_SEED}")
-    return Plan(entrants, rule, games, rotations, given.at_once, given.pace,
-                "json" if given.json else "words", given.start, given.after, given.keep,
-                given.summary)
+    linger = LINGER_IN_TURNS if given.turns else LINGER
+    return Plan(entrants, rule, games, rotations, given.at_once, given.pace or PACE, given.turns,
+                PATIENCE if given.patience is None else given.patience,
+                "json" if given.json else "words", given.start,
+                linger if given.after is None else given.after, given.keep, given.summary)
 
 
 def _open_folder(parser: Parser, folder: Path) -> None:

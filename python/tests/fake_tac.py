@@ -2,8 +2,9 @@
 """A stand-in for the program in tests of the lobby: it admits links and answers lines, by no rules.
 
 `own N` is answered `@N own 0 ()`, `bid N ..` after a while by `@N taken 0 0`, and any other line is
-refused. The log has a line for each line that was asked. FAKE_STATUS is the exit status of `serve`,
-the file FAKE_TAKEN makes it end as if its port were taken, once, and FAKE_EARLY at once.
+refused. The log has a line for each line that was asked, and for each tick of a script. FAKE_STATUS
+is the exit status of `serve` and `step`, below 0 for a signal that ends `serve`, the file
+FAKE_TAKEN makes it end as if its port were taken, once, and FAKE_EARLY at once.
 """
 
 import os
@@ -42,8 +43,21 @@ def session(agent: int, link: socket.socket, welcome: bytes, asked: List[str]) -
             break
 
 
-def serve(game: str, port: int, pace: int) -> int:
-    """Plays a game, and writes its log."""
+def step(script: str) -> int:
+    """Plays a script line by line, and writes its log."""
+    if "FAKE_EARLY" in os.environ:
+        return int(os.environ["FAKE_EARLY"])
+    asked = []
+    for line in open(script, "rb"):
+        asked.append(line[:-1].decode("latin-1"))
+        if line != b"tick\n":
+            print(line[:2].decode() + answer(line[2:-1]).decode("latin-1"), flush=True)
+    sys.stdout.buffer.write("\n".join(["taclog 1", *asked, "end", ""]).encode("latin-1"))
+    return int(os.environ.get("FAKE_STATUS", "0"))
+
+
+def serve(game: str, port: int) -> int:
+    """Plays a game without ticks, and writes its log once all links have ended."""
     taken = os.environ.get("FAKE_TAKEN")
     if taken and os.path.exists(taken):
         os.remove(taken)
@@ -64,11 +78,13 @@ def serve(game: str, port: int, pace: int) -> int:
         welcome = "\n".join([f"welcome {agent}", *own, ""]).encode()
         threads.append(threading.Thread(target=session, args=(agent, link, welcome, asked)))
         threads[-1].start()
-    time.sleep(54 * pace / 1000)
     for thread in threads:
         thread.join()
+    status = int(os.environ.get("FAKE_STATUS", "0"))
+    if status < 0:
+        os.kill(os.getpid(), -status)
     print("taclog 1", *asked, "end", sep="\n", flush=True)
-    return int(os.environ.get("FAKE_STATUS", "0"))
+    return status
 
 
 if __name__ == "__main__":
@@ -76,7 +92,9 @@ if __name__ == "__main__":
         print(*(line for line in open(sys.argv[2], encoding="ascii") if line[0] not in "#\n"),
               sep="", end="")
         sys.exit(0)
+    if sys.argv[1] == "step":
+        sys.exit(step(sys.argv[3]))
     if sys.argv[1] != "serve":
         print("usage")
         sys.exit(1)
-    sys.exit(serve(sys.argv[2], int(sys.argv[3]), int(sys.argv[4])))
+    sys.exit(serve(sys.argv[2], int(sys.argv[3])))

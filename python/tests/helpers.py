@@ -30,7 +30,17 @@ def has_program() -> bool:
     return True
 
 
+def has_step() -> bool:
+    """Whether there is a program that plays a game line by line."""
+    try:
+        program.run("step", TOP / "examples" / "first.game", os.devnull)
+    except program.ProgramError:
+        return False
+    return True
+
+
 needs_program = unittest.skipUnless(has_program(), "there is no program of tac")
+needs_step = unittest.skipUnless(has_step(), "there is no program of tac with the command step")
 
 
 def served_game() -> Game:

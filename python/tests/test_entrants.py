@@ -26,6 +26,9 @@ class Entrants(unittest.TestCase):
         entrant = read_entrant(os.path.relpath(self.file("My-Agent 2.py")).replace(" ", "\\ "))
         self.assertEqual(entrant.words, (sys.executable, str(self.place / "My-Agent 2.py")))
         self.assertEqual((entrant.name, entrant.root), ("My-Agent 2", "myagent2"))
+        entrant = read_entrant(f"'{self.file('mine.py')}' --seed 5")  # named by the file
+        self.assertEqual((entrant.words[2:], entrant.name, entrant.root),
+                         (("--seed", "5"), "mine", "mine"))
 
     def test_a_command_keeps_its_words(self) -> None:
         program = self.file("run", 0o755)
@@ -33,6 +36,8 @@ class Entrants(unittest.TestCase):
         self.assertEqual(entrant.words, (program, "-x", "two words", "their.jar"))
         self.assertEqual((entrant.name, entrant.root), ("their", "their"))
         self.assertEqual(read_entrant("sh -c true").words, (shutil.which("sh"), "-c", "true"))
+        entrant = read_entrant(f"sh {self.file('mine.jar')} -x 5")  # named by the file
+        self.assertEqual((entrant.words[2:], entrant.name), (("-x", "5"), "mine"))
 
     def test_what_cannot_be_run_is_told(self) -> None:
         for command, told in (("", "not an empty word"), ("  ", "not an empty word"),

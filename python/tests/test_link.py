@@ -1,6 +1,10 @@
 import contextlib
 import os
+import random
+import shutil
 import socket
+import subprocess
+import sys
 import tempfile
 import threading
 import unittest
@@ -12,7 +16,7 @@ from geesefuton import link
 from geesefuton.games import Client
 from geesefuton.link import Link, LinkError
 from geesefuton.replies import No, Own, Quote, Request, Taken
-from tests.helpers import TOP, fake_program, needs_program
+from tests.helpers import TOP, fake_program, needs_program, variables
 
 WELCOME = ["welcome 3", "endow 3 0 1 1 2 2 0 2 2 2 0 1 1",
            *(f"client 3 {number} {1 + number % 4} 5 {50 + number} 1 2 {number}"
@@ -151,6 +155,15 @@ class Words(unittest.TestCase):
                 with self.assertRaisesRegex(LinkError, "the link was closed"):
                     agent.ask("cash")
 
+    def test_a_reply_that_breaks_off_is_none(self) -> None:
+        ours, theirs = socket.socketpair()
+        agent = Link(ours, ours.makefile("rb"), "red")
+        with contextlib.closing(agent), theirs:
+            theirs.sendall(b"@3 cash 1234")  # its line end is lost
+            theirs.shutdown(socket.SHUT_WR)
+            with self.assertRaisesRegex(LinkError, "red: the link was closed"):
+                agent.cash()
+
 
 class Json(unittest.TestCase):
     def test_each_call_sends_its_object_and_gives_the_same_answer(self) -> None:
@@ -218,6 +231,24 @@ class Arguments(unittest.TestCase):
         with mock.patch("sys.argv", ["mine.py", "there", "7000", "red"]):
             self.assertEqual(link.arguments("what")[3], 2.0)
 
+    def test_with_a_seed_python_draws_from_it(self) -> None:
+        def drawn(seed: str, *words: str) -> float:
+            change = mock.patch.dict(os.environ, {"AGENT_SEED": seed} if seed else {})
+            with change, mock.patch("sys.argv", ["mine.py", "there", "7000", "red", *words]):
+                if not seed:
+                    os.environ.pop("AGENT_SEED", None)
+                self.assertEqual(len(link.arguments("what")), 4)
+                return random.random()
+
+        self.addCleanup(random.seed)
+        due = random.Random(5).random()
+        self.assertEqual([drawn("", "--seed", "5"), drawn("5"), drawn("6", "--seed", "5")],
+                         [due] * 3)
+        self.assertNotIn(due, [drawn("6"), drawn("")])
+        self.assertEqual([drawn("", "--seed", "0"), drawn("0")], [random.Random(0).random()] * 2)
+        with mock.patch("sys.stderr"), self.assertRaises(SystemExit):
+            drawn("x")
+
     def test_agents_of_the_clone_get_the_same_link(self) -> None:
         text = (TOP / "examples" / "agents" / "link.py").read_text()
         self.assertIn("from geesefuton.link import *", text)
@@ -225,6 +256,15 @@ class Arguments(unittest.TestCase):
                      "arguments", "inbound", "outbound", "room", "ticket", "solve", "program"):
             self.assertIn(name, link.__all__)
             self.assertTrue(hasattr(link, name))
+
+    def test_a_copy_of_an_agent_finds_the_package(self) -> None:
+        with tempfile.TemporaryDirectory() as folder:
+            for name in ("watcher.py", "planner.py", "trader.py", "baseline.py"):
+                copy = shutil.copy(TOP / "examples" / "agents" / name, folder)
+                done = subprocess.run([sys.executable, copy, "--help"], text=True, cwd=folder,
+                                      stdout=subprocess.PIPE, stderr=subprocess.STDOUT,
+                                      timeout=60, env=variables(), check=False)
+                self.assertEqual((done.returncode, done.stdout[:6]), (0, "usage:"), done.stdout)
 
 
 if __name__ == "__main__":

@@ -1,5 +1,6 @@
 """The live page: what it serves, and to whom."""
 
+import asyncio
 import json
 import os
 import re
@@ -54,6 +55,19 @@ class Lateness(unittest.TestCase):
         self.assertEqual(self.secret(6, [3, 4, 5], 9), 3)
         self.assertEqual(self.secret(6, [3, 9, 10, 15], 15), 9)
         self.assertEqual(self.secret(54, [0, 10, 54], 54), None)
+
+
+class Following(unittest.TestCase):
+    def test_a_line_that_comes_in_pieces_is_read_once_it_is_whole(self) -> None:
+        text = ("\n".join(LINES) + "\n").encode("ascii")
+        pieces = [text[at:at + 1000] for at in range(0, len(text), 1000)]
+        journal = mock.Mock(read=mock.Mock(side_effect=[*pieces, b""]))
+        live = Live(journal, View(6, False), mock.Mock(), mock.Mock())
+        with mock.patch("geesefuton.live.LOOK", 0.0), \
+                mock.patch.object(live, "show", mock.AsyncMock()):
+            asyncio.run(live.follow())
+        self.assertEqual((live._reader.lines, live._reader.status), (len(LINES), 0))
+        self.assertTrue(live.is_over())
 
 
 class Serving(unittest.TestCase):

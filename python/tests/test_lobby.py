@@ -20,6 +20,7 @@ from geesefuton import events, log_files
 from geesefuton.events import End, Event
 from geesefuton.journal import Journal, read_journal
 from geesefuton.lobby import Lobby, LobbyError, LobbySettings
+from geesefuton.processes import free_port
 from geesefuton.relay import MOST_STRANGERS
 from geesefuton.teller import Teller
 
@@ -90,6 +91,10 @@ class Host:
             time.sleep(0.005)
         return self.of(kind)
 
+    def hurry(self) -> None:
+        """Lets the ticks that are left pass."""
+        self.lobby.settings.pace = 1
+
     def end(self) -> Dict[str, End]:
         self.thread.join(MOST)
         assert not self.thread.is_alive(), self.told
@@ -104,6 +109,9 @@ class Case(unittest.TestCase):
         change = mock.patch.dict(os.environ, {"TAC": str(HERE / "fake_tac.py")})
         change.start()
         self.addCleanup(change.stop)
+        ending = mock.patch("geesefuton.lobby.ENDING", 0.1)  # some agents here keep their links
+        ending.start()
+        self.addCleanup(ending.stop)
 
     def agents(self, host: Host, *words: str) -> List[Agent]:
         agents = [Agent(host.port, word) for word in words]
@@ -137,18 +145,19 @@ class BeforeTheGame(Case):
                          ["taken", "wrongword", "syntax", "syntax", "syntax", "taken"])
 
     def test_links_that_say_nothing_do_not_keep_agents_out(self) -> None:
-        host = Host(self.folder, start=None, patience=60)
+        host = Host(self.folder, start=None, pace=1000, patience=60)
         silent = [Agent(host.port, first=b"") for _ in range(MOST_STRANGERS + 2)]
         self.addCleanup(lambda: [link.close() for link in silent])
         for agent in self.agents(host, *WORDS):
             agent.welcome()
             agent.quit()
         self.assertEqual([silent[0].line(), silent[1].line()], ["", ""])
+        host.hurry()
         host.end()
         self.assertTrue(any("have sent no line" in event.text for event in host.of(events.Warned)))
 
     def test_one_that_goes_may_come_again(self) -> None:
-        host = Host(self.folder, start=None)
+        host = Host(self.folder, start=None, pace=1000)
         first = self.agents(host, "seat0")[0]
         first.close()
         host.wait(events.Departed)
@@ -157,23 +166,26 @@ class BeforeTheGame(Case):
                          [f"welcome {number}" for number in range(8)])
         for agent in agents:
             agent.quit()
+        host.hurry()
         self.assertEqual(set(host.end().values()), {End.LEFT})
         self.assertEqual((host.status, len(host.of(events.Ended))), (0, 8))
         self.assertEqual(host.of(events.Began)[0].seats, tuple(range(8)))
 
     def test_lines_before_the_game_are_asked_in_it(self) -> None:
-        host = Host(self.folder)
+        host = Host(self.folder, pace=1000)
         agent = Agent(host.port, first=b"hello seat2\nown 1\nown 2\nown 3")
         agent.socket.shutdown(socket.SHUT_WR)
         self.assertEqual(agent.welcome()[0], "welcome 2")
         self.assertEqual([agent.line() for _ in range(3)], ["@1 own 0 ()", "@2 own 0 ()", ""])
         agent.close()
+        host.wait(events.Departed)
+        host.hurry()
         self.assertEqual(host.end()["seat2"], End.GONE)
         self.assertEqual(self.asked(), ["2 own 1", "2 own 2"])
 
     def test_orders(self) -> None:
-        host = Host(self.folder, start=None, orders=io.StringIO("hey\nwithout seat9\nwithout seat7"
-                                                                "\n\n"))
+        orders = io.StringIO("hey\nwithout seat9\nwithout seat7\n\n")
+        host = Host(self.folder, start=None, pace=5, orders=orders)
         late = Agent(host.port, "seat7")
         taken = late.line()
         self.addCleanup(late.close)
@@ -188,7 +200,7 @@ class BeforeTheGame(Case):
 
 class InTheGame(Case):
     def test_coming_again(self) -> None:
-        host = Host(self.folder, pace=150, silence=1.5)
+        host = Host(self.folder, pace=1000, silence=1.5)
         agent, talker, early = self.agents(host, "seat0", "seat1", "seat2")
         host.wait(events.Began)
         welcome = agent.welcome()
@@ -228,6 +240,7 @@ class InTheGame(Case):
             link.close()
         for link in (heir, talker, late):
             link.quit()
+        host.hurry()
         reasons = host.end()
         self.assertEqual({reasons[word] for word in ("seat0", "seat1", "seat2", "seat7")},
                          {End.LEFT})
@@ -238,7 +251,7 @@ class InTheGame(Case):
                          ["0 bid 5 ((1 1))"] * 3)
 
     def test_hanging_refused_and_gone_agents(self) -> None:
-        host = Host(self.folder, pace=40)
+        host = Host(self.folder, pace=1000, linger=MOST)
         hangs, babbles, goes, dies = self.agents(host, "seat0", "seat1", "seat2", "seat3")
         host.wait(events.Began)
         for agent in (hangs, babbles, goes, dies):
@@ -248,9 +261,13 @@ class InTheGame(Case):
         babbles.send(b"quit")  # it has no end, so nothing is asked
         dies.reset()
         host.wait(events.Departed)
+        host.hurry()
         while not any(event.tick == 54 for event in host.of(events.Ticked)):
             time.sleep(0.005)  # under load ticks may be passed over
         goes.close()
+        while not any(event.word == "seat2" for event in host.of(events.Ended)):
+            time.sleep(0.005)
+        host.lobby.settings.linger = 0
         reasons = host.end()
         self.assertEqual([reasons[word] for word in WORDS[:5]],
                          [End.HUNG, End.REFUSED, End.LEFT, End.GONE, End.ABSENT])
@@ -260,7 +277,7 @@ class InTheGame(Case):
         self.assertEqual(self.asked()[1:], ["1 hey", "1 " + "z" * 513])
 
     def test_one_that_never_reads_holds_nobody(self) -> None:
-        host = Host(self.folder, pace=80, linger=0.2)
+        host = Host(self.folder, pace=1000, linger=0.2)
         deaf, agent = self.agents(host, "seat0", "seat1")
         host.wait(events.Began)
         deaf.socket.settimeout(0.5)
@@ -273,10 +290,11 @@ class InTheGame(Case):
             self.assertEqual(agent.ask(f"own {number}"), f"@{number} own 0 ()")
         self.assertLess(time.monotonic() - start, MOST / 20)
         agent.quit()
+        host.hurry()
         self.assertEqual(host.end()["seat0"], End.HUNG)
 
     def test_a_reply_is_in_the_journal_before_it_is_passed_on(self) -> None:
-        host = Host(self.folder, pace=60)
+        host = Host(self.folder, pace=1000)
         agent = self.agents(host, "seat3")[0]
         agent.welcome()
         for number in range(30):
@@ -284,6 +302,7 @@ class InTheGame(Case):
             lines = (self.folder / "my.journal").read_text().split("\n")[-4:-1]
             self.assertIn(reply, [json.loads(line).get("r") for line in lines])
         agent.quit()
+        host.hurry()
         host.end()
         journal = read_journal(self.folder / "my.journal")
         self.assertEqual((journal.tick, journal.status, len(journal.calls)), (54, 0, 31))
@@ -293,21 +312,27 @@ class InTheGame(Case):
 
 class TheEnd(Case):
     def test_a_full_disk_for_the_log(self) -> None:
-        with open("/dev/full", "wb") as full:
-            host = Host(self.folder, log=full, pace=5)
-            host.end()
-        self.assertEqual(host.status, 4)
-        self.assertIn("No space left on device", host.of(events.Warned)[-1].text)
-        self.assertEqual((self.folder / "my.log").read_text(), "taclog 1\nend\n")
-        self.assertEqual(host.of(events.Finished)[0].log, str(self.folder / "my.log"))
+        for status in (0, 6):  # also where ticks have lapsed
+            journal = self.folder / f"{status}.journal"
+            with open("/dev/full", "wb") as full, \
+                    mock.patch.dict(os.environ, {"FAKE_STATUS": str(status)}):
+                host = Host(self.folder, log=full, pace=5, start=0, journal=journal)
+                host.end()
+            self.assertEqual(host.status, 4)
+            self.assertIn("No space left on device", host.of(events.Warned)[-1].text)
+            log = journal.with_suffix(".log")
+            self.assertEqual(log.read_text(), "taclog 1\nend\n")
+            self.assertEqual(host.of(events.Finished)[0].log, str(log))
 
     def test_a_full_disk_for_the_journal(self) -> None:
         warned: List[str] = []
         journal = Journal(self.folder / "journal", warned.append)
         journal._number = os.open("/dev/full", os.O_WRONLY)
+        self.assertTrue(journal.is_whole)
         journal.tell(tick=1, t=1)
         journal.tell(tick=2, t=2)
         journal.close()
+        self.assertFalse(journal.is_whole)
         self.assertEqual(len(warned), 1)
         self.assertIn("No space left on device", warned[0])
 
@@ -315,9 +340,17 @@ class TheEnd(Case):
         taken = self.folder / "taken"
         taken.touch()
         with mock.patch.dict(os.environ, {"FAKE_STATUS": "6", "FAKE_TAKEN": str(taken)}):
-            host = Host(self.folder, pace=5)
+            host = Host(self.folder, pace=5, start=0)
             host.end()
         self.assertEqual((host.status, taken.exists()), (6, False))
+
+    def test_a_server_that_is_killed(self) -> None:
+        with mock.patch.dict(os.environ, {"FAKE_STATUS": "-9"}):
+            host = Host(self.folder, pace=5)
+            host.end()
+        self.assertEqual(host.status, 137)
+        self.assertIn("makes a log of the journal", host.of(events.Warned)[-1].text)
+        self.assertEqual(read_journal(self.folder / "my.journal").status, 137)
 
     def test_a_server_that_fails_at_once(self) -> None:
         with mock.patch.dict(os.environ, {"FAKE_EARLY": "7"}):
@@ -328,7 +361,7 @@ class TheEnd(Case):
         self.assertEqual(host.status, 7)
 
     def test_interrupt(self) -> None:
-        host = Host(self.folder, pace=1000)
+        host = Host(self.folder, pace=1000, start=0)
         host.wait(events.Began)
         host.lobby.interrupt()
         host.end()
@@ -354,6 +387,32 @@ class TheEnd(Case):
         self.assertEqual((kept.fault, kept.file), ("there is none", self.folder / "my-2.log"))
         self.assertEqual((self.folder / "my-2.log").read_bytes(), b"other\n")
         self.assertEqual(log_files.keep(b"x", io.BytesIO(), None), log_files.Kept(None, None))
+
+    def test_a_log_that_neither_place_takes(self) -> None:
+        nowhere = self.folder / "none" / "my.log"
+        with open("/dev/full", "wb") as full, mock.patch("tempfile.tempdir", str(self.folder)):
+            kept = log_files.keep(b"log\n", full, nowhere)
+            assert kept.file is not None
+            self.assertEqual((kept.file.parent, kept.file.read_bytes()), (self.folder, b"log\n"))
+            kept.file.unlink()
+            # A path is a caller's own, who is told of the fault.
+            self.assertIsNone(log_files.keep(b"log\n", nowhere, nowhere).file)
+            with mock.patch("os.write", side_effect=OSError(28, "the disk is full")):
+                self.assertEqual(log_files.keep(b"log\n", full, nowhere),
+                                 log_files.Kept("the disk is full", None))
+        self.assertEqual(list(self.folder.iterdir()), [])
+
+    def test_what_is_told_of_a_log_that_is_lost(self) -> None:
+        for is_whole, due in ((True, "this makes it again: "),
+                              (False, "this makes one of what the journal has: ")):
+            with mock.patch("geesefuton.log_files.keep",
+                            return_value=log_files.Kept("the disk is full", None)), \
+                    mock.patch.object(Journal, "is_whole", is_whole):
+                journal = self.folder / f"{is_whole}.journal"
+                host = Host(self.folder, pace=5, journal=journal)
+                host.end()
+            self.assertIn(due, host.of(events.Warned)[-1].text)
+            self.assertEqual(host.status, 4)
 
 
 class Telling(unittest.TestCase):
@@ -391,14 +450,14 @@ class Telling(unittest.TestCase):
 class Command(Case):
     """The command, as a host uses it and as things go wrong around it."""
 
-    def start(self, *more: str, **how: Any) -> "subprocess.Popen[bytes]":
-        with socket.create_server(("", 0)) as probe:
-            port = probe.getsockname()[1]
-        words = [sys.executable, str(TOP / "tools/lobby"), str(GAME), str(port), "15", "--start",
-                 "0.2", "--after", "0", *more]
+    def words(self, *more: str, pace: int = 15) -> List[str]:
+        return [sys.executable, str(TOP / "tools/lobby"), str(GAME), str(free_port()), str(pace),
+                "--start", "0.2", "--after", "0", *more]
+
+    def start(self, *more: str, pace: int = 15, **how: Any) -> "subprocess.Popen[bytes]":
         how = {"stdin": subprocess.DEVNULL, "stdout": subprocess.PIPE, "stderr": subprocess.PIPE,
                "cwd": self.folder, **how}
-        return subprocess.Popen(words, **how)
+        return subprocess.Popen(self.words(*more, pace=pace), **how)
 
     def wait_for(self, script: "subprocess.Popen[bytes]", word: bytes) -> None:
         assert script.stderr is not None
@@ -418,7 +477,7 @@ class Command(Case):
         self.assertEqual(len(list(self.folder.glob("first-*.journal"))), 1)
 
     def test_two_ctrl_c_leave_a_journal(self) -> None:
-        script = self.start("--journal", "my.journal")
+        script = self.start("--journal", "my.journal", pace=1000)
         self.wait_for(script, b"begins")
         script.send_signal(signal.SIGINT)
         time.sleep(0.1)
@@ -438,12 +497,7 @@ class Command(Case):
     def test_closed_outputs(self) -> None:
         for number, close in ((0, "2>&-"), (4, ">&-"), (4, "> /dev/full"), (0, "<&-")):
             with self.subTest(close=close):
-                script = self.start()
-                script.kill()
-                script.communicate()
-                words = [str(word) for word in script.args]
-                words[words.index(str(TOP / "tools/lobby")) + 2] = "0"
-                line = " ".join(f"'{word}'" for word in script.args)
+                line = " ".join(f"'{word}'" for word in self.words(pace=1))
                 done = subprocess.run(["sh", "-c", f"exec {line} {close}"], cwd=self.folder,
                                       stdout=subprocess.PIPE, stderr=subprocess.DEVNULL,
                                       timeout=MOST, check=False)

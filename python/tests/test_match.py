@@ -5,16 +5,16 @@ import tempfile
 import time
 import unittest
 from pathlib import Path
-from typing import Callable, List, Sequence
+from typing import Any, Callable, List, Sequence
 from unittest import mock
 
 from geesefuton import events, match
 from geesefuton.entrants import Entrant
 from geesefuton.events import End
 from geesefuton.lobby import LobbyError
-from geesefuton.match import Exit, Job, Match, Message, Note, Result, outcome_of
+from geesefuton.match import Exit, Job, Match, Message, Note, Result, outcome_of, repeated
 from geesefuton.processes import Children
-from geesefuton.results import Outcome
+from geesefuton.results import Kind, Outcome
 from tests.helpers import SERVED_GAME, SERVED_LOG, fake_program
 
 QUIT, FAILED, KILLED, STOPPED = Exit(0), Exit(1), Exit(-9), Exit(-9, is_stopped=True)
@@ -52,17 +52,23 @@ class Lobby:
     port = 4321
     ends: Sequence[End] = ()
     refused: Sequence[str] = ()
+    departed: Sequence[int] = ()
     status = 0
     log = b""
     seconds = 0.0
     lines: Sequence[events.Ticked] = ()
     orders: List[str] = []
+    passed: List[int] = [0] * 8
+    turns: Sequence[float] = ()
 
-    def __init__(self, settings) -> None:  # type: ignore[no-untyped-def]
+    def __init__(self, settings, *turns) -> None:  # type: ignore[no-untyped-def]
         self.settings = settings
+        Lobby.turns = turns
 
     def run(self, on_event: Callable[[events.Event], None]) -> int:
         time.sleep(self.seconds)
+        for seat in self.departed:
+            on_event(events.Departed(0.0, seat, f"red{seat}"))
         for line in self.refused:
             on_event(events.Refused(0.0, "here", "syntax", line))
         for tick in self.lines:
@@ -88,6 +94,7 @@ class Matches(unittest.TestCase):
         self.lobby = type("Made", (Lobby,), {"ends": [End.LEFT] * 8,
                                              "log": SERVED_LOG.read_bytes(), "seconds": 0.3})
         self.patch("geesefuton.match.Lobby", self.lobby)
+        self.patch("geesefuton.match.TurnLobby", self.lobby)
         self.patch("geesefuton.match.LEAVE", 0.3)
 
     def patch(self, name: str, value: object) -> None:
@@ -101,13 +108,13 @@ class Matches(unittest.TestCase):
         patch.start()
         self.addCleanup(patch.stop)
 
-    def play(self, *scripts: str) -> Result:
+    def play(self, *scripts: str, **more: Any) -> Result:
         """Plays with eight agents, the last ones `exit 0`."""
         all_scripts = [*scripts, *["exit 0"] * (8 - len(scripts))]
         entrants = tuple(Entrant("", ("sh", "-c", script), f"agent{seat}", "")
                          for seat, script in enumerate(all_scripts))
         words = tuple(f"red{seat}" for seat in range(8))
-        job = Job("7.0", self.place, SERVED_GAME.read_text(), entrants, words, pace=20)
+        job = Job("7.0", self.place, SERVED_GAME.read_text(), entrants, words, pace=20, **more)
         with Children() as children:
             return Match(job, children, self.sent.append).play()
 
@@ -134,6 +141,34 @@ class Matches(unittest.TestCase):
     def test_the_lobby_is_told_of_agents_that_have_ended(self) -> None:
         self.play("sleep 5")
         self.assertEqual(sorted(Lobby.orders), [f"without red{seat}\n" for seat in range(1, 8)])
+
+    def test_the_lobby_is_told_again_if_a_link_ended_after_its_agent(self) -> None:
+        self.lobby.departed = [1, 2]
+        self.play("exit 0", "exit 0", "sleep 5")
+        self.assertEqual(Lobby.orders.count("without red0\n"), 1)
+        self.assertEqual(Lobby.orders.count("without red1\n"), 2)
+        self.assertEqual(Lobby.orders.count("without red2\n"), 0)
+
+    def test_a_game_in_turns(self) -> None:
+        with mock.patch("geesefuton.match.TurnLobby", self.lobby), \
+                mock.patch("geesefuton.match.Lobby", Lobby):
+            result = self.play('echo "$@" $AGENT_SEED $PYTHONHASHSEED', "echo $AGENT_SEED",
+                               turns=30, patience=2.5)
+        self.assertEqual((result.kind, len(result.scores)), (Kind.TURNS, 8))
+        self.assertEqual((tuple(Lobby.turns), self.notes()), ((30, 2.5), ""))
+        printed = (self.place / "7.0.red0").read_text().split()
+        self.assertEqual(printed[:4] + printed[5:], ["4321", "red0", "--pause", "0", "0"])
+        self.assertTrue(printed[4].isdigit())
+        self.assertNotEqual((self.place / "7.0.red1").read_text(), printed[4] + "\n")
+        self.assertEqual(repeated("7.0 0")["AGENT_SEED"], printed[4])
+        self.assertIs(self.play().kind, Kind.SERVED)
+
+    def test_an_agent_that_was_passed_over_marks_its_game(self) -> None:
+        self.lobby.passed = [0, 0, 17, 0, 0, 0, 1, 0]
+        self.assertIs(self.play(turns=1).kind, Kind.UNREPEATABLE)
+        self.assertEqual(self.notes().split("\n"), [
+            f"agent{seat} at seat {seat} (red{seat}) was passed over in {count} turns, so the game "
+            "is not one that can be repeated" for seat, count in ((2, 17), (6, 1))])
 
     def test_agents_that_fail_are_told_with_what_they_printed_last(self) -> None:
         self.lobby.ends = [End.GONE, End.HUNG, End.ABSENT, End.ABSENT, End.LEFT, End.GONE,

@@ -1,5 +1,6 @@
 import contextlib
 import os
+import resource
 import signal
 import subprocess
 import tempfile
@@ -11,6 +12,8 @@ from typing import List
 
 from geesefuton.processes import Children, Output, free_port
 from tests.helpers import python, variables
+
+MOST = 60.0  # seconds that anything may take, on a machine that is busy with other work
 
 # A script that starts a process which ignores signals, with a process of its own, and a folder;
 # it prints their numbers and the folder, and waits.
@@ -41,7 +44,7 @@ def is_there(process: int) -> bool:
 @unittest.skipUnless(Path("/proc/self").exists(), "processes are looked for in /proc")
 class Ends(unittest.TestCase):
     def is_gone(self, processes: List[int], folder: Path) -> bool:
-        deadline = time.monotonic() + 8
+        deadline = time.monotonic() + MOST
         while time.monotonic() < deadline:
             if not any(map(is_there, processes)) and not folder.parent.parent.exists():
                 return True
@@ -59,7 +62,7 @@ class Ends(unittest.TestCase):
             self.assertTrue(is_there(int(child)) and is_there(int(grandchild)))
             if number:
                 script.send_signal(number)
-            status = script.wait(10)
+            status = script.wait(MOST)
         self.assertTrue(self.is_gone([int(child), int(grandchild)], Path(folder)))
         return status
 
@@ -127,6 +130,20 @@ class Outputs(unittest.TestCase):
         self.assertEqual(out.fault, "No space left on device")
         self.assertFalse(out.write("y"))
         out.close()
+
+    def test_a_file_that_takes_only_the_beginning_of_a_text(self) -> None:
+        limits = resource.getrlimit(resource.RLIMIT_FSIZE)
+        with tempfile.TemporaryDirectory() as folder:
+            out = Output(Path(folder, "out"))
+            resource.setrlimit(resource.RLIMIT_FSIZE, (4, limits[1]))  # the rest is refused
+            try:
+                is_whole = out.write("one two")
+            finally:
+                resource.setrlimit(resource.RLIMIT_FSIZE, limits)
+            self.assertFalse(out.write(" three"))
+            out.close()
+            self.assertEqual((is_whole, out.fault), (False, "File too large"))
+            self.assertEqual(Path(folder, "out").read_text(), "one ")
 
     def test_a_pipe_without_a_reader(self) -> None:
         reading, writing = os.pipe()

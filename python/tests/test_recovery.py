@@ -185,6 +185,16 @@ class Showing(unittest.TestCase):
                          [3] * 3)
         self.assertEqual(View(6, False).state(reader, nights, made, True)["phase"], "over")
 
+    def test_who_is_here(self) -> None:
+        lines, shown = LINES[:1], []
+        for line in ('{"without":2}', '{"here":2,"from":"10.0.0.7"}', '{"gone":2}',
+                     '{"here":2,"from":"10.0.0.7"}', '{"begin":[2]}', '{"gone":2,"t":5}',
+                     '{"end":2,"why":"left","t":9}'):
+            lines = [*lines, line]
+            shown.append(View(0, False).state(of_text(lines), None, None, False)["agents"][2])
+        self.assertEqual([agent["here"] for agent in shown],
+                         ["absent", "here", "missing", "here", "here", "gone", "left"])
+
     def test_words_are_not_shown(self) -> None:
         for count in (1, 6, 12, 60, len(LINES)):
             reader = of_text(LINES[:count])
@@ -233,6 +243,21 @@ class WithTheProgram(unittest.TestCase):
             self.assertEqual(Recovery(of_text(part), self.player, pending=True).left, [])
         self.assertGreater(made, 0)
 
+    def test_what_came_before_a_request_that_was_made_was_made_too(self) -> None:
+        # Another agent's reply has the second position, so `own 20` of agent 1 had the first one.
+        requests = [f'{{"a":1,"q":"{line}"}}' for line in ("bid 21 ((-1 90))", "own 20", "own 22")]
+        reader = of_text([LINES[0], '{"begin":[0,1,2,3,4,5,6,7]}', '{"tick":0,"t":0}', *requests,
+                          '{"a":2,"q":"own 20"}',
+                          f'{{"a":2,"r":"@1 own {GAME.endow[2][4]} ()","t":5}}'])
+        recovery = Recovery(reader, self.player)
+        for calls, due in ((recovery.made, ["own 20", "bid 21 ((-1 90))"]),
+                           (recovery.left, ["own 22"])):
+            self.assertEqual([one.asked and one.asked.text for one in calls], due)
+        log, faults = recovery.log()
+        histories = read_log(log).histories
+        self.assertEqual([len(histories[good]) for good in (20, 21, 22)], [3, 2, 1])
+        self.assertEqual((histories[21][0].caller, self.audit(log), faults), (1, "sound", []))
+
     def test_a_projection_does_not_tell_the_future(self) -> None:
         for tick in (13, 29):
             place = next(number for number, line in enumerate(LINES)
@@ -251,6 +276,23 @@ class WithTheProgram(unittest.TestCase):
                 made = project(reader, self.player, true_file=False)
                 states.add(json.dumps(View(6, False).state(reader, nights_of(reader), made, False)))
             self.assertEqual(len(states), 1)
+
+    def test_replies_that_are_not_those_of_the_game_are_told(self) -> None:
+        place = LINES.index('{"a":3,"q":"own 22"}')
+        reply = next(at for at in range(place, len(LINES)) if LINES[at].startswith('{"a":3,"r"'))
+        had = GAME.endow[3][22 - 16]
+        self.assertIn(f'"@0 own {had} ()"', LINES[reply])
+        other = LINES[reply].replace(f"own {had}", f"own {had + 1}")
+        (self.folder / "other").write_text("\n".join([*LINES[:reply], other, *LINES[reply + 1:]])
+                                           + "\n")
+        told = f"3 own 22: it was told @0 own {had + 1} (), and now @0 own {had} ()"
+        log, faults = Recovery(read_journal(self.folder / "other"), self.player).log()
+        self.assertEqual((self.audit(log), faults), ("sound", [told]))
+        done = subprocess.run([sys.executable, str(TOP / "tools/recover"), "other"], text=True,
+                              stdout=subprocess.PIPE, stderr=subprocess.PIPE, check=False,
+                              cwd=self.folder)
+        self.assertEqual((done.returncode, done.stdout), (1, log))
+        self.assertIn(f"! {told}\n", done.stderr)
 
     def test_the_command(self) -> None:
         tool = [sys.executable, str(TOP / "tools/recover")]

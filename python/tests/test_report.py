@@ -181,7 +181,7 @@ class Scripts(unittest.TestCase):
         game = report.read_game((TOP / "examples" / "first.game").read_text())
         log = read_played(PLAYED.read_bytes()).log
         text = page.page(game, log, all_events(game, log), Heading("g", "t"))
-        self.assertIn("played from a script", text)
+        self.assertIn("played from a script or in turns", text)
         self.assertNotIn("Rooms:", text)
 
     def test_reply_lines_before_a_log_are_left_out(self) -> None:

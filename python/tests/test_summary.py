@@ -5,13 +5,14 @@ import unittest
 from typing import List
 
 from geesefuton.comparisons import adjusted, estimate
-from geesefuton.results import HEAD, Outcome, ResultsError, Row, csv_of, read_rows, text_of
+from geesefuton.results import (HEAD, Kind, Outcome, ResultsError, Row, csv_of, read_rows,
+                                text_of)
 from geesefuton.summary import FORMS, as_csv, as_json, as_text, summarize
 
 
 def row(deal: str, rotation: int, seat: int, agent: str, score: int,
-        end: Outcome = Outcome.PLAYED, luck: int = 100) -> Row:
-    return Row(deal, rotation, seat, agent, score, end, luck)
+        end: Outcome = Outcome.PLAYED, luck: int = 100, kind: Kind = Kind.SERVED) -> Row:
+    return Row(deal, rotation, seat, agent, score, end, luck, kind)
 
 
 # Two deals of two seats, each played with swapped seats. Agent a has 10 more than b at seat 0 of
@@ -106,6 +107,15 @@ class Luck(unittest.TestCase):
                 row("1", 0, 1, "a", 0, Outcome.ABSENT, luck=9000)]
         self.assertEqual(summarize(rows).standings[0].luck, 100.0)
 
+    def test_means_are_adjusted_to_the_luck_of_seats_that_played_alone(self) -> None:
+        # A score is its luck less 50, so at the mean luck of 100, 200 and 600 it is 250.
+        rows = [row(str(deal), 0, 0, "a", luck - 50, luck=luck)
+                for deal, luck in enumerate((100, 200, 600))]
+        rows.append(row("0", 0, 1, "b", 0, Outcome.ABSENT, luck=9000))
+        got = summarize(rows).standings[0].adjusted
+        assert got is not None
+        self.assertAlmostEqual(got.mean, 250.0)
+
 
 class Texts(unittest.TestCase):
     def setUp(self) -> None:
@@ -125,6 +135,21 @@ class Texts(unittest.TestCase):
         self.assertIn("1 game of 1 deal;", as_text(summarize(SWAPPED[:1])))
         self.assertIn("110 +- ?", as_text(summarize(SWAPPED[:1])))
         self.assertIn("difference, by games", as_text(summarize(SWAPPED[:2])))
+
+    def test_games_in_turns_are_counted(self) -> None:
+        rows = [row(deal, 0, seat, "a", 5, kind=kind) for deal, kind in
+                (("1", Kind.TURNS), ("2", Kind.TURNS), ("3", Kind.UNREPEATABLE), ("4", Kind.SERVED))
+                for seat in range(8)]
+        summary = summarize(rows)
+        self.assertEqual(summary.kinds,
+                         {Kind.TURNS: 2, Kind.UNREPEATABLE: 1, Kind.SERVED: 1})
+        self.assertEqual(as_text(summary).split("\n")[1], "in turns: 2 games that can be repeated, "
+                         "and 1 in which an agent was passed over")
+        self.assertEqual(as_text(summarize(rows[:8])).split("\n")[1],
+                         "in turns: 1 game that can be repeated")
+        self.assertNotIn("in turns", as_text(self.summary))
+        self.assertEqual(json.loads(as_json(summary))["kinds"],
+                         {"turns": 2, "unrepeatable": 1, "served": 1})
 
     def test_csv(self) -> None:
         rows = list(csv.DictReader(io.StringIO(as_csv(self.summary))))
@@ -157,7 +182,8 @@ class Texts(unittest.TestCase):
 
 class Rows(unittest.TestCase):
     def test_rows_are_written_and_read(self) -> None:
-        rows: List[Row] = [*SWAPPED, row("x-1", 2, 7, 'a "b", c', -5, Outcome.HUNG, -3)]
+        rows: List[Row] = [*SWAPPED, row("x-1", 2, 7, 'a "b", c', -5, Outcome.HUNG, -3),
+                           row("3", 0, 0, "a", 5, kind=Kind.UNREPEATABLE)]
         text = csv_of([HEAD]) + text_of(rows)
         self.assertEqual(text.split("\n")[:2], ["deal,rotation,seat,agent,score,end,luck,kind",
                                                 "1,0,0,a,110,played,100,served"])
@@ -169,7 +195,8 @@ class Rows(unittest.TestCase):
         for text, line in (("", 1), ("seed,seat,agent,score\n1,0,a,5\n", 1),
                            (head + "1,0,0,a,5,played,100\n", 2),
                            (head + "1,0,0,a,x,played,100,served\n", 2),
-                           (head + "1,0,0,a,5,won,100,served\n", 2)):
+                           (head + "1,0,0,a,5,won,100,served\n", 2),
+                           (head + "1,0,0,a,5,played,100,x\n", 2)):
             with self.assertRaises(ResultsError) as caught:
                 read_rows(text, "my.csv")
             self.assertIn(f"my.csv: line {line} ", str(caught.exception))

@@ -7,20 +7,21 @@ import subprocess
 import tempfile
 import time
 import unittest
+from multiprocessing.connection import Pipe
 from pathlib import Path
 from typing import Any, List, Optional
 from unittest import mock
 
-from geesefuton import tournament
+from geesefuton import events, tournament
 from geesefuton.deals import Deal, Rule, Table
 from geesefuton.entrants import Entrant
 from geesefuton.luck import worths_of
 from geesefuton.match import Result
 from geesefuton.processes import Children, Output
 from geesefuton.program import ProgramError
-from geesefuton.results import HEAD, Outcome, Row, csv_of, read_rows, text_of
+from geesefuton.results import HEAD, Kind, Outcome, Row, csv_of, read_rows, text_of
 from geesefuton.summary import summarize
-from geesefuton.tournament import Plan, Running, Tournament
+from geesefuton.tournament import MARGIN, Plan, Running, Tournament
 from tests.helpers import (PACKAGE, SERVED_GAME, TOP, fake_program, needs_program, refusal, run,
                            served_game)
 
@@ -31,7 +32,7 @@ import os, sys, time
 from multiprocessing.connection import Connection
 from geesefuton import events
 from geesefuton.match import Note, Result
-from geesefuton.results import Outcome
+from geesefuton.results import Kind, Outcome
 parent = Connection(int(sys.argv[1]))
 job = parent.recv()
 deal, rotation = job.name.split(".")
@@ -49,7 +50,8 @@ else:
     (job.folder / f"{job.name}.game").write_text(job.game)
     outcomes = [Outcome.PLAYED] * 7 + [Outcome.HUNG]
     score = 1000 * int(deal) + 100 * int(rotation)
-    parent.send(Result(tuple(score + seat for seat in range(8)), tuple(outcomes)))
+    kind = Kind.SERVED if not job.turns else Kind.TURNS if rotation == "0" else Kind.UNREPEATABLE
+    parent.send(Result(tuple(score + seat for seat in range(8)), tuple(outcomes), kind=kind))
 time.sleep(60)
 """
 
@@ -77,10 +79,11 @@ class Playing(unittest.TestCase):
         self.addCleanup(patch.stop)
 
     def play(self, games: int = 2, rotations: int = 2, at_once: int = 2, fault: str = "",
-             game: str = "", out: Optional[Output] = None, keep: bool = False) -> Tournament:
+             game: str = "", out: Optional[Output] = None, keep: bool = False,
+             turns: int = 0) -> Tournament:
         file = self.place / "scores.csv"
-        plan = Plan(entrants("a", "b"), Rule(seed=1), games, rotations, at_once, 7, "json", 1.5,
-                    2.5, self.place if keep else None, [])
+        plan = Plan(entrants("a", "b"), Rule(seed=1), games, rotations, at_once, 7, turns, 0.1,
+                    "json", 1.5, 2.5, self.place if keep else None, [])
         made = Tournament(plan, out or Output(file))
         with mock.patch.dict(os.environ, {"FAULT": fault, "GAME": game}), Children() as children:
             made.play(children)
@@ -103,11 +106,11 @@ class Playing(unittest.TestCase):
         self.assertEqual([row.agent for row in rows[8:16]], list("abababab"))
         self.assertEqual([row.end for row in rows[:8]], [Outcome.PLAYED] * 7 + [Outcome.HUNG])
         self.assertEqual([row.luck for row in rows[:8]], worths_of(served_game()))
-        self.assertEqual({row.kind for row in rows}, {"served"})
+        self.assertEqual({row.kind for row in rows}, {Kind.SERVED})
         self.assertEqual(made.report.lost, [])
 
     def test_lines_come_in_the_order_of_the_games_whichever_ends_first(self) -> None:
-        plan = Plan(entrants("a", "b"), Rule(), 3, 1, 3, 7, "words", 1, 1, None, [])
+        plan = Plan(entrants("a", "b"), Rule(), 3, 1, 3, 7, 0, 1, "words", 1, 1, None, [])
         made = Tournament(plan, Output(self.place / "scores.csv"))
         made._out.write(csv_of([HEAD]))
         written = []
@@ -120,6 +123,16 @@ class Playing(unittest.TestCase):
         self.assertEqual(written, [[], ["0"], ["0", "1", "2"]])
         self.assertRegex(self.told[0], r"^game 1 of 3 \(2\.0\): scored; \d+:\d\d left$")
         self.assertEqual(self.told[-1], "game 3 of 3 (1.0): scored; 0:00 left")
+
+    def test_the_time_that_is_left_is_told_in_minutes_and_seconds(self) -> None:
+        plan = Plan(entrants("a"), Rule(), 3, 1, 1, 7, 0, 1, "words", 1, 1, None, [])
+        made = Tournament(plan, Output(self.place / "scores.csv"))
+        table = Table(Deal("1", 1, served_game()), 0)
+        game = Running(0, table, plan.entrants * 8, self.place, mock.Mock(), mock.Mock(), 0.0,
+                       Result(fault="why"))
+        with mock.patch("time.monotonic", return_value=made._began + 29.9):
+            made._finish(game)  # two games more, of 29.9 seconds each
+        self.assertEqual(self.told[-1], "game 1 of 3 (1.0): lost; 1:00 left")
 
     def test_what_games_tell_is_passed_on_and_their_settings_reach_them(self) -> None:
         self.play(games=1, rotations=1)
@@ -160,6 +173,27 @@ class Playing(unittest.TestCase):
         self.assertIn("game 1.0 is lost: it took longer than its ticks and all waiting",
                       made.report.lost)
 
+    def test_games_in_turns_are_told_apart(self) -> None:
+        made = self.play(turns=5)
+        rows = self.rows()
+        self.assertEqual([row.kind for row in rows], [Kind.TURNS] * 8 + [Kind.UNREPEATABLE] * 8)
+        self.assertEqual(rows, made.report.all_rows())
+        self.assertTrue((self.place / "scores.csv").read_text().endswith(",unrepeatable\n"))
+
+    def test_a_game_in_turns_may_take_its_time_as_long_as_ticks_come(self) -> None:
+        for turns, is_later in ((5, True), (0, False)):
+            plan = Plan(entrants("a"), Rule(), 1, 1, 1, 7, turns, 2, "words", 1, 1, None, [])
+            ours, theirs = Pipe()
+            with ours, theirs:
+                theirs.send(events.Ticked(0.0, 1))
+                game = Running(0, Table(Deal("1", 0, served_game()), 0), plan.entrants * 8,
+                               self.place, ours, mock.Mock(), deadline=0.0)
+                Tournament(plan, Output(self.place / "scores.csv"))._hear([game])
+            self.assertEqual(game.deadline > time.monotonic(), is_later)
+            # The start, the turns of eight who are passed over in each, the end, and what is left.
+            due = 1 + 5 * 8 * 2 + 1 + MARGIN if turns else 1 + 54 * 0.007 + 1 + MARGIN
+            self.assertAlmostEqual(plan.seconds(), due)
+
     def test_no_game_is_lost_by_an_output_that_fails(self) -> None:
         made = self.play(out=Output("/dev/full"), keep=True)
         self.assertEqual(len(made.report.all_rows()), 16)
@@ -179,7 +213,7 @@ class Playing(unittest.TestCase):
 
     def test_a_stop_keeps_what_was_played(self) -> None:
         file = self.place / "scores.csv"
-        plan = Plan(entrants("a", "b"), Rule(), 3, 1, 3, 7, "words", 1, 1, None, [])
+        plan = Plan(entrants("a", "b"), Rule(), 3, 1, 3, 7, 0, 1, "words", 1, 1, None, [])
         made = Tournament(plan, Output(file))
         finish, seen = made._finish, []  # type: ignore[var-annotated]
 
@@ -225,8 +259,16 @@ class Commands(unittest.TestCase):
                       ["--seed", "-1"], ["--seed", "18446744073709551616"], ["--games", "1.5"],
                       ["--seed", "18446744073709551615"]):
             self.refused("18446744073709551615" if "--seed" in words else "a number", *words, "sh")
-        for words in (["--start", "x"], ["--after", "-1"], ["--start", "nan"]):
+        self.refused("seeds are at most", "--seed", "18446744073709551613", "sh")  # of four deals
+        for words in (["--start", "x"], ["--after", "-1"], ["--start", "nan"],
+                      ["--patience", "x"]):
             self.refused("a number of seconds is due", *words)
+
+    def test_turns(self) -> None:
+        for turns in ("0", "1001", "x"):
+            self.refused("a number", "--turns", turns, "sh")
+        self.refused("--pace is for games by the clock", "--turns", "5", "--pace", "100", "sh")
+        self.refused("--patience is for games in turns", "--patience", "3", "sh")
 
     def test_deals(self) -> None:
         self.refused("rooms are", "--rooms", "0..3")
@@ -273,14 +315,24 @@ class Commands(unittest.TestCase):
         self.assertEqual(plan.rule, Rule(9, None, (3, 6), True))
         self.assertEqual((plan.form, plan.start, plan.linger, plan.pace, plan.at_once),
                          ("json", 3.0, 4.0, 60, 5))
+        self.assertEqual(plan.turns, 0)
+        plan = tournament._plan(parser, parser.parse_args(["sh", "--seed", "18446744073709551612"]))
+        self.assertEqual((plan.rule.seed, plan.games), (2 ** 64 - 4, 4))
+        plan = tournament._plan(parser, parser.parse_args(["sh", "--turns", "20"]))
+        self.assertEqual((plan.turns, plan.patience, plan.linger), (20, 30.0, 30.0))
+        plan = tournament._plan(parser, parser.parse_args(
+            ["sh", "--turns", "20", "--patience", "3", "--after", "0"]))
+        self.assertEqual((plan.patience, plan.linger), (3.0, 0.0))
         plan = tournament._plan(parser, parser.parse_args([]))
+        self.assertEqual((plan.pace, plan.linger), (100, 5.0))
         self.assertEqual([entrant.name for entrant in plan.entrants],
                          ["planner", "trader", "watcher"])
 
     def test_the_help(self) -> None:
         done = run("tournament", "--help")
         self.assertEqual(done.returncode, 0)
-        for option in ("--swap", "--rooms", "--live", "--game ", "--keep", "--summary", "--join"):
+        for option in ("--swap", "--rooms", "--live", "--game ", "--keep", "--summary", "--join",
+                       "--turns", "--patience"):
             self.assertIn(option, done.stdout)
         with open("/dev/full", "wb") as full:
             done = run("tournament", "--help", stdout=full)

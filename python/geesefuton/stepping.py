@@ -1,0 +1,229 @@
+"""A game that is played line by line: the process of `tac step`, and its two pipes.
+
+    with Stepped("my.game") as game:
+        game.ask(["0 own 16", "tick", "3 bid 8 ((1 50))"])    # ['0 @0 own 1 ()', '3 @0 taken 0 0']
+        log = game.finish()
+
+The lines are those of a game script (docs/FORMATS.md). The process needs no guard: it ends once the
+pipe to it closes, which the system does however the script that started it ends.
+"""
+
+import fcntl
+import os
+import select
+import signal
+import tempfile
+from types import TracebackType
+from typing import List, Optional, Sequence, Type, Union
+
+from geesefuton.program import INPUT, OK, ProgramError, Word, ended, find
+
+GAME = 3  # the descriptor at which the process finds the text of a game
+MOST_READ = 1 << 16  # bytes read at once, which is what a pipe holds
+
+
+class Stepped:
+    """A game of one process. Only one thread may use it at a time.
+
+    Args:
+        game: The game file, or the text of one as bytes.
+
+    Raises:
+        ProgramError: There is no program, or it cannot be run.
+        OSError: There is no room for pipes or for the text.
+    """
+
+    def __init__(self, game: Union[Word, bytes]) -> None:
+        self._process: Optional[int] = None
+        self._script = self._replies = -1
+        held: List[int] = []  # what only the process needs
+        try:
+            script, self._script = map(_above, os.pipe())
+            held.append(script)
+            self._replies, replies = map(_above, os.pipe())
+            held.append(replies)
+            os.set_blocking(self._script, False)
+            moves = [(os.POSIX_SPAWN_DUP2, script, 0), (os.POSIX_SPAWN_DUP2, replies, 1)]
+            if isinstance(game, bytes):
+                held.append(_above(_kept(game)))
+                moves.append((os.POSIX_SPAWN_DUP2, held[-1], GAME))
+                game = f"/dev/fd/{GAME}"
+            self._process = _spawn(find(), ["tac", "step", str(game), INPUT], moves)
+        except BaseException:
+            self.close()
+            raise
+        finally:
+            for each in held:
+                os.close(each)
+
+    def ask(self, lines: Sequence[str]) -> List[str]:
+        """Plays lines of a script, each without its line end.
+
+        Returns:
+            The reply lines, one for each line but `tick`, such as `0 @0 taken 2 0`.
+
+        Raises:
+            ProgramError: The process has ended, since the game file or a line was refused or for
+                another reason; its `line` is what the process wrote last.
+        """
+        text = "".join(line + "\n" for line in lines).encode("latin-1", "replace")
+        due = sum(line != "tick" for line in lines)
+        return self.exchange(text, due).decode("latin-1").split("\n")[:-1]
+
+    def exchange(self, text: bytes, due: int) -> bytes:
+        """Plays a text of lines that `due` reply lines answer, and gives these as a text.
+
+        Raises:
+            ProgramError: As `ask`.
+        """
+        if self._script < 0:
+            raise ProgramError("the game is over")
+        try:
+            rest = text[os.write(self._script, text):]
+        except BlockingIOError:
+            rest = text
+        except BrokenPipeError:
+            raise self._fault([]) from None
+        parts = self._both(memoryview(rest)) if rest else []
+        count = sum(part.count(b"\n") for part in parts)
+        while count < due:
+            part = os.read(self._replies, MOST_READ)
+            if not part:
+                raise self._fault(parts)
+            parts.append(part)
+            count += part.count(b"\n")
+        got = b"".join(parts)
+        # A refusal is the last line, and begins with a letter.
+        if got and not got[got.rfind(b"\n", 0, -1) + 1:][:1].isdigit():
+            raise self._fault(parts)
+        return got
+
+    def finish(self) -> bytes:
+        """Ends the script, lets the ticks that are left come, and gives the log.
+
+        Raises:
+            ProgramError: As `ask`.
+        """
+        if self._script < 0:
+            raise ProgramError("the game is over")
+        self._script = _closed(self._script)
+        log = self._rest()
+        status = self._wait()
+        if status != OK:
+            raise ended("step", status, _last(log))
+        return log
+
+    def close(self) -> None:
+        """Ends the process, if it has not ended."""
+        self._script = _closed(self._script)
+        self._replies = _closed(self._replies)
+        if self._process is not None:
+            try:
+                os.kill(self._process, signal.SIGKILL)
+            except ProcessLookupError:
+                pass  # somebody else has waited for it
+            self._wait()
+
+    def _both(self, rest: memoryview) -> List[bytes]:
+        """Writes what a full pipe did not take, and reads meanwhile, so that neither side waits
+        for the other; gives the parts that were read."""
+        parts: List[bytes] = []
+        poll = select.poll()
+        poll.register(self._script, select.POLLOUT)
+        poll.register(self._replies, select.POLLIN)
+        while rest:
+            ready = dict(poll.poll())
+            if self._replies in ready:
+                part = os.read(self._replies, MOST_READ)
+                if not part:
+                    raise self._fault(parts)
+                parts.append(part)
+            if self._script in ready:
+                try:
+                    rest = rest[os.write(self._script, rest):]
+                except BrokenPipeError:
+                    raise self._fault(parts) from None
+        return parts
+
+    def _rest(self) -> bytes:
+        """What the process still writes, to its end."""
+        parts: List[bytes] = []
+        while True:
+            part = os.read(self._replies, MOST_READ)
+            if not part:
+                return b"".join(parts)
+            parts.append(part)
+
+    def _wait(self) -> int:
+        """The exit status of the process, negative for a signal."""
+        assert self._process is not None
+        try:
+            status = os.waitpid(self._process, 0)[1]
+        except ChildProcessError:
+            status = 0  # somebody else has waited for it
+        self._process = None
+        return -os.WTERMSIG(status) if os.WIFSIGNALED(status) else os.WEXITSTATUS(status)
+
+    def _fault(self, parts: Sequence[bytes]) -> ProgramError:
+        """Why the process has ended before the end of the script, after these parts of its text."""
+        self._script = _closed(self._script)
+        line = _last(b"".join([*parts, self._rest()]))
+        return ended("step", self._wait(), line)
+
+    def __enter__(self) -> "Stepped":
+        return self
+
+    def __exit__(self, kind: Optional[Type[BaseException]], fault: Optional[BaseException],
+                 trace: Optional[TracebackType]) -> None:
+        self.close()
+
+    def __del__(self) -> None:
+        self.close()
+
+
+def _above(number: int) -> int:
+    """A descriptor, moved away from those that the process gets."""
+    if number > GAME:
+        return number
+    moved = fcntl.fcntl(number, fcntl.F_DUPFD_CLOEXEC, GAME + 1)
+    os.close(number)
+    return moved
+
+
+def _closed(number: int) -> int:
+    """Closes a descriptor if it is open, and gives one that is not."""
+    if number >= 0:
+        os.close(number)
+    return -1
+
+
+def _kept(text: bytes) -> int:
+    """A descriptor of a file without a name that holds a text, so that none is left behind."""
+    if hasattr(os, "memfd_create"):
+        number = os.memfd_create("game")
+    else:
+        with tempfile.TemporaryFile() as file:
+            number = os.dup(file.fileno())
+    try:
+        rest = memoryview(text)
+        while rest:
+            rest = rest[os.write(number, rest):]
+        os.lseek(number, 0, os.SEEK_SET)
+    except BaseException:
+        os.close(number)
+        raise
+    return number
+
+
+def _spawn(file: str, words: List[str], moves: "List[tuple[int, int, int]]") -> int:
+    """Starts a process in a group of its own, which ctrl-C at a terminal does not reach."""
+    try:
+        return os.posix_spawn(file, words, os.environ, file_actions=moves, setpgroup=0,
+                              setsigdef=[signal.SIGPIPE])
+    except OSError as fault:
+        raise ProgramError(f"the file of tac cannot be run: {fault.strerror}") from None
+
+
+def _last(text: bytes) -> str:
+    """The last line of a text, without its line end."""
+    return text.rstrip(b"\n").rsplit(b"\n", 1)[-1].decode("latin-1")

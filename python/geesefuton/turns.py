@@ -1,0 +1,188 @@
+"""A game in turns: agents, unchanged ones over the same protocol, are answered one after another.
+
+There is no clock, and no server at a port. In a turn one request of an agent is asked, and all have
+their turns in the order of the seats; each has so many of them between two ticks. One process of
+`tac step` answers them all. An agent that takes its time is waited for: only if it says nothing for
+very long, `patience`, is it passed over, and so at each turn until it speaks again.
+
+So agents whose requests follow from what they were sent play the same game on any machine, busy or
+not, as long as nobody is passed over.
+"""
+
+from __future__ import annotations
+
+import contextlib
+import socket
+import time
+from pathlib import Path
+from typing import List, Optional
+
+from geesefuton import events, program
+from geesefuton.dialects import MOST_LINE, said_in, words_for
+from geesefuton.games import TICKS
+from geesefuton.lobby import TURN, Lobby, LobbySettings
+from geesefuton.orders import Orders
+from geesefuton.processes import Children
+from geesefuton.relay import Relay, Session
+from geesefuton.stepping import Stepped
+
+MOST_TURNS = 1000  # between two ticks, so that the 65,536 lines of a session last
+LAST_TURNS = 1024  # of each agent after the last tick
+MOST_READ = 4096  # bytes; a line that the relay passes on has fewer
+
+
+class Turner:
+    """Who takes turns: the server's end of the link that the relay keeps for a seat.
+
+    Attributes:
+        asked: How many lines were asked in its turns.
+        passed: In how many turns it was passed over.
+        is_silent: Whether it was so in its last one.
+        is_over: Whether it asks nothing more.
+        heard: When it was last answered, or welcomed, by `time.monotonic`.
+    """
+
+    def __init__(self, seat: int, link: socket.socket) -> None:
+        self.seat, self.socket = seat, link
+        self.asked = self.passed = 0
+        self.is_silent = self.is_over = False
+        self.heard = time.monotonic()
+        self._held = b""
+        link.setblocking(False)
+
+    def take(self) -> Optional[bytes]:
+        """The line that has come, without its end; None if there is none yet."""
+        try:
+            piece = self.socket.recv(MOST_READ)
+        except BlockingIOError:
+            return None
+        self.is_over = self.is_over or not piece
+        self._held += piece
+        if not self._held.endswith(b"\n"):
+            return None
+        line, self._held = self._held[:-1], b""
+        self.asked, self.is_silent = self.asked + 1, False
+        return line
+
+    def say(self, lines: bytes) -> None:
+        """Sends it whole lines. There is room: it is sent no more before it asks again."""
+        self.socket.sendall(lines)
+        self.heard = time.monotonic()
+
+    def pass_over(self) -> None:
+        """Its turn is over, and it has said nothing."""
+        self.passed, self.is_silent = self.passed + 1, True
+
+
+class TurnLobby(Lobby):
+    """Hosts one game in turns.
+
+    Args:
+        settings: What a lobby is told; `pace` has no meaning here, and `linger` is how many seconds
+            after the last tick everybody is passed over who has not ended.
+        turns: How many turns each agent has between two ticks, 1 to `MOST_TURNS`, and before the
+            first. After the last it has `LAST_TURNS`.
+        patience: The seconds without a word after which an agent is passed over.
+
+    Raises:
+        LobbyError: A port is taken.
+        program.ProgramError: There is no program, or it refuses the game file; `run` raises it if
+            the program ends before the game is over.
+    """
+
+    def __init__(self, settings: LobbySettings, turns: int, patience: float) -> None:
+        super().__init__(settings)
+        self._turns, self._patience = turns, patience
+        self._turners: List[Turner] = []
+        self._until: Optional[float] = None  # when everybody is passed over
+        self._looked = 0.0
+
+    @property
+    def passed(self) -> List[int]:
+        """In how many turns each agent was passed over; with any at all, the game is not one that
+        can be repeated."""
+        return [turner.passed for turner in self._turners]
+
+    def _serve(self, children: Children, folder: Path, relay: Relay, reader: Orders) -> int:
+        """Plays the game, and gives the exit status of its process."""
+        with contextlib.ExitStack() as stack:
+            game = stack.enter_context(Stepped(self._text.encode("ascii")))
+            sessions = []
+            for seat in relay.seats.seats:
+                ours, theirs = socket.socketpair()
+                stack.callback(theirs.close)
+                sessions.append(Session(seat, ours))
+                self._turners.append(Turner(seat.number, theirs))
+            relay.begin(sessions)
+            self.is_playing = True
+            for turner in self._turners:
+                turner.say(self._welcome(turner.seat))
+            self._play_ticks(game, relay, reader)
+            if not self._is_stopped:
+                relay.turn(0)  # what was answered last
+                relay.finish()
+                self._log.append(game.finish())
+        return program.OK
+
+    def _welcome(self, agent: int) -> bytes:
+        """The ten lines that an agent is sent first."""
+        # The canonical text of a game file has the tickets of all agents before the clients.
+        own = [line for line in self._text.split("\n")
+               if line.startswith((f"endow {agent} ", f"client {agent} "))]
+        return "\n".join([f"welcome {agent}", *own, ""]).encode("ascii")
+
+    def _play_ticks(self, game: Stepped, relay: Relay, reader: Orders) -> None:
+        """Lets the ticks come, with the turns between them."""
+        for tick in range(1, TICKS + 1):
+            self._take_turns(game, relay, reader, self._turns)
+            if self._is_stopped:
+                return
+            game.ask(["tick"])
+            lines = tuple(turner.asked for turner in self._turners)
+            self._emit(events.Ticked(time.time(), tick, lines))
+        relay.release()
+        self._until = time.monotonic() + self.settings.linger
+        for _ in range(LAST_TURNS):
+            self._take_turns(game, relay, reader, 1)
+            if all(turner.is_over or turner.is_silent for turner in self._turners):
+                break
+
+    def _take_turns(self, game: Stepped, relay: Relay, reader: Orders, count: int) -> None:
+        """Gives each agent so many turns."""
+        for _ in range(count):
+            for turner in self._turners:
+                line = None if turner.is_over else self._wait(turner, relay, reader)
+                if self._is_stopped:
+                    return
+                if line is not None:
+                    self._answer(game, turner, line)
+
+    def _wait(self, turner: Turner, relay: Relay, reader: Orders) -> Optional[bytes]:
+        """The line of an agent whose turn it is; None if it is over or passed over."""
+        line = turner.take()
+        while line is None and not turner.is_over and not self._is_stopped:
+            now = time.monotonic()
+            left = turner.heard + self._patience - now
+            if self._until is not None:
+                left = min(left, self._until - now)
+            relay.turn(max(0.0, min(TURN, left)))
+            if now - self._looked >= TURN:
+                self._looked = now
+                relay.pass_time(now)
+                reader.look(relay)
+            self._obey(relay)
+            line = turner.take()
+            if line is None and left <= 0 and not turner.is_over:
+                turner.pass_over()
+                break
+        return line
+
+    def _answer(self, game: Stepped, turner: Turner, line: bytes) -> None:
+        """Asks a line, and tells its agent the reply."""
+        form = self.settings.form
+        reply = b"no toolong"
+        if len(line) <= MOST_LINE:
+            asked = b"%d %b\n" % (turner.seat, words_for(line, form))
+            reply = game.exchange(asked, 1).split(b" ", 1)[1][:-1]
+        turner.say(said_in(reply, form) + b"\n")
+        turner.is_over = reply == b"bye"

@@ -1,0 +1,311 @@
+"""The agent of examples/agents/baseline.py, in games of its simulator: no server and no time."""
+
+import random
+import subprocess
+import sys
+import unittest
+from collections import Counter
+from typing import Callable, Dict, List, Optional, Tuple
+
+from geesefuton.games import HOTELS, TICKETS, Client, inbound, outbound
+from geesefuton.link import Quote
+from tests.helpers import TOP
+from tests.test_link import Server
+
+AGENTS = TOP / "examples" / "agents"
+sys.path.insert(0, str(AGENTS))
+
+import baseline  # noqa: E402
+import learn_baseline  # noqa: E402
+import simulator  # noqa: E402
+from baseline import Baseline, Flight, Plan, best_shows, span  # noqa: E402
+from simulator import TICKS, Deal, Market, Seat  # noqa: E402
+
+REFUSALS = ["no spent", "no syntax", "no toolong", "no auction", "no memory",
+            *(f"no bid {fault}" for fault in range(1, 6)), "@7 no closed", "@7 no wrongcall",
+            "@7 no nobid", "@7 no sell", "@7 no selfcross", "@7 no belowquote 1 1 0",
+            "@7 no belowquote 16 10000 2", "@7 no belowquote 3 10001 0"]
+
+
+class Watched(Seat):
+    """A seat that keeps what its agent asks. `refuse` gives the reply to a call, or None where the
+    market answers."""
+
+    def __init__(self, market: Market, agent: int = 0,
+                 refuse: Callable[[int], Optional[str]] = lambda good: None) -> None:
+        super().__init__(market, agent)
+        self.refuse = refuse
+        self.bids: List[Tuple[int, Tuple[Tuple[int, int], ...], str]] = []
+        self.calls: Dict[int, int] = Counter()  # by auction
+        self.lines = 0
+
+    def bid(self, good: int, *points: Tuple[int, int]) -> str:
+        self.count(good)
+        reply = self.refuse(good) or super().bid(good, *points)
+        self.bids.append((good, points, reply))
+        return reply
+
+    def ask(self, request: str) -> str:
+        good = int(request.split()[1])
+        self.count(good)
+        return self.refuse(good) or super().ask(request)
+
+    def own(self, good: int) -> int:
+        self.count(good)
+        return super().own(good)
+
+    def quote(self, good: int) -> Quote:
+        self.lines += 1
+        return super().quote(good)
+
+    def count(self, good: int) -> None:
+        self.calls[good] += 1
+        self.lines += 1
+
+
+class Hurried(Watched):
+    """A seat whose agent's offer is taken right after its first look of a tick at what it holds."""
+
+    def __post_init__(self) -> None:
+        super().__post_init__()
+        self.looked = [-1] * 28  # the tick of the last look
+
+    def own(self, good: int) -> int:
+        held = super().own(good)
+        if good in TICKETS and self.looked[good] < self.market.tick:
+            self.looked[good] = self.market.tick
+            self.market.bid(7, good, [[1, 300]])
+            self.market.withdraw(7, good)
+        return held
+
+
+def deal(seed: int = 9, few: bool = False) -> Deal:
+    return Deal.draw(random.Random(seed), range(3, 7) if few else None)
+
+
+def alone(refuse: Callable[[int], Optional[str]] = lambda good: None, seed: int = 1,
+          ticks: int = TICKS) -> Tuple[Market, Watched, Baseline]:
+    """A game in which one agent bids. It looks twice a tick, in the first of them alone."""
+    market = Market(deal())
+    seat = Watched(market, refuse=refuse)
+    agent = Baseline(seat, random.Random(seed))
+    for tick in range(TICKS):
+        for _ in range(2 if tick < ticks else 0):
+            agent.round()
+        market.pass_tick()
+    return market, seat, agent
+
+
+class Tables(unittest.TestCase):
+    def test_each_has_four_rows_of_eight_rises(self) -> None:
+        for table in (baseline.PLENTY, baseline.SCARCE):
+            self.assertEqual([len(row) for row in table], [8] * 4)
+            self.assertTrue(all(isinstance(rise, int) and 0 <= rise <= 1000
+                                for row in table for rise in row))
+
+    def test_a_rise_is_that_to_the_closing(self) -> None:
+        market = Market(deal())
+        market.bid(0, 8, [[16, 70]])
+        for tick in range(TICKS):
+            market.pass_tick()
+        seen = learn_baseline.rises(market, few=False)
+        self.assertEqual(sum(len(rises) for rises in seen.values()),
+                         sum(6 * number for number in range(1, 9)))
+        first = market.deal.order.index(8) + 1  # it publishes its price at tick 6 at the latest
+        self.assertEqual(seen["PLENTY", 0, 0].count(70), 6)
+        self.assertEqual(Counter(market.closings.values()), Counter(range(6, 54, 6)))
+        self.assertEqual(market.closings[8], 6 * first)
+
+
+class Flights(unittest.TestCase):
+    def test_how_far_a_price_may_move(self) -> None:
+        self.assertEqual([span(30, 54), span(10, 20), span(-10, 27), span(-10, 28), span(-10, 54)],
+                         [(-10, 30), (-10, 10), (-10, 10), (-1, 10), (-10, 10)])
+
+    def test_a_great_move_tells_a_great_bound(self) -> None:
+        flight = Flight(300)
+        flight.move(325, 50)  # by more than 25 only if 10 + floor(50 (x - 10) / 54) does
+        likely = [bound for bound, odd in zip(baseline.BOUNDS, flight.odds) if odd > 0.01]
+        self.assertEqual(likely, [bound for bound in range(-10, 31)
+                                  if 10 + 50 * (bound - 10) // 54 >= 25])
+        self.assertTrue(flight.rising(50))
+
+    def test_two_ticks_at_once_exclude_nothing(self) -> None:
+        flight = Flight(300)
+        for tick in range(1, TICKS):
+            flight.move(flight.price + 60, tick)
+        self.assertAlmostEqual(sum(flight.odds), 1)
+        flight.move(flight.price, 53)
+        self.assertAlmostEqual(sum(flight.odds), 1)
+
+
+class Plans(unittest.TestCase):
+    CLIENTS = deal().clients[0]
+
+    def test_where_all_is_free_each_gets_the_trip_that_it_prefers(self) -> None:
+        plan = Plan(self.CLIENTS, [[0] * baseline.UNITS] * 28).settle()
+        for client, (value, goods) in zip(self.CLIENTS, plan.trips):
+            nights = client.depart - client.arrive
+            shows = sum(sorted(client.values, reverse=True)[:nights])
+            # A day more costs 100 dollars, and may bring a ticket of more.
+            self.assertGreaterEqual(value, 1000 + client.premium + shows)
+            self.assertLessEqual(value, 1000 + client.premium + sum(client.values))
+            self.assertTrue({*goods} & {*range(12, 16)} and not {*goods} & {*range(8, 12)})
+        self.assertEqual(plan.worth(), sum(value for value, _ in plan.trips))
+
+    def test_units_used_are_those_of_the_trips(self) -> None:
+        costs: List[List[float]] = [[300.0] * baseline.UNITS] * 8 + [[90.0] * 17] * 8 + \
+            [[60.0] * 17] * 12
+        plan = Plan(self.CLIENTS, costs).settle()
+        used = Counter(good for _, goods in plan.trips for good in goods)
+        self.assertEqual(plan.used, [used[good] for good in range(28)])
+        for good in HOTELS:
+            if plan.used[good]:
+                less = plan.with_units(good, plan.used[good] - 1)
+                self.assertLess(less.used[good], plan.used[good])
+        self.assertEqual(plan.used, [used[good] for good in range(28)])
+
+    def test_a_client_stays_at_home_where_trips_cost_too_much(self) -> None:
+        plan = Plan(self.CLIENTS, [[baseline.NEVER] * baseline.UNITS] * 28).settle()
+        self.assertEqual((plan.trips, plan.worth()), ([baseline.HOME] * 8, 0))
+
+    def test_tickets_of_a_stay_are_of_different_nights_and_types(self) -> None:
+        client = Client(1, 3, 100, (150, 80, 40))
+        # Two nights: the two best of three types, each less 10 dollars.
+        gain, goods = best_shows(client.values, (10,) * 12, (1, 3))
+        self.assertEqual((gain, len(goods)), (210, 2))
+        self.assertEqual({(good - 16) // 4 for good in goods}, {0, 1})
+        self.assertEqual({(good - 16) % 4 for good in goods}, {0, 1})
+        self.assertEqual(best_shows(client.values, (200,) * 12, (1, 5)), (0, ()))
+
+
+class Games(unittest.TestCase):
+    def assert_allowed(self, seat: Watched) -> None:
+        """Whether what was asked keeps to the limits, and is refused only where nobody can know."""
+        for good, points, reply in seat.bids:
+            self.assertTrue(1 <= len(points) <= 16, points)
+            self.assertLessEqual(sum(abs(units) for units, _ in points), 16)
+            self.assertTrue(all(1 <= price <= 10000 and units for units, price in points))
+            self.assertTrue(good >= 16 or all(units > 0 for units, _ in points))
+            self.assertIn(reply.split()[1], ("taken", "no"))
+            self.assertTrue(" no " not in reply or " belowquote " in reply and good in HOTELS,
+                            reply)
+        self.assertLess(max(seat.calls.values()), 1024)
+        self.assertLess(seat.lines, 65536)
+
+    def games(self, few: bool) -> None:
+        market = Market(deal(few=few))
+        seats = [Watched(market, agent) for agent in range(8)]
+        source = random.Random(3)
+        players = [Baseline(seat, source) for seat in seats[:3]]
+        for _ in range(TICKS):
+            for player in players:
+                self.assertTrue(player.round())
+            market.pass_tick()
+        for player, seat in zip(players, seats):
+            self.assertFalse(player.round())
+            self.assertEqual(player.seen, TICKS)
+            self.assert_allowed(seat)
+            held = market.hold[seat.agent]
+            self.assertTrue(all(held[good] >= 0 for good in TICKETS))
+            self.assertEqual(player.have[8:16], held[8:16])
+            trips = min(sum(held[inbound(day)] for day in range(1, 5)),
+                        sum(held[outbound(day)] for day in range(2, 6)), sum(held[8:16]))
+            self.assertGreater(trips, 0 if few else 5)
+
+    def test_it_keeps_to_the_limits(self) -> None:
+        self.games(few=False)
+
+    def test_it_keeps_to_the_limits_where_quotes_are_live(self) -> None:
+        self.games(few=True)
+
+    def test_it_survives_each_refusal(self) -> None:
+        for refusal in REFUSALS:
+            with self.subTest(refusal=refusal):
+                ticks = TICKS if refusal == "no spent" else 13  # past two closings
+                market, seat, agent = alone(lambda good: refusal, ticks=ticks)
+                self.assertFalse(agent.round())
+                self.assertEqual((market.cash[0], sum(market.hold[0][:16])), (0, 0))
+                self.assertLess(max(seat.calls.values()), 1024)
+                self.assertTrue(all(1 <= price <= 10000 for _, points, _ in seat.bids
+                                    for _, price in points))
+
+    def test_refusals_of_one_kind_of_auction_cost_no_others(self) -> None:
+        for goods, bought in ((TICKETS, range(16)), (HOTELS, range(8)), (range(8), HOTELS)):
+            market, _, _ = alone(lambda good: "no spent" if good in goods else None)
+            self.assertGreater(sum(market.hold[0][good] for good in bought), 0)
+
+    def test_it_never_sells_what_it_sold_while_it_planned(self) -> None:
+        market = Market(deal())
+        agent = Baseline(Hurried(market), random.Random(1))
+        for _ in range(TICKS):
+            agent.round()
+            market.pass_tick()
+        self.assertGreater(sum(market.hold[7][16:]), sum(market.deal.endow[7]))
+        self.assertTrue(all(market.hold[0][good] >= 0 for good in TICKETS), market.hold[0])
+
+    def test_with_a_seed_it_draws_from_nothing_else(self) -> None:
+        played = []
+        for noise in (1, 2):
+            random.seed(noise)
+            market, seat, _ = alone(seed=5)
+            played.append((market.hold, market.cash, seat.bids))
+        self.assertEqual(played[0], played[1])
+
+    def test_it_knows_the_tick_from_the_closings_if_it_missed_some(self) -> None:
+        market = Market(deal())
+        agent = Baseline(Seat(market, 0), random.Random(1))
+        for tick in range(TICKS):
+            if tick % 7 == 0:
+                agent.round()
+                self.assertTrue(tick - 5 <= agent.tick <= tick, (tick, agent.tick))
+            market.pass_tick()
+        self.assertFalse(agent.round())
+
+
+class Waiting(unittest.TestCase):
+    def lines(self, pause: float, seconds: float) -> int:
+        """How many lines its looks take in a game of so many seconds, which take no time."""
+        looks, now = 0, 0.1  # its first plans take longer
+        while now < seconds:
+            looks, now = looks + 1, now + baseline.wait(pause, now, looks)
+        return 8 * looks
+
+    def test_the_lines_of_a_link_last(self) -> None:
+        for pace in (0.1, 1, 10, 60):
+            for pause in (0.0, 0.001, pace, 100.0):
+                self.assertLess(self.lines(pause, TICKS * pace), 60000)
+
+    def test_it_looks_some_times_a_tick(self) -> None:
+        for pace in (0.1, 1, 10, 60):
+            self.assertLessEqual(baseline.wait(pace, TICKS * pace, 9999), pace / 3)
+
+    def test_in_turns_it_does_not_wait(self) -> None:
+        for turns in (20, 80, 200):
+            self.assertEqual(baseline.wait(0.0, 1000.0, TICKS * turns // 8), 0.0)
+
+
+class Commands(unittest.TestCase):
+    def agent(self, *words: object) -> "subprocess.CompletedProcess[str]":
+        return subprocess.run([sys.executable, str(AGENTS / "baseline.py"), *map(str, words)],
+                              stdin=subprocess.DEVNULL, capture_output=True, text=True,
+                              timeout=60, check=False)
+
+    def test_a_refused_word_is_told_in_a_line(self) -> None:
+        server = Server([["refused wrongword"]])
+        done = self.agent("127.0.0.1", server.port, "red")
+        server.join()
+        self.assertEqual((done.returncode, done.stdout, done.stderr),
+                         (1, "", "red: refused wrongword\n"))
+
+    def test_bad_words_are_refused(self) -> None:
+        for words in ((), ("localhost", "x", "red"), ("localhost", 7, "red", "--seed", "x"),
+                      ("localhost", 7, "red", "--pause", "nan"),
+                      ("localhost", 7, "red", "--pause", "-1")):
+            done = self.agent(*words)
+            self.assertEqual((done.returncode, done.stdout), (2, ""), words)
+            self.assertIn("error: ", done.stderr.splitlines()[-1])
+
+
+if __name__ == "__main__":
+    unittest.main()

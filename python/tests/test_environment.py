@@ -1,0 +1,349 @@
+import os
+import random
+import tempfile
+import unittest
+from pathlib import Path
+from typing import Any, Dict, List
+from unittest import mock
+
+from geesefuton import program
+from geesefuton.deals import drawn_rooms
+from geesefuton.environment import ActionError, Environment
+from geesefuton.games import FLIGHTS, HOTELS, TICKS, Game, GameError, read_game
+from geesefuton.program import ProgramError
+from tests.helpers import SERVED_GAME, TOP, fake_program, needs_program
+
+FIRST = TOP / "examples" / "first.game"  # of version 1
+FEW_ROOMS = TOP / "examples" / "few_rooms.game"  # of version 2, with live quotes
+Actions = Dict[str, List[str]]
+
+
+def played(environment: Environment) -> bytes:
+    """The log of `tac play` for the game and the script of an environment."""
+    with tempfile.TemporaryDirectory() as folder:
+        game, script = Path(folder, "game"), Path(folder, "script")
+        game.write_text(environment.game)
+        script.write_bytes(environment.script.encode())
+        text = program.play(game, script)
+    return text[text.index("taclog 1\n"):].encode()
+
+
+def random_actions(source: random.Random, agents: List[str]) -> Actions:
+    """Requests of all kinds, good and bad ones."""
+    def request() -> str:
+        good, units = source.randrange(30), source.choice([-2, -1, 1, 2, 20])
+        return source.choice([f"bid {good} (({units} {source.randrange(1, 400)}))", f"own {good}",
+                              f"withdraw {good}", f"quote {good}", "cash", "nonsense", "x" * 600])
+
+    return {agent: [request() for _ in range(source.randrange(4))]
+            for agent in source.sample(agents, source.randrange(len(agents) + 1))}
+
+
+def rest(environment: Environment) -> "tuple[Any, ...]":
+    """What the last step of a game returns in which nobody asks anything more."""
+    told: "tuple[Any, ...]" = ()
+    while environment.agents:
+        told = environment.step({})
+    return told
+
+
+class Arguments(unittest.TestCase):
+    def test_bad_arguments_are_told(self) -> None:
+        bad: List[Dict[str, Any]] = [
+            {"render_mode": "human"}, {"rooms": (0, 3)}, {"rooms": (4, 3)}, {"rooms": (3, 65)},
+            {"rooms": "3..6"}, {"rooms": 3}, {"game": FEW_ROOMS, "live": True},
+            {"game": FIRST, "rooms": (3, 6)}]
+        for more in bad:
+            with self.subTest(more=more):
+                self.assertRaises(ValueError, Environment, **more)
+        self.assertRaises(FileNotFoundError, Environment, "there/is/none")
+        self.assertRaises(GameError, Environment, TOP / "README.md")
+
+    def test_without_a_game_nobody_plays(self) -> None:
+        environment = Environment()
+        self.assertEqual((environment.agents, environment.num_agents, environment.max_num_agents),
+                         ([], 0, 8))
+        self.assertEqual(environment.possible_agents, [f"seat{seat}" for seat in range(8)])
+        self.assertRaisesRegex(ActionError, "no game is played", environment.step, {})
+        self.assertEqual((environment.log, environment.script, environment.game), (None, "", ""))
+        self.assertEqual(environment.render(), "tick 0 of 54\n")
+        self.assertEqual(environment.state(), {"tick": 0, "quotes": [], "deals": {}})
+        environment.close()
+
+    def test_a_bad_reset_is_told_before_anything_changes(self) -> None:
+        environment: Any = Environment()
+        for seed in (-1, 1 << 64, "7", 1.5):
+            self.assertRaises(ValueError, environment.reset, seed)
+        self.assertRaisesRegex(ValueError, "there are no options", environment.reset, 1, {"a": 1})
+        self.assertIsNone(environment.seed)
+
+    def test_a_program_that_fails_later_ends_the_game(self) -> None:
+        # The stand-in answers the first 28 lines, and at a further one it ends.
+        loop = ("for good in $(seq 28); do\n"
+                'read -r line; echo "${line%% *} @0 quote 0 0 open"\n'
+                "done\nread -r line; exit 7\n")
+        with tempfile.TemporaryDirectory() as folder:
+            tac = fake_program(Path(folder), loop)
+            with mock.patch.dict(os.environ, {"TAC": tac}), Environment(FIRST) as environment:
+                environment.reset()
+                self.assertEqual(environment.num_agents, 8)
+                self.assertRaises(ProgramError, environment.step, {})
+                self.assertEqual(environment.agents, [])
+                self.assertRaisesRegex(ActionError, "no game is played", environment.step, {})
+
+    def test_spaces_are_the_same_at_each_call(self) -> None:
+        environment = Environment(FIRST)
+        agent = environment.possible_agents[3]
+        self.assertIs(environment.action_space(agent), environment.action_space(agent))
+        self.assertIs(environment.observation_space(agent), environment.observation_spaces[agent])
+        self.assertIsNot(environment.action_space(agent),
+                         environment.action_space(environment.possible_agents[4]))
+        self.assertEqual(list(environment.action_spaces), environment.possible_agents)
+        self.assertRaises(KeyError, environment.action_space, "nobody")
+
+    def test_a_program_that_fails_ends_the_game(self) -> None:
+        with tempfile.TemporaryDirectory() as folder:
+            told = 'read -r line; for good in 0 1; do echo "$good @0 quote 0 0 open"; done\n'
+            for body in ("echo memory; exit 7\n", told, "exit 0\n"):
+                tac = fake_program(Path(folder), body)
+                with mock.patch.dict(os.environ, {"TAC": tac}), Environment(FIRST) as environment:
+                    self.assertRaises(ProgramError, environment.reset)
+                    self.assertEqual(environment.agents, [])
+
+
+@needs_program
+class Steps(unittest.TestCase):
+    def setUp(self) -> None:
+        self.game: Game = read_game(FIRST.read_text())
+        self.environment = Environment(FIRST)
+        self.addCleanup(self.environment.close)
+        self.observations, self.infos = self.environment.reset()
+        self.agents = list(self.environment.agents)
+
+    def test_each_agent_knows_its_tickets_and_clients(self) -> None:
+        self.assertEqual(self.agents, list(self.game.words))
+        for seat, agent in enumerate(self.agents):
+            clients = [(client.arrive, client.depart, client.premium, *client.values)
+                       for client in self.game.clients[seat]]
+            self.assertEqual(self.infos[agent],
+                             {"endow": list(self.game.endow[seat]), "clients": clients})
+        self.assertEqual(self.environment.state()["deals"], self.infos)
+
+    def test_flights_move_and_hotels_close_at_their_ticks(self) -> None:
+        prices = [flight.prices() for flight in self.game.flights]
+        observations = self.observations
+        for tick in range(TICKS):
+            seen = observations[self.agents[7]]
+            self.assertEqual((seen["tick"], seen["replies"]), (tick, []))
+            for good in FLIGHTS:
+                self.assertEqual(seen["quotes"][good][1:], (prices[good][tick], False))
+            for good in HOTELS:
+                is_closed = tick >= self.game.hotels[good - HOTELS.start].closes
+                self.assertEqual(seen["quotes"][good][2], is_closed)
+            observations, *_ = self.environment.step({})
+        quotes = observations[self.agents[0]]["quotes"]
+        self.assertEqual([closed for _, _, closed in quotes], [True] * 28)
+
+    def test_requests_are_answered_to_those_who_asked(self) -> None:
+        second, fifth = self.agents[2], self.agents[5]
+        price = self.game.flights[3].first
+        observations, rewards, ends, breaks, infos = self.environment.step({
+            fifth: [f"bid 3 ((2 {price}))", "own 3"], second: ["own 3", "bid 99 ((1 1))", "what"]})
+        self.assertEqual(observations[fifth]["replies"], ["@0 taken 2 0", "@1 own 2 ()"])
+        self.assertEqual(observations[second]["replies"],
+                         ["@2 own 0 ()", "no auction", "no syntax"])
+        self.assertEqual(observations[self.agents[0]]["replies"], [])
+        for told, value in ((rewards, 0), (ends, False), (breaks, False), (infos, {})):
+            self.assertEqual(told, dict.fromkeys(self.agents, value))
+        lines = [f"5 bid 3 ((2 {price}))", "5 own 3", "2 own 3", "2 bid 99 ((1 1))", "2 what",
+                 "tick", ""]
+        self.assertEqual(self.environment.script.split("\n"), lines)
+
+    def test_the_scores_are_the_rewards_of_the_last_step(self) -> None:
+        # A seat alone is no trip, so the agent has lost its price; nobody else did anything.
+        buyer, price = self.agents[1], self.game.flights[0].first
+        self.environment.step({buyer: ["bid 0 ((1 800))"]})
+        observations, rewards, ends, breaks, infos = rest(self.environment)
+        self.assertEqual(rewards, {**dict.fromkeys(self.agents, 0), buyer: -price})
+        self.assertEqual(ends, dict.fromkeys(self.agents, True))
+        self.assertEqual(breaks, dict.fromkeys(self.agents, False))
+        self.assertEqual(observations[buyer]["tick"], TICKS)
+        self.assertEqual(self.environment.agents, [])
+        self.assertRaisesRegex(ActionError, "no game is played", self.environment.step, {})
+        assert self.environment.log is not None
+        with tempfile.TemporaryDirectory() as folder:
+            game = Path(folder, "game")
+            game.write_text(self.environment.game)
+            self.assertEqual(program.audit(game, self.environment.log), "sound")
+
+    def test_bad_actions_change_nothing(self) -> None:
+        agent, environment = self.agents[0], self.environment
+        first: Any = [f"bid 0 ((1 {self.game.flights[0].first}))"]
+        bad: List[Any] = [
+            {agent: first, "nobody": []}, {agent: first, 1: []}, {agent: "own 8"}, {agent: 7},
+            {agent: None}, {agent: [*first, "quit"]}, {agent: [*first, "own 8\n"]},
+            {agent: [*first, "own 8\nquit"]}, {agent: [*first, 8]}, {agent: [*first, b"own 8"]},
+            {agent: [*first, "\ud800"]}, [first], None, "own 8", {agent: ["own 8"] * 65_537},
+            {agent: ["own 8"] * 65_300 + ["y" * 600] * 37}]
+        for actions in bad:
+            with self.subTest(actions=repr(actions)[:60]):
+                self.assertRaises(ActionError, environment.step, actions)
+                self.assertEqual((environment.tick, environment.script), (0, ""))
+        observations, *_ = environment.step({agent: ["own 0", *first]})
+        self.assertEqual(observations[agent]["replies"], ["@0 own 0 ()", "@1 taken 1 0"])
+
+    def test_bytes_of_a_script_have_an_end(self) -> None:
+        lines = ["y" * 512] * 65_000
+        for agent in self.agents[:2]:
+            self.environment.step({agent: lines})  # 33 MB each
+        self.assertRaisesRegex(ActionError, "at most", self.environment.step,
+                               {self.agents[2]: ["y" * 512] * 1000})
+        self.environment.step({self.agents[2]: ["own 8"]})
+
+    def test_overlong_requests_are_answered_as_over_a_link(self) -> None:
+        agent = self.agents[4]
+        requests = ["own 8", "x" * 512, "x" * 513, "ü" * 256, "ü" * 257, "own 8\r", "cash"]
+        observations, *_ = self.environment.step({agent: requests})
+        self.assertEqual(observations[agent]["replies"],
+                         ["@0 own 0 ()", "no syntax", "no toolong", "no syntax", "no toolong",
+                          "no syntax", "@0 cash 0"])
+        rest(self.environment)
+        self.assertEqual(self.environment.log, played(self.environment))
+
+    def test_nobodys_lines_are_used_up_by_quotes(self) -> None:
+        # Each seat is asked for at most four quotes before and after each of the 54 ticks.
+        agent, left = self.agents[0], 65_536 - 55 * 4
+        observations, *_ = self.environment.step({agent: ["quit "] * left})
+        self.assertEqual(observations[agent]["replies"], ["no syntax"] * left)
+        self.assertRaisesRegex(ActionError, "more than 65316", self.environment.step,
+                               {agent: ["own 8"]})
+        rest(self.environment)
+        self.assertEqual(self.environment.log, played(self.environment))
+
+    def test_the_boards_are_shown_as_text(self) -> None:
+        lines = self.environment.render().split("\n")
+        prices = [flight.first for flight in self.game.flights]
+        self.assertEqual(lines[0], "tick 0 of 54")
+        self.assertEqual(lines[1].split(), ["Flights", "in", "day", "1", str(prices[0]), "day", "2",
+                                            str(prices[1]), "day", "3", str(prices[2]), "day", "4",
+                                            str(prices[3])])
+        self.assertEqual((len(lines), lines[-1]), (9, ""))
+        self.environment.step({self.agents[0]: ["bid 16 ((-1 60))"],
+                               self.agents[1]: ["bid 16 ((1 50))"]})
+        self.assertIn("night 1 50/60", self.environment.render())
+        rest(self.environment)
+        self.assertEqual(self.environment.render().count(" x"), 28)
+
+
+@needs_program
+class Games(unittest.TestCase):
+    def test_games_by_random_actions_have_the_logs_of_play(self) -> None:
+        source = random.Random(54)
+        with Environment() as environment, Environment(FEW_ROOMS) as file, \
+                Environment(rooms=(1, 4), live=True) as live:
+            for number in range(10):
+                each = (environment, file, live)[number % 3]
+                observations, _ = each.reset(number)
+                agents = list(each.agents)
+                while each.agents:
+                    for agent in agents:
+                        self.assertIn(observations[agent], each.observation_space(agent))
+                    actions = random_actions(source, agents)
+                    observations, *_ = each.step(actions)
+                    self.assertEqual({agent: len(observations[agent]["replies"])
+                                      for agent in agents},
+                                     {agent: len(actions.get(agent, [])) for agent in agents})
+                self.assertEqual(each.log, played(each))
+
+    def test_games_follow_from_their_seeds(self) -> None:
+        with Environment() as environment:
+            seeds = []
+            for seed in (None, None, 7, None, (1 << 64) - 1, None):
+                environment.reset(seed)
+                seeds.append(environment.seed)
+                self.assertEqual(environment.game, program.make(seeds[-1] or 0))
+            self.assertEqual(seeds, [0, 1, 7, 8, (1 << 64) - 1, 0])
+
+    def test_made_games_may_have_few_rooms_and_live_quotes(self) -> None:
+        with Environment(rooms=(2, 2), live=True) as environment:
+            observations, infos = environment.reset(5)
+            game, made = read_game(environment.game), read_game(program.make(5))
+            self.assertEqual(game, made.with_rooms([2] * 8, True))
+            self.assertEqual(infos["seat6"]["endow"], list(made.endow[6]))
+            self.assertEqual([tuple(client) for client in infos["seat7"]["clients"]],
+                             [(client.arrive, client.depart, client.premium, *client.values)
+                              for client in made.clients[7]])
+            # The ask is the price of the second highest of three units, and is published at once.
+            observations, *_ = environment.step({"seat0": ["bid 8 ((1 30) (1 20))"],
+                                                 "seat1": ["bid 8 ((1 25))"]})
+            self.assertEqual(observations["seat2"]["quotes"][8][1], 25)
+        with Environment(rooms=(3, 6)) as environment:
+            environment.reset(9)
+            self.assertEqual(read_game(environment.game).rooms, tuple(drawn_rooms(9, 3, 6)))
+            self.assertFalse(read_game(environment.game).live)
+        with Environment(live=True) as environment:
+            environment.reset(9)
+            self.assertEqual(read_game(environment.game), read_game(program.make(9)).with_rooms(
+                [16] * 8, True))
+
+    def test_a_file_is_played_each_time(self) -> None:
+        with Environment(SERVED_GAME) as environment:
+            environment.reset(3)
+            first = environment.game
+            environment.step({})
+            observations, _ = environment.reset()
+            self.assertEqual((environment.game, environment.seed, environment.tick),
+                             (first, None, 0))
+            self.assertEqual(environment.game, read_game(SERVED_GAME.read_text()).text())
+            self.assertEqual(observations[environment.agents[0]]["replies"], [])
+
+    def test_scores_so_far_are_those_if_nobody_asked_more(self) -> None:
+        with Environment(FIRST, scores=True) as environment:
+            environment.reset()
+            agents = list(environment.agents)
+            price = read_game(FIRST.read_text()).flights[0].first
+            # The seller is short of the tickets that it sold beyond its own, 200 dollars each.
+            short = 16 - read_game(FIRST.read_text()).endow[4][0]
+            told = environment.step({agents[0]: ["bid 0 ((1 800))"],
+                                     agents[4]: ["bid 16 ((-16 30))"],
+                                     agents[5]: ["bid 16 ((16 30))"]})
+            scores = {**dict.fromkeys(agents, 0), agents[0]: -price,
+                      agents[4]: 16 * 30 - 200 * short, agents[5]: -16 * 30}
+            self.assertEqual({agent: info["score"] for agent, info in told[-1].items()}, scores)
+            with mock.patch.object(environment, "_scores_beside", side_effect=AssertionError):
+                told = environment.step({agents[4]: ["own 16", "cash", "quote 0", "what"]})
+            self.assertEqual({agent: info["score"] for agent, info in told[-1].items()}, scores)
+            # Two rooms at 7 dollars or less, of 16: they cost nothing.
+            told = environment.step({agents[6]: ["bid 15 ((2 7))"]})
+            self.assertEqual({agent: info["score"] for agent, info in told[-1].items()}, scores)
+            last = rest(environment)
+            self.assertEqual({agent: info["score"] for agent, info in last[-1].items()}, last[1])
+            self.assertEqual(last[1], scores)
+            self.assertEqual(environment.log, played(environment))
+
+    def test_a_bid_that_is_taken_back_is_no_longer_in_the_scores(self) -> None:
+        game = read_game(FIRST.read_text())
+        good, least = min(((good, min(game.flights[good].prices())) for good in FLIGHTS),
+                          key=lambda flight: flight[1] - game.flights[flight[0]].first)
+        self.assertLess(least, game.flights[good].first)
+        with Environment(FIRST, scores=True) as environment:
+            environment.reset()
+            agents = list(environment.agents)
+            # The bid waits until the price has fallen so far, and a seat alone is no trip.
+            for request, reply, score in ((f"bid {good} ((1 {least}))", "@0 taken 0 0", -least),
+                                          (f"withdraw {good}", "@2 done", 0)):
+                observations, _, _, _, infos = environment.step({agents[3]: [request]})
+                self.assertEqual(observations[agents[3]]["replies"], [reply])
+                self.assertEqual({agent: info["score"] for agent, info in infos.items()},
+                                 {**dict.fromkeys(agents, 0), agents[3]: score})
+
+    def test_a_game_that_is_closed_can_be_begun_again(self) -> None:
+        environment = Environment()
+        environment.reset(1)
+        environment.close()
+        environment.close()
+        self.assertEqual(environment.agents, [])
+        self.assertRaises(ActionError, environment.step, {})
+        environment.reset()
+        self.assertEqual((environment.seed, environment.num_agents), (2, 8))
+        environment.close()
