@@ -51,6 +51,7 @@ def print_chapters(
     lemmas = Lemmas()
     cases = cases_without_row(definitions, rows, lemmas)
     told: Set[str] = set()
+    firsts = {target_of(row.tries[0]) for row in ROWS}
     for heading, paths in chapters.items():
         print(f"\n{'=' * 80}\n{heading}\n{'=' * 80}")
         for path in paths:
@@ -78,6 +79,8 @@ def print_chapters(
                 )
                 if others:
                     print(f"-- (rows at {', '.join(f'`{name}`' for name in others)})")
+                elif (path, one.name) in reached - firsts:
+                    print("-- (rows in a part beside)")
                 print("\n".join(with_comment(module.file, one)) + "\n")
                 print_worked(definitions, rows, (path, one.name), lemmas, told)
 

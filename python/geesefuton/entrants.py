@@ -8,6 +8,7 @@ import sys
 from collections import Counter
 from dataclasses import dataclass, replace
 from pathlib import Path
+from string import ascii_lowercase
 from typing import Dict, List, Sequence, Tuple
 
 PACKAGE = Path(__file__).resolve().parents[1]  # the folder that the package is imported from
@@ -88,13 +89,16 @@ def read_entrants(commands: Sequence[str]) -> List[Entrant]:
 
 def seat_words(entrants: Sequence[Entrant]) -> List[str]:
     """Different words for the seats of a game: an agent's root, with a letter from its second
-    seat on."""
-    met: Counter[str] = Counter()
-    words = []
+    seat on, the next one that makes no other agent's word."""
+    taken = {entrant.root for entrant in entrants}
+    words: List[str] = []
     for entrant in entrants:
-        seats = met[entrant.root]
-        words.append(entrant.root + ("abcdefgh"[seats] if seats else ""))
-        met[entrant.root] += 1
+        word = entrant.root
+        if word in words:
+            others = (word + letter for letter in ascii_lowercase[1:])
+            word = next(other for other in others if other not in taken)
+        taken.add(word)
+        words.append(word)
     return words
 
 

@@ -55,6 +55,7 @@ class Teller:
             return [f"{event.word} is here from {event.source}; "
                     f"missing: {' '.join(missing) or 'nobody'}"]
         if isinstance(event, events.Rejoined):
+            self._here.add(event.word)
             return [f"{event.word} is here again, from {event.source}"]
         if isinstance(event, events.Departed):
             self._here.discard(event.word)

@@ -65,6 +65,8 @@ class Entrants(unittest.TestCase):
         self.assertEqual(seat_words(entrants * 4),
                          ["a", "b", "ab", "bb", "ac", "bc", "ad", "bd"])
         self.assertEqual(len(set(seat_words(entrants[:1] * 8))), 8)
+        joined = read_entrants([self.file("a.py"), self.file("ab.py")])
+        self.assertEqual(seat_words(joined * 4), ["a", "ab", "ac", "abb", "ad", "abc", "ae", "abd"])
         long = read_entrants([self.file("abcdefghijklmnop.py"), self.file("x/abcdefghijklmnop.py")])
         words = seat_words(long * 4)
         self.assertEqual(len(set(words)), 8)

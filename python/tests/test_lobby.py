@@ -424,7 +424,9 @@ class Telling(unittest.TestCase):
             teller = Teller(WORDS)
             for event in (
                     events.Arrived(0.0, 1, "seat1", "10.0.0.7"), events.Departed(0.0, 1, "seat1"),
-                    events.Rejoined(0.0, 1, "seat1", "10.0.0.8"), events.Waived(0.0, "seat2"),
+                    events.Arrived(0.0, 3, "seat3", "10.0.0.6"),
+                    events.Rejoined(0.0, 1, "seat1", "10.0.0.8"),
+                    events.Arrived(0.0, 4, "seat4", "10.0.0.5"), events.Waived(0.0, "seat2"),
                     events.Refused(20.0, "10.0.0.9", "taken", "hello seat1"),
                     events.Refused(25.0, "10.0.0.9", "taken", "hello seat1"),
                     events.Refused(31.0, "10.0.0.9", "taken", "hello seat1"),
@@ -436,7 +438,10 @@ class Telling(unittest.TestCase):
             teller.close()
         self.assertEqual([text.replace("! ", "!", 1).split(" ", 1)[1] for text in told], [
             "seat1 is here from 10.0.0.7; missing: seat0 seat2 seat3 seat4 seat5 seat6 seat7",
-            "seat1 went away, and may come again", "seat1 is here again, from 10.0.0.8",
+            "seat1 went away, and may come again",
+            "seat3 is here from 10.0.0.6; missing: seat0 seat1 seat2 seat4 seat5 seat6 seat7",
+            "seat1 is here again, from 10.0.0.8",
+            "seat4 is here from 10.0.0.5; missing: seat0 seat2 seat5 seat6 seat7",
             "seat2 is not waited for", "refused taken to 10.0.0.9, which said 'hello seat1'",
             "refused taken to 10.0.0.9, which said 'hello seat1'",
             "the game begins without seat0 seat2 seat3 seat4 seat5 seat6 seat7",

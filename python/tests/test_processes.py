@@ -43,6 +43,19 @@ def is_there(process: int) -> bool:
 
 @unittest.skipUnless(Path("/proc/self").exists(), "processes are looked for in /proc")
 class Ends(unittest.TestCase):
+    def test_what_a_process_started_ends_with_it(self) -> None:
+        with Children() as children:
+            first = children.start(["sh", "-c", "sleep 300 & echo $!; wait"],
+                                   stdout=subprocess.PIPE)
+            assert first.stdout is not None
+            with first.stdout as told:
+                started = int(told.readline())
+            children.end(first)
+            deadline = time.monotonic() + MOST
+            while is_there(started) and time.monotonic() < deadline:
+                time.sleep(0.02)
+            self.assertFalse(is_there(started))
+
     def is_gone(self, processes: List[int], folder: Path) -> bool:
         deadline = time.monotonic() + MOST
         while time.monotonic() < deadline:

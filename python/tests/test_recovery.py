@@ -10,6 +10,7 @@ import unittest
 from dataclasses import replace
 from pathlib import Path
 from typing import Dict, List, Sequence, Tuple
+from unittest import mock
 
 from geesefuton import program
 from geesefuton.dialects import Asked
@@ -17,7 +18,8 @@ from geesefuton.games import DRAWS, Game, read_game
 from geesefuton.journal import Call, JournalReader, Schedule, read_journal
 from geesefuton.logs import read_log
 from geesefuton.projection import Projection, View, names_of, nights_of, project, without_future
-from geesefuton.recovery import Auction, Player, Recovery, RecoveryError, script_of
+from geesefuton.recovery import (Auction, Player, Recovery, RecoveryError, _tell_pending,
+                                 script_of)
 
 HERE = Path(__file__).resolve().parent
 DATA, TOP = HERE / "data", HERE.parents[1]
@@ -257,6 +259,16 @@ class WithTheProgram(unittest.TestCase):
         histories = read_log(log).histories
         self.assertEqual([len(histories[good]) for good in (20, 21, 22)], [3, 2, 1])
         self.assertEqual((histories[21][0].caller, self.audit(log), faults), (1, "sound", []))
+
+    def test_what_requests_without_a_reply_would_change_is_told(self) -> None:
+        # A seat alone makes no trip, so it would cost the agent its price; its game has tick 0 alone.
+        reader = of_text([LINES[0], '{"begin":[0,1,2,3,4,5,6,7]}', '{"tick":0,"t":0}',
+                          '{"a":1,"q":"bid 0 ((1 10000))"}'])
+        made = Recovery(reader, self.player)
+        told: List[str] = []
+        with mock.patch("geesefuton.recovery.tell", told.append):
+            _tell_pending(reader, made, self.player, made.log()[0])
+        self.assertIn(f"scores change: {GAME.words[1]} -{GAME.flights[0].first}", told[-1])
 
     def test_a_projection_does_not_tell_the_future(self) -> None:
         for tick in (13, 29):
