@@ -4,15 +4,14 @@ guides to the parts that take longest, and the outside, field by field, in words
 from typing import Dict, List, Tuple
 
 TIMES = """\
-Five readers who knew proofs, and neither Rattle nor this project, estimated how long it takes to
+Six readers who knew proofs, and neither Rattle nor this project, estimated how long it takes to
 believe the whole: 5 h 14 and 6 h 04 when the page had no worked rows and no guides, 4 h 57 with
-them, and 4 h 43 and 4 h 14, each after what stopped the reader before was mended. For the fourth
-and the fifth three wrong definitions had been planted; both found all three, and would have needed
-4 h 35 and 4 h 04 without them. The minutes below are the fifth reader's, part by part, with those
-three, and before what stopped that reader was mended here. They count 75 to 110 symbols of
-definitions, 220 words of prose or 150 words of rows a minute. By the same estimate the rows, the
-guides, the map of the rules, the key and the tables of definitions save 95 minutes. Nobody was
-timed. The goal is four hours.
+them, and 4 h 43, 4 h 14 and 3 h 59, each after what stopped the reader before was mended. In each
+of their copies three wrong definitions had been planted. All six found all three; the last three
+would have needed 4 h 35, 4 h 04 and 3 h 48 without them. The minutes below are the sixth reader's,
+without those three, part by part, with an uncertainty of half an hour. They count 95 to 130 symbols
+of definitions a minute where each line meets a rule, 150 to 170 in spellings and tables, and 220
+words of prose or 150 words of rows. Nobody was timed. The goal is four hours.
 
 The column "for code 0" leaves out what whoever looks at the log and the scores of a game that ended
 with code 0 may leave out: what only other outcomes have, and what a certificate is. Those
@@ -20,23 +19,23 @@ definitions have the sign ° in the tables below, and a line of their own in `--
 
 BACK = "Back through the headline's table, at the end"
 
-# What a fifth reader estimated for each part, in minutes.
+# What a sixth reader estimated for each part, in minutes.
 MINUTES: Dict[str, int] = {
-    "The front matter: this page up to the first chapter": 15,
+    "The front matter: this page up to the first chapter": 14,
     "Goods, bids, calls and replies": 7,
-    "The rules of the auctions": 64,
-    "The cash book": 8,
-    "The game file": 11,
-    "The auctions of a game": 6,
-    "Packages and the best total": 12,
-    "Scores": 10,
-    "Requests and replies as lines": 16,
+    "The rules of the auctions": 58,
+    "The cash book": 7,
+    "The game file": 10,
+    "The auctions of a game": 5,
+    "Packages and the best total": 11,
+    "Scores": 8,
+    "Requests and replies as lines": 14,
     "The outside": 8,
-    "The session of a link": 36,
-    "A game over links": 24,
-    "The log": 11,
+    "The session of a link": 31,
+    "A game over links": 21,
+    "The log": 10,
     "Outcomes and codes": 7,
-    "The command `serve`": 14,
+    "The command `serve`": 12,
     BACK: 5,
 }
 
