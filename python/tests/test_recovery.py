@@ -270,6 +270,14 @@ class WithTheProgram(unittest.TestCase):
             _tell_pending(reader, made, self.player, made.log()[0])
         self.assertIn(f"scores change: {GAME.words[1]} -{GAME.flights[0].first}", told[-1])
 
+    def test_only_an_agent_whose_lines_were_all_refused_counts_as_refused(self) -> None:
+        lines = [LINES[0], '{"begin":[0,1,2,3,4,5,6,7]}', '{"tick":0,"t":0}']
+        for agent, line, reply in ((0, "buy", "no syntax"), (0, "cash", "@0 cash 0"),
+                                   (1, "buy", "no syntax")):
+            lines += [f'{{"a":{agent},"q":"{line}"}}', f'{{"a":{agent},"r":"{reply}","t":1}}']
+        shown = project(of_text(lines), self.player, true_file=True)
+        self.assertEqual(shown.refused, [1])
+
     def test_a_projection_does_not_tell_the_future(self) -> None:
         for tick in (13, 29):
             place = next(number for number, line in enumerate(LINES)

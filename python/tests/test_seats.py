@@ -143,6 +143,13 @@ class Seating(unittest.TestCase):
         seat.go(OTHER, LATE)
         self.assertEqual(seat.come(4, LATE), [Give(4, True)])
 
+    def test_silence_does_not_count_before_the_game(self) -> None:
+        seat = Seat(0, "red", SILENCE)
+        seat.come(HOLDER, SOON)
+        seat.begin(SOON + 9 * SILENCE)
+        self.assertEqual(seat.come(OTHER, SOON + 10 * SILENCE - 0.1), [])
+        self.assertEqual((seat.state, seat.holder), (CLAIMED, HOLDER))
+
     def test_who_never_came_is_absent(self) -> None:
         seat = Seat(0, "red")
         seat.come(HOLDER, SOON)
