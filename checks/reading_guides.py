@@ -4,14 +4,15 @@ guides to the parts that take longest, and the outside, field by field, in words
 from typing import Dict, List, Tuple
 
 TIMES = """\
-Six readers who knew proofs, and neither Rattle nor this project, estimated how long it takes to
-believe the whole: 5 h 14 and 6 h 04 when the page had no worked rows and no guides, 4 h 57 with
+The page was tried six times by readers that were language models, each told to judge as an engineer
+who knows proofs, and neither Rattle nor this project, and to estimate how long the whole takes such
+an engineer. They said 5 h 14 and 6 h 04 when the page had no worked rows and no guides, 4 h 57 with
 them, and 4 h 43, 4 h 14 and 3 h 59, each after what stopped the reader before was mended. In each
 of their copies three wrong definitions had been planted. All six found all three; the last three
-would have needed 4 h 35, 4 h 04 and 3 h 48 without them. The minutes below are the sixth reader's,
+would have given 4 h 35, 4 h 04 and 3 h 48 without them. The minutes below are the sixth reader's,
 without those three, part by part, with an uncertainty of half an hour. They count 95 to 130 symbols
 of definitions a minute where each line meets a rule, 150 to 170 in spellings and tables, and 220
-words of prose or 150 words of rows. Nobody was timed. The goal is four hours.
+words of prose or 150 words of rows. No person was timed. The goal is four hours.
 
 The column "for code 0" leaves out what whoever looks at the log and the scores of a game that ended
 with code 0 may leave out: what only other outcomes have, and what a certificate is. Those
