@@ -155,6 +155,7 @@ class Definitions:
     def __init__(self) -> None:
         self.modules: Dict[str, Module] = {}
         self.given: Dict[str, str] = {}
+        self.given_names: Dict[Target, Target] = {}
         for crate in sorted(os.listdir(CRATES)):
             folder = os.path.join(CRATES, crate, "specs")
             for file in sorted(os.listdir(folder)) if os.path.isdir(folder) else []:
@@ -167,6 +168,9 @@ class Definitions:
                             f"{crate}.specs.{path.split('.')[-1]}": path
                             for path in module.given_again
                         }
+                    )
+                    self.given_names.update(
+                        {(f"{crate}.specs", name): it for name, it in module.imports.items()}
                     )
                 else:
                     self.modules[module.path] = module
@@ -181,6 +185,7 @@ class Definitions:
         todo, met, found = list(start), set(), {}
         while todo:
             path, name = todo.pop(0)
+            path, name = self.given_names.get((path, name), (path, name))
             path = self.given.get(path, path)
             if (path, name) in met:
                 continue

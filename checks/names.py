@@ -17,14 +17,6 @@ from typing import Dict, Iterable, List, Set
 
 from definitions import CRATES, Definitions, Target, clauses_of
 
-# Imports without a use that are still to go, as CRATE/MODULE.NAME. The aim is none.
-STILL_UNUSED = {
-    "log_text/EntryForms.slice_index_or",
-    "log_text/LogReading.Trade",
-    "log_text/LogReading.Package",
-    "log_text/LogReading.Verdict",
-    "log_text/LogReading.Cause",
-}
 GIVEN = re.compile(r"^pub use ([\w:]+)::(?:\{([^}]*)\}|(\w+));$", re.M)
 
 
@@ -58,15 +50,12 @@ def public_items(crates: Set[str]) -> Dict[str, Set[str]]:
 
 
 def unused_imports(definitions: Definitions) -> List[str]:
-    """A fault for each import without a use. Prints which of STILL_UNUSED are gone."""
-    unused = {
-        f"{module.crate}/{module.name}.{name}"
+    """A fault for each import without a use."""
+    return sorted(
+        f"{module.crate}/{module.name}.{name} is imported and not used"
         for module in definitions.modules.values()
         for name in module.unused_imports()
-    }
-    for name in sorted(STILL_UNUSED - unused):
-        print("names.py: %s is gone: take it out of STILL_UNUSED" % name)
-    return ["%s is imported and not used" % name for name in sorted(unused - STILL_UNUSED)]
+    )
 
 
 def main() -> int:

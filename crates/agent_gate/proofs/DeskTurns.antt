@@ -10,9 +10,7 @@ use Rattle.floor.specs.declared.desk.Desk.{Desk}
 use Rattle.floor.specs.Answers.{IsSameDesk}
 use Rattle.floor.specs.Desks.{desk_caller, desk_entries, entries_at, desk_cash, boards_at, seen_at}
 use Rattle.floor.specs.Keeping.{count_readings}
-use Rattle.agent_gate.specs.Turns.{Turn, Called, CallDenied, CashRead, CashDenied, Quoted, Refused, Skipped, Left, made_at, entry_made, cash_by, cash_made, boards_shown, shown_by, is_reading, IsNotBehind, IsLawfulTurn}
-use Rattle.agent_gate.specs.Answering.{IsDueTurn, IsMade}
-use Rattle.agent_gate.specs.Sessions.{AreMadeBy}
+use Rattle.agent_gate.specs.{Turn, Called, CallDenied, CashRead, CashDenied, Quoted, Refused, Skipped, Left, made_at, entry_made, cash_by, cash_made, boards_shown, shown_by, is_reading, IsNotBehind, IsLawfulTurn, IsDueTurn, IsMade, AreMadeBy}
 use Rattle.agent_gate.proofs.LawfulTurns.{goes_on_more, goes_on_with, readings_made}
 
 -- the desk has what the turns left besides what it had, and has seen as much as they were answered

@@ -18,9 +18,7 @@ use Rattle.floor.specs.declared.outcomes.CashOutcome.{CashOutcome}
 use Rattle.floor.specs.declared.outcomes.CashOutcome.TheVariants as cash_outcomes
 use Rattle.floor.specs.Answers.{IsOutcome, IsCashOutcome, IsSeen}
 use Rattle.floor.specs.Desks.{desk_caller, desk_entries, entries_at, desk_cash, boards_of, boards_at, seen_of, seen_at}
-use Rattle.agent_gate.specs.Items.{Item, Asks, Overlong}
-use Rattle.agent_gate.specs.Turns.{Turn, Called, CallDenied, CashRead, CashDenied, Quoted, Refused, Skipped, Left, asked_call, item_of, made_at, cash_by, boards_shown, shown_length}
-use Rattle.agent_gate.specs.Answering.{IsDueTurn, IsMade, TakesTurn, said_of_outcome, said_of_reading}
+use Rattle.agent_gate.specs.{Item, Asks, Overlong, Turn, Called, CallDenied, CashRead, CashDenied, Quoted, Refused, Skipped, Left, asked_call, item_of, made_at, cash_by, boards_shown, shown_length, IsDueTurn, IsMade, TakesTurn, said_of_outcome, said_of_reading}
 
 module _ {A : Type 0} where
   one_if : (b : Bool) (x : A) → b ≡ true → cons_option (cond b (Some x) None) [] ≡ x ∷ []

@@ -13,8 +13,7 @@ use Rattle.line_protocol.specs.declared.saying.Said.TheVariants.{Bye}
 use Rattle.line_protocol.specs.declared.admission.Cause.{Cause}
 use Rattle.line_protocol.specs.declared.admission.Cause.TheVariants as causes
 use Rattle.floor.specs.declared.desk.Desk.{Desk}
-use Rattle.agent_gate.specs.Dialects.{Dialect}
-use Rattle.agent_gate.specs.Turning.{cause_without_line, TakesNext, Says, IsTurned, HasTurn}
+use Rattle.agent_gate.specs.{Dialect, cause_without_line, TakesNext, Says, IsTurned, HasTurn}
 
 -- the next of the lines' answers never says that the agent left, or that a write failed
 ends_alone : (got : LineGot) (cause : Cause) → cause_without_line got ≡ Some cause → (cause ≢ causes.Quit) × (cause ≢ causes.WriteFault)

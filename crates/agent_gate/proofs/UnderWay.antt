@@ -24,14 +24,8 @@ use Rattle.floor.specs.declared.desk.Desk.{Desk}
 use Rattle.floor.specs.Answers.{IsSameDesk}
 use Rattle.floor.specs.Desks.{desk_caller}
 use Rattle.game_text.specs.Games.{GameFile}
-use Rattle.agent_gate.specs.Dialects.{Dialect}
-use Rattle.agent_gate.specs.Items.{Item, Asks, Overlong, IsItem, AreItems}
-use Rattle.agent_gate.specs.Turns.{Turn, Called, CallDenied, CashRead, CashDenied, Quoted, Refused, Skipped, Left, item_of, said_of, is_leaving, has_left, AreLawful}
-use Rattle.agent_gate.specs.Served.{Session, reply_line, IsServed}
-use Rattle.agent_gate.specs.Sessions.{IsSession, lines_of}
+use Rattle.agent_gate.specs.{Dialect, Item, Asks, Overlong, IsItem, AreItems, Turn, Called, CallDenied, CashRead, CashDenied, Quoted, Refused, Skipped, Left, item_of, said_of, is_leaving, has_left, AreLawful, Session, reply_line, IsServed, IsSession, lines_of, welcome_text, cause_without_line, Says, HasTurn, count_whole}
 use Rattle.agent_gate.proofs.WholeTexts.{session_text, EndsFor, ends_by}
-use Rattle.agent_gate.specs.Welcome.{welcome_text}
-use Rattle.agent_gate.specs.Turning.{cause_without_line, Says, HasTurn, count_whole}
 use Rattle.agent_gate.proofs.LawfulTurns.{lawful_more, has_left-more, none_lawful, zip_more}
 use Rattle.agent_gate.proofs.DeskTurns.{HasMade, due_lawful, made_more, all_made}
 

@@ -14,9 +14,7 @@ use Rattle.tac_io.proofs.KnownPieces.{known_then-nothing}
 use Rattle.line_protocol.specs.declared.saying.Said.{Said}
 use Rattle.line_protocol.specs.declared.admission.Cause.{Cause}
 use Rattle.line_protocol.specs.declared.admission.Cause.TheVariants as causes
-use Rattle.agent_gate.specs.Served.{Session, reply_line, SendsAll, IsCutOff, ComesTo, IsUsedUp, EndsBy}
-use Rattle.agent_gate.specs.Sessions.{lines_of}
-use Rattle.agent_gate.specs.Turns.{Turn, has_left}
+use Rattle.agent_gate.specs.{Session, reply_line, SendsAll, IsCutOff, ComesTo, IsUsedUp, EndsBy, lines_of, Turn, has_left}
 
 -- ---- the text as a whole
 

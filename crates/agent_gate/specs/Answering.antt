@@ -1,6 +1,6 @@
 -- What a turn does with the agent's desk.
 use Rattle.std.specs.Prelude.{⊤, ◌≡◌, ℕ, ◌<◌, ◌≤◌, [], ◌∷◌, ◌++◌, length, Some}
-use Rattle.tac_base.specs.declared.limits.TheConstants.{AGENT_CALLS, CASH_READINGS}
+use Rattle.tac_base.specs.declared.limits.TheConstants.{AGENT_CALLS, CASH_READINGS, GOODS}
 use Rattle.tac_base.specs.declared.calls.Call.{Call}
 use Rattle.line_protocol.specs.declared.saying.Said.{Said}
 use Rattle.line_protocol.specs.declared.saying.Said.TheVariants as said
@@ -27,12 +27,12 @@ said_of_reading cash_outcomes.Spent = said.Spent
 -- what a turn may be, by what the desk did and saw before it
 abbrev pub IsDueTurn : Desk → Turn → Type 0
 IsDueTurn before (Called request good position entry posted) =
-    (asked_call request ≡ Some (good, entry.call)) × (good < 28) × (length (entries_at before good) < AGENT_CALLS) × (seen_at before good ≤ position)
+    (asked_call request ≡ Some (good, entry.call)) × (good < GOODS) × (length (entries_at before good) < AGENT_CALLS) × (seen_at before good ≤ position)
 IsDueTurn before (CallDenied request good) =
-    ((call : Call) × (asked_call request ≡ Some (good, call))) × (good < 28) × (length (entries_at before good) ≡ AGENT_CALLS)
+    ((call : Call) × (asked_call request ≡ Some (good, call))) × (good < GOODS) × (length (entries_at before good) ≡ AGENT_CALLS)
 IsDueTurn before (CashRead position dollars) = count_readings (desk_cash before) < CASH_READINGS
 IsDueTurn before CashDenied = count_readings (desk_cash before) ≡ CASH_READINGS
-IsDueTurn before (Quoted good board) = (good < 28) × (seen_at before good ≤ board.count)
+IsDueTurn before (Quoted good board) = (good < GOODS) × (seen_at before good ≤ board.count)
 IsDueTurn before (Refused fault) = ⊤
 IsDueTurn before Skipped = ⊤
 IsDueTurn before Left = ⊤
@@ -40,10 +40,10 @@ IsDueTurn before Left = ⊤
 -- a turn was due, and the desk has what the turn left besides what it had, and nothing else
 pub record IsMade (turn : Turn) (before after : Desk) : Type 0 where
   pub due : IsDueTurn before turn
-  pub entries : (good : ℕ) → good < 28 → entries_at after good ≡ entries_at before good ++ made_at good (turn ∷ [])
+  pub entries : (good : ℕ) → good < GOODS → entries_at after good ≡ entries_at before good ++ made_at good (turn ∷ [])
   pub cash : desk_cash after ≡ desk_cash before ++ cash_by (desk_caller before) turn
-  pub boards : (good : ℕ) → good < 28 → boards_at after good ≡ boards_at before good ++ boards_shown good (turn ∷ [])
-  pub seen : (good : ℕ) → good < 28 → (seen_at before good ≤ seen_at after good) × (shown_length good turn ≤ seen_at after good)
+  pub boards : (good : ℕ) → good < GOODS → boards_at after good ≡ boards_at before good ++ boards_shown good (turn ∷ [])
+  pub seen : (good : ℕ) → good < GOODS → (seen_at before good ≤ seen_at after good) × (shown_length good turn ≤ seen_at after good)
 
 -- the item was answered so, and the desk made the turn
 pub record TakesTurn (Asked : Item → Type 0) (before after : Desk) (answer : Said) : Type 0 where

@@ -1,5 +1,6 @@
 -- What a session leaves of a link and of a desk.
 use Rattle.std.specs.Prelude.{◌≡◌, ℕ, ◌-◌, ◌<◌, List, ◌++◌, length, map}
+use Rattle.tac_base.specs.declared.limits.TheConstants.{GOODS}
 use Rattle.game_text.specs.Games.{GameFile}
 use Rattle.auction_core.specs.ClosedGame.{all_goods}
 use Rattle.tac_io.specs.AnswersInTurn.{answers_left}
@@ -21,7 +22,7 @@ use Rattle.agent_gate.specs.Served.{IsServed}
 pub record AreMadeBy (turns : List Turn) (before after : Desk) : Type 0 where
   pub entries : desk_entries after ≡ map (λ good. made_at good turns) all_goods
   pub cash : desk_cash after ≡ cash_made (desk_caller before) turns
-  pub boards : (good : ℕ) → good < 28 → boards_at after good ≡ boards_at before good ++ boards_shown good turns
+  pub boards : (good : ℕ) → good < GOODS → boards_at after good ≡ boards_at before good ++ boards_shown good turns
   pub same : IsSameDesk before after
 
 -- how many lines of these turns were answered by a line that was sent whole, if the session ended so

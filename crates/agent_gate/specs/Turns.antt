@@ -1,7 +1,7 @@
 -- The turns of a session: each is an item with its answer, and with what it left in the auctions and in the cash history.
 use Rattle.std.specs.Prelude.{⊤, ◌≡◌, ℕ, ◌+◌, ◌<◌, ◌≤◌, ◌==◌, if◌then◌else◌, List, [], ◌∷◌, Bool, true, false, ℤ, Option, Some, None, Ok, Err, All, length, map, take, slice_get}
 use Rattle.std.specs.List.{filter_map, flat_map, count_by, list_any}
-use Rattle.tac_base.specs.declared.limits.TheConstants.{AGENT_CALLS, CASH_READINGS}
+use Rattle.tac_base.specs.declared.limits.TheConstants.{AGENT_CALLS, CASH_READINGS, GOODS}
 use Rattle.tac_base.specs.declared.calls.Board.{Board}
 use Rattle.tac_base.specs.declared.calls.Call.{Call}
 use Rattle.tac_base.specs.declared.calls.Call.TheVariants as calls
@@ -122,11 +122,11 @@ IsNotBehind good count past = All (λ turn. shown_length good turn ≤ count) pa
 -- below any that was answered before.
 abbrev pub IsLawfulTurn : List Turn → Turn → Type 0
 IsLawfulTurn past (Called request good position entry posted) =
-    (asked_call request ≡ Some (good, entry.call)) × (good < 28) × (length (made_at good past) < AGENT_CALLS) × IsNotBehind good position past
-IsLawfulTurn past (CallDenied request good) = ((call : Call) × (asked_call request ≡ Some (good, call))) × (good < 28) × (length (made_at good past) ≡ AGENT_CALLS)
+    (asked_call request ≡ Some (good, entry.call)) × (good < GOODS) × (length (made_at good past) < AGENT_CALLS) × IsNotBehind good position past
+IsLawfulTurn past (CallDenied request good) = ((call : Call) × (asked_call request ≡ Some (good, call))) × (good < GOODS) × (length (made_at good past) ≡ AGENT_CALLS)
 IsLawfulTurn past (CashRead position dollars) = count_by is_reading past < CASH_READINGS
 IsLawfulTurn past CashDenied = count_by is_reading past ≡ CASH_READINGS
-IsLawfulTurn past (Quoted good board) = (good < 28) × IsNotBehind good board.count past
+IsLawfulTurn past (Quoted good board) = (good < GOODS) × IsNotBehind good board.count past
 IsLawfulTurn past turn = ⊤
 
 -- each turn is allowed after those before it, and after the agent left there is none

@@ -4,14 +4,14 @@ ghost use Rattle.floor.specs.Answers.{IsSameDesk};
 ghost use Rattle.floor.specs.Desks.{desk_ids, desk_caller};
 ghost use Rattle.floor.specs.Floors.{floor_ids};
 ghost use Rattle.tac_io.specs.declared.line_got.LineGot.TheVariants as gots;
-ghost use Rattle.agent_gate.specs.Items.{Asks, IsItem};
-ghost use Rattle.agent_gate.specs.Answering.{TakesTurn, said_of_outcome, said_of_reading};
+ghost use Rattle.agent_gate.specs.{Asks, IsItem, TakesTurn, said_of_outcome, said_of_reading};
 
 use crate::dialect::Dialect;
 use floor::{CashOutcome, Desk, Floor, Outcome};
 use line_protocol::{Request, Said};
 use std::sync::Wait;
 use std::time::Clock;
+use tac_base::limits::AGENTS;
 
 /// The answer to a call at a good.
 fn said_of(outcome: Outcome) -> Said
@@ -36,7 +36,7 @@ fn said_of_cash(outcome: CashOutcome) -> Said
 /// Answers a request by one call of the desk, and `quit` by none.
 fn answer<R: Wait + Clock>(rt: &R, floor: &Floor, desk: &mut Desk, request: Request) -> Said
     requires own { desk_ids desk.old ≡ floor_ids floor.now }
-    requires agent { desk_caller desk.old < 8 }
+    requires agent { desk_caller desk.old < AGENTS }
     ensures turn { TakesTurn (λ item. item ≡ Asks (Ok request)) desk.old desk.new result }
     ensures same { IsSameDesk desk.old desk.new }
 {
@@ -59,7 +59,7 @@ pub(crate) fn answer_line<R: Wait + Clock, D: Dialect>(
     line: &[u8],
 ) -> Said
     requires own { desk_ids desk.old ≡ floor_ids floor.now }
-    requires agent { desk_caller desk.old < 8 }
+    requires agent { desk_caller desk.old < AGENTS }
     ensures turn { TakesTurn (IsItem (D.may_answer dialect.now) (gots.Line, line.now)) desk.old desk.new result }
     ensures same { IsSameDesk desk.old desk.new }
 {

@@ -6,6 +6,7 @@ ghost use Rattle.agent_gate.specs.Gates as gates;
 use game_text::{Game, SeatWord};
 use line_protocol::Verdict;
 use std::marker::Model;
+use tac_base::limits::AGENTS;
 use tac_base::Agent;
 use text_forms::Words;
 
@@ -59,7 +60,7 @@ fn seat_of(words: &[SeatWord; 8], word: &[u8]) -> Option<Agent>
 impl Gate {
     /// No seat is taken.
     pub fn new(game: &Game) -> Gate
-        ensures { result ≡ record { words = game.now.words; taken = replicate 8 false } }
+        ensures { result ≡ record { words = game.now.words; taken = replicate AGENTS false } }
     {
         Gate {
             words: game.words,

@@ -4,10 +4,7 @@ ghost use Rattle.floor.specs.Desks.{desk_ids, desk_caller, desk_entries, desk_ca
 ghost use Rattle.floor.specs.Floors.{floor_ids};
 ghost use Rattle.tac_io.specs.LineAnswers.{goes_on};
 ghost use Rattle.tac_io.specs.Lines.{count_of, held_of, last_of, link_of};
-ghost use Rattle.agent_gate.specs.Dialects.{dialect_of};
-ghost use Rattle.agent_gate.specs.Served.{HasSessionCause};
-ghost use Rattle.agent_gate.specs.Sessions.{IsSession};
-ghost use Rattle.agent_gate.specs.Turning.{count_whole};
+ghost use Rattle.agent_gate.specs.{dialect_of, HasSessionCause, IsSession, count_whole};
 
 use crate::dialect::Dialect;
 use crate::turns::turn;
@@ -18,7 +15,7 @@ use line_protocol::Cause;
 use std::sync::Wait;
 use std::time::Clock;
 use tac_base::Agent;
-use tac_base::limits::SESSION_LINES;
+use tac_base::limits::{AGENTS, GOODS, SESSION_LINES};
 use tac_io::{Lines, Link};
 
 /// What a session leaves.
@@ -53,8 +50,8 @@ pub fn run_session<R: Wait + Clock, L: Link, D: Dialect>(
     mut lines: Lines<L>,
 ) -> SessionEnd<L>
     requires own { desk_ids desk ≡ floor_ids floor.now }
-    requires agent { desk_caller desk < 8 }
-    requires no_calls { (desk_entries desk ≡ replicate 28 []) × (desk_cash desk ≡ []) }
+    requires agent { desk_caller desk < AGENTS }
+    requires no_calls { (desk_entries desk ≡ replicate GOODS []) × (desk_cash desk ≡ []) }
     requires goes_on { goes_on (last_of lines) ≡ true }
     ensures session { IsSession (dialect_of (D.may_answer dialect.now) (D.text dialect.now)) game.now (held_of lines) (count_of lines)
         (L.state (link_of lines)) (L.state result.link) desk result.desk result.lines result.cause }

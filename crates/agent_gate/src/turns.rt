@@ -6,8 +6,7 @@ ghost use Rattle.floor.specs.Floors.{floor_ids};
 ghost use Rattle.tac_io.specs.LineAnswers.{goes_on};
 ghost use Rattle.tac_io.specs.Lines.{KeepsPlace, count_of, held_of, last_of, link_of};
 ghost use Rattle.tac_io.specs.LinkCalls.{OnlySends};
-ghost use Rattle.agent_gate.specs.Dialects.{dialect_of};
-ghost use Rattle.agent_gate.specs.Turning.{TakesNext, HasTurn, HasTurnCause};
+ghost use Rattle.agent_gate.specs.{dialect_of, TakesNext, HasTurn, HasTurnCause};
 
 use crate::answering::answer_line;
 use crate::dialect::Dialect;
@@ -15,6 +14,7 @@ use floor::{Desk, Floor};
 use line_protocol::{Cause, Said};
 use std::sync::Wait;
 use std::time::Clock;
+use tac_base::limits::AGENTS;
 use tac_base::Text;
 use tac_io::{Failed, LineGot, Lines, Link};
 
@@ -27,7 +27,7 @@ fn answer_next<R: Wait + Clock, L: Link, D: Dialect>(
     lines: &mut Lines<L>,
 ) -> Result<Said, Cause>
     requires own { desk_ids desk.old ≡ floor_ids floor.now }
-    requires agent { desk_caller desk.old < 8 }
+    requires agent { desk_caller desk.old < AGENTS }
     requires goes_on { goes_on (last_of lines.old) ≡ true }
     ensures next { TakesNext (D.may_answer dialect.now) (held_of lines.old) (held_of lines.new)
         (L.state (link_of lines.old)) (L.state (link_of lines.new)) (count_of lines.old) (count_of lines.new) desk.old desk.new result }
@@ -65,7 +65,7 @@ pub(crate) fn turn<R: Wait + Clock, L: Link, D: Dialect>(
     lines: &mut Lines<L>,
 ) -> Result<(), Cause>
     requires own { desk_ids desk.old ≡ floor_ids floor.now }
-    requires agent { desk_caller desk.old < 8 }
+    requires agent { desk_caller desk.old < AGENTS }
     requires goes_on { goes_on (last_of lines.old) ≡ true }
     ensures turn { HasTurn (dialect_of (D.may_answer dialect.now) (D.text dialect.now)) (held_of lines.old) (held_of lines.new)
         (L.state (link_of lines.old)) (L.state (link_of lines.new)) (count_of lines.old) (count_of lines.new) desk.old desk.new result }

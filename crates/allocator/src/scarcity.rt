@@ -9,12 +9,12 @@ ghost use Rattle.allocator.specs.Scarcity.{scarcity_price};
 use dual_bound::is_used_up;
 use game_text::Account;
 use packages::{Package, Prices};
-use tac_base::limits::DUAL_PRICE;
+use tac_base::limits::{DUAL_PRICE, GOODS};
 
 /// The price of the good of a number, 0..27, in dollars: the greatest where the packages use it up, and none otherwise.
 fn scarcity_price(account: &Account, allocation: &[Package; 8], number: u8) -> u16
     requires lawful { All IsPackage allocation.now }
-    requires good { number < 28 }
+    requires good { number < GOODS }
     ensures value { result ≡ scarcity_price (stock_of account.now.holdings) allocation.now number }
     ensures few { result ≤ DUAL_PRICE }
 {
@@ -29,7 +29,7 @@ fn scarcity_price(account: &Account, allocation: &[Package; 8], number: u8) -> u
 pub(crate) fn scarcity_prices(account: &Account, allocation: &[Package; 8]) -> Prices
     requires { All IsPackage allocation.now }
     ensures range { ArePrices result }
-    ensures each { (good : ℕ) → good < 28 → slice_index result good ≡ scarcity_price (stock_of account.now.holdings) allocation.now good }
+    ensures each { (good : ℕ) → good < GOODS → slice_index result good ≡ scarcity_price (stock_of account.now.holdings) allocation.now good }
 {
     let mut dollars = [0; 28];
     for good in 0..28 {

@@ -25,6 +25,7 @@ use game_text::Account;
 use packages::{Package, Prices, value_count};
 use relaxation::{Relaxation, Split, SplitRule};
 use std::alloc::{AllocFailed, Global};
+use tac_base::limits::GOODS;
 
 /// At most so many features are decided in one dive.
 const MOST_DECIDED: u32 = 12;
@@ -120,7 +121,7 @@ fn offer(account: &Account, chosen: &[Package; 8], best: &mut Found)
     ensures grows { best.old.total ≤ best.new.total }
 
     // It is worth no more than the best, or it uses too much of some good.
-    ensures settled { (total_of account.now.clients chosen.now ≤ best.new.total) ⊎ ((good : ℕ) × (good < 28) × (stock_of account.now.holdings good < used_by chosen.now good)) }
+    ensures settled { (total_of account.now.clients chosen.now ≤ best.new.total) ⊎ ((good : ℕ) × (good < GOODS) × (stock_of account.now.holdings good < used_by chosen.now good)) }
     ensures few { total_of account.now.clients chosen.now ≤ BEST_TOTAL }
 {
     let total = allocation_worth(account, chosen);

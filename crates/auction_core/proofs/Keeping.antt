@@ -17,7 +17,7 @@ use Rattle.auction_rules.specs.Legal.{entry_by, entry_of, reply_of, trades_of, e
 use Rattle.auction_rules.specs.Follows.{Follows}
 use Rattle.std.specs.List.{All, AllByRecursion}
 use Rattle.auction_rules.specs.Traded.{traded, Spends, IsShort}
-use Rattle.auction_core.specs.Ranges.{IsEntry, IsToldInRange}
+use Rattle.auction_core.specs.{IsEntry, IsToldInRange, Stands, units_left, held_by, entry_with, stored, entry_behind, struck_of, IsAuctionKept, IsAuctionSound}
 use Rattle.auction_core.proofs.Dealing.{IsDealt, all_dealt}
 use Rattle.auction_core.proofs.Telling.{AreBids, reply_ranged, told_in_range}
 use Rattle.auction_rules.proofs.Lists.{all-append}
@@ -27,12 +27,8 @@ use Rattle.trade_ledger.specs.CashKeeping.{IsWithin}
 use Rattle.trade_ledger.specs.Holdings.{held_after}
 use Rattle.trade_ledger.proofs.Trading.{get_or-nine, nine_numbers}
 use Rattle.auction_core.specs.declared.book.Book.{Book}
-use Rattle.auction_core.specs.Books.{Stands, units_left, held_by}
-use Rattle.auction_core.specs.Stored.{entry_with, stored, entry_behind}
-use Rattle.auction_core.specs.Struck.{struck_of}
 use Rattle.auction_core.proofs.Answering.{held_is}
 use Rattle.game_text.specs.Accounts.{IsHolding}
-use Rattle.auction_core.specs.KeptAuctions.{IsAuctionKept, IsAuctionSound}
 use Rattle.auction_core.proofs.Counting.{by, length-part, called_snoc, capped_snoc, few_entries, room_for}
 use Rattle.auction_core.proofs.Holding.{net_units-append, net_units_within}
 use Rattle.auction_core.proofs.Chains.{stored_more, stores_more}

@@ -32,10 +32,7 @@ use Rattle.auction_rules.proofs.FlightPrices.{flight_price_within}
 use Rattle.auction_rules.proofs.Uncrossed.{board_apart}
 use Rattle.trade_ledger.specs.Holdings.{held_after, sum_held}
 use Rattle.trade_ledger.proofs.Trading.{moved_is, sum_held-moved}
-use Rattle.auction_core.specs.Books.{held_by}
-use Rattle.auction_core.specs.Setups.{AreInRange}
-use Rattle.auction_core.specs.Auctions.{AuctionHistory}
-use Rattle.auction_core.specs.Laws.{auction_past, NoLower, SellsAll, IsPriced, bought_at, bid_at, ArePaid, IsApart, KeepsQuote, TradesWhileOpen, SellsRooms, KeepsSum, HasNoSelfTrade, KeepsPrice, NobodyOverpays, IsUncrossed}
+use Rattle.auction_core.specs.{held_by, AreInRange, AuctionHistory, auction_past, NoLower, SellsAll, IsPriced, bought_at, bid_at, ArePaid, IsApart, KeepsQuote, TradesWhileOpen, SellsRooms, KeepsSum, HasNoSelfTrade, KeepsPrice, NobodyOverpays, IsUncrossed}
 use Rattle.auction_core.proofs.Holding.{held_start, held_more}
 use Rattle.auction_core.proofs.Keeping.{held_next}
 use Rattle.auction_core.proofs.Paying.{nobody_pays_more}

@@ -17,9 +17,7 @@ use Rattle.flight_auction.specs.Book as flights
 use Rattle.hotel_book.specs.Book as hotels
 use Rattle.auction_core.specs.declared.book.Book.{Book}
 use Rattle.auction_core.specs.declared.book.Book.TheVariants.{Flight, Hotel, Tickets}
-use Rattle.auction_core.specs.Books.{Stands, units_left, held_by}
-use Rattle.auction_core.specs.Setups.{AreInRange, AreEndowed}
-use Rattle.auction_core.specs.KeptAuctions.{IsAuctionSound}
+use Rattle.auction_core.specs.{Stands, units_left, held_by, AreInRange, AreEndowed, IsAuctionSound}
 
 same : (z : ℤ) → z ≡ z +ℤ pos 0
 same z = omega (arith, ints)

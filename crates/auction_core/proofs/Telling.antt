@@ -29,8 +29,7 @@ use Rattle.auction_rules.proofs.Lists.{all-flat_map, all-map, all_alike}
 use Rattle.auction_rules.proofs.Quotes.{fold_keeps, max_keeps, prices_of}
 use Rattle.auction_rules.proofs.Standing.{Each, each-append, each-block, each-filter, each-weaker}
 use Rattle.game_text.specs.Accounts.{IsHolding}
-use Rattle.auction_core.specs.Calls.{IsFit}
-use Rattle.auction_core.specs.Ranges.{IsToldInRange}
+use Rattle.auction_core.specs.{IsFit, IsToldInRange}
 
 -- ---- what the rules and the types of calls and replies keep, together
 

@@ -1,6 +1,6 @@
 -- What a game says of an auction.
 use Rattle.std.specs.Prelude.{ℕ, ◌-◌, ◌≤◌, ⊤, List, ℤ, pos, negsuc, ◌≤ℤ◌, map, replicate, slice_index_or}
-use Rattle.tac_base.specs.declared.limits.TheConstants.{NIGHT_ROOMS}
+use Rattle.tac_base.specs.declared.limits.TheConstants.{AGENTS, NIGHT_ROOMS}
 use Rattle.tac_base.specs.declared.numbers.Kind.{Kind}
 use Rattle.tac_base.specs.declared.numbers.Kind.TheVariants.{Flight, Hotel, Ticket}
 use Rattle.tac_base.specs.Kinds.{kind_of}
@@ -29,7 +29,7 @@ rules_by game good Ticket = TicketRules
 -- what the agents have of a good at first, by its kind: the endowment of tickets, and none of the others
 abbrev pub endow_by : GameFile → ℕ → Kind → List ℤ
 endow_by game good Ticket = map (λ tickets. pos (slice_index_or tickets (good - 16) 0)) game.endow
-endow_by game good kind = replicate 8 (pos 0)
+endow_by game good kind = replicate AGENTS (pos 0)
 
 -- the setup of the auction of a good
 abbrev pub setup_of : ℕ → GameFile → Setup

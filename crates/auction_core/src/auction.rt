@@ -3,10 +3,7 @@ ghost use Rattle.std.specs.Option.{option_copied};
 ghost use Rattle.game_text.specs.Accounts.{IsHolding};
 ghost use Rattle.auction_rules.specs.Effects as effects;
 ghost use Rattle.auction_rules.specs.Legal.{Legal, entry_of};
-ghost use Rattle.auction_core.specs.Setups.{setup_of};
-ghost use Rattle.auction_core.specs.Ranges.{IsHistory, IsToldInRange};
-ghost use Rattle.auction_core.specs.Stored.{IsShown};
-ghost use Rattle.auction_core.specs.Struck.{struck_of};
+ghost use Rattle.auction_core.specs.{setup_of, IsHistory, IsToldInRange, IsShown, struck_of};
 
 use crate::auction_setup::AuctionSetup;
 use crate::book::Book;
@@ -38,9 +35,7 @@ pub struct Auction {
 
 impl Model for Auction {
     ghost use Rattle.std.specs.Prelude.{All, vec_capacity};
-    ghost use Rattle.auction_core.specs.Auctions.{AuctionHistory};
-    ghost use Rattle.auction_core.specs.KeptAuctions.{IsAuctionSound};
-    ghost use Rattle.auction_core.specs.Stored.{stored};
+    ghost use Rattle.auction_core.specs.{AuctionHistory, IsAuctionSound, stored};
 
     ghost Value = { AuctionHistory };
 

@@ -1,8 +1,7 @@
 ghost use Rattle.std.specs.Prelude.{◌≡◌, ◌-◌, [], pos, map, slice_index_or};
 ghost use Rattle.tac_base.specs.Kinds.{kind_of};
 ghost use Rattle.auction_core.specs.Setups as setups;
-ghost use Rattle.auction_core.specs.Setups.{setup_of, endow_by, kind_by, AreInRange, AreEndowed};
-ghost use Rattle.auction_core.specs.Books.{held_by};
+ghost use Rattle.auction_core.specs.{setup_of, endow_by, kind_by, AreInRange, AreEndowed, held_by};
 
 use auction_rules::Rules;
 use game_text::Game;

@@ -1,4 +1,5 @@
 ghost use Rattle.std.specs.Prelude.{◌≡◌, ℕ, ◌+◌, ◌*◌, ◌≤◌, length, sum_by, pos, slice_index_or};
+ghost use Rattle.tac_base.specs.Goods.{house};
 ghost use Rattle.auction_rules.specs.Effects as effects;
 ghost use Rattle.auction_rules.specs.Traded.{traded};
 ghost use Rattle.trade_ledger.specs.Holdings.{held_after};
@@ -69,7 +70,7 @@ pub(crate) fn nets(trades: &[Trade]) -> Nets
 /// Moves the units of all trades.
 pub(crate) fn apply_all(held: &mut GoodBook, trades: &[Trade])
     requires nine { length held.old ≡ 9 }
-    requires small { (party : ℕ) → party ≤ 8 → IsWithin 400000 (slice_index_or held.old party (pos 0)) }
+    requires small { (party : ℕ) → party ≤ house → IsWithin 400000 (slice_index_or held.old party (pos 0)) }
     requires few { traded trades.now ≤ 400000 }
     ensures { held.new ≡ held_after held.old trades.now }
 {

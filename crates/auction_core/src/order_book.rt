@@ -1,10 +1,10 @@
 ghost use Rattle.std.specs.Prelude.{All, ◌≡◌, ◌+◌, ◌==◌, if◌then◌else◌, [], ℕ, length, List, pos, slice_index_or, Some, None};
+ghost use Rattle.tac_base.specs.Goods.{clock};
 ghost use Rattle.auction_rules.specs.Setup.{Setup};
 ghost use Rattle.auction_rules.specs.History.{Entry};
 ghost use Rattle.auction_rules.specs.Follows.{Follows};
 ghost use Rattle.auction_rules.specs.Traded.{Spends, IsShort};
-ghost use Rattle.auction_core.specs.Books.{held_by};
-ghost use Rattle.auction_core.specs.Calls.{IsFit};
+ghost use Rattle.auction_core.specs.{held_by, IsFit};
 
 use tac_base::limits::BID_UNITS;
 use tac_base::{Agent, Call, Caller, Fills, Left, Reply};
@@ -37,7 +37,7 @@ pub(crate) trait OrderBook {
 
 /// The agent that a caller is, and None for the clock.
 pub(crate) fn agent_of(caller: Caller) -> Option<Agent>
-    ensures { result ≡ (if caller == 8 then None else Some caller) }
+    ensures { result ≡ (if caller == clock then None else Some caller) }
 {
     Agent::new(caller.get()).ok()
 }

@@ -7,9 +7,7 @@ use Rattle.tac_base.specs.declared.calls.Reply.TheVariants.{Closed}
 use Rattle.auction_rules.specs.Setup.{Setup}
 use Rattle.auction_rules.specs.declared.rules.Rules.{Rules}
 use Rattle.auction_rules.specs.declared.rules.Rules.TheVariants.{Flight as FlightRules, Hotel as HotelRules, Tickets as TicketRules}
-use Rattle.auction_rules.specs.History.{Entry, is_own, is_closed}
-use Rattle.auction_rules.specs.Refusals.{refusal}
-use Rattle.auction_rules.specs.Legal.{entry_by, trades_by, trades_of}
+use Rattle.auction_rules.specs.{Entry, is_own, is_closed, refusal, entry_by, trades_by, trades_of}
 use Rattle.auction_rules.proofs.Steps.{entry_refused}
 
 -- a reading trades nothing

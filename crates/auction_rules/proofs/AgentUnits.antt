@@ -8,10 +8,8 @@ use Rattle.tac_base.specs.declared.calls.Call.TheVariants.{Bid}
 use Rattle.auction_rules.specs.declared.units.Placed.{Placed}
 use Rattle.auction_rules.specs.declared.units.BidUnit.{BidUnit}
 use Rattle.tac_base.specs.Goods.{agents}
-use Rattle.auction_rules.specs.Units.{units_of, among, without}
+use Rattle.auction_rules.specs.{units_of, among, without, Entry, is_admission, is_closed, last_bid, bid_units, units_of_last, gone_by, gone, stand}
 use Rattle.auction_rules.specs.declared.rules.Rules.{Rules}
-use Rattle.auction_rules.specs.History.{Entry, is_admission, is_closed, last_bid, bid_units, units_of_last}
-use Rattle.auction_rules.specs.Standing.{gone_by, gone, stand}
 use Rattle.auction_rules.proofs.Agents.{number_same, another, agents_within, agents_pick, agents_joined}
 use Rattle.auction_rules.proofs.Lists.{filter-filter, filter-flat_map, flat_map_alike, filter_all}
 use Rattle.auction_rules.proofs.Standing.{Each, each-append, each-filter, each-weaker, last_is, last_units, number_is, among-append, new_not_gone}

@@ -8,13 +8,7 @@ use Rattle.tac_base.specs.declared.calls.Trade.{Trade}
 use Rattle.auction_rules.specs.declared.units.BidUnit.{BidUnit}
 use Rattle.tac_base.specs.Goods.{agents, house}
 use Rattle.auction_rules.specs.declared.rules.Rules.{Rules}
-use Rattle.auction_rules.specs.History.{Entry}
-use Rattle.auction_rules.specs.Standing.{stand}
-use Rattle.auction_rules.specs.Precedence.{wins}
-use Rattle.auction_rules.specs.Ask.{ask}
-use Rattle.auction_rules.specs.WinningNumber.{winning}
-use Rattle.auction_rules.specs.HotelClosing.{closing_trade, closing_trades, sold_units}
-use Rattle.auction_rules.specs.Traded.{traded}
+use Rattle.auction_rules.specs.{Entry, stand, wins, ask, winning, closing_trade, closing_trades, sold_units, traded}
 use Rattle.auction_rules.proofs.AgentUnits.{units_joined}
 use Rattle.auction_rules.proofs.Counts.{count-filter}
 

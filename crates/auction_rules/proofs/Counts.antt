@@ -6,9 +6,7 @@ use Rattle.std.proofs.lemmas.Bool.Decides.{nat_tests}
 use Rattle.tac_base.specs.declared.bids.Point.{Point}
 use Rattle.tac_base.specs.Bids.{size_of, buys_of}
 use Rattle.auction_rules.specs.declared.units.BidUnit.{BidUnit}
-use Rattle.auction_rules.specs.Units.{block, point_units, units_from}
-use Rattle.auction_rules.specs.Ask.{units_at}
-use Rattle.auction_rules.specs.BeatQuote.{offered_by, offered}
+use Rattle.auction_rules.specs.{block, point_units, units_from, units_at, offered_by, offered}
 use Rattle.auction_rules.proofs.Ranks.{In, count-cons}
 
 -- nothing passes

@@ -2,9 +2,7 @@
 use Rattle.std.proofs.Common.{ℕ, Bool, true, false, cond, List, [], ◌∷◌, arith, ℤ, pos, negsuc}
 use Rattle.tac_base.specs.declared.calls.Call.{Call}
 use Rattle.tac_base.specs.declared.calls.Call.TheVariants.{Bid, Withdraw, Own as OwnCall, Update, Publish, Close}
-use Rattle.auction_rules.specs.History.{Entry, is_admission}
-use Rattle.auction_rules.specs.FlightRule.{clamped, price_after, price}
-use Rattle.auction_rules.specs.Laws.{IsFlightPrice}
+use Rattle.auction_rules.specs.{Entry, is_admission, clamped, price_after, price, IsFlightPrice}
 
 clamped_within : (sum : ℤ) → IsFlightPrice (clamped sum)
 clamped_within (pos n) = (omega arith, omega arith)

@@ -9,9 +9,7 @@ use Rattle.tac_base.specs.declared.calls.Call.TheVariants.{Bid, Withdraw, Own as
 use Rattle.auction_rules.specs.declared.units.Placed.{Placed}
 use Rattle.auction_rules.specs.declared.units.StandingPoint.{StandingPoint}
 use Rattle.auction_rules.specs.declared.rules.Rules.{Rules}
-use Rattle.auction_rules.specs.History.{Entry}
-use Rattle.auction_rules.specs.Standing.{stand}
-use Rattle.auction_rules.specs.FlightSales.{placed_bids, by_position, owned_by, standing_of, standing_points, points_looked_at, is_sold, sale, flight_trades}
+use Rattle.auction_rules.specs.{Entry, stand, placed_bids, by_position, owned_by, standing_of, standing_points, points_looked_at, is_sold, sale, flight_trades}
 use Rattle.auction_rules.proofs.Lists.{all-append, all-filter, all-flat_map, all-map, all-weaker, all_alike}
 
 -- each trade is the sale of one of the points

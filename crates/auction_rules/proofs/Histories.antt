@@ -3,9 +3,7 @@ use Rattle.std.proofs.Common.{◌≡◌, ℕ, suc, List, [], ◌∷◌, length, 
 use Rattle.tac_base.specs.declared.calls.Call.{Call}
 use Rattle.tac_base.specs.declared.calls.Reply.{Reply}
 use Rattle.auction_rules.specs.Setup.{Setup}
-use Rattle.auction_rules.specs.History.{Entry}
-use Rattle.auction_rules.specs.Refusals.{refusal}
-use Rattle.auction_rules.specs.Legal.{entry_of, entry_by, IsLawful, past_of}
+use Rattle.auction_rules.specs.{Entry, refusal, entry_of, entry_by, IsLawful, past_of}
 
 entry_by_caller : (setup : Setup) (past : List Entry) (caller : ℕ) (call : Call) (r : Option Reply) → (entry_by setup past caller call r).caller ≡ caller
 entry_by_caller setup past caller call None = refl

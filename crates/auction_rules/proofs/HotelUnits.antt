@@ -10,12 +10,8 @@ use Rattle.tac_base.specs.declared.calls.Call.TheVariants.{Bid, Withdraw, Own as
 use Rattle.auction_rules.specs.declared.units.Placed.{Placed}
 use Rattle.auction_rules.specs.declared.units.BidUnit.{BidUnit}
 use Rattle.tac_base.specs.Goods.{agents}
-use Rattle.auction_rules.specs.Units.{block, point_units, units_from, units_of}
+use Rattle.auction_rules.specs.{block, point_units, units_from, units_of, Entry, is_admission, is_closed, bid_after, last_bid, bid_units, units_of_last, gone, stand, precedes, sold_units}
 use Rattle.auction_rules.specs.declared.rules.Rules.TheVariants.{Hotel as HotelRules}
-use Rattle.auction_rules.specs.History.{Entry, is_admission, is_closed, bid_after, last_bid, bid_units, units_of_last}
-use Rattle.auction_rules.specs.Standing.{gone, stand}
-use Rattle.auction_rules.specs.Precedence.{precedes}
-use Rattle.auction_rules.specs.HotelClosing.{sold_units}
 use Rattle.auction_rules.proofs.Standing.{Each, each-append, each-weaker, IsPlaced, each-placed, IsBidOf, last_is}
 use Rattle.auction_rules.proofs.AgentUnits.{without_nothing}
 use Rattle.auction_rules.proofs.Ranks.{In, AreOrdered, ranked}

@@ -11,13 +11,7 @@ use Rattle.auction_rules.specs.declared.units.BidUnit.{BidUnit}
 use Rattle.auction_rules.specs.Setup.{Setup}
 use Rattle.auction_rules.specs.declared.rules.Rules.{Rules}
 use Rattle.auction_rules.specs.declared.rules.Rules.TheVariants.{Flight as FlightRules, Hotel as HotelRules, Tickets as TicketRules}
-use Rattle.auction_rules.specs.History.{Entry, is_admission, is_own, is_closed, last_bid, last_bids, units_of_bids}
-use Rattle.auction_rules.specs.FlightRule.{price}
-use Rattle.auction_rules.specs.Ask.{published}
-use Rattle.auction_rules.specs.Standing.{gone_by, left_standing, gone, stand, left}
-use Rattle.auction_rules.specs.Effects.{holding}
-use Rattle.auction_rules.specs.Refusals.{is_wrong_caller, is_wrong_place, refusal}
-use Rattle.auction_rules.specs.Legal.{trades_by, admitted_trades, admitted_reply, entry_of}
+use Rattle.auction_rules.specs.{Entry, is_admission, is_own, is_closed, last_bid, last_bids, units_of_bids, price, published, gone_by, left_standing, gone, stand, left, holding, is_wrong_caller, is_wrong_place, refusal, trades_by, admitted_trades, admitted_reply, entry_of}
 use Rattle.auction_rules.specs.Follows.{Follows}
 use Rattle.auction_rules.proofs.Agents.{not_clock}
 use Rattle.auction_rules.proofs.Steps.{refused_entry, entry_refused, refusal_refuses, follows, entry_admitted}

@@ -7,8 +7,7 @@ use Rattle.tac_base.specs.declared.bids.Point.{Point}
 use Rattle.tac_base.specs.Bids.{size_of, point_fault, first_fault, fault_of, left_fault}
 use Rattle.tac_base.proofs.Faults.{IsGood, good_point, both_none}
 use Rattle.auction_rules.specs.declared.units.BidUnit.{BidUnit}
-use Rattle.auction_rules.specs.Units.{point_units, among, common_units}
-use Rattle.auction_rules.specs.Standing.{signed_as, left_points}
+use Rattle.auction_rules.specs.{point_units, among, common_units, signed_as, left_points}
 use Rattle.auction_rules.proofs.Blocks.{length-point_units}
 
 pub suc_not_zero : (n : ℕ) → (suc n == 0) ≡ false

@@ -6,8 +6,7 @@ use Rattle.std.proofs.lemmas.Bool.{and_parts, or_parts, or_right, not-true}
 use Rattle.std.proofs.lemmas.Bool.Decides.{nat_tests}
 use Rattle.tac_base.specs.declared.calls.Trade.{Trade}
 use Rattle.auction_rules.specs.declared.units.BidUnit.{BidUnit}
-use Rattle.auction_rules.specs.Units.{same_side, same_unit, among}
-use Rattle.auction_rules.specs.TicketMatch.{faces, goes_before, best, crosses, if_crossing, partner, pair_with, not_taken, pairs, trades_of_pairs, ticket_trades, units_of_pairs, ticket_gone}
+use Rattle.auction_rules.specs.{same_side, same_unit, among, faces, goes_before, best, crosses, if_crossing, partner, pair_with, not_taken, pairs, trades_of_pairs, ticket_trades, units_of_pairs, ticket_gone}
 use Rattle.auction_rules.proofs.Lists.{all_alike, all_passing}
 use Rattle.auction_rules.proofs.Agents.{number_same}
 use Rattle.auction_rules.proofs.Standing.{Each, each-filter, each-weaker, same_is, same_self, among-filter}

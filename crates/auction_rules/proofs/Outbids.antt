@@ -10,16 +10,9 @@ use Rattle.tac_base.specs.declared.calls.Call.TheVariants.{Bid}
 use Rattle.tac_base.specs.declared.calls.Reply.TheVariants.{Taken}
 use Rattle.auction_rules.specs.declared.units.BidUnit.{BidUnit}
 use Rattle.tac_base.specs.Goods.{agents}
-use Rattle.auction_rules.specs.Units.{units_of}
+use Rattle.auction_rules.specs.{units_of, Entry, is_closed, last_bid, bid_units, units_of_last, stand, precedes, predecessors, wins, units_at, published, winning, sold_units, need, quote_to_beat, offered, is_below_quote}
 use Rattle.auction_rules.specs.declared.rules.Rules.{Rules}
 use Rattle.auction_rules.specs.declared.rules.Rules.TheVariants.{Hotel as HotelRules}
-use Rattle.auction_rules.specs.History.{Entry, is_closed, last_bid, bid_units, units_of_last}
-use Rattle.auction_rules.specs.Standing.{stand}
-use Rattle.auction_rules.specs.Precedence.{precedes, predecessors, wins}
-use Rattle.auction_rules.specs.Ask.{units_at, published}
-use Rattle.auction_rules.specs.WinningNumber.{winning}
-use Rattle.auction_rules.specs.HotelClosing.{sold_units}
-use Rattle.auction_rules.specs.BeatQuote.{need, quote_to_beat, offered, is_below_quote}
 use Rattle.auction_rules.proofs.Agents.{number_same, numbers_differ, agents_joined}
 use Rattle.auction_rules.proofs.Lists.{filter-flat_map}
 use Rattle.auction_rules.proofs.Standing.{Each, last_is, last_units, number_is}

@@ -12,14 +12,7 @@ use Rattle.auction_rules.specs.declared.units.BidUnit.{BidUnit}
 use Rattle.auction_rules.specs.Setup.{Setup}
 use Rattle.auction_rules.specs.declared.rules.Rules.{Rules}
 use Rattle.auction_rules.specs.declared.rules.Rules.TheVariants.{Hotel as HotelRules}
-use Rattle.auction_rules.specs.History.{Entry, is_own, is_closed, last_bid, units_of_bids}
-use Rattle.auction_rules.specs.Standing.{stand, left}
-use Rattle.auction_rules.specs.Ask.{ask, published}
-use Rattle.auction_rules.specs.BeatQuote.{need, quote_to_beat, offered, is_below_quote}
-use Rattle.auction_rules.specs.Refusals.{is_wrong_caller, is_wrong_place, sells, call_refusal, refusal}
-use Rattle.auction_rules.specs.Legal.{IsLawful, entry_of, entry_by, admitted_reply, admitted_trades, close_reply}
-use Rattle.auction_rules.specs.HotelClosing.{sold_units}
-use Rattle.auction_rules.specs.Effects.{bought, sold, holding}
+use Rattle.auction_rules.specs.{Entry, is_own, is_closed, last_bid, units_of_bids, stand, left, ask, published, need, quote_to_beat, offered, is_below_quote, is_wrong_caller, is_wrong_place, sells, call_refusal, refusal, IsLawful, entry_of, entry_by, admitted_reply, admitted_trades, close_reply, sold_units, bought, sold, holding}
 use Rattle.auction_rules.proofs.Steps.{refused_entry, refusal_refuses}
 use Rattle.auction_rules.proofs.Idle.{IsIdle, either_same, idle_refused, idle_closed, idle_published, idle_stand}
 use Rattle.auction_rules.proofs.Agents.{agents_alike}

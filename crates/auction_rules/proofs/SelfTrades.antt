@@ -17,18 +17,7 @@ use Rattle.tac_base.specs.Goods.{agents, clock, house}
 use Rattle.auction_rules.specs.Setup.{Setup}
 use Rattle.auction_rules.specs.declared.rules.Rules.{Rules}
 use Rattle.auction_rules.specs.declared.rules.Rules.TheVariants.{Flight as FlightRules, Hotel as HotelRules, Tickets as TicketRules}
-use Rattle.auction_rules.specs.History.{Entry, is_own, is_closed, last_bid}
-use Rattle.auction_rules.specs.FlightRule.{price, price_after}
-use Rattle.auction_rules.specs.FlightSales.{standing_points, points_looked_at, placed_bids, sale}
-use Rattle.auction_rules.specs.TicketMatch.{arriving, faces, crosses, pairs, pair_trade, ticket_trades}
-use Rattle.auction_rules.specs.Standing.{stand}
-use Rattle.auction_rules.specs.Ask.{ask}
-use Rattle.auction_rules.specs.WinningNumber.{winning}
-use Rattle.auction_rules.specs.HotelClosing.{closing_trade, closing_trades}
-use Rattle.auction_rules.specs.Refusals.{is_wrong_caller, is_wrong_place, call_refusal, refusal}
-use Rattle.auction_rules.specs.Laws.{HasTwoParties}
-use Rattle.auction_rules.specs.Legal.{entry_by, trades_by, trades_of}
-use Rattle.auction_rules.specs.Units.{units_of}
+use Rattle.auction_rules.specs.{Entry, is_own, is_closed, last_bid, price, price_after, standing_points, points_looked_at, placed_bids, sale, arriving, faces, crosses, pairs, pair_trade, ticket_trades, stand, ask, winning, closing_trade, closing_trades, is_wrong_caller, is_wrong_place, call_refusal, refusal, HasTwoParties, entry_by, trades_by, trades_of, units_of}
 use Rattle.auction_rules.proofs.Agents.{agents_within}
 use Rattle.auction_rules.proofs.AgentUnits.{stand_owned}
 use Rattle.auction_rules.proofs.Lists.{all-filter_map, all-if, all-map, all-weaker}

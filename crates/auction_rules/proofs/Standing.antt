@@ -12,13 +12,9 @@ use Rattle.tac_base.specs.declared.calls.Call.TheVariants.{Bid, Withdraw, Own as
 use Rattle.auction_rules.specs.declared.units.Placed.{Placed}
 use Rattle.auction_rules.specs.declared.units.BidUnit.{BidUnit}
 use Rattle.tac_base.specs.Goods.{agents}
-use Rattle.auction_rules.specs.Units.{block, point_units, units_from, units_of, same_side, same_unit, among, without, common_units}
+use Rattle.auction_rules.specs.{block, point_units, units_from, units_of, same_side, same_unit, among, without, common_units, Entry, is_admission, is_closed, bid_after, last_bid, last_bids, bid_units, units_of_last, units_of_bids, looked_at, arriving, faces, best, if_crossing, partner, pair_with, not_taken, pairs, units_of_pairs, ticket_gone, gone_by, left_standing, gone, stand, signed_as, left_points}
 use Rattle.auction_rules.specs.declared.rules.Rules.{Rules}
 use Rattle.auction_rules.specs.declared.rules.Rules.TheVariants.{Flight as FlightRules, Hotel as HotelRules, Tickets as TicketRules}
-use Rattle.auction_rules.specs.History.{Entry, is_admission, is_closed, bid_after, last_bid, last_bids, bid_units, units_of_last, units_of_bids}
-use Rattle.auction_rules.specs.FlightRule.{looked_at}
-use Rattle.auction_rules.specs.TicketMatch.{arriving, faces, best, if_crossing, partner, pair_with, not_taken, pairs, units_of_pairs, ticket_gone}
-use Rattle.auction_rules.specs.Standing.{gone_by, left_standing, gone, stand, signed_as, left_points}
 use Rattle.auction_rules.proofs.Blocks.{length-point_units}
 use Rattle.auction_rules.proofs.Agents.{agents_get}
 

@@ -10,10 +10,7 @@ use Rattle.tac_base.specs.declared.calls.Reply.TheVariants.{Closed, WrongCall, N
 use Rattle.auction_rules.specs.Setup.{Setup}
 use Rattle.auction_rules.specs.declared.rules.Rules.{Rules}
 use Rattle.auction_rules.specs.declared.rules.Rules.TheVariants.{Flight as FlightRules, Hotel as HotelRules, Tickets as TicketRules}
-use Rattle.auction_rules.specs.History.{Entry, is_admission, is_own, is_closed}
-use Rattle.auction_rules.specs.BeatQuote.{need, quote_to_beat, offered, is_below_quote}
-use Rattle.auction_rules.specs.Refusals.{is_wrong_caller, is_wrong_place, sells, crosses_itself, has_standing, bid_refusal, call_refusal, refusal}
-use Rattle.auction_rules.specs.Legal.{entry_of, admitted_reply, admitted_trades}
+use Rattle.auction_rules.specs.{Entry, is_admission, is_own, is_closed, need, quote_to_beat, offered, is_below_quote, is_wrong_caller, is_wrong_place, sells, crosses_itself, has_standing, bid_refusal, call_refusal, refusal, entry_of, admitted_reply, admitted_trades}
 use Rattle.auction_rules.specs.Follows.{Follows}
 
 -- the entry of a refused call

@@ -5,8 +5,7 @@ use Rattle.std.specs.List.{All, AllByRecursion}
 use Rattle.std.proofs.lemmas.List.Elements.{recursion_from_All, All-from_recursion}
 use Rattle.std.proofs.lemmas.List.Sums.{sum_by-cons}
 use Rattle.tac_base.specs.declared.calls.Trade.{Trade}
-use Rattle.auction_rules.specs.Effects.{bought, sold}
-use Rattle.auction_rules.specs.Traded.{traded, Spends}
+use Rattle.auction_rules.specs.{bought, sold, traded, Spends}
 
 -- some of the elements count for no more than all
 pub sum_by-filter-le : {X : Type 0} (f : X → ℕ) (test : X → Bool) (xs : List X) → sum_by f (filter test xs) ≤ sum_by f xs

@@ -12,16 +12,10 @@ use Rattle.tac_base.specs.declared.calls.Reply.{Reply}
 use Rattle.tac_base.specs.declared.calls.Reply.TheVariants.{Closed, WrongCall, SelfCross}
 use Rattle.auction_rules.specs.declared.units.BidUnit.{BidUnit}
 use Rattle.auction_rules.specs.declared.units.Placed.{Placed}
-use Rattle.auction_rules.specs.Units.{point_units, units_from, units_of, same_side, among, without}
+use Rattle.auction_rules.specs.{point_units, units_from, units_of, same_side, among, without, Entry, is_admission, is_bid, is_close, is_closed, last_bid, units_of_last, faces, crosses, ticket_gone, gone, stand, is_wrong_caller, is_wrong_place, meets_own, crosses_itself, refusal, IsLawful, entry_of, highest_buy, lowest_sell, shown_bid, shown_ask}
 use Rattle.auction_rules.specs.Setup.{Setup}
 use Rattle.auction_rules.specs.declared.rules.Rules.{Rules}
 use Rattle.auction_rules.specs.declared.rules.Rules.TheVariants.{Tickets as TicketRules}
-use Rattle.auction_rules.specs.History.{Entry, is_admission, is_bid, is_close, is_closed, last_bid, units_of_last}
-use Rattle.auction_rules.specs.TicketMatch.{faces, crosses, ticket_gone}
-use Rattle.auction_rules.specs.Standing.{gone, stand}
-use Rattle.auction_rules.specs.Refusals.{is_wrong_caller, is_wrong_place, meets_own, crosses_itself, refusal}
-use Rattle.auction_rules.specs.Legal.{IsLawful, entry_of}
-use Rattle.auction_rules.specs.Board.{highest_buy, lowest_sell, shown_bid, shown_ask}
 use Rattle.auction_rules.proofs.Lists.{any-weaker}
 use Rattle.auction_rules.proofs.Quotes.{fold_keeps, max_keeps, lowest_keeps, prices_of}
 use Rattle.auction_rules.proofs.Steps.{entry_refused, refusal_refuses}

@@ -10,7 +10,7 @@ use Rattle.auction_rules.specs.WinningNumber.{winning_number}
 abbrev pub need : ℕ → Bool → List Entry → ℕ → ℕ
 need rooms live past agent = max 1 (winning_number rooms live past agent)
 
--- the price at which it has to offer them, or more
+-- the price at which it has to offer them, or more: a dollar above what is published, even where the book has changed since
 abbrev pub quote_to_beat : ℕ → Bool → List Entry → ℕ
 quote_to_beat rooms live past = published rooms live past + 1
 

@@ -9,9 +9,8 @@ use Rattle.bound_cert.specs.declared.faults.CertFault.TheVariants as faults
 use Rattle.bound_cert.specs.declared.node_lines.NodeLine.{NodeLine}
 use Rattle.bound_cert.specs.declared.node_lines.NodeLine.TheVariants.{Leaf, Split}
 use Rattle.bound_cert.specs.declared.trees.CertNode.{CertNode}
-use Rattle.bound_cert.specs.Faults.{IsCertRefusal, IsCertReading}
+use Rattle.bound_cert.specs.{IsCertRefusal, IsCertReading, tree_of, forest_of}
 use Rattle.bound_cert.specs.Trees.{Tree, leaf, split, Trees, no_trees, more}
-use Rattle.bound_cert.specs.Views.{tree_of, forest_of}
 use Rattle.bound_cert.specs.Reading.{Step, forest_by, node_line_in, tree_in}
 
 -- What a line of a node says, for the crates above: a leaf or a split.

@@ -10,9 +10,7 @@ use Rattle.bound_cert.specs.declared.faults.CertFault.{CertFault}
 use Rattle.bound_cert.specs.declared.faults.CertFault.TheVariants as faults
 use Rattle.bound_cert.specs.declared.node_lines.NodeLine.{NodeLine}
 use Rattle.bound_cert.specs.declared.node_lines.NodeLine.TheVariants.{Leaf, Split}
-use Rattle.bound_cert.specs.Faults.{cert_fault, or_cert_fault, IsCertReading}
-use Rattle.bound_cert.specs.NodeLines.{node_line_of}
-use Rattle.bound_cert.specs.Trees.{Tree, split, more}
+use Rattle.bound_cert.specs.{cert_fault, or_cert_fault, IsCertReading, node_line_of, Tree, split, more}
 use Rattle.bound_cert.specs.Reading.{Step, forest_by, node_by, last_node, node_line_in, tree_in, root_in, cert_of}
 
 pub no_root : (left : Remaining) (fault : CertFault) → tree_in 32 left ≡ Err fault → root_in left ≡ Err fault

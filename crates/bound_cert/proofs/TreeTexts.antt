@@ -21,10 +21,8 @@ use Rattle.bound_cert.specs.declared.faults.CertFault.{CertFault}
 use Rattle.bound_cert.specs.declared.faults.CertFault.TheVariants.{TooLong}
 use Rattle.bound_cert.specs.declared.node_lines.NodeLine.{NodeLine}
 use Rattle.bound_cert.specs.declared.node_lines.NodeLine.TheVariants.{Leaf, Split}
-use Rattle.bound_cert.specs.Faults.{or_cert_fault}
-use Rattle.bound_cert.specs.NodeLines.{leaf_columns, split_columns, is_leaf, leaf_of, split_of, node_line_of, leaf_text, split_text}
+use Rattle.bound_cert.specs.{or_cert_fault, leaf_columns, split_columns, is_leaf, leaf_of, split_of, node_line_of, leaf_text, split_text, tree_lines, forest_lines, cert_text}
 use Rattle.bound_cert.specs.Reading.{Step, forest_by, node_by, last_node, node_line_in, tree_in, root_in, cert_of}
-use Rattle.bound_cert.specs.Texts.{tree_lines, forest_lines, cert_text}
 use Rattle.bound_cert.specs.Trees.{Tree, leaf, split, Trees, no_trees, more, tree_count, are_prices, is_tree, are_trees, IsCertificate}
 
 -- ---- one line

@@ -20,9 +20,8 @@ use Rattle.text_forms.proofs.RowLaws.{is_column, numbers_lack, row_again}
 use Rattle.text_forms.proofs.PrintedLines.{lacks_from, join_lacks, ahead, at_end}
 use Rattle.packages.specs.Features.{values_of}
 use Rattle.bound_cert.specs.declared.node_lines.NodeLine.TheVariants.{Leaf, Split}
-use Rattle.bound_cert.specs.NodeLines.{leaf_columns, split_columns, node_line_of, leaf_text, split_text}
+use Rattle.bound_cert.specs.{leaf_columns, split_columns, node_line_of, leaf_text, split_text, tree_lines, forest_lines, cert_text}
 use Rattle.bound_cert.specs.Reading.{forest_by, tree_in, root_in, cert_of}
-use Rattle.bound_cert.specs.Texts.{tree_lines, forest_lines, cert_text}
 use Rattle.bound_cert.specs.Trees.{Tree, leaf, split, Trees, no_trees, more, tree_count, are_prices, is_tree, are_trees, IsCertificate}
 use Rattle.bound_cert.proofs.RootCases.{short_text}
 

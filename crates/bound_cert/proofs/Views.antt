@@ -1,8 +1,7 @@
 -- A certificate, level by level, and its children one by one.
 use Rattle.std.proofs.Common.{◌≡◌, ℕ, List, [], ◌∷◌, Vec, Global, length, refl, arith, rules}
 use Rattle.bound_cert.specs.declared.trees.CertNode.{CertNode, Leaf, Split, the_lemmas}
-use Rattle.bound_cert.specs.Trees.{leaf, split, tree_count}
-use Rattle.bound_cert.specs.Views.{tree_of, forest_of}
+use Rattle.bound_cert.specs.{leaf, split, tree_count, tree_of, forest_of}
 
 pub tree_of-Leaf : (prices : List ℕ) → tree_of (Leaf prices) ≡ leaf prices
 tree_of-Leaf prices = search (rules, the_lemmas)

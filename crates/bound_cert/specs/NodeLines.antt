@@ -1,7 +1,7 @@
 -- The line of a node.
 use Rattle.std.specs.Prelude.{ℕ, List, [], ◌∷◌, Bool, false, pos, Result, Ok, map, replicate, codes, slice_index_or, unsigned_abs, if◌then◌else◌}
 use Rattle.std.specs.Str.{bytes_eq}
-use Rattle.tac_base.specs.declared.limits.TheConstants.{DUAL_PRICE}
+use Rattle.tac_base.specs.declared.limits.TheConstants.{DUAL_PRICE, GOODS}
 use Rattle.text_forms.specs.declared.lines.Reason.{Reason}
 use Rattle.text_forms.specs.declared.rows.Column.{Column}
 use Rattle.text_forms.specs.Rows.{within, row, row_text}
@@ -11,7 +11,7 @@ use Rattle.bound_cert.specs.declared.node_lines.NodeLine.{NodeLine}
 use Rattle.bound_cert.specs.declared.node_lines.NodeLine.TheVariants.{Leaf, Split}
 
 abbrev pub leaf_columns : List Column
-leaf_columns = replicate 28 (within 0 DUAL_PRICE)
+leaf_columns = replicate GOODS (within 0 DUAL_PRICE)
 
 abbrev pub split_columns : List Column
 split_columns = within 0 7 ∷ within 0 3 ∷ []

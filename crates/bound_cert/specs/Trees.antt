@@ -1,7 +1,7 @@
 -- The tree of a certificate.
 use Rattle.std.specs.Prelude.{ℕ, zero, suc, ◌+◌, ◌==◌, ◌&&◌, nat_lt, nat_le, Bool, true, false, List, length, IsTrue}
 use Rattle.std.specs.List.{list_all}
-use Rattle.tac_base.specs.declared.limits.TheConstants.{CERTIFICATE_DEPTH, DUAL_PRICE}
+use Rattle.tac_base.specs.declared.limits.TheConstants.{CERTIFICATE_DEPTH, DUAL_PRICE, GOODS}
 use Rattle.packages.specs.Features.{values_of}
 
 mutual
@@ -21,7 +21,7 @@ tree_count (more tree trees) = tree_count trees + 1
 
 -- a price for each good, none above the highest
 abbrev pub are_prices : List ℕ → Bool
-are_prices prices = length prices == 28 && list_all (λ price. nat_le price DUAL_PRICE) prices
+are_prices prices = length prices == GOODS && list_all (λ price. nat_le price DUAL_PRICE) prices
 
 -- a split names a client and a feature and has a child for each value of the feature, and at most this many splits are above each leaf
 abbrev mutual

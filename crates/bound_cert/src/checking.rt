@@ -1,7 +1,5 @@
 ghost use Rattle.std.specs.Prelude.{◌≡◌, ◌≤◌, IsTrue, vec_len};
-ghost use Rattle.bound_cert.specs.Views.{tree_of, forest_of};
-ghost use Rattle.bound_cert.specs.Ways.{left_by};
-ghost use Rattle.bound_cert.specs.Certificate.{holds, all_hold, is_within, all_left, BoundsAll};
+ghost use Rattle.bound_cert.specs.{tree_of, forest_of, left_by, holds, all_hold, is_within, all_left, BoundsAll};
 ghost use Rattle.packages.specs.Bounds.{leaf_bound};
 
 use crate::trees::{Cert, CertNode};

@@ -2,10 +2,7 @@ ghost use Rattle.std.specs.Prelude.{◌≡◌, ◌+◌, ◌++◌, ◌≤◌, [],
 ghost use Rattle.tac_base.specs.declared.limits.TheConstants.{TEXT_BYTES};
 ghost use Rattle.text_forms.specs.Lines.{text_of};
 ghost use Rattle.text_forms.specs.Words.{parts_of};
-ghost use Rattle.bound_cert.specs.NodeLines.{leaf_text, split_text};
-ghost use Rattle.bound_cert.specs.Reading.{cert_of};
-ghost use Rattle.bound_cert.specs.Texts.{tree_lines, forest_lines, cert_text};
-ghost use Rattle.bound_cert.specs.Views.{tree_of, forest_of};
+ghost use Rattle.bound_cert.specs.{leaf_text, split_text, cert_of, tree_lines, forest_lines, cert_text, tree_of, forest_of};
 
 use crate::trees::{Cert, CertNode};
 use packages::Prices;

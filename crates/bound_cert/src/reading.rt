@@ -1,9 +1,6 @@
 ghost use Rattle.std.specs.Prelude.{◌≡◌, ◌≤◌, ◌<◌, ◌↔◌, length, IfOk, Ok, Err};
-ghost use Rattle.bound_cert.specs.Faults.{IsCertReading};
+ghost use Rattle.bound_cert.specs.{IsCertReading, cert_text, Tree, IsCertificate, tree_of, forest_of};
 ghost use Rattle.bound_cert.specs.Reading as reading;
-ghost use Rattle.bound_cert.specs.Texts.{cert_text};
-ghost use Rattle.bound_cert.specs.Trees.{Tree, IsCertificate};
-ghost use Rattle.bound_cert.specs.Views.{tree_of, forest_of};
 
 use crate::faults::CertFault;
 use crate::node_lines::{NodeLine, node_line_of};

@@ -1,5 +1,4 @@
-ghost use Rattle.bound_cert.specs.Trees.{IsCertificate};
-ghost use Rattle.bound_cert.specs.Views.{tree_of};
+ghost use Rattle.bound_cert.specs.{IsCertificate, tree_of};
 
 use packages::Prices;
 

@@ -1,5 +1,6 @@
 // The clock of a game, over a ticker.
 ghost use Rattle.std.specs.Prelude.{◌≡◌, ◌<◌, [], ◌∷◌, ◌++◌, ◌-◌, ℕ, length, map, replicate, IfSome, MatchBool};
+ghost use Rattle.tac_base.specs.Goods.{clock};
 ghost use Rattle.floor.specs.Answers.{IsSameDesk};
 ghost use Rattle.floor.specs.Desks.{boards_of, desk_calls, desk_cash, desk_caller, desk_ids, entries_at, desk_entries};
 ghost use Rattle.floor.specs.Floors.{floor_ids};
@@ -16,7 +17,7 @@ use game_text::Game;
 use std::sync::Wait;
 use std::time::Clock;
 use tac_base::Tick;
-use tac_base::limits::TICKS;
+use tac_base::limits::{GOODS, TICKS};
 use tac_io::Ticker;
 
 /// What the clock leaves.
@@ -39,7 +40,7 @@ pub fn clock_tick<R: Wait + Clock, T: Ticker>(
 )
     requires due { T.due_tick due ≡ tick }
     requires own { desk_ids desk.old ≡ floor_ids floor.now }
-    requires clock { desk_caller desk.old ≡ 8 }
+    requires clock { desk_caller desk.old ≡ clock }
     requires before { HasMade game.now (tick - 1) desk.old }
     ensures calls { desk_calls desk.new ≡ desk_calls desk.old ++ spec.calls_at game.now tick }
     ensures made { HasMade game.now tick desk.new }
@@ -82,12 +83,12 @@ pub fn run_clock<R: Wait + Clock, T: Ticker>(
     ticker: &mut T,
 ) -> ClockEnd
     requires own { desk_ids desk ≡ floor_ids floor.now }
-    requires clock { desk_caller desk ≡ 8 }
-    requires no_calls { (desk_entries desk ≡ replicate 28 []) × (desk_cash desk ≡ []) }
+    requires clock { desk_caller desk ≡ clock }
+    requires no_calls { (desk_entries desk ≡ replicate GOODS []) × (desk_cash desk ≡ []) }
     requires ticks { IfSome (T.state ticker.old).waited (λ ticks. ticks ≡ []) }
     ensures calls { desk_calls result.desk ≡ spec.schedule game.now }
     ensures made { HasMade game.now TICKS result.desk }
-    ensures whole { (good : ℕ) → good < 28 → map (λ p. p.1.call) (entries_at result.desk good) ≡ clock_calls game.now good }
+    ensures whole { (good : ℕ) → good < GOODS → map (λ p. p.1.call) (entries_at result.desk good) ≡ clock_calls game.now good }
     ensures boards { boards_of result.desk ≡ boards_of desk }
     ensures same { IsSameDesk desk result.desk }
     ensures waits { WaitsForAll (T.state ticker.old) (T.state ticker.new) result.missed }

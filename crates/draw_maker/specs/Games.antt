@@ -1,5 +1,6 @@
 -- The game made from a seed.
 use Rattle.std.specs.Prelude.{ℕ, List, false, map, replicate, take, drop}
+use Rattle.tac_base.specs.declared.limits.TheConstants.{AGENTS}
 use Rattle.game_text.specs.SeatWords.{numbered_seats}
 use Rattle.game_text.specs.Games.{GameFile}
 use Rattle.draw_maker.specs.Words.{generator, next_words, parts}
@@ -17,8 +18,8 @@ game_of_words words = record {
   order = made_order (take 7 (drop 440 words));
   rooms = replicate 8 16;
   live = false;
-  endow = map made_endowment (parts 8 12 (drop 447 words));
-  clients = map made_clients (parts 8 40 (drop 543 words));
+  endow = map made_endowment (parts AGENTS 12 (drop 447 words));
+  clients = map made_clients (parts AGENTS 40 (drop 543 words));
 }
 
 -- the game of the first words on stream 54

@@ -4,7 +4,7 @@ use Rattle.std.specs.List.{flat_map, range_with_len}
 use Rattle.tac_base.specs.declared.bids.Point.{Point}
 use Rattle.tac_base.specs.declared.numbers.Kind.{Kind}
 use Rattle.tac_base.specs.declared.numbers.Kind.TheVariants.{Flight, Hotel, Ticket}
-use Rattle.tac_base.specs.declared.limits.TheConstants.{TICKS}
+use Rattle.tac_base.specs.declared.limits.TheConstants.{AGENTS, GOODS, TICKS}
 use Rattle.tac_base.specs.Bids.{point_at}
 use Rattle.tac_base.specs.Kinds.{kind_of}
 use Rattle.text_forms.specs.Lines.{text_of}
@@ -28,8 +28,8 @@ bid_line agent good point = decimal agent ++ (codes " bid " ++ (decimal good ++ 
 -- 5 words: the agent, the good, and the three of the point
 abbrev pub made_request : List ℕ → List ℕ
 made_request words =
-    let good = slice_index words 1 % 28 in
-    bid_line (slice_index words 0 % 8) good (made_point (kind_of good) (slice_index words 2) (slice_index words 3) (slice_index words 4))
+    let good = slice_index words 1 % GOODS in
+    bid_line (slice_index words 0 % AGENTS) good (made_point (kind_of good) (slice_index words 2) (slice_index words 3) (slice_index words 4))
 
 -- how many ticks come before the request of this number, counted from 0: 54 in even steps
 abbrev pub ticks_before : ℕ → ℕ → ℕ

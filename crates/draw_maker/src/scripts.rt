@@ -8,7 +8,7 @@ use crate::drawing::draw_words;
 use bid_strings::print_points;
 use rand_pcg::Lcg64Xsh32;
 use std::alloc::{AllocError, Global};
-use tac_base::limits::TICKS;
+use tac_base::limits::{GOODS, TICKS};
 use tac_base::{Good, Kind, Memory, Point, Text, print_numeral};
 
 /// The stream of the generator from which scripts are made.
@@ -16,7 +16,7 @@ const SCRIPT_STREAM: u64 = 55;
 
 /// The good that a word draws.
 fn good_of(word: u32) -> Good
-    ensures { result ≡ word % 28 }
+    ensures { result ≡ word % GOODS }
 {
     Good::new((word % 28) as u8).unwrap()
 }

@@ -1,7 +1,7 @@
 -- When no single price is worth moving.
 use Rattle.std.specs.Prelude.{◌≡◌, ℕ, ◌+◌, ◌<◌, ◌≤◌, ◌⊎◌, ℤ, Bool, false, List, Option, Some, None, set, slice_index}
 use Rattle.std.specs.Int.RustNames.{int_lt}
-use Rattle.tac_base.specs.declared.limits.TheConstants.{DUAL_PRICE}
+use Rattle.tac_base.specs.declared.limits.TheConstants.{DUAL_PRICE, GOODS}
 use Rattle.game_text.specs.Accounts.{AccountFile}
 use Rattle.packages.specs.Bounds.{Narrowing, leaf_bound}
 
@@ -22,4 +22,4 @@ IsSettledAt account left prices bound good =
 
 -- no single price, raised or lowered by 50 within the range, gives a lower leaf bound
 abbrev pub IsSettled : AccountFile → Narrowing → List ℕ → Type 0
-IsSettled account left prices = (good : ℕ) → good < 28 → IsSettledAt account left prices (leaf_bound account left prices) good
+IsSettled account left prices = (good : ℕ) → good < GOODS → IsSettledAt account left prices (leaf_bound account left prices) good

@@ -8,6 +8,7 @@ ghost use Rattle.packages.specs.Stocks.{stock_of};
 
 use game_text::Account;
 use packages::{Package, stock, uses, utility};
+use tac_base::limits::GOODS;
 use tac_base::Good;
 
 /// The good of a number, 0..27.
@@ -35,7 +36,7 @@ fn used(allocation: &[Package; 8], good: Good) -> u32
 /// there is.
 pub fn is_used_up(account: &Account, allocation: &[Package; 8], number: u8) -> bool
     requires lawful { All IsPackage allocation.now }
-    requires good { number < 28 }
+    requires good { number < GOODS }
     ensures { result ≡ nat_le (stock_of account.now.holdings number) (used_by allocation.now number) }
 {
     stock(account, usize::from(number)) <= used(allocation, good(number))
@@ -44,8 +45,8 @@ pub fn is_used_up(account: &Account, allocation: &[Package; 8], number: u8) -> b
 /// Whether the packages, each one of the 393, use no more of any good than there is.
 pub fn is_enough(account: &Account, allocation: &[Package; 8]) -> bool
     requires { All IsPackage allocation.now }
-    ensures enough { IsTrue result → (good : ℕ) → good < 28 → used_by allocation.now good ≤ stock_of account.now.holdings good }
-    ensures short { result ≡ false → (good : ℕ) × (good < 28) × (stock_of account.now.holdings good < used_by allocation.now good) }
+    ensures enough { IsTrue result → (good : ℕ) → good < GOODS → used_by allocation.now good ≤ stock_of account.now.holdings good }
+    ensures short { result ≡ false → (good : ℕ) × (good < GOODS) × (stock_of account.now.holdings good < used_by allocation.now good) }
 {
     for number in 0..28 {
         if used(allocation, good(number)) > stock(account, usize::from(number)) {

@@ -1,5 +1,6 @@
 // Prices with what they say of all packages.
 ghost use Rattle.std.specs.Prelude.{◌≡◌, ℕ, ◌+◌, ◌*◌, ◌<◌, ◌≤◌, ◌^◌, ◌⊎◌, pos, negsuc, ◌+ℤ◌, ◌-ℤ◌, ◌≤ℤ◌, true, false, slice_index};
+ghost use Rattle.tac_base.specs.declared.limits.TheConstants.{GOODS};
 ghost use Rattle.game_text.specs.Accounts.{AccountFile, IsAccount};
 ghost use Rattle.packages.specs.Bounds as bounds;
 ghost use Rattle.bound_cert.specs.Certificate.{is_within};
@@ -9,6 +10,7 @@ ghost use Rattle.dual_bound.specs.Ceilings.{AreCosts, HasMore, IsCeiling};
 use game_text::Account;
 use packages::{Prices, cost, package, stock_value};
 use relaxation::WorthTable;
+use tac_base::limits::GOODS;
 
 /// Prices, what each package costs at them, and what all goods cost that there are.
 #[derive(Clone, Copy)]
@@ -18,7 +20,7 @@ pub struct Quote {
     pub(crate) costs: [u32; 393],
     pub stock_value: u64,
     ghost costs_are: { AreCosts prices costs },
-    ghost few: { stock_value ≤ 28 * 2 ^ 48 },
+    ghost few: { stock_value ≤ GOODS * 2 ^ 48 },
 }
 
 impl Quote {

@@ -17,7 +17,7 @@ use crate::quotes::Quote;
 use game_text::Account;
 use packages::{Narrowing, Package, Prices, leaf_bound};
 use relaxation::{Relaxation, WorthTable};
-use tac_base::limits::DUAL_PRICE;
+use tac_base::limits::{DUAL_PRICE, GOODS};
 
 /// Whether a bound is lower than another, where both are there.
 fn is_lower(bound: Option<i64>, other: Option<i64>) -> bool
@@ -31,7 +31,7 @@ fn is_lower(bound: Option<i64>, other: Option<i64>) -> bool
 
 /// The prices with another one for a good, 0..27.
 fn with_price(prices: &Prices, good: usize, price: u16) -> Prices
-    requires good { good < 28 }
+    requires good { good < GOODS }
     requires price { price ≤ DUAL_PRICE }
     ensures value { result ≡ set prices.now good price }
     ensures range { ArePrices result }
@@ -50,7 +50,7 @@ fn lower_with(
     good: usize,
     price: u16,
 ) -> Option<Prices>
-    requires good { good < 28 }
+    requires good { good < GOODS }
     requires price { price ≤ DUAL_PRICE }
     ensures lower { IfSome result (λ other. settled.is_lower (leaf_bound account.now (chosen choice.now) other) bound ≡ true) }
     ensures none { IfNone result (settled.is_lower (leaf_bound account.now (chosen choice.now) (set prices.now good price)) bound ≡ false) }
@@ -71,7 +71,7 @@ fn lower_at(
     bound: Option<i64>,
     good: usize,
 ) -> Option<Prices>
-    requires { good < 28 }
+    requires { good < GOODS }
     ensures lower { IfSome result (λ other. settled.is_lower (leaf_bound account.now (chosen choice.now) other) bound ≡ true) }
     ensures none { IfNone result (settled.IsSettledAt account.now (chosen choice.now) prices.now bound good) }
 {
@@ -95,7 +95,7 @@ fn lower_prices(
     bound: Option<i64>,
 ) -> Option<Prices>
     ensures lower { IfSome result (λ other. settled.is_lower (leaf_bound account.now (chosen choice.now) other) bound ≡ true) }
-    ensures none { IfNone result ((good : ℕ) → good < 28 → settled.IsSettledAt account.now (chosen choice.now) prices.now bound good) }
+    ensures none { IfNone result ((good : ℕ) → good < GOODS → settled.IsSettledAt account.now (chosen choice.now) prices.now bound good) }
 {
     for good in 0..28 {
         if let Some(other) = lower_at(account, choice, prices, bound, good) {

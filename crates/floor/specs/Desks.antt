@@ -3,6 +3,7 @@ use Rattle.std.specs.Prelude.{◌≡◌, ℕ, List, [], map, replicate, slice_in
 use Rattle.std.specs.Option.{option_map}
 use Rattle.tac_base.specs.declared.calls.Board.{Board}
 use Rattle.tac_base.specs.declared.calls.Call.{Call}
+use Rattle.tac_base.specs.declared.limits.TheConstants.{GOODS}
 use Rattle.auction_rules.specs.History.{Entry}
 use Rattle.auction_rules.specs.Setup.{Setup}
 use Rattle.auction_core.specs.Auctions.{AuctionHistory}
@@ -55,8 +56,8 @@ seen_at d good = slice_index_or (seen_of d) good 0
 pub record IsNewDesk (floor : List (LockId AuctionHistory) × LockId (List CashEntry)) (number : ℕ) (d : Desk) : Type 0 where
   pub ids : desk_ids d ≡ floor
   pub caller : desk_caller d ≡ number
-  pub entries : desk_entries d ≡ replicate 28 []
+  pub entries : desk_entries d ≡ replicate GOODS []
   pub calls : desk_calls d ≡ []
   pub cash : desk_cash d ≡ []
-  pub boards : boards_of d ≡ replicate 28 []
-  pub seen : seen_of d ≡ replicate 28 0
+  pub boards : boards_of d ≡ replicate GOODS []
+  pub seen : seen_of d ≡ replicate GOODS 0

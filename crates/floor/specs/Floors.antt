@@ -1,5 +1,6 @@
 -- What clauses say of a floor.
 use Rattle.std.specs.Prelude.{◌≡◌, List, [], ◌∷◌, map, replicate, IsPermutation}
+use Rattle.tac_base.specs.declared.limits.TheConstants.{CALLERS}
 use Rattle.auction_core.specs.Auctions.{AuctionHistory}
 use Rattle.trade_ledger.specs.declared.cash_calls.CashEntry.{CashEntry}
 use Rattle.turn_lock.specs.Passes.{LockId, lock_id, start_of}
@@ -18,9 +19,9 @@ starts_of f = map (λ lock. start_of lock) f.auctions.items
 -- the nine desks of the floor, in the order of callers
 abbrev pub AreDesksOf : Floor → List Desk → Type 0
 AreDesksOf f desks =
-    (map (λ d. desk_ids d) desks ≡ replicate 9 (floor_ids f)) × (map (λ d. desk_caller d) desks ≡ 0 ∷ 1 ∷ 2 ∷ 3 ∷ 4 ∷ 5 ∷ 6 ∷ 7 ∷ 8 ∷ [])
+    (map (λ d. desk_ids d) desks ≡ replicate CALLERS (floor_ids f)) × (map (λ d. desk_caller d) desks ≡ 0 ∷ 1 ∷ 2 ∷ 3 ∷ 4 ∷ 5 ∷ 6 ∷ 7 ∷ 8 ∷ [])
 
 -- the same desks in any order
 abbrev pub AreAllDesksOf : Floor → List Desk → Type 0
 AreAllDesksOf f desks =
-    (map (λ d. desk_ids d) desks ≡ replicate 9 (floor_ids f)) × IsPermutation (0 ∷ 1 ∷ 2 ∷ 3 ∷ 4 ∷ 5 ∷ 6 ∷ 7 ∷ 8 ∷ []) (map (λ d. desk_caller d) desks)
+    (map (λ d. desk_ids d) desks ≡ replicate CALLERS (floor_ids f)) × IsPermutation (0 ∷ 1 ∷ 2 ∷ 3 ∷ 4 ∷ 5 ∷ 6 ∷ 7 ∷ 8 ∷ []) (map (λ d. desk_caller d) desks)

@@ -1,7 +1,7 @@
 -- The invariants of every desk and every floor.
 use Rattle.std.specs.Prelude.{◌≡◌, ℕ, ◌+◌, ◌==◌, ◌<◌, ◌≤◌, not, List, filter, map, length, replicate, count_by, sum_by, slice_index_or, [], ◌++◌, All}
 use Rattle.std.specs.List.Sorted.{IsStrictlyIncreasing}
-use Rattle.tac_base.specs.declared.limits.TheConstants.{CASH_READINGS}
+use Rattle.tac_base.specs.declared.limits.TheConstants.{CASH_READINGS, GOODS}
 use Rattle.tac_base.specs.declared.calls.Board.{Board}
 use Rattle.tac_base.specs.declared.calls.Call.{Call}
 use Rattle.auction_rules.specs.History.{Entry}
@@ -31,9 +31,9 @@ count_entries entries = sum_by (λ row. length row) entries
 -- The desk of a caller has a pass of the caller at each of 28 auctions. Calls made plus turns left are the cap. It counts its
 -- readings, a limited number, of which the clock makes none; and each post that is due is made.
 pub record IsDeskKept (caller : ℕ) (callers lefts : List ℕ) (entries : List (List (ℕ × Entry))) (cash_left : ℕ) (cash : List (ℕ × CashEntry)) (count : ℕ) : Type 0 where
-  pub goods : length entries ≡ 28
-  pub own : callers ≡ replicate 28 caller
-  pub capped : (good : ℕ) → good < 28 → slice_index_or lefts good 0 + length (slice_index_or entries good []) ≡ cap caller
+  pub goods : length entries ≡ GOODS
+  pub own : callers ≡ replicate GOODS caller
+  pub capped : (good : ℕ) → good < GOODS → slice_index_or lefts good 0 + length (slice_index_or entries good []) ≡ cap caller
   pub cash_capped : cash_left + length cash ≡ cash_cap caller
   pub counted : count ≡ count_readings cash
   pub few : count ≤ CASH_READINGS
@@ -48,8 +48,8 @@ pub record IsInOrder (entries : List (ℕ × Entry)) (boards : List (ℕ × Boar
 
 -- what was answered of each of the 28 goods is in order
 pub record AreGoodsInOrder (entries : List (List (ℕ × Entry))) (boards : List (List (ℕ × Board))) (seen : List ℕ) : Type 0 where
-  pub goods : length entries ≡ 28
-  pub each : (good : ℕ) → good < 28 → IsInOrder (slice_index_or entries good []) (slice_index_or boards good []) (slice_index_or seen good 0)
+  pub goods : length entries ≡ GOODS
+  pub each : (good : ℕ) → good < GOODS → IsInOrder (slice_index_or entries good []) (slice_index_or boards good []) (slice_index_or seen good 0)
 
 -- the calls of a good among calls with their goods, in order
 abbrev pub calls_of_good : List (ℕ × Call) → ℕ → List Call
@@ -57,8 +57,8 @@ calls_of_good calls good = map (λ call. call.1) (filter (λ call. call.0 == goo
 
 -- a desk's list of its calls has exactly those of its entries, for each of the 28 goods in order
 pub record AreListed (entries : List (List (ℕ × Entry))) (calls : List (ℕ × Call)) : Type 0 where
-  pub goods : All (λ call. call.0 < 28) calls
-  pub each : (good : ℕ) → good < 28 → map (λ p. p.1.call) (slice_index_or entries good []) ≡ calls_of_good calls good
+  pub goods : All (λ call. call.0 < GOODS) calls
+  pub each : (good : ℕ) → good < GOODS → map (λ p. p.1.call) (slice_index_or entries good []) ≡ calls_of_good calls good
 
 -- the goods of auctions in order
 abbrev pub goods_of : List AuctionHistory → List ℕ

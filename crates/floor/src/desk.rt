@@ -1,4 +1,5 @@
 ghost use Rattle.std.specs.Prelude.{◌≡◌, ◌≤◌, map};
+ghost use Rattle.tac_base.specs.Goods.{clock};
 ghost use Rattle.turn_lock.specs.Passes.{caller_of, turns_left, made_by, noted_by, seen_by};
 ghost use Rattle.floor.specs.Keeping.{IsDeskKept, AreGoodsInOrder, AreListed};
 
@@ -9,7 +10,7 @@ use crate::outcomes::{CashOutcome, Outcome};
 use auction_core::{Auction, Struck};
 use std::sync::Wait;
 use std::time::Clock;
-use tac_base::limits::{CASH_READINGS, CLOCK_CALLS, CLOCK_CASH_ENTRIES};
+use tac_base::limits::{AGENTS, CASH_READINGS, CLOCK_CALLS, CLOCK_CASH_ENTRIES};
 use tac_base::{Agent, Board, Call, Caller, Good, Points, Reply};
 use trade_ledger::CashBook;
 use turn_lock::Pass;
@@ -83,7 +84,7 @@ impl Desk {
     /// Makes an agent's call at a good, if the agent made fewer than 1024 there.
     fn ask<R: Wait + Clock>(&mut self, rt: &R, floor: &Floor, good: Good, call: &Call) -> Outcome
         requires own { desk_ids self.old ≡ floor_ids floor.now }
-        requires agent { desk_caller self.old < 8 }
+        requires agent { desk_caller self.old < AGENTS }
         requires fit { IsFit call.now }
         ensures outcome { IsOutcome self.old self.new good call.now result }
         ensures same { IsSameDesk self.old self.new }
@@ -106,7 +107,7 @@ impl Desk {
         points: &Points,
     ) -> Outcome
         requires own { desk_ids self.old ≡ floor_ids floor.now }
-        requires agent { desk_caller self.old < 8 }
+        requires agent { desk_caller self.old < AGENTS }
         ensures outcome { IsOutcome self.old self.new good (Call.Bid points.now) result }
         ensures taken { TakesLawfulBid self.old self.new good points.now result }
         ensures same { IsSameDesk self.old self.new }
@@ -119,7 +120,7 @@ impl Desk {
     /// An agent withdraws its bid, which a hotel refuses. It may wait for its turn. `Spent` comes as for `bid`.
     pub fn withdraw<R: Wait + Clock>(&mut self, rt: &R, floor: &Floor, good: Good) -> Outcome
         requires own { desk_ids self.old ≡ floor_ids floor.now }
-        requires agent { desk_caller self.old < 8 }
+        requires agent { desk_caller self.old < AGENTS }
         ensures outcome { IsOutcome self.old self.new good Call.Withdraw result }
         ensures same { IsSameDesk self.old self.new }
         ensures posted { IsPosted (desk_entries self.new) (desk_cash self.new) }
@@ -130,7 +131,7 @@ impl Desk {
     /// An agent reads its own state. It may wait for its turn. `Spent` comes as for `bid`.
     pub fn own<R: Wait + Clock>(&mut self, rt: &R, floor: &Floor, good: Good) -> Outcome
         requires own { desk_ids self.old ≡ floor_ids floor.now }
-        requires agent { desk_caller self.old < 8 }
+        requires agent { desk_caller self.old < AGENTS }
         ensures outcome { IsOutcome self.old self.new good Call.Own result }
         ensures same { IsSameDesk self.old self.new }
         ensures posted { IsPosted (desk_entries self.new) (desk_cash self.new) }
@@ -142,7 +143,7 @@ impl Desk {
     /// a moment. It may wait for its turn. `Spent` comes exactly after 1024 readings, and changes nothing.
     pub fn cash<R: Wait + Clock>(&mut self, rt: &R, floor: &Floor) -> CashOutcome
         requires own { desk_ids self.old ≡ floor_ids floor.now }
-        requires agent { desk_caller self.old < 8 }
+        requires agent { desk_caller self.old < AGENTS }
         ensures outcome { IsCashOutcome self.old self.new result }
         ensures same { IsSameDesk self.old self.new }
         ensures posted { IsPosted (desk_entries self.new) (desk_cash self.new) }
@@ -176,7 +177,7 @@ impl Desk {
         call: &Call,
     ) -> (u32, Reply)
         requires own { desk_ids self.old ≡ floor_ids floor.now }
-        requires clock { desk_caller self.old ≡ 8 }
+        requires clock { desk_caller self.old ≡ clock }
         requires call { IsClockCall call.now }
         requires left { length (entries_at self.old good) < CLOCK_CALLS }
         requires all_left { count_entries (desk_entries self.old) < CLOCK_CASH_ENTRIES }

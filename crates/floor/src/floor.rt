@@ -1,4 +1,6 @@
 ghost use Rattle.std.specs.Prelude.{◌≡◌, ◌≤◌, [], length, map, replicate, vec_capacity};
+ghost use Rattle.tac_base.specs.Goods.{clock, house};
+ghost use Rattle.tac_base.specs.declared.limits.TheConstants.{CALLERS, GOODS};
 ghost use Rattle.auction_core.specs.ClosedGame.{all_goods};
 ghost use Rattle.floor.specs.Keeping.{goods_of};
 ghost use Rattle.turn_lock.specs.Passes.{start_of, passes_of, returned_to};
@@ -10,7 +12,7 @@ use crate::opening::{empty_hands, open, open_cash, seat};
 use auction_core::{Auction, Closed};
 use game_text::Game;
 use std::alloc::Global;
-use tac_base::limits::GOODS;
+use tac_base::limits::{CALLERS, GOODS};
 use tac_base::{Good, Memory};
 use trade_ledger::CashBook;
 use turn_lock::TurnLock;
@@ -23,9 +25,9 @@ pub struct Floor {
     /// Room for the auctions at the end.
     room: Vec<Auction>,
     ghost goods: { goods_of (map (λ lock. start_of lock) auctions.items) ≡ all_goods },
-    ghost passes: { (map (λ lock. passes_of lock) auctions.items ≡ replicate 28 9) × (passes_of cash ≡ 9) },
-    ghost returned: { (map (λ lock. returned_to lock) auctions.items ≡ replicate 28 []) × (returned_to cash ≡ []) },
-    ghost empty: { (room.items ≡ []) × (28 ≤ vec_capacity room) },
+    ghost passes: { (map (λ lock. passes_of lock) auctions.items ≡ replicate GOODS CALLERS) × (passes_of cash ≡ CALLERS) },
+    ghost returned: { (map (λ lock. returned_to lock) auctions.items ≡ replicate GOODS []) × (returned_to cash ≡ []) },
+    ghost empty: { (room.items ≡ []) × (GOODS ≤ vec_capacity room) },
 }
 
 impl Floor {
@@ -47,7 +49,7 @@ impl Floor {
     pub fn begin(alloc: Global, game: &Game) -> Result<(Floor, Vec<Desk>), Memory>
         ensures starts { IfOk result (λ r. starts_of r.0 ≡ map (λ good. record { setup = setup_of good game.now; history = [] }) all_goods) }
         ensures desks { IfOk result (λ r. AreDesksOf r.0 r.1.items) }
-        ensures setups { IfOk result (λ r. All (λ d. (good : ℕ) → good < 28 → setup_at d good ≡ Some (setup_of good game.now)) r.1.items) }
+        ensures setups { IfOk result (λ r. All (λ d. (good : ℕ) → good < GOODS → setup_at d good ≡ Some (setup_of good game.now)) r.1.items) }
         ensures new_desks { IfOk result (λ r. (i : ℕ) (d : Desk) → get_elem? r.1.items i ≡ some d → IsNewDesk (floor_ids r.0) i d) }
     {
         let mut hands = empty_hands(alloc)?;
@@ -74,10 +76,10 @@ impl Floor {
         ensures setups { map (λ auction. auction.setup) result.auctions ≡ map (λ start. start.setup) (starts_of self) }
         ensures legal { All (λ auction. Legal auction.setup auction.history) result.auctions }
         ensures cash { IsLegalCash result.cash }
-        ensures callers { All (λ e. e.caller ≤ 8) result.cash }
+        ensures callers { All (λ e. e.caller ≤ clock) result.cash }
         ensures borne_out { All (λ d. IsBorneOut result d) desks.items }
         ensures matched { Matched (map (λ auction. auction.history) result.auctions) result.cash }
-        ensures totals { (party : ℕ) → party ≤ 8 → cash_total result.cash party ≡ dollars (trades_of_all (map (λ auction. auction.history) result.auctions)) party }
+        ensures totals { (party : ℕ) → party ≤ house → cash_total result.cash party ≡ dollars (trades_of_all (map (λ auction. auction.history) result.auctions)) party }
         ensures taken { All TakesLawfulBids result.auctions }
     {
         let Floor {

@@ -16,13 +16,10 @@ use crate::growing::add;
 use auction_core::Auction;
 use game_text::Game;
 use std::alloc::Global;
-use tac_base::limits::{AGENT_CALLS, AGENT_CASH_ENTRIES, CLOCK_CALLS, CLOCK_CASH_ENTRIES};
+use tac_base::limits::{AGENT_CALLS, AGENT_CASH_ENTRIES, CALLERS, CLOCK_CALLS, CLOCK_CASH_ENTRIES};
 use tac_base::{Good, Memory};
 use trade_ledger::CashBook;
 use turn_lock::{Pass, TurnLock};
-
-/// How many callers there are.
-const CALLERS: usize = 9;
 
 /// How many calls each caller may make in an auction: the agents, and then the clock.
 const CALLS: [u32; 9] = [
@@ -53,7 +50,7 @@ const CASH_CALLS: [u32; 9] = [
 
 /// The callers' passes of auctions before any is dealt.
 pub(crate) fn empty_hands(alloc: Global) -> Result<Vec<Vec<Pass<Auction>>>, Memory>
-    ensures { IfOk result (λ hands. map (λ hand. hand.items) hands.items ≡ replicate 9 []) }
+    ensures { IfOk result (λ hands. map (λ hand. hand.items) hands.items ≡ replicate CALLERS []) }
 {
     let mut hands = Vec::new(alloc);
     for _ in 0..CALLERS {
@@ -85,12 +82,12 @@ pub(crate) fn open(
     game: &Game,
     hands: &mut Vec<Vec<Pass<Auction>>>,
 ) -> Result<TurnLock<Auction>, Memory>
-    requires { length hands.old.items ≡ 9 }
+    requires { length hands.old.items ≡ CALLERS }
     ensures start { IfOk result (λ lock. start_of lock ≡ record { setup = setup_of good game.now; history = [] }) }
-    ensures passes { IfOk result (λ lock. (passes_of lock ≡ 9) × (returned_to lock ≡ [])) }
+    ensures passes { IfOk result (λ lock. (passes_of lock ≡ CALLERS) × (returned_to lock ≡ [])) }
     ensures dealt { IfOk result (λ lock. (ids : List (LockId AuctionHistory)) → AreFresh ids cap (map (λ hand. hand.items) hands.old.items)
         → AreFresh (ids ++ lock_id lock ∷ []) cap (map (λ hand. hand.items) hands.new.items)) }
-    ensures nine { OnOk result (length hands.new.items ≡ 9) }
+    ensures nine { OnOk result (length hands.new.items ≡ CALLERS) }
 {
     let auction = Auction::begin(alloc, good, game)?;
     let (lock, passes) = TurnLock::begin(alloc, auction, &CALLS)?;
@@ -100,8 +97,8 @@ pub(crate) fn open(
 
 /// The lock of the cash book, and its passes.
 pub(crate) fn open_cash(alloc: Global) -> Result<(TurnLock<CashBook>, Vec<Pass<CashBook>>), Memory>
-    ensures lock { IfOk result (λ r. (passes_of r.0 ≡ 9) × (returned_to r.0 ≡ [])) }
-    ensures passes { IfOk result (λ r. (length r.1.items ≡ 9) × ((i : ℕ) (p : _) → get_elem? r.1.items i ≡ some p →
+    ensures lock { IfOk result (λ r. (passes_of r.0 ≡ CALLERS) × (returned_to r.0 ≡ [])) }
+    ensures passes { IfOk result (λ r. (length r.1.items ≡ CALLERS) × ((i : ℕ) (p : _) → get_elem? r.1.items i ≡ some p →
         (lock_of p ≡ lock_id r.0) × (caller_of p ≡ i) × (turns_left p ≡ cash_cap i) × (made_by p ≡ []) × (noted_by p ≡ []) × (seen_by p ≡ 0))) }
 {
     let book = CashBook::begin(alloc)?;
@@ -120,7 +117,7 @@ pub(crate) fn seat(
     ensures hands { IfOk result (λ desks. map (λ d. d.passes) desks.items ≡ hands.items) }
     ensures passes { IfOk result (λ desks. map (λ d. d.cash) desks.items ≡ passes.items) }
 {
-    let mut desks = Vec::with_capacity(alloc, CALLERS)?;
+    let mut desks = Vec::with_capacity(alloc, usize::from(CALLERS))?;
     let mut hands = hands.into_iter();
     for cash in passes {
         let hand = hands.next().unwrap();

@@ -1,7 +1,6 @@
 // What the types of the parts of a game keep of the numbers in its log.
 ghost use Rattle.std.specs.Prelude.{◌≡◌, ◌≤◌, true, length};
 ghost use Rattle.std.specs.List.{All, AllByRecursion};
-ghost use Rattle.tac_base.specs.declared.limits.TheConstants.{CASH_ENTRIES};
 ghost use Rattle.trade_ledger.specs.CashKeeping.{IsLoggableCash};
 ghost use Rattle.auction_core.specs.Ranges.{IsHistory};
 ghost use Rattle.line_protocol.specs.Heads.{head_of};
@@ -13,7 +12,7 @@ use crate::LogHead;
 use auction_core::Auction;
 use line_protocol::{Cause, Verdict};
 use tac_base::Agent;
-use tac_base::limits::AUCTION_ENTRIES;
+use tac_base::limits::{AUCTION_ENTRIES, CASH_ENTRIES};
 use trade_ledger::CashBook;
 use turn_lock::Kept;
 

@@ -8,6 +8,7 @@ ghost use Rattle.log_text.specs.LoggedSheet.{IsShownPackage, IsKnownScore};
 use bound_cert::Cert;
 use packages::Package;
 use score_sheet::{AgentScore, Sheet};
+use tac_base::limits::AGENTS;
 
 /// The numbers of a package have at most 64 bits.
 fn package_known(chosen: &Package) -> bool
@@ -58,7 +59,7 @@ fn score_known(scored: &AgentScore) -> bool
 
 /// A sheet has eight scores, each in its ranges.
 pub(crate) fn sheet_known(sheet: &Sheet)
-    ensures count { length sheet.now ≡ 8 }
+    ensures count { length sheet.now ≡ AGENTS }
     ensures scores { AllByRecursion IsKnownScore sheet.now }
 {
     prove!(sheet.agents.iter().all(|scored| score_known(scored)));

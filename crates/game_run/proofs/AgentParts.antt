@@ -23,8 +23,7 @@ use Rattle.game_run.specs.declared.sessions.AgentSeat.{AgentSeat}
 use Rattle.game_run.specs.declared.sessions.PlayedSeat.{PlayedSeat}
 use Rattle.game_run.specs.declared.sessions.Two.{Two}
 use Rattle.tac_io.specs.States.{LinkState}
-use Rattle.game_run.specs.Seatings.{FloorIds, eight_of, played_end, IsReadySeat, IsReadyClock, AreEightReady, IsPlayedOut, IsServedBy}
-use Rattle.game_run.specs.GameSessions.{IsAgentsPart, IsServedAs}
+use Rattle.game_run.specs.{FloorIds, eight_of, played_end, IsReadySeat, IsReadyClock, AreEightReady, IsPlayedOut, IsServedBy, IsAgentsPart, IsServedAs}
 use Rattle.game_run.proofs.Transcripts.{transcript_of, absent_of}
 use Rattle.agent_gate.specs.Dialects.{Dialect}
 

@@ -5,8 +5,7 @@ use Rattle.game_text.specs.Games.{GameFile}
 use Rattle.tac_io.specs.States.{LinkState}
 use Rattle.line_protocol.specs.declared.admission.Verdict.{Verdict}
 use Rattle.agent_gate.specs.Gates.{Seats, seats_after}
-use Rattle.game_run.specs.Admission.{free_seats, AreAdmitted, CameTo}
-use Rattle.game_run.specs.Arriving.{HoldsInTurn}
+use Rattle.game_run.specs.{free_seats, AreAdmitted, CameTo, HoldsInTurn}
 
 module _ {A B : Type 0} (Holds : Seats → Verdict → A → B → Type 0) where
   -- the n-th holds by the seats after the first n verdicts

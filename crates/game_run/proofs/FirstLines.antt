@@ -21,8 +21,7 @@ use Rattle.std.proofs.lemmas.Bool.Decides.{nat_tests}
 use Rattle.line_protocol.specs.declared.admission.Verdict.{Verdict}
 use Rattle.line_protocol.specs.declared.admission.Verdict.TheVariants.{Seated, Syntax, WrongWord, Taken, Lost}
 use Rattle.agent_gate.specs.Gates.{Seats, verdict_of, word_verdict, seat_verdict, greeting_of, seats_after}
-use Rattle.game_run.specs.Admission.{refusal_line, IsSentOrCut, IsLost}
-use Rattle.game_run.specs.Arriving.{BeginsWith, IsRefused, seat_of, IsUnseated, IsOnlySent, IsTurnedAway, IsFirstRead}
+use Rattle.game_run.specs.{refusal_line, IsSentOrCut, IsLost, BeginsWith, IsRefused, seat_of, IsUnseated, IsOnlySent, IsTurnedAway, IsFirstRead}
 use Rattle.tac_io.specs.States.{LinkState}
 
 -- ---- the first answer by the bytes

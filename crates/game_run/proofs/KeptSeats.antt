@@ -10,9 +10,8 @@ use Rattle.line_protocol.specs.declared.admission.Verdict.TheVariants.{Seated, S
 use Rattle.agent_gate.specs.Gates.{Seats, verdict_of, word_verdict, seat_verdict, greeting_of, seats_after}
 use Rattle.game_run.specs.declared.arrivals.Holder.{Holder}
 use Rattle.game_run.specs.declared.arrivals.Holder.TheVariants.{Seat, Unseated}
-use Rattle.game_run.specs.Arriving.{HoldsInTurn, IsTurnedAway, Keeps}
+use Rattle.game_run.specs.{HoldsInTurn, IsTurnedAway, Keeps, AreFilled, AreLinksOf}
 use Rattle.tac_io.specs.States.{LinkState}
-use Rattle.game_run.specs.SeatedLinks.{AreFilled, AreLinksOf}
 use Rattle.game_run.proofs.Admitting.{follows}
 
 -- ---- places in a list

@@ -20,11 +20,8 @@ use Rattle.floor.specs.Desks.{desk_ids, desk_caller, IsNewDesk}
 use Rattle.game_run.specs.declared.sessions.AgentSeat.{AgentSeat}
 use Rattle.game_run.specs.declared.sessions.PlayedSeat.{PlayedSeat}
 use Rattle.game_run.specs.declared.sessions.Two.{Two}
-use Rattle.game_run.specs.Gathering.{IsAgents}
+use Rattle.game_run.specs.{IsAgents, IsLegalGame, AreBoth, FloorIds, eight_of, played_end, played_link, IsPlayedSeat, AreEightPlayed, HasMadeAll, IsAgentsPart, IsPlayedThrough}
 use Rattle.tac_io.specs.States.{LinkState}
-use Rattle.game_run.specs.PlayedGame.{IsLegalGame}
-use Rattle.game_run.specs.Seatings.{AreBoth, FloorIds, eight_of, played_end, played_link, IsPlayedSeat, AreEightPlayed, HasMadeAll}
-use Rattle.game_run.specs.GameSessions.{IsAgentsPart, IsPlayedThrough}
 use Rattle.game_run.proofs.AgentParts.{below_eight, same_out, same_kind, agents_part, end_of_agent, ends_in_order}
 use Rattle.game_run.proofs.Transcripts.{scheduled_of}
 use Rattle.agent_gate.specs.Dialects.{Dialect}

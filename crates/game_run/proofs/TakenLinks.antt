@@ -21,8 +21,7 @@ use Rattle.game_run.specs.declared.arrivals.Greeting.{Greeting}
 use Rattle.game_run.specs.declared.arrivals.Greeting.TheVariants as greetings
 use Rattle.game_run.specs.declared.arrivals.Holder.{Holder}
 use Rattle.game_run.specs.declared.arrivals.Holder.TheVariants.{Seat, Unseated}
-use Rattle.game_run.specs.Admission.{free_seats, seats_given, is_seated, MayGoOn}
-use Rattle.game_run.specs.Arriving.{HoldsInTurn, IsTurnedAway, IsGreeted, IsGreeting, AddsArrival, IsTakenIn, Keeps, AreKept, AreTaken}
+use Rattle.game_run.specs.{free_seats, seats_given, is_seated, MayGoOn, HoldsInTurn, IsTurnedAway, IsGreeted, IsGreeting, AddsArrival, IsTakenIn, Keeps, AreKept, AreTaken}
 use Rattle.tac_io.specs.States.{LinkState}
 use Rattle.game_run.proofs.Admitting.{one_more, follows}
 use Rattle.game_run.proofs.KeptSeats.{get_set_same, map_set, seat_was_free, keeps_beside}

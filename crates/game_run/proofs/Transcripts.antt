@@ -17,8 +17,7 @@ use Rattle.game_text.specs.Schedule.{clock_calls}
 use Rattle.agent_gate.specs.Sessions.{AreMadeBy}
 use Rattle.agent_gate.specs.Transcript.{IsTranscript}
 use Rattle.agent_gate.specs.Turns.{Turn, cash_made, boards_shown}
-use Rattle.game_run.specs.PlayedGame.{caller_parts, IsAbsent}
-use Rattle.game_run.specs.Seatings.{FloorIds, HasMadeAll}
+use Rattle.game_run.specs.{caller_parts, IsAbsent, FloorIds, HasMadeAll}
 
 -- ---- lists by place
 

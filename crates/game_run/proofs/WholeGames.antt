@@ -24,14 +24,8 @@ use Rattle.agent_gate.specs.Welcome.{welcome_text}
 use Rattle.game_run.specs.declared.arrivals.Arrivals.{Arrivals}
 use Rattle.game_run.specs.declared.arrivals.Holder.{Holder}
 use Rattle.game_run.specs.declared.arrivals.Holder.TheVariants.{Seat, Unseated}
-use Rattle.game_run.specs.Admission.{free_seats, seats_given, CameTo, MayGoOn}
-use Rattle.game_run.specs.Arriving.{IsGreeted, IsTurnedAway, Keeps, AreKept, AreTaken}
-use Rattle.game_run.specs.LinkRuns.{IsSeated, IsLeftUnplayed}
-use Rattle.game_run.specs.Outcomes.{IsPlayedOver, IsNotPlayed}
-use Rattle.game_run.specs.SeatedLinks.{AreFilled, AreLinksOf}
-use Rattle.game_run.specs.Hosted.{HostedGame}
+use Rattle.game_run.specs.{free_seats, seats_given, CameTo, MayGoOn, IsGreeted, IsTurnedAway, Keeps, AreKept, AreTaken, IsSeated, IsLeftUnplayed, IsPlayedOver, IsNotPlayed, AreFilled, AreLinksOf, HostedGame, IsServedAs, IsAgentsPart, IsPlayedThrough}
 use Rattle.game_run.specs.PlayedGame.{PlayedGame, IsAbsent}
-use Rattle.game_run.specs.GameSessions.{IsServedAs, IsAgentsPart, IsPlayedThrough}
 use Rattle.game_run.proofs.Admitting.{follows}
 use Rattle.game_run.proofs.ByIndex.{admitted}
 use Rattle.game_run.proofs.FirstLines.{first_line, begins_with}

@@ -1,7 +1,7 @@
 -- How links are admitted, in the order in which they come. The rule is our own.
 use Rattle.std.specs.Prelude.{◌≡◌, ℕ, ◌<◌, ◌⊎◌, List, [], ◌∷◌, Bool, true, false, Option, Some, codes, length, take, replicate, slice_get}
 use Rattle.std.specs.List.{count_by, fold}
-use Rattle.tac_base.specs.declared.limits.TheConstants.{LINK_BYTES, LINKS}
+use Rattle.tac_base.specs.declared.limits.TheConstants.{AGENTS, LINKS, LINK_BYTES}
 use Rattle.game_text.specs.Games.{GameFile}
 use Rattle.tac_io.specs.AllAnswers.{all_answers}
 use Rattle.tac_io.specs.Counts.{Rose}
@@ -16,7 +16,7 @@ use Rattle.agent_gate.specs.Gates.{Seats, verdict_of, seats_after}
 
 -- the seats of a game before any link came
 abbrev pub free_seats : GameFile → Seats
-free_seats game = record { words = game.words; taken = replicate 8 false }
+free_seats game = record { words = game.words; taken = replicate AGENTS false }
 
 -- the seats after verdicts
 abbrev pub seats_given : GameFile → List Verdict → Seats
@@ -86,7 +86,7 @@ pub record AreAdmitted (game : GameFile) (Sits : Seats → ℕ → LinkState →
 
 -- another link may be taken: fewer came than the limit, and fewer than eight have a seat
 abbrev pub MayGoOn : List Verdict → Type 0
-MayGoOn verdicts = (length verdicts < LINKS) × (count_by is_seated verdicts < 8)
+MayGoOn verdicts = (length verdicts < LINKS) × (count_by is_seated verdicts < AGENTS)
 
 -- links were taken as long as another could be, and one was there
 pub record AreAllTaken {A : Type 0} (verdicts : List Verdict) (pending : Option (List A)) : Type 0 where

@@ -1,6 +1,6 @@
 -- Links after their first line, as admission keeps them.
 use Rattle.std.specs.Prelude.{⊤, ◌≡◌, ℕ, ◌<◌, ◌≤◌, List, [], ◌∷◌, ◌++◌, Bool, true, false, Option, Some, None, length, map, take, is_some, slice_get, slice_set}
-use Rattle.tac_base.specs.declared.limits.TheConstants.{LINE_BYTES, LINK_BYTES}
+use Rattle.tac_base.specs.declared.limits.TheConstants.{AGENTS, LINE_BYTES, LINK_BYTES}
 use Rattle.game_text.specs.Games.{GameFile}
 use Rattle.tac_io.specs.AllAnswers.{all_answers}
 use Rattle.tac_io.specs.LineAnswers.{goes_on}
@@ -106,7 +106,7 @@ module _ {L : Type 0} (state : L → LinkState) where
     pub links : HoldsInTurn (Keeps (IsGreeted state) arrivals.lines.items) (free_seats game) given arrivals.verdicts.items arrivals.holders.items
     pub seats : map (λ lines. is_some lines) arrivals.lines.items ≡ (seats_given game arrivals.verdicts.items).taken
     pub readable : (agent : ℕ) (lines : Lines L) → slice_get arrivals.lines.items agent ≡ Some (Some lines) → goes_on (last_of lines) ≡ true
-    pub wide : length arrivals.lines.items ≡ 8
+    pub wide : length arrivals.lines.items ≡ AGENTS
     pub no_more : (n : ℕ) → n < length arrivals.verdicts.items → MayGoOn (take n arrivals.verdicts.items)
 
   -- the first of the links that were still to be given were taken and read so

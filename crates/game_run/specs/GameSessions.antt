@@ -2,7 +2,7 @@
 use Rattle.std.specs.Prelude.{◌≡◌, ℕ, ◌-◌, ◌+◌, ◌<◌, List, [], ◌++◌, Option, Some, None, Contains, false, length, filter, map, is_some, slice_index_or, vec_capacity}
 use mathlib.Core.Option.{some}
 use lib.ListN.{get_elem?}
-use Rattle.tac_base.specs.declared.limits.TheConstants.{LINK_BYTES}
+use Rattle.tac_base.specs.declared.limits.TheConstants.{AGENTS, CALLERS, LINK_BYTES}
 use Rattle.game_text.specs.Games.{GameFile}
 use Rattle.tac_base.specs.Goods.{agents, clock}
 use Rattle.auction_core.specs.ClosedGame.{ClosedGame, all_goods}
@@ -38,9 +38,9 @@ pub record IsNewFloor (game : GameFile) (floor : Floor) (desks : List Desk) : Ty
 
 -- nothing is gathered yet, and there is memory for what nine desks and eight links leave
 pub record IsReadyForEnds {L : Type 0} (session_ends : SessionEnds L) : Type 0 where
-  pub desks : (session_ends.desks.items ≡ []) × (vec_capacity session_ends.desks ≡ 9)
-  pub ends : (session_ends.ends.items ≡ []) × (vec_capacity session_ends.ends ≡ 8)
-  pub links : (session_ends.links.items ≡ []) × (vec_capacity session_ends.links ≡ 8)
+  pub desks : (session_ends.desks.items ≡ []) × (vec_capacity session_ends.desks ≡ CALLERS)
+  pub ends : (session_ends.ends.items ≡ []) × (vec_capacity session_ends.ends ≡ AGENTS)
+  pub links : (session_ends.links.items ≡ []) × (vec_capacity session_ends.links ≡ AGENTS)
 
 pub record IsOpenFloor {L : Type 0} (game : GameFile) (open_floor : OpenFloor L) : Type 0 where
   pub floor : IsNewFloor game open_floor.floor open_floor.desks.items
@@ -68,8 +68,8 @@ module _ {L : Type 0} (state : L → LinkState) (dialect : Dialect) (game : Game
 
   -- A game was played with these lines. The links are those of the agents, in order.
   pub record IsPlayedThrough (lines : List (Option (Lines L))) (links : List (Option L)) (ends : List (ℕ × Cause)) : Type 0 where
-    pub each_agent : (agent : ℕ) → agent < 8 → IsAgentsPart ends agent (slice_index_or lines agent None) (slice_index_or links agent None)
-    pub wide : length links ≡ 8
+    pub each_agent : (agent : ℕ) → agent < AGENTS → IsAgentsPart ends agent (slice_index_or lines agent None) (slice_index_or links agent None)
+    pub wide : length links ≡ AGENTS
     pub ended : map (λ end. end.0) ends ≡ filter (λ agent. slice_index_or (map (λ ls. is_some ls) lines) agent false) agents
     pub legal_game : IsLegalGame game closed
     pub scheduled : map (λ calls. map (λ p. p.1.call) calls) (caller_parts closed clock) ≡ map (clock_calls game) all_goods

@@ -1,6 +1,7 @@
 -- What the sessions left, gathered in the order of the agents.
 use Rattle.std.specs.Prelude.{◌≡◌, ℕ, ◌+◌, ◌<◌, ◌≤◌, List, ◌++◌, map, vec_len, vec_capacity}
 use Rattle.std.specs.List.{filter_map}
+use Rattle.tac_base.specs.declared.limits.TheConstants.{AGENTS}
 use Rattle.floor.specs.Desks.{desk_caller}
 use Rattle.game_run.specs.declared.sessions.PlayedSeat.{PlayedSeat}
 use Rattle.game_run.specs.declared.session_ends.SessionEnds.{SessionEnds}
@@ -29,4 +30,4 @@ pub record Gathers {L : Type 0} (before after : SessionEnds L) (played : List (P
 
 -- whoever played there is an agent
 abbrev pub IsAgents : {L : Type 0} → PlayedSeat L → Type 0
-IsAgents played = desk_caller played.desk < 8
+IsAgents played = desk_caller played.desk < AGENTS

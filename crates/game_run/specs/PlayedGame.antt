@@ -1,7 +1,8 @@
 -- A game that was played over links.
 use Rattle.std.specs.Prelude.{◌≡◌, ℕ, ◌<◌, ◌≤◌, List, [], false, All, filter, map, replicate, slice_index_or}
 use Rattle.game_text.specs.Games.{GameFile}
-use Rattle.tac_base.specs.Goods.{agents, clock}
+use Rattle.tac_base.specs.Goods.{agents, clock, house}
+use Rattle.tac_base.specs.declared.limits.TheConstants.{AGENTS, GOODS}
 use Rattle.auction_rules.specs.Effects.{dollars}
 use Rattle.auction_rules.specs.History.{Entry}
 use Rattle.auction_rules.specs.Legal.{Legal}
@@ -26,11 +27,11 @@ pub record IsLegalGame (game : GameFile) (closed : ClosedGame) : Type 0 where
   pub legal : All (λ auction. Legal auction.setup auction.history) closed.auctions
   pub cash : IsLegalCash closed.cash
   pub matched : Matched (map (λ auction. auction.history) closed.auctions) closed.cash
-  pub totals : (party : ℕ) → party ≤ 8 → cash_total closed.cash party ≡ dollars (trades_of_all (map (λ auction. auction.history) closed.auctions)) party
+  pub totals : (party : ℕ) → party ≤ house → cash_total closed.cash party ≡ dollars (trades_of_all (map (λ auction. auction.history) closed.auctions)) party
 
 -- a caller made no call
 pub record IsAbsent (closed : ClosedGame) (caller : ℕ) : Type 0 where
-  pub calls : caller_parts closed caller ≡ replicate 28 []
+  pub calls : caller_parts closed caller ≡ replicate GOODS []
   pub cash : part (λ e. e.caller) closed.cash caller ≡ []
 
 -- What a game over links came to: the verdict on each link, why the session of each seated agent ended, and the histories. A log's head
@@ -45,5 +46,5 @@ pub record PlayedGame : Type 0 where
 pub record IsPlayedBy (game : GameFile) (played : PlayedGame) : Type 0 where
   pub legal_game : IsLegalGame game played.closed
   pub each_end : map (λ end. end.0) played.ends ≡ filter (λ agent. slice_index_or (seats_given game played.verdicts).taken agent false) agents
-  pub absent : (agent : ℕ) → agent < 8 → slice_index_or (seats_given game played.verdicts).taken agent false ≡ false → IsAbsent played.closed agent
+  pub absent : (agent : ℕ) → agent < AGENTS → slice_index_or (seats_given game played.verdicts).taken agent false ≡ false → IsAbsent played.closed agent
   pub scheduled : map (λ calls. map (λ p. p.1.call) calls) (caller_parts played.closed clock) ≡ map (clock_calls game) all_goods

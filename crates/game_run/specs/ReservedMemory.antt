@@ -1,6 +1,6 @@
 -- All memory of a game.
 use Rattle.std.specs.Prelude.{◌≡◌, [], None, replicate, vec_capacity}
-use Rattle.tac_base.specs.declared.limits.TheConstants.{LINKS}
+use Rattle.tac_base.specs.declared.limits.TheConstants.{AGENTS, LINKS}
 use Rattle.game_text.specs.Games.{GameFile}
 use Rattle.game_run.specs.declared.arrivals.Arrivals.{Arrivals}
 use Rattle.game_run.specs.declared.run.Reserved.{Reserved}
@@ -10,7 +10,7 @@ use Rattle.game_run.specs.GameSessions.{IsOpenFloor}
 pub record IsReadyForArrivals {L : Type 0} (arrivals : Arrivals L) : Type 0 where
   pub verdicts : (arrivals.verdicts.items ≡ []) × (vec_capacity arrivals.verdicts ≡ LINKS)
   pub holders : (arrivals.holders.items ≡ []) × (vec_capacity arrivals.holders ≡ LINKS)
-  pub lines : arrivals.lines.items ≡ replicate 8 None
+  pub lines : arrivals.lines.items ≡ replicate AGENTS None
 
 -- the memory of a game before any link came
 pub record IsReserved {L : Type 0} (game : GameFile) (room : Reserved L) : Type 0 where

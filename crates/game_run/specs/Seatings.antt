@@ -1,6 +1,8 @@
 -- Eight seats, and what is at them before and after the sessions.
 use Rattle.std.specs.Prelude.{◌≡◌, ℕ, ◌<◌, List, [], ◌∷◌, ◌++◌, Option, Some, None, true, map, replicate, IfSome}
 use Rattle.std.specs.Option.{option_map}
+use Rattle.tac_base.specs.declared.limits.TheConstants.{AGENTS, GOODS}
+use Rattle.tac_base.specs.Goods.{clock}
 use Rattle.trade_ledger.specs.declared.cash_calls.CashEntry.{CashEntry}
 use Rattle.turn_lock.specs.Passes.{LockId}
 use Rattle.auction_core.specs.Auctions.{AuctionHistory}
@@ -50,15 +52,15 @@ FloorIds = List (LockId AuctionHistory) × LockId (List CashEntry)
 -- an agent's desk of these locks that made no call, and lines that may be read on, if there are lines
 pub record IsReadySeat {L : Type 0} (ids : FloorIds) (agent_seat : AgentSeat L) : Type 0 where
   pub own : desk_ids agent_seat.desk ≡ ids
-  pub agent : desk_caller agent_seat.desk < 8
-  pub no_calls : (desk_entries agent_seat.desk ≡ replicate 28 []) × (desk_cash agent_seat.desk ≡ [])
+  pub agent : desk_caller agent_seat.desk < AGENTS
+  pub no_calls : (desk_entries agent_seat.desk ≡ replicate GOODS []) × (desk_cash agent_seat.desk ≡ [])
   pub more : IfSome agent_seat.lines (λ lines. goes_on (last_of lines) ≡ true)
 
 -- the clock's desk of these locks that made no call
 pub record IsReadyClock (ids : FloorIds) (desk : Desk) : Type 0 where
   pub own : desk_ids desk ≡ ids
-  pub caller : desk_caller desk ≡ 8
-  pub no_calls : (desk_entries desk ≡ replicate 28 []) × (desk_cash desk ≡ [])
+  pub caller : desk_caller desk ≡ clock
+  pub no_calls : (desk_entries desk ≡ replicate GOODS []) × (desk_cash desk ≡ [])
 
 abbrev pub AreEightReady : {L : Type 0} → FloorIds → Two (Two (Two (AgentSeat L))) → Type 0
 AreEightReady ids eight = AreBoth (AreBoth (AreBoth (IsReadySeat ids))) eight
@@ -67,7 +69,7 @@ AreEightReady ids eight = AreBoth (AreBoth (AreBoth (IsReadySeat ids))) eight
 
 -- the clock's desk made all calls of the schedule, of each good in order
 pub record HasMadeAll (game : GameFile) (desk : Desk) : Type 0 where
-  pub each : (good : ℕ) → good < 28 → map (λ p. p.1.call) (entries_at desk good) ≡ clock_calls game good
+  pub each : (good : ℕ) → good < GOODS → map (λ p. p.1.call) (entries_at desk good) ≡ clock_calls game good
 
 module _ {L : Type 0} (state : L → LinkState) (dialect : Dialect) (game : GameFile) where
   -- a session of these lines at this desk left the link and the desk, and ended so

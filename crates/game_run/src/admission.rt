@@ -4,8 +4,7 @@ ghost use Rattle.tac_io.specs.Counts.{HasCause};
 ghost use Rattle.tac_io.specs.Lines.{count_of, held_of, last_of, link_of};
 ghost use Rattle.tac_io.specs.Known.{IsAtEnd, known_then};
 ghost use Rattle.agent_gate.specs.Gates.{seats_after};
-ghost use Rattle.game_run.specs.Admission.{MayGoOn, refusal_line};
-ghost use Rattle.game_run.specs.Arriving.{AreTaken, IsOnlySent, IsFirstRead, IsGreeting, IsTakenIn, seat_of};
+ghost use Rattle.game_run.specs.{MayGoOn, refusal_line, AreTaken, IsOnlySent, IsFirstRead, IsGreeting, IsTakenIn, seat_of};
 
 use crate::arrivals::{Arrivals, Greeting, Holder};
 use agent_gate::Gate;
@@ -82,11 +81,11 @@ fn greet<L: Link>(gate: &mut Gate, link: L) -> Greeting<L>
 fn take_in<L: Link + Drop>(gate: &mut Gate, arrivals: &mut Arrivals<L>, link: L) -> bool
     requires verdicts { vec_len arrivals.old.verdicts < vec_capacity arrivals.old.verdicts }
     requires holders { vec_len arrivals.old.holders < vec_capacity arrivals.old.holders }
-    requires seats { vec_len arrivals.old.lines ≡ 8 }
+    requires seats { vec_len arrivals.old.lines ≡ AGENTS }
     ensures taken { IsTakenIn L.state gate.old gate.new (L.state link) arrivals.old arrivals.new result }
     ensures verdicts { (vec_len arrivals.new.verdicts ≡ vec_len arrivals.old.verdicts + 1) × (vec_capacity arrivals.new.verdicts ≡ vec_capacity arrivals.old.verdicts) }
     ensures holders { (vec_len arrivals.new.holders ≡ vec_len arrivals.old.holders + 1) × (vec_capacity arrivals.new.holders ≡ vec_capacity arrivals.old.holders) }
-    ensures seats { vec_len arrivals.new.lines ≡ 8 }
+    ensures seats { vec_len arrivals.new.lines ≡ AGENTS }
 {
     match greet(gate, link) {
         Greeting::Seated(agent, lines) => {
@@ -112,7 +111,7 @@ pub(crate) fn admit<N: Links>(
 ) -> Result<(), Failed>
     requires ports { IfSome (N.state links.old).ports (λ ports. ports ≡ []) }
     requires none { (arrivals.old.verdicts.items ≡ []) × (arrivals.old.holders.items ≡ []) }
-    requires free { arrivals.old.lines.items ≡ replicate 8 None }
+    requires free { arrivals.old.lines.items ≡ replicate AGENTS None }
     requires room { (vec_capacity arrivals.old.verdicts ≡ LINKS) × (vec_capacity arrivals.old.holders ≡ LINKS) }
     ensures taken { AreTaken N.Link.state game.now (N.state links.old).pending (N.state links.new).pending arrivals.new }
     ensures no_fewer { OnOk result (MayGoOn arrivals.new.verdicts.items → IsAtEnd (N.state links.new).pending) }

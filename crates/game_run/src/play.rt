@@ -20,6 +20,7 @@ use std::alloc::Global;
 use std::sync::Wait;
 use std::thread::Threads;
 use std::time::Clock;
+use tac_base::limits::AGENTS;
 use tac_base::{Agent, Memory};
 use tac_io::{Lines, Link, Ticker};
 
@@ -78,7 +79,7 @@ pub(crate) fn play_out<
     ticker: &mut T,
 ) -> Finished<L>
     requires open_floor { IsOpenFloor game.now open_floor }
-    requires wide { vec_len lines ≡ 8 }
+    requires wide { vec_len lines ≡ AGENTS }
     requires readable { (agent : ℕ) (ls : Lines _) → slice_get lines.items agent ≡ Some (Some ls) → goes_on (last_of ls) ≡ true }
     requires ticks { IfSome (T.state ticker.old).waited (λ ticks. ticks ≡ []) }
     ensures through { IsPlayedThrough L.state

@@ -2,12 +2,9 @@
 ghost use Rattle.std.specs.Prelude.{◌≡◌, ◌≤◌, [], None, IfOk, IfErr, IfSome, map, replicate, vec_capacity, vec_len};
 ghost use Rattle.std.specs.Option.{option_map};
 ghost use Rattle.tac_io.specs.Lines.{link_of};
-ghost use Rattle.game_run.specs.SeatedLinks.{AreFilled, AreLinksOf};
-ghost use Rattle.game_run.specs.ReservedMemory.{IsReadyForArrivals, IsReserved};
+ghost use Rattle.game_run.specs.{AreFilled, AreLinksOf, IsReadyForArrivals, IsReserved, hosted_game, IsGameEnd, IsRunFault, missed_of};
 ghost use Rattle.clock_events.specs.Clocking.{WaitsForAll};
 ghost use Rattle.line_protocol.specs.Heads.{head_of};
-ghost use Rattle.game_run.specs.Hosted.{hosted_game};
-ghost use Rattle.game_run.specs.Outcomes.{IsGameEnd, IsRunFault, missed_of};
 ghost use Rattle.agent_gate.specs.Dialects.{dialect_of};
 
 use crate::admission::admit;
@@ -55,7 +52,7 @@ pub(crate) struct Reserved<L> {
 
 // No agent has lines.
 fn no_lines<L: Drop>(alloc: Global) -> Result<Vec<Option<Lines<L>>>, Memory>
-    ensures { IfOk result (λ lines. lines.items ≡ replicate 8 None) }
+    ensures { IfOk result (λ lines. lines.items ≡ replicate AGENTS None) }
 {
     let mut lines = Vec::with_capacity(alloc, usize::from(AGENTS))?;
     for _ in 0..AGENTS {
@@ -95,7 +92,7 @@ fn reserve<L: Drop>(alloc: Global, game: &Game) -> Result<Reserved<L>, Memory>
 // The links that were taken, none of which played.
 fn leave<L: Link + Drop>(arrivals: Arrivals<L>, open_floor: OpenFloor<L>, given: Vec<L>) -> Vec<L>
     requires filled { AreFilled arrivals.lines.items arrivals.holders.items }
-    requires wide { vec_len arrivals.lines ≡ 8 }
+    requires wide { vec_len arrivals.lines ≡ AGENTS }
     requires agent_seats { (open_floor.session_ends.links.items ≡ []) × (vec_capacity open_floor.session_ends.links ≡ 8) }
     requires room { (given.items ≡ []) × (vec_len arrivals.holders ≤ vec_capacity given) }
     ensures { AreLinksOf (map (option_map link_of) arrivals.lines.items) arrivals.holders.items result.items }

@@ -4,6 +4,7 @@ ghost use Rattle.game_run.specs.Seatings.{eight_of, four_of, two_of};
 
 use crate::sessions::{AgentSeat, Eight, Four, Two};
 use floor::Desk;
+use tac_base::limits::AGENTS;
 use tac_io::Lines;
 
 // The last seat.
@@ -54,8 +55,8 @@ pub(crate) fn agent_seats<L: Drop>(
     mut desks: Vec<Desk>,
     mut lines: Vec<Option<Lines<L>>>,
 ) -> Eight<AgentSeat<L>>
-    requires desks { vec_len desks ≡ 8 }
-    requires lines { vec_len lines ≡ 8 }
+    requires desks { vec_len desks ≡ AGENTS }
+    requires lines { vec_len lines ≡ AGENTS }
     ensures desks { desks.items ≡ map (λ p. p.desk) (eight_of result) }
     ensures lines { lines.items ≡ map (λ p. p.lines) (eight_of result) }
 {

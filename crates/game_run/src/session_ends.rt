@@ -2,9 +2,7 @@
 ghost use Rattle.std.specs.Prelude.{◌≡◌, ◌∷◌, [], ◌<◌, ◌≤◌, map, vec_len, vec_capacity};
 ghost use Rattle.std.specs.Option.{option_map};
 ghost use Rattle.tac_io.specs.Lines.{link_of};
-ghost use Rattle.game_run.specs.Gathering.{Gathers, HasCapacity, IsAgents, TakesCapacity};
-ghost use Rattle.game_run.specs.SeatedLinks.{AreFilled, AreLinksOf, IsFilled, IsLinkOf, agent_seats_after};
-ghost use Rattle.game_run.specs.Seatings.{AreBoth, eight_of, four_of, two_of};
+ghost use Rattle.game_run.specs.{Gathers, HasCapacity, IsAgents, TakesCapacity, AreFilled, AreLinksOf, IsFilled, IsLinkOf, agent_seats_after, AreBoth, eight_of, four_of, two_of};
 
 use crate::arrivals::Holder;
 use crate::sessions::{Eight, Four, PlayedSeat, Two};

@@ -18,9 +18,7 @@ use Rattle.text_forms.proofs.Reading.{took_then, took_line, bind_ok, ok_is, read
 use Rattle.text_forms.proofs.ReadAgain.{Again, line_part_again, parts_again}
 use Rattle.game_text.specs.declared.fault.GameFault.{GameFault}
 use Rattle.game_text.specs.declared.fault.GameFault.TheVariants.{TooLong}
-use Rattle.game_text.specs.ClientLines.{client_numbers}
-use Rattle.game_text.specs.AgentLines.{AreClients}
-use Rattle.game_text.specs.Headers.{nothing_from, read_end_line}
+use Rattle.game_text.specs.{client_numbers, AreClients, nothing_from, read_end_line}
 use Rattle.game_text.specs.Accounts.{AccountFile, IsHolding, IsAccount, title_of, hold_column, hold_of, hold_text, owned_columns, owned_from, owned_of, owned_text, account_lines, IsAccountText, owned_part, account_in, account_of}
 use Rattle.game_text.proofs.Limits.{within_limit, by_length}
 use Rattle.game_text.proofs.ClientLaws.{client_row, client_count, client_range}

@@ -8,8 +8,7 @@ use Rattle.text_forms.proofs.Reading.{Took, took_then, bind_ok, ok_is, Takes, li
 use Rattle.text_forms.proofs.PrintedLines.{ahead}
 use Rattle.text_forms.proofs.ReadAgain.{Again, line_part_again, parts_again}
 use Rattle.game_text.specs.declared.agents.Agents.{Agents}
-use Rattle.game_text.specs.Endowments.{IsEndowment, endow_of, endow_text}
-use Rattle.game_text.specs.ClientLines.{client_of, client_text}
+use Rattle.game_text.specs.{IsEndowment, endow_of, endow_text, client_of, client_text}
 use Rattle.game_text.specs.AgentLines.{AreClients, AreAgents, client_lines, agents_lines, endow_part, client_part, agent_part, agents_in}
 use Rattle.game_text.proofs.EndowmentLaws.{endow_is, endow_again}
 use Rattle.game_text.proofs.ClientLaws.{client_is, client_again}

@@ -8,11 +8,7 @@ use Rattle.tac_base.specs.Clients.{Preferences, IsClient}
 use Rattle.text_forms.specs.Steps.{lines_of_parts, one_line}
 use Rattle.text_forms.proofs.RowLoops.{spaced, keyword_and_words}
 use Rattle.text_forms.proofs.PrintedLines.{IsLine, none_is, count_parts}
-use Rattle.game_text.specs.Endowments.{IsEndowment, endow_text}
-use Rattle.game_text.specs.ClientLines.{client_text}
-use Rattle.game_text.specs.AgentLines.{AreClients}
-use Rattle.game_text.specs.Games.{GameFile, IsGame}
-use Rattle.game_text.specs.OneAgent.{lines_of_agent, agent_line}
+use Rattle.game_text.specs.{IsEndowment, endow_text, client_text, AreClients, GameFile, IsGame, lines_of_agent, agent_line}
 use Rattle.game_text.proofs.EndowmentLaws.{endow_line}
 use Rattle.game_text.proofs.ClientLaws.{client_line}
 

@@ -13,13 +13,8 @@ use Rattle.text_forms.proofs.ReadAgain.{Again, line_part_again, parts_again}
 use Rattle.game_text.specs.declared.agents.Agents.{Agents}
 use Rattle.game_text.specs.declared.fault.GameFault.{GameFault}
 use Rattle.game_text.specs.declared.fault.GameFault.TheVariants.{TooLong}
-use Rattle.game_text.specs.SeatWords.{AreSeats, seats_of, seats_text}
-use Rattle.game_text.specs.Flights.{FlightTerms, IsFlight, flight_of, flight_text}
-use Rattle.game_text.specs.ClosingOrders.{IsOrder, order_of, order_text}
-use Rattle.game_text.specs.AgentLines.{agents_in, agents_lines}
+use Rattle.game_text.specs.{AreSeats, seats_of, seats_text, FlightTerms, IsFlight, flight_of, flight_text, IsOrder, order_of, order_text, agents_in, agents_lines, nights_in, night_lines, header_of, header_text, read_end_line}
 use Rattle.game_text.specs.declared.hotel_nights.HotelNights.{HotelNights}
-use Rattle.game_text.specs.HotelNights.{nights_in, night_lines}
-use Rattle.game_text.specs.Headers.{header_of, header_text, read_end_line}
 use Rattle.game_text.specs.Games.{GameFile, nights_of, agents_of, IsGame, game_lines, IsTextOf, flight_part, game_in, game_of}
 use Rattle.game_text.proofs.Limits.{within_limit, by_length}
 use Rattle.game_text.proofs.FlightLaws.{flight_is, flight_again}

@@ -10,13 +10,8 @@ use Rattle.text_forms.specs.Lines.{lines_from}
 use Rattle.text_forms.specs.Steps.{lines_of_parts, one_line}
 use Rattle.text_forms.proofs.PrintedLines.{IsLine, text_ahead, text_short, lines_append, parts_lines, count_parts}
 use Rattle.game_text.specs.declared.agents.Agents.{Agents}
-use Rattle.game_text.specs.Flights.{IsFlight, flight_text}
-use Rattle.game_text.specs.ClosingOrders.{order_text}
-use Rattle.game_text.specs.Endowments.{IsEndowment, endow_text}
-use Rattle.game_text.specs.ClientLines.{client_text}
-use Rattle.game_text.specs.AgentLines.{AreClients, AreAgents, client_lines, agents_lines}
+use Rattle.game_text.specs.{IsFlight, flight_text, order_text, IsEndowment, endow_text, client_text, AreClients, AreAgents, client_lines, agents_lines, night_lines}
 use Rattle.game_text.specs.Games.{GameFile, nights_of, agents_of, IsGame, game_lines, canonical_text, game_in, game_of}
-use Rattle.game_text.specs.HotelNights.{night_lines}
 use Rattle.game_text.proofs.FlightLaws.{flight_line}
 use Rattle.game_text.proofs.HotelNightLaws.{nights_are_lines, few_nights}
 use Rattle.game_text.proofs.OrderLaws.{order_line}

@@ -4,13 +4,7 @@ use Rattle.std.specs.Prelude.{map, replicate}
 use Rattle.std.proofs.lemmas.List.Elements.{All-nil, All-cons, All-replicate}
 use Rattle.tac_base.specs.Clients.{IsClient}
 use Rattle.text_forms.proofs.Columns.{columns_within}
-use Rattle.game_text.specs.SeatWords.{AreSeats, numbered_seats}
-use Rattle.game_text.specs.Flights.{IsFlight}
-use Rattle.game_text.specs.ClosingOrders.{IsOrder}
-use Rattle.game_text.specs.Endowments.{IsEndowment}
-use Rattle.game_text.specs.AgentLines.{AreClients}
-use Rattle.game_text.specs.Games.{IsGame}
-use Rattle.game_text.specs.Schedule.{hotel_nights}
+use Rattle.game_text.specs.{AreSeats, numbered_seats, IsFlight, IsOrder, IsEndowment, AreClients, IsGame, hotel_nights}
 use Rattle.game_text.proofs.HotelNightLaws.{plain_are}
 use Rattle.game_text.specs.QuietGames.{quiet_client, quiet_flight, quiet_game}
 

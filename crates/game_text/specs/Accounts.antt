@@ -2,7 +2,7 @@
 use Rattle.std.specs.Prelude.{◌≡◌, ℕ, nat_lt, if◌then◌else◌, List, [], ◌∷◌, ◌++◌, ℤ, pos, neg_ℤ, ◌≤ℤ◌, true, Result, Ok, Err, length, codes, drop, replicate}
 use Rattle.std.specs.List.{All}
 use Rattle.tac_base.specs.Clients.{Preferences}
-use Rattle.tac_base.specs.declared.limits.TheConstants.{HOLDING, TEXT_BYTES}
+use Rattle.tac_base.specs.declared.limits.TheConstants.{GOODS, HOLDING, TEXT_BYTES}
 use Rattle.text_forms.specs.declared.lines.BadLine.{BadLine}
 use Rattle.text_forms.specs.declared.lines.Reason.{Reason}
 use Rattle.text_forms.specs.declared.rows.Column.{Column}
@@ -29,7 +29,7 @@ IsHolding held = (neg_ℤ HOLDING ≤ℤ held) × (held ≤ℤ HOLDING)
 -- an account in its ranges
 pub record IsAccount (account : AccountFile) : Type 0 where
   pub clients : AreClients account.clients
-  pub count : length account.holdings ≡ 28
+  pub count : length account.holdings ≡ GOODS
   pub holdings : All IsHolding account.holdings
 
 -- ---- the lines of an account
@@ -43,7 +43,7 @@ abbrev pub hold_column : Column
 hold_column = record { signed = true; digits = Ten; low = neg_ℤ HOLDING; high = HOLDING }
 
 unfoldable pub hold_of : List ℕ → Result (List ℤ) Reason
-hold_of line = row (codes "hold") (replicate 28 hold_column) line
+hold_of line = row (codes "hold") (replicate GOODS hold_column) line
 
 abbrev pub hold_text : List ℤ → List ℕ
 hold_text holdings = row_text (codes "hold") holdings

@@ -2,6 +2,7 @@
 use Rattle.std.specs.Prelude.{◌≡◌, ℕ, List, ◌++◌, Result, Ok, length}
 use Rattle.std.specs.List.{All}
 use Rattle.tac_base.specs.Clients.{Preferences, IsClient}
+use Rattle.tac_base.specs.declared.limits.TheConstants.{AGENTS}
 use Rattle.text_forms.specs.declared.lines.BadLine.{BadLine}
 use Rattle.text_forms.specs.Lines.{Remaining}
 use Rattle.text_forms.specs.Steps.{◌>>=◌, read_by, repeat, lines_of_parts, one_line}
@@ -16,9 +17,9 @@ pub record AreClients (clients : List Preferences) : Type 0 where
 
 -- eight agents in their ranges
 pub record AreAgents (agents : Agents) : Type 0 where
-  pub endow_count : length agents.endow ≡ 8
+  pub endow_count : length agents.endow ≡ AGENTS
   pub endow : All IsEndowment agents.endow
-  pub client_count : length agents.clients ≡ 8
+  pub client_count : length agents.clients ≡ AGENTS
   pub clients : All AreClients agents.clients
 
 -- the lines of an agent's clients
@@ -42,6 +43,6 @@ agent_part agent left = repeat 8 0 (client_part agent) left
 
 unfoldable pub agents_in : Remaining → Result (Agents × Remaining) BadLine
 agents_in left = do
-  endow ← repeat 8 0 endow_part left
-  clients ← repeat 8 0 agent_part endow.1
+  endow ← repeat AGENTS 0 endow_part left
+  clients ← repeat AGENTS 0 agent_part endow.1
   Ok (record { endow = endow.0; clients = clients.0 }, clients.1)

@@ -1,7 +1,7 @@
 -- The quiet game: flights stay at 300 dollars, nobody has a ticket at the start, the hotels close in rising order, and each client
 -- prefers to come on day 1 and leave on day 2, with a value of 100 dollars for the better hotel and for the museum.
 use Rattle.std.specs.Prelude.{[], ◌∷◌, false, pos, replicate}
-use Rattle.tac_base.specs.declared.limits.TheConstants.{FLIGHT_DRAWS}
+use Rattle.tac_base.specs.declared.limits.TheConstants.{AGENTS, FLIGHT_DRAWS}
 use Rattle.tac_base.specs.Clients.{Preferences}
 use Rattle.game_text.specs.SeatWords.{numbered_seats}
 use Rattle.game_text.specs.Flights.{FlightTerms}
@@ -23,6 +23,6 @@ quiet_game = record {
   order = hotel_nights;
   rooms = replicate 8 16;
   live = false;
-  endow = replicate 8 (replicate 12 0);
-  clients = replicate 8 (replicate 8 quiet_client);
+  endow = replicate AGENTS (replicate 12 0);
+  clients = replicate AGENTS (replicate 8 quiet_client);
 }

@@ -2,6 +2,7 @@
 use Rattle.std.specs.Prelude.{◌≡◌, ℕ, ◌≤◌, ◌-◌, ◌&&◌, ◌||◌, not, nat_le, nat_lt, ◌==◌, if◌then◌else◌, List, [], ◌∷◌, ◌++◌, Bool, true, Result, Ok, Err, IsTrue, codes, length, take, replicate}
 use Rattle.std.specs.List.{list_all, list_any, join_with_byte}
 use Rattle.std.specs.Str.{bytes_eq}
+use Rattle.tac_base.specs.declared.limits.TheConstants.{AGENTS}
 use Rattle.text_forms.specs.Words.{words_of}
 use Rattle.text_forms.specs.declared.lines.Reason.{Reason}
 use Rattle.text_forms.specs.declared.lines.Reason.TheVariants.{Keyword, WordCount, Spelling, Repeated}
@@ -34,7 +35,7 @@ abbrev pub seats_of_words : List (List ℕ) → Result (List (List ℕ)) Reason
 seats_of_words [] = Err Keyword
 seats_of_words (first ∷ words) =
     if not (bytes_eq first (codes "words")) then Err Keyword
-    else if not (length words == 8) then Err WordCount
+    else if not (length words == AGENTS) then Err WordCount
     else if not (list_all is_seat_word words) then Err Spelling
     else if not (are_distinct words) then Err Repeated
     else Ok words
@@ -49,6 +50,6 @@ seats_text words = join_with_byte 32 (codes "words" ∷ words)
 
 -- eight different seat words
 pub record AreSeats (words : List (List ℕ)) : Type 0 where
-  pub count : length words ≡ 8
+  pub count : length words ≡ AGENTS
   pub form : IsTrue (list_all is_seat_word words)
   pub apart : IsTrue (are_distinct words)

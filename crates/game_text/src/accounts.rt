@@ -9,7 +9,7 @@ use crate::client_lines::owned_of;
 use crate::headers::{end_at, title_of};
 use std::marker::Model;
 use tac_base::Client;
-use tac_base::limits::{HOLDING, TEXT_BYTES};
+use tac_base::limits::{GOODS, HOLDING, TEXT_BYTES};
 use text_forms::{BadLine, Column, Digits, Part, Reason, TextLines, at_line, read_row, repeat};
 
 /// An agent's clients and its holdings of the goods. The ranges are our own.
@@ -35,7 +35,7 @@ impl Model for Account {
 
 /// The numbers of the line of the holdings.
 fn hold_columns() -> [Column; 28]
-    ensures { result ≡ replicate 28 accounts.hold_column }
+    ensures { result ≡ replicate GOODS accounts.hold_column }
 {
     [Column {
         signed: true,

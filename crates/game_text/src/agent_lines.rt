@@ -2,9 +2,7 @@ ghost use Rattle.std.specs.Prelude.{◌≡◌, ◌≢◌, ◌+◌, ◌≤◌, �
 ghost use Rattle.std.specs.Fmt.{signed_decimal};
 ghost use Rattle.text_forms.specs.Rows.{row_text};
 ghost use Rattle.tac_base.specs.Clients.{IsClient};
-ghost use Rattle.game_text.specs.Endowments.{IsEndowment, endow_text};
-ghost use Rattle.game_text.specs.ClientLines.{client_text};
-ghost use Rattle.game_text.specs.OneAgent.{lines_of_agent, agent_line};
+ghost use Rattle.game_text.specs.{IsEndowment, endow_text, client_text, lines_of_agent, agent_line};
 
 use crate::Game;
 use crate::client_lines::client_numbers;

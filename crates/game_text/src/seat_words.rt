@@ -11,6 +11,7 @@ ghost use Rattle.game_text.specs.SeatWords as seats;
 use std::alloc::AllocError;
 use std::hash::{Hash, Hasher};
 use std::marker::Model;
+use tac_base::limits::AGENTS;
 use tac_base::OutOfRange;
 use text_forms::{Reason, Words};
 
@@ -23,8 +24,7 @@ pub struct SeatWord {
 
 impl Model for SeatWord {
     ghost use Rattle.std.specs.Prelude.{ℕ, ◌-◌, ◌++◌, List, length, replicate, take};
-    ghost use Rattle.game_text.specs.SeatWords.{IsPadded};
-    ghost use Rattle.game_text.specs.Padding.{padded_again};
+    ghost use Rattle.game_text.specs.{IsPadded, padded_again};
 
     ghost Value = { List ℕ };
 
@@ -153,7 +153,7 @@ fn next_seat(words: &mut Words<'_>) -> Option<SeatWord>
 
 /// The eight words that are left, if each is a seat word.
 fn all_seats(mut words: Words<'_>) -> Option<[SeatWord; 8]>
-    requires { length words ≡ 8 }
+    requires { length words ≡ AGENTS }
     ensures { result ≡ (if list_all seats.is_seat_word words.entry then Some words.entry else None) }
 {
     let Some(first) = next_seat(&mut words) else {

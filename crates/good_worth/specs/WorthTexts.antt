@@ -1,5 +1,6 @@
 -- The text of the worths of all goods.
 use Rattle.std.specs.Prelude.{◌≡◌, ℕ, zero, suc, List, [], ◌∷◌, ◌++◌, pos, codes, slice_index_or}
+use Rattle.tac_base.specs.declared.limits.TheConstants.{GOODS}
 use Rattle.text_forms.specs.Lines.{text_of}
 use Rattle.text_forms.specs.Rows.{row_text}
 use Rattle.game_text.specs.Accounts.{AccountFile}
@@ -30,14 +31,14 @@ changed_lines v good =
 
 -- worth N, and the lines of the goods
 abbrev pub head_lines : Valuation → List (List ℕ)
-head_lines v = row_text (codes "worth") (pos v.base.total ∷ []) ∷ lines_below (good_lines v) 28
+head_lines v = row_text (codes "worth") (pos v.base.total ∷ []) ∷ lines_below (good_lines v) GOODS
 
 -- base, and the account's own solution
 abbrev pub base_lines : Valuation → List (List ℕ)
 base_lines v = codes "base" ∷ solution_lines v.base
 
 abbrev pub worth_lines : Valuation → List (List ℕ)
-worth_lines v = head_lines v ++ (base_lines v ++ (lines_below (changed_lines v) 28 ++ codes "end" ∷ []))
+worth_lines v = head_lines v ++ (base_lines v ++ (lines_below (changed_lines v) GOODS ++ codes "end" ∷ []))
 
 -- the one text
 abbrev pub worth_text : Valuation → List ℕ

@@ -1,5 +1,6 @@
 -- The best allocations of an account and of those with one unit more and one unit less of each good.
 use Rattle.std.specs.Prelude.{◌≡◌, ℕ, ◌-◌, ◌<◌, ◌≤◌, List, [], ◌∷◌, ◌++◌, length, slice_index_or}
+use Rattle.tac_base.specs.declared.limits.TheConstants.{GOODS}
 use Rattle.game_text.specs.Accounts.{AccountFile}
 use Rattle.packages.specs.declared.travel_packages.Package.{Package}
 use Rattle.bound_cert.specs.Trees.{Tree, leaf}
@@ -41,10 +42,10 @@ pub record AreChanged (change : ℕ → AccountFile) (count : ℕ) (solutions : 
   pub each : (good : ℕ) → good < count → Solves (change good) (slice_index_or solutions good no_solution)
 
 abbrev pub AreMore : AccountFile → List Solution → Type 0
-AreMore account solutions = AreChanged (worth.more account) 28 solutions
+AreMore account solutions = AreChanged (worth.more account) GOODS solutions
 
 abbrev pub AreLess : AccountFile → List Solution → Type 0
-AreLess account solutions = AreChanged (worth.less account) 28 solutions
+AreLess account solutions = AreChanged (worth.less account) GOODS solutions
 
 -- one more solution, for the changed account
 pub record IsGrown (account : AccountFile) (before after : List Solution) : Type 0 where
@@ -59,7 +60,7 @@ pub record AreWorths (account : AccountFile) (v : Valuation) : Type 0 where
 
 -- solutions for each good: none with one unit more is worth less than the base, and none with one less is worth more
 pub record AreRanged (v : Valuation) : Type 0 where
-  pub more_size : length v.more ≡ 28
-  pub less_size : length v.less ≡ 28
-  pub rises : (good : ℕ) → good < 28 → v.base.total ≤ total_at v.more good
-  pub falls : (good : ℕ) → good < 28 → total_at v.less good ≤ v.base.total
+  pub more_size : length v.more ≡ GOODS
+  pub less_size : length v.less ≡ GOODS
+  pub rises : (good : ℕ) → good < GOODS → v.base.total ≤ total_at v.more good
+  pub falls : (good : ℕ) → good < GOODS → total_at v.less good ≤ v.base.total

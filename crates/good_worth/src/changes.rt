@@ -4,12 +4,12 @@ ghost use Rattle.game_text.specs.Accounts.{IsHolding};
 ghost use Rattle.good_worth.specs.Worth as worth;
 
 use game_text::Account;
-use tac_base::limits::HOLDING;
+use tac_base::limits::{GOODS, HOLDING};
 
 /// The account with a different holding of a good, 0..27.
 #[tactic(auto, using(crate::proofs::Ranges::changed_is))]
 fn with_holding(account: &Account, good: usize, held: i32) -> Account
-    requires good { good < 28 }
+    requires good { good < GOODS }
     requires held { IsHolding held }
     ensures { result ≡ worth.with_holding account.now good held }
 {
@@ -20,7 +20,7 @@ fn with_holding(account: &Account, good: usize, held: i32) -> Account
 
 /// How many units of a good, 0..27, an account has.
 fn held(account: &Account, good: usize) -> i32
-    requires { good < 28 }
+    requires { good < GOODS }
     ensures value { result ≡ worth.held account.now good }
     ensures range { IsHolding result }
 {
@@ -47,7 +47,7 @@ fn one_less(held: i32) -> i32
 
 /// The account with one unit more of a good, 0..27.
 pub(crate) fn more(account: &Account, good: usize) -> Account
-    requires { good < 28 }
+    requires { good < GOODS }
     ensures { result ≡ worth.more account.now good }
 {
     with_holding(account, good, one_more(held(account, good)))
@@ -55,7 +55,7 @@ pub(crate) fn more(account: &Account, good: usize) -> Account
 
 /// The account with one unit less of a good, 0..27.
 pub(crate) fn less(account: &Account, good: usize) -> Account
-    requires { good < 28 }
+    requires { good < GOODS }
     ensures { result ≡ worth.less account.now good }
 {
     with_holding(account, good, one_less(held(account, good)))

@@ -7,12 +7,13 @@ ghost use Rattle.good_worth.specs.WorthTexts as texts;
 use crate::worths::Worths;
 use allocator::append_solved;
 use std::alloc::{AllocError, Global};
+use tac_base::limits::GOODS;
 use tac_base::Memory;
 use text_forms::print_row;
 
 /// Appends the line of a good, 0..27. After an error the text may end within it.
 fn print_good(worths: &Worths, good: u8, out: &mut Vec<u8>) -> Result<(), AllocError>
-    requires { good < 28 }
+    requires { good < GOODS }
     ensures { OnOk result (out.new.items ≡ out.old.items ++ text_of (texts.good_lines (worths_of worths.now.base worths.now.more.items worths.now.less.items) good)) }
 {
     let numbers = [
@@ -52,7 +53,7 @@ fn print_base(alloc: Global, worths: &Worths, out: &mut Vec<u8>) -> Result<(), M
 
 /// Appends the two texts of a good, 0..27. After `Memory` the text may end within them.
 fn print_changed(alloc: Global, worths: &Worths, good: u8, out: &mut Vec<u8>) -> Result<(), Memory>
-    requires { good < 28 }
+    requires { good < GOODS }
     ensures { OnOk result (out.new.items ≡ out.old.items ++ text_of (texts.changed_lines (worths_of worths.now.base worths.now.more.items worths.now.less.items) good)) }
 {
     print_row(out, b"more", &[i64::from(good)])?;

@@ -9,6 +9,7 @@ use crate::changes::{less, more};
 use allocator::{Solved, solve};
 use game_text::Account;
 use std::alloc::Global;
+use tac_base::limits::GOODS;
 use tac_base::Memory;
 
 /// The best allocation of an account, and those with one unit more and one unit less of each good, in the goods' order.
@@ -26,7 +27,7 @@ impl Worths {
     /// What one unit more of a good, 0..27, adds to the best total, in dollars. All else as it is, paying more for it is a
     /// loss, unless it is a ticket that is owed: then this is 0, and the unit saves the penalty of 200 dollars.
     pub fn up(&self, good: usize) -> u32
-        requires { good < 28 }
+        requires { good < GOODS }
         ensures { result ≡ up_at (worths_of self.now.base self.now.more.items self.now.less.items) good }
     {
         self.more[good].total - self.base.total
@@ -35,7 +36,7 @@ impl Worths {
     /// What one unit less of a good, 0..27, takes from the best total, in dollars. All else as it is, selling it for less is
     /// a loss; selling a ticket that is not held costs the penalty of 200 dollars besides.
     pub fn down(&self, good: usize) -> u32
-        requires { good < 28 }
+        requires { good < GOODS }
         ensures { result ≡ down_at (worths_of self.now.base self.now.more.items self.now.less.items) good }
     {
         self.base.total - self.less[good].total
@@ -78,11 +79,11 @@ pub fn worth(alloc: Global, account: &Account) -> Result<Worths, Memory>
     // Each is solved as by `solve`.
     ensures solved { IfOk result (λ w. AreWorths account.now (worths_of w.base w.more.items w.less.items)) }
     // So the differences are those of the best totals, none of which is below 0.
-    ensures up { IfOk result (λ w. (good : ℕ) → good < 28 → IsUp account.now good (up_at (worths_of w.base w.more.items w.less.items) good)) }
-    ensures down { IfOk result (λ w. (good : ℕ) → good < 28 → IsDown account.now good (down_at (worths_of w.base w.more.items w.less.items) good)) }
+    ensures up { IfOk result (λ w. (good : ℕ) → good < GOODS → IsUp account.now good (up_at (worths_of w.base w.more.items w.less.items) good)) }
+    ensures down { IfOk result (λ w. (good : ℕ) → good < GOODS → IsDown account.now good (down_at (worths_of w.base w.more.items w.less.items) good)) }
     // One unit less of a good that is not held takes nothing, and one unit more of a good that is owed adds nothing.
-    ensures not_held { IfOk result (λ w. (good : ℕ) → good < 28 → slice_index_or account.now.holdings good (pos 0) ≤ℤ pos 0 → down_at (worths_of w.base w.more.items w.less.items) good ≡ 0) }
-    ensures owed { IfOk result (λ w. (good : ℕ) → good < 28 → slice_index_or account.now.holdings good (pos 0) <ℤ pos 0 → up_at (worths_of w.base w.more.items w.less.items) good ≡ 0) }
+    ensures not_held { IfOk result (λ w. (good : ℕ) → good < GOODS → slice_index_or account.now.holdings good (pos 0) ≤ℤ pos 0 → down_at (worths_of w.base w.more.items w.less.items) good ≡ 0) }
+    ensures owed { IfOk result (λ w. (good : ℕ) → good < GOODS → slice_index_or account.now.holdings good (pos 0) <ℤ pos 0 → up_at (worths_of w.base w.more.items w.less.items) good ≡ 0) }
 {
     // The laws rest on the account's ranges, which are known where it is read.
     let _holdings = &account.holdings;

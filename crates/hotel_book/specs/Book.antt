@@ -6,7 +6,7 @@ use Rattle.tac_base.specs.declared.calls.Trade.{Trade}
 use Rattle.tac_base.specs.declared.calls.Reply.{Reply}
 use Rattle.tac_base.specs.declared.calls.Reply.TheVariants.{Closed}
 use Rattle.tac_base.specs.declared.units.Unit.{Unit as ShownUnit}
-use Rattle.tac_base.specs.declared.limits.TheConstants.{BID_PRICE, BID_UNITS, STANDING_UNITS}
+use Rattle.tac_base.specs.declared.limits.TheConstants.{AGENTS, BID_PRICE, BID_UNITS, STANDING_UNITS}
 use Rattle.tac_base.specs.Goods.{agents, house}
 use Rattle.auction_rules.specs.declared.units.Placed.{Placed}
 use Rattle.auction_rules.specs.declared.units.BidUnit.{BidUnit}
@@ -49,7 +49,7 @@ standing bids closed = if closed then [] else units_of_bids bids
 
 -- the units that a hotel keeps in order are those that stand
 pub record AreUnitsKept (bids : List (Option Placed)) (closed : Bool) (units : List ShownUnit) (price : ℕ) : Type 0 where
-  pub eight : length bids ≡ 8
+  pub eight : length bids ≡ AGENTS
   pub own : AreOwn 0 bids
   pub shown : AreShown (standing bids closed) units
   pub priced : price ≤ BID_PRICE

@@ -1,5 +1,4 @@
 use tac_base::{BidFault, Good, Points};
-use thiserror::Error;
 
 /// What an agent asks in a line.
 #[derive(Debug, Drop)]
@@ -20,18 +19,14 @@ pub enum Request {
 
 /// Why a line is no request. The faults are tried in this order, which is our own rule.
 /// Such a line changes nothing.
-#[derive(Clone, Copy, Debug, PartialEq, Eq, Error)]
+#[derive(Clone, Copy, Debug, PartialEq, Eq)]
 pub enum RequestFault {
     /// The line has none of the forms of a request.
-    #[error("the line has none of the forms of a request")]
     Syntax,
     /// The number is not a good, 0..27.
-    #[error("there is no such auction")]
     NoSuchAuction,
     /// The points are refused.
-    #[error("the points are refused: {0}")]
     Bid(BidFault),
     /// There was no memory to read the line. A line of words is never answered so.
-    #[error("there was no memory to read the line")]
     Memory,
 }

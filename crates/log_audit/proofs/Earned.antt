@@ -12,9 +12,7 @@ use Rattle.auction_rules.specs.Effects.{nets as nets_of}
 use Rattle.auction_core.specs.Stored.{IsShown}
 use Rattle.log_text.specs.LoggedGames.{LoggedGame}
 use Rattle.log_reader.specs.SoundLog.{logged_history}
-use Rattle.log_audit.specs.Flaws.{IsEarned}
-use Rattle.log_audit.specs.Auditing.{nets_by}
-use Rattle.log_audit.specs.Replays.{AreNets}
+use Rattle.log_audit.specs.{IsEarned, nets_by, AreNets}
 use Rattle.log_audit.proofs.Positions.{same_at}
 
 -- each good has its nets

@@ -9,8 +9,7 @@ use Rattle.tac_base.specs.declared.calls.Nets.{Nets}
 use Rattle.trade_ledger.specs.declared.cash_calls.CashCall.{CashCall}
 use Rattle.trade_ledger.specs.declared.cash_calls.CashCall.TheVariants.{Post, Read}
 use Rattle.trade_ledger.specs.declared.cash_calls.CashEntry.{CashEntry}
-use Rattle.log_audit.specs.Flaws.{names, is_posted}
-use Rattle.log_audit.specs.Auditing.{AreNamed, place_at}
+use Rattle.log_audit.specs.{names, is_posted, AreNamed, place_at}
 
 posted_more : (cash : List CashEntry) (e : CashEntry) (good position : ℕ) → is_posted (cash ++ e ∷ []) good position ≡ (is_posted cash good position || (names good position e.call || false))
 posted_more cash e good position = list_any-append (λ (x : CashEntry). names good position x.call) cash (e ∷ [])

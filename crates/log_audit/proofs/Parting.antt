@@ -9,11 +9,8 @@ use Rattle.log_audit.specs.declared.findings.Flaw.TheVariants as flaws
 use Rattle.auction_core.specs.Setups.{setup_of}
 use Rattle.log_reader.specs.SoundLog.{IsSound, logged_history, IsSoundHead}
 use Rattle.log_audit.specs.declared.findings.Finding.TheVariants as findings
-use Rattle.log_audit.specs.Flaws.{IsFreeOf, ComesBefore, IsLower, turn_of, place_of, IsFirstFlaw, HasFairEntry, IsOnSchedule, HasTrueReading, HasDuePost, HasPost, HasDueScore}
-use Rattle.log_audit.specs.Auditing.{IsLowest, IsLowestBelow, IsLowestPlace}
-use Rattle.log_audit.specs.Replays.{AreUnfair}
+use Rattle.log_audit.specs.{IsFreeOf, ComesBefore, IsLower, turn_of, place_of, IsFirstFlaw, HasFairEntry, IsOnSchedule, HasTrueReading, HasDuePost, HasPost, HasDueScore, IsLowest, IsLowestBelow, IsLowestPlace, AreUnfair, IsFirstOf, HasNoneFrom, IsFirstFrom}
 use Rattle.log_audit.proofs.Soundness.{sound_from_free, free_from_sound}
-use Rattle.log_audit.specs.Parts.{IsFirstOf, HasNoneFrom, IsFirstFrom}
 
 module _ (game : GameFile) (log : LoggedGame) where
   before_turn : (flaw other : Flaw) → ComesBefore flaw other → turn_of flaw ≤ turn_of other

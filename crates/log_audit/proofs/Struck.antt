@@ -17,8 +17,7 @@ use Rattle.auction_rules.specs.Setup.{Setup}
 use Rattle.auction_rules.specs.Effects.{nets as nets_of}
 use Rattle.auction_rules.specs.Legal.{entry_of, reply_of, trades_of, entries_of, cap}
 use Rattle.auction_core.specs.Stored.{Shows}
-use Rattle.log_audit.specs.Flaws.{IsFair, HasFairEntry}
-use Rattle.log_audit.specs.Auditing.{AreCounts, IsStruck, nets_by}
+use Rattle.log_audit.specs.{IsFair, HasFairEntry, AreCounts, IsStruck, nets_by}
 use Rattle.log_audit.proofs.Positions.{take_at, same_at}
 use Rattle.log_audit.proofs.Fairness.{ruled}
 

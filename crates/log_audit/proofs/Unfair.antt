@@ -4,8 +4,7 @@ use Rattle.game_text.specs.Games.{GameFile}
 use Rattle.auction_core.specs.Setups.{setup_of}
 use Rattle.log_text.specs.LoggedGames.{LoggedGame}
 use Rattle.log_reader.specs.SoundLog.{logged_history}
-use Rattle.log_audit.specs.Flaws.{HasFairEntry, IsLower}
-use Rattle.log_audit.specs.Replays.{IsUnfair, AreUnfair}
+use Rattle.log_audit.specs.{HasFairEntry, IsLower, IsUnfair, AreUnfair}
 
 module _ (game : GameFile) (log : LoggedGame) where
   pub unfair_at : (number good position : ℕ) → good ≡ number → number < 28 → IsUnfair (setup_of good game) (logged_history log good) position

@@ -2,7 +2,7 @@
 use Rattle.std.specs.Prelude.{◌≡◌, ◌≢◌, ℕ, ◌+◌, ◌*◌, ◌<◌, ◌≤◌, ◌==◌, ◌⊎◌, Bool, true, false, ℤ, pos, List, [], take, map, filter, Option, Some, None, slice_get, slice_index, slice_index_or}
 use Rattle.tac_base.specs.declared.calls.Call.{Call}
 use Rattle.tac_base.specs.declared.calls.Nets.{Nets}
-use Rattle.tac_base.specs.declared.limits.TheConstants.{AUCTION_ENTRIES}
+use Rattle.tac_base.specs.declared.limits.TheConstants.{AUCTION_ENTRIES, GOODS}
 use Rattle.tac_base.specs.Goods.{clock}
 use Rattle.auction_rules.specs.Setup.{Setup}
 use Rattle.auction_rules.specs.History.{Entry}
@@ -26,9 +26,9 @@ IsLowestBelow bound Holds (Some n) = (n < bound) × (Holds n → ⊥) × ((k : �
 
 -- the first position at which a sentence does not hold, the lowest good first, and none where it holds at each
 abbrev pub IsLowestPlace : (ℕ → ℕ → Type 0) → Option (ℕ × ℕ) → Type 0
-IsLowestPlace Holds None = (good position : ℕ) → good < 28 → Holds good position
+IsLowestPlace Holds None = (good position : ℕ) → good < GOODS → Holds good position
 IsLowestPlace Holds (Some place) =
-    (place.0 < 28) × (Holds place.0 place.1 → ⊥) × ((good position : ℕ) → good < 28 → IsLower (good, position) place → Holds good position)
+    (place.0 < GOODS) × (Holds place.0 place.1 → ⊥) × ((good position : ℕ) → good < GOODS → IsLower (good, position) place → Holds good position)
 
 -- ---- replays
 
@@ -73,7 +73,7 @@ place_at good position = good * AUCTION_ENTRIES + position
 
 -- the places that are named are those that posts of these entries name
 abbrev pub AreNamed : List CashEntry → List Bool → Type 0
-AreNamed cash named = (good position : ℕ) → good < 28 → position < AUCTION_ENTRIES → slice_index_or named (place_at good position) false ≡ is_posted cash good position
+AreNamed cash named = (good position : ℕ) → good < GOODS → position < AUCTION_ENTRIES → slice_index_or named (place_at good position) false ≡ is_posted cash good position
 
 -- an entry of a good with a trade has a place that is named
 abbrev pub HasNamedEntry : List Entry → List Bool → ℕ → ℕ → Type 0

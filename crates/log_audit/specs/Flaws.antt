@@ -2,6 +2,7 @@
 use Rattle.std.specs.Prelude.{◌≡◌, ◌≢◌, ℕ, ◌<◌, ◌==◌, ◌&&◌, ◌⊎◌, ⊤, Bool, true, false, List, [], take, reverse, Some, slice_get}
 use Rattle.std.specs.List.{list_any}
 use Rattle.tac_base.specs.declared.calls.Nets.{Nets}
+use Rattle.tac_base.specs.declared.limits.TheConstants.{GOODS}
 use Rattle.game_text.specs.Games.{GameFile}
 use Rattle.game_text.specs.Schedule.{clock_calls}
 use Rattle.auction_rules.specs.Setup.{Setup}
@@ -88,11 +89,11 @@ HasDueScore game log agent = (scored : Scored) → slice_get log.scores agent �
 
 -- the sentence that does not hold of a log with the flaw
 abbrev pub IsFreeOf : GameFile → LoggedGame → Flaw → Type 0
-IsFreeOf game log (flaws.Entry good position) = good < 28 → HasFairEntry (setup_of good game) (logged_history log good) position
-IsFreeOf game log (flaws.Clock good) = good < 28 → IsOnSchedule game good (logged_history log good)
+IsFreeOf game log (flaws.Entry good position) = good < GOODS → HasFairEntry (setup_of good game) (logged_history log good) position
+IsFreeOf game log (flaws.Clock good) = good < GOODS → IsOnSchedule game good (logged_history log good)
 IsFreeOf game log (flaws.Cash position) = HasTrueReading log.cash position
 IsFreeOf game log (flaws.Post position) = HasDuePost log position
-IsFreeOf game log (flaws.Unposted good position) = good < 28 → HasPost log good position
+IsFreeOf game log (flaws.Unposted good position) = good < GOODS → HasPost log good position
 IsFreeOf game log (flaws.Score agent) = HasDueScore game log agent
 IsFreeOf game log flaws.Head = IsSoundHead log log.head
 

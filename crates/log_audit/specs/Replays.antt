@@ -2,6 +2,7 @@
 use Rattle.std.specs.Prelude.{◌≡◌, ℕ, ◌<◌, List, map}
 use Rattle.std.specs.Global.{Vec}
 use Rattle.tac_base.specs.declared.calls.Nets.{Nets}
+use Rattle.tac_base.specs.declared.limits.TheConstants.{GOODS}
 use Rattle.auction_rules.specs.Setup.{Setup}
 use Rattle.auction_rules.specs.History.{Entry}
 use Rattle.game_text.specs.Games.{GameFile}
@@ -39,12 +40,12 @@ AreNets log nets = map (λ row. row.items) nets ≡ map (map nets_by) log.histor
 pub record AreReplayed (game : GameFile) (log : LoggedGame) (auctions : List AuctionHistory) (nets : List (Vec Nets)) : Type 0 where
   pub auctions_are : auctions ≡ auctions_in game log
   pub nets_are : AreNets log nets
-  pub fair : (good position : ℕ) → good < 28 → HasFairEntry (setup_of good game) (logged_history log good) position
+  pub fair : (good position : ℕ) → good < GOODS → HasFairEntry (setup_of good game) (logged_history log good) position
 
 pub record AreUnfair (game : GameFile) (log : LoggedGame) (good position : ℕ) : Type 0 where
-  pub low : good < 28
+  pub low : good < GOODS
   pub unfair : HasFairEntry (setup_of good game) (logged_history log good) position → ⊥
-  pub first : (other place : ℕ) → other < 28 → IsLower (other, place) (good, position) → HasFairEntry (setup_of other game) (logged_history log other) place
+  pub first : (other place : ℕ) → other < GOODS → IsLower (other, place) (good, position) → HasFairEntry (setup_of other game) (logged_history log other) place
 
 abbrev pub AreReplays : GameFile → LoggedGame → Replays → Type 0
 AreReplays game log (all.Fair auctions nets) = AreReplayed game log auctions.items nets.items

@@ -2,10 +2,9 @@
 ghost use Rattle.std.specs.Prelude.{◌≡◌, ◌↔◌, IfOk};
 ghost use Rattle.game_text.specs.Games.{GameFile};
 ghost use Rattle.score_sheet.specs.Settlement.{settlement_of};
+ghost use Rattle.log_text.specs.LoggedGames.{IsLogged};
 ghost use Rattle.log_reader.specs.SoundLog.{IsSound, auctions_in};
-ghost use Rattle.log_audit.specs.Flaws.{IsFound};
-ghost use Rattle.log_audit.specs.Parts.{IsFirstFrom};
-ghost use Rattle.log_audit.specs.Replays.{AreNets};
+ghost use Rattle.log_audit.specs.{IsFound, IsFirstFrom, AreNets};
 
 use crate::findings::{Finding, Flaw};
 use crate::heads::is_sound_head;
@@ -59,7 +58,8 @@ fn post_flaw(alloc: Global, log: &Log, earned: &[Vec<Nets>]) -> Result<Option<Fl
 
 /// The first flaw of the scores, and of the head.
 fn last_flaw(game: &Game, log: &Log, accounts: &Accounts) -> Option<Flaw>
-    requires { accounts.now ≡ settlement_of (auctions_in game.now log.now) }
+    requires logged { IsLogged log.now }
+    requires accounts { accounts.now ≡ settlement_of (auctions_in game.now log.now) }
     ensures { IsFirstFrom game.now log.now 5 7 result }
 {
     if let Some(agent) = false_score(game, log, accounts) {

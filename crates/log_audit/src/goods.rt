@@ -1,10 +1,11 @@
 ghost use Rattle.std.specs.Prelude.{◌≡◌, ◌+◌, ◌<◌};
 
+use tac_base::limits::GOODS;
 use tac_base::{Good, Tick};
 
 /// The good of a number, 0..27.
 pub(crate) fn good_of(number: u8) -> Good
-    requires { number < 28 }
+    requires { number < GOODS }
     ensures { result ≡ number }
 {
     Good::new(number).unwrap()

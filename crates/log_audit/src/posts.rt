@@ -2,10 +2,9 @@
 ghost use Rattle.std.specs.Prelude.{◌≡◌, ℕ, ◌<◌, ◌↔◌, ◌++◌, List, [], ◌∷◌, Some, None, length, map, slice_get, IsTrue};
 ghost use Rattle.auction_rules.specs.History.{Entry as HistoryEntry};
 ghost use Rattle.trade_ledger.specs.declared.cash_calls.CashEntry.{CashEntry};
+ghost use Rattle.log_text.specs.LoggedGames.{IsLogged};
 ghost use Rattle.log_reader.specs.SoundLog.{logged_history};
-ghost use Rattle.log_audit.specs.Flaws.{IsEarned, IsDuePost, HasDuePost, HasPost};
-ghost use Rattle.log_audit.specs.Replays.{AreNets};
-ghost use Rattle.log_audit.specs.Auditing.{AreNamed, IsLowest, IsLowestPlace, HasNamedEntry, nets_by};
+ghost use Rattle.log_audit.specs.{IsEarned, IsDuePost, HasDuePost, HasPost, AreNets, AreNamed, IsLowest, IsLowestPlace, HasNamedEntry, nets_by};
 
 use crate::goods::good_of;
 use crate::places::Places;
@@ -30,12 +29,11 @@ fn same_nets(a: &Nets, b: &Nets) -> bool
 
 /// What the trades of an entry, which is there, gave each party.
 fn nets_at(log: &Log, earned: &[Vec<Nets>], good: Good, position: u32) -> Nets
+    requires logged { IsLogged log.now }
     requires nets { AreNets log.now earned.now }
     requires inside { position < length (logged_history log.now good) }
     ensures { slice_get (map nets_by (logged_history log.now good)) position ≡ Some result }
 {
-    // There are 28 histories, by the ranges of the log.
-    let _head = log.head();
     earned[usize::from(good.get())][position as usize]
 }
 
@@ -48,7 +46,8 @@ fn is_earned(
     position: u32,
     nets: &Nets,
 ) -> bool
-    requires { AreNets log.now earned.now }
+    requires logged { IsLogged log.now }
+    requires nets { AreNets log.now earned.now }
     ensures { IsTrue result ↔ ((e : HistoryEntry) × (slice_get (logged_history log.now good) position ≡ Some e) × IsEarned caller nets.now e) }
 {
     match log.history(good).entry(position) {
@@ -61,12 +60,11 @@ fn is_earned(
 
 /// Whether an entry of the cash history, if it is a post, is due, given the places named by the posts before it. Names its place.
 fn is_due(log: &Log, earned: &[Vec<Nets>], places: &mut Places, entry: &CashEntry) -> bool
-    requires { AreNets log.now earned.now }
+    requires logged { IsLogged log.now }
+    requires nets { AreNets log.now earned.now }
     ensures answer { (before : List CashEntry) → AreNamed before places.old → IsTrue result ↔ IsDuePost (logged_history log.now) before entry.now.caller entry.now.call }
     ensures named { (before : List CashEntry) → AreNamed before places.old → IsTrue result → AreNamed (before ++ entry.now ∷ []) places.new }
 {
-    // No history has more than 8,256 entries, by the ranges of the log.
-    let _head = log.head();
     match &entry.call {
         CashCall::Post {
             good,

@@ -4,8 +4,7 @@ ghost use Rattle.tac_base.specs.declared.limits.TheConstants.{CASH_ENTRIES};
 ghost use Rattle.trade_ledger.specs.CashHistory.{gain_of};
 ghost use Rattle.trade_ledger.specs.CashKeeping.{IsWithin};
 ghost use Rattle.trade_ledger.specs.declared.cash_calls.CashEntry.{CashEntry};
-ghost use Rattle.log_audit.specs.Flaws.{HasTrueReading, IsTrueReading};
-ghost use Rattle.log_audit.specs.Auditing.{IsLowest, AreTotals};
+ghost use Rattle.log_audit.specs.{HasTrueReading, IsTrueReading, IsLowest, AreTotals};
 
 use trade_ledger::{CashCall, CashEntry, CashReply, add_nets};
 

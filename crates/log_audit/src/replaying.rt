@@ -1,13 +1,12 @@
 // The histories of a log are played again by the rules, call by call.
 ghost use Rattle.std.specs.Prelude.{◌≡◌, ◌+◌, ◌<◌, ◌≤◌, ◌↔◌, ◌++◌, [], ◌∷◌, take, length, reverse, slice_index, slice_set, IfOk, IsTrue, MatchOption};
+ghost use Rattle.tac_base.specs.Goods.{clock};
 ghost use Rattle.auction_core.specs.Calls.{IsFit};
 ghost use Rattle.auction_rules.specs.Legal.{entry_of, reply_of, trades_of, entries_of, cap};
 ghost use Rattle.auction_rules.specs.Effects as effects;
 ghost use Rattle.auction_core.specs.Setups.{setup_of};
 ghost use Rattle.log_text.specs.LoggedGames.{IsLogged};
-ghost use Rattle.log_audit.specs.Flaws.{HasFairEntry};
-ghost use Rattle.log_audit.specs.Auditing.{AreCounts, IsStruck};
-ghost use Rattle.log_audit.specs.Replays.{IsReplay, AreReplays};
+ghost use Rattle.log_audit.specs.{HasFairEntry, AreCounts, IsStruck, IsReplay, AreReplays};
 
 use crate::goods::good_of;
 use auction_core::Auction;
@@ -45,7 +44,7 @@ pub(crate) enum Replays {
 /// Whether a caller has an entry left, if the callers have had this many.
 fn has_room(counts: &[u32; 9], caller: Caller) -> bool
     ensures room { IsTrue result ↔ (slice_index counts.now caller < cap caller) }
-    ensures known { caller ≤ 8 }
+    ensures known { caller ≤ clock }
 {
     let cap = if caller == Caller::clock() {
         CLOCK_CALLS

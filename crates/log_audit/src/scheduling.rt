@@ -2,8 +2,7 @@
 ghost use Rattle.std.specs.Prelude.{◌≡◌, ◌↔◌, ◌++◌, [], ◌∷◌, ℕ, ◌≤◌, Some, length, take, slice_get, IfOk, OnOk, OnErr, IsTrue};
 ghost use Rattle.game_text.specs.Schedule.{calls_at, clock_calls};
 ghost use Rattle.log_reader.specs.SoundLog.{clock_calls_in, logged_history};
-ghost use Rattle.log_audit.specs.Flaws.{IsOnSchedule};
-ghost use Rattle.log_audit.specs.Auditing.{IsFollowed, IsLowestBelow, calls_for};
+ghost use Rattle.log_audit.specs.{IsOnSchedule, IsFollowed, IsLowestBelow, calls_for};
 
 use crate::goods::{good_of, tick_after};
 use clock_events::{schedule, schedule_law};

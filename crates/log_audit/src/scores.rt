@@ -4,10 +4,9 @@ ghost use Rattle.score_sheet.specs.Score as rules;
 ghost use Rattle.score_sheet.specs.Settlement.{settlement_of};
 ghost use Rattle.score_sheet.specs.Sheets.{IsDueScore};
 ghost use Rattle.allocator.specs.Solutions.{IsSolution};
-ghost use Rattle.log_text.specs.LoggedGames.{IsLoggedScore};
+ghost use Rattle.log_text.specs.LoggedGames.{IsLogged, IsLoggedScore};
 ghost use Rattle.log_reader.specs.SoundLog.{auctions_in};
-ghost use Rattle.log_audit.specs.Flaws.{HasDueScore};
-ghost use Rattle.log_audit.specs.Auditing.{IsLowest};
+ghost use Rattle.log_audit.specs.{HasDueScore, IsLowest};
 
 use bound_cert::check;
 use dual_bound::{allocation_worth, is_enough};
@@ -57,11 +56,10 @@ fn is_due(game: &Game, accounts: &Accounts, agent: Agent, line: &ScoreLine) -> b
 
 /// The lowest agent whose score is not the one that is due to it, if there is one.
 pub(crate) fn false_score(game: &Game, log: &Log, accounts: &Accounts) -> Option<Agent>
-    requires { accounts.now ≡ settlement_of (auctions_in game.now log.now) }
+    requires logged { IsLogged log.now }
+    requires accounts { accounts.now ≡ settlement_of (auctions_in game.now log.now) }
     ensures { IsLowest (HasDueScore game.now log.now) result }
 {
-    // There are eight scores, by the ranges of the log.
-    let _head = log.head();
     for agent in Agent::all() {
         if !is_due(game, accounts, agent, log.score(agent)) {
             return Some(agent);

@@ -2,7 +2,7 @@
 use Rattle.std.specs.Prelude.{◌≡◌, ℕ, ◌≤◌, ◌<◌, ◌==◌, ⊤, Bool, false, nat_lt, List, [], length, map, filter, count_by, slice_index_or}
 use Rattle.std.specs.List.{list_any, enumerate_from}
 use Rattle.tac_base.specs.declared.calls.Call.{Call}
-use Rattle.tac_base.specs.declared.limits.TheConstants.{LINKS, TICKS}
+use Rattle.tac_base.specs.declared.limits.TheConstants.{GOODS, LINKS, TICKS}
 use Rattle.tac_base.specs.Goods.{agents, clock}
 use Rattle.game_text.specs.Games.{GameFile}
 use Rattle.game_text.specs.Schedule.{clock_calls}
@@ -52,7 +52,7 @@ logged_seats verdicts = filter (λ agent. nat_lt 0 (seatings verdicts agent)) ag
 
 -- an agent has no entry, in the auction of any good or in the cash history
 pub record HasNoEntry (log : LoggedGame) (agent : ℕ) : Type 0 where
-  pub calls : (good : ℕ) → good < 28 → list_any (λ e. e.caller == agent) (logged_history log good) ≡ false
+  pub calls : (good : ℕ) → good < GOODS → list_any (λ e. e.caller == agent) (logged_history log good) ≡ false
   pub cash : list_any (λ e. e.caller == agent) log.cash ≡ false
 
 -- At most 64 links were taken, and no seat was given twice. Each seated agent has one end, in rising order, and nobody else has one. At
@@ -75,8 +75,8 @@ IsSoundHead log (Serve verdicts ends missed) = IsService log verdicts ends misse
 -- and it has exactly one post for each entry with a trade. Each agent's score is the one that is due to it, with a best allocation and a
 -- certificate for it. And the head agrees with all that.
 pub record IsSound (game : GameFile) (log : LoggedGame) : Type 0 where
-  pub legal : (good : ℕ) → good < 28 → Legal (setup_of good game) (logged_history log good)
-  pub scheduled : (good : ℕ) → good < 28 → clock_calls_in (logged_history log good) ≡ clock_calls game good
+  pub legal : (good : ℕ) → good < GOODS → Legal (setup_of good game) (logged_history log good)
+  pub scheduled : (good : ℕ) → good < GOODS → clock_calls_in (logged_history log good) ≡ clock_calls game good
   pub cash : IsLegalCash log.cash
   pub matched : Matched log.histories log.cash
   pub scores : IsSheet game (settlement_of (auctions_in game log)) log.scores

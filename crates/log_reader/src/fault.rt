@@ -2,19 +2,15 @@ ghost use Rattle.std.specs.Prelude.{◌≡◌};
 ghost use Rattle.log_reader.specs.Faults.{log_fault};
 
 use text_forms::BadLine;
-use thiserror::Error;
 
 /// Why a text is not read as a log. Nothing was made.
-#[derive(Clone, Copy, Debug, PartialEq, Eq, Error)]
+#[derive(Clone, Copy, Debug, PartialEq, Eq)]
 pub enum LogFault {
     /// The first line, counted from 1, that fits no log.
-    #[error("line {line} of the log is bad")]
     Line { line: u32 },
     /// The text has more than 67,108,864 bytes.
-    #[error("the log is too long")]
     TooLong,
     /// There is not enough memory for the log.
-    #[error("there is not enough memory")]
     Memory,
 }
 

@@ -28,8 +28,7 @@ use Rattle.line_protocol.specs.Replies.{reply_text}
 use Rattle.line_protocol.specs.ReplyForms.{read_left}
 use Rattle.line_protocol.proofs.JoinedWords.{lacks, words_before}
 use Rattle.line_protocol.proofs.StandingPoints.{left_again}
-use Rattle.log_text.specs.LogText.{call_text}
-use Rattle.log_text.specs.Logged.{IsShownCall, IsShownReply}
+use Rattle.log_text.specs.{call_text, IsShownCall, IsShownReply}
 use Rattle.log_text.proofs.Cuts.{lacks_append, number_word, signed_word, number_again, holding_again}
 
 -- ---- calls

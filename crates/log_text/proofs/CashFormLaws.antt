@@ -1,9 +1,9 @@
 -- The lines of the cash history are read as they are spelled.
-use Rattle.std.proofs.Common.{◌≡◌, ℕ, zero, suc, ◌^◌, ◌≤◌, ◌<◌, Bool, true, false, cond, ◌&&◌, eqb, List, [], ◌∷◌, ◌++◌, Option, Some, None, length, map, drop, refl, sym, ap, ◌∙◌, subst, arith, ℤ, pos, negsuc, ◌≤ℤ◌, decimal, lit<, lit≤, inl, inr, ne_eqb}
+use Rattle.std.proofs.Common.{◌≡◌, ℕ, zero, suc, ◌^◌, ◌≤◌, ◌<◌, Bool, true, false, cond, ◌&&◌, eqb, List, [], ◌∷◌, ◌++◌, Option, Some, None, length, map, drop, refl, sym, ap, ◌∙◌, subst, arith, ℤ, pos, decimal, lit<, lit≤, inl, inr, ne_eqb}
 use Rattle.std.specs.Prelude.{codes, unsigned_abs, replicate}
 use Rattle.std.specs.Fmt.{signed_decimal}
 use Rattle.std.specs.Str.{bytes_eq}
-use Rattle.std.specs.List.{AllByRecursion, All, join_with_byte}
+use Rattle.std.specs.List.{All, join_with_byte}
 use Rattle.std.proofs.lemmas.Bool.Decides.{nat_tests}
 use Rattle.std.proofs.lemmas.Option.{same_Some}
 use Rattle.std.proofs.lemmas.List.Elements.{All-nil, All-cons, All-head, All-tail}
@@ -11,9 +11,8 @@ use Rattle.std.proofs.lemmas.List.Splits.{join_with_byte-slice_split}
 use Rattle.tac_base.specs.declared.calls.Nets.{Nets}
 use Rattle.tac_base.specs.Numerals.{signed_numeral}
 use Rattle.tac_base.proofs.NumeralLaws.{both_true}
-use Rattle.tac_base.proofs.Signed.{Lacks, signed_is, signed_limit, signed_lacks}
+use Rattle.tac_base.proofs.Signed.{signed_is, signed_limit, signed_lacks}
 use Rattle.tac_base.specs.Ranges.{IsNet}
-use Rattle.text_forms.specs.declared.rows.Column.{Column}
 use Rattle.text_forms.specs.Words.{words_of}
 use Rattle.text_forms.specs.Rows.{within, is_in, all_in, row_text}
 use Rattle.text_forms.proofs.Joins.{joined_parts}
@@ -27,9 +26,8 @@ use Rattle.trade_ledger.specs.declared.cash_calls.CashEntry.{CashEntry}
 use Rattle.line_protocol.specs.ReplyForms.{◌>>=◌}
 use Rattle.line_protocol.proofs.JoinedWords.{lacks}
 use Rattle.line_protocol.proofs.Numbers.{bound, either_way, is_word, dollars_again}
-use Rattle.log_text.specs.HeadForms.{read_numbers, number_at}
+use Rattle.log_text.specs.{read_numbers, number_at, IsLoggedCash, IsLoggedCashEntry}
 use Rattle.log_text.specs.EntryForms.{net_column, post_columns, made_post, post_of, read_of, read_reading, first_is, starts_post, cash_entry_by, cash_entry_of, read_caller}
-use Rattle.log_text.specs.LoggedGames.{IsLoggedCash, IsLoggedCashEntry}
 use Rattle.log_text.proofs.RowForms.{numbers_is, numbers_again}
 use Rattle.log_text.proofs.EntryFormLaws.{caller_is, caller_again}
 

@@ -1,9 +1,8 @@
 -- The lines of the histories are read as they are spelled.
-use Rattle.std.proofs.Common.{◌≡◌, ℕ, ◌^◌, ◌≤◌, ◌<◌, Bool, true, false, cond, ◌&&◌, not, eqb, List, [], ◌∷◌, ◌++◌, Option, Some, None, Result, Ok, Err, length, map, drop, get_or, refl, sym, ap, ◌∙◌, subst, arith, ℤ, pos, negsuc, ◌≤ℤ◌, decimal, lit<, lit≤, inl, inr, append_assoc, eq-eqb, eqb-true}
-use Rattle.std.specs.Prelude.{◌+◌, codes, unsigned_abs, replicate}
-use Rattle.std.specs.Fmt.{signed_decimal}
+use Rattle.std.proofs.Common.{◌≡◌, ℕ, ◌^◌, ◌≤◌, ◌<◌, true, cond, eqb, List, [], ◌∷◌, ◌++◌, Option, Some, None, Result, Ok, Err, refl, sym, ap, ◌∙◌, subst, arith, ℤ, pos, decimal, lit<, lit≤, inl, inr, eq-eqb, eqb-true}
+use Rattle.std.specs.Prelude.{◌+◌, codes}
 use Rattle.std.specs.Str.{bytes_eq}
-use Rattle.std.specs.List.{AllByRecursion, All, join_with_byte, list_all}
+use Rattle.std.specs.List.{join_with_byte}
 use Rattle.std.proofs.lemmas.Option.{cond_some, same_Some}
 use Rattle.std.proofs.lemmas.Fmt.{decimal_digit}
 use Rattle.std.proofs.lemmas.List.Splits.{join_with_byte-slice_split}
@@ -14,15 +13,12 @@ use Rattle.tac_base.specs.declared.calls.Call.TheVariants as calls
 use Rattle.tac_base.specs.declared.calls.Reply.{Reply}
 use Rattle.tac_base.specs.declared.calls.Reply.TheVariants as replies
 use Rattle.tac_base.specs.declared.calls.Trade.{Trade}
-use Rattle.tac_base.specs.Bids.{fault_of}
-use Rattle.tac_base.proofs.NumeralLaws.{both_true}
-use Rattle.tac_base.proofs.Signed.{Lacks, decimal_lacks}
+use Rattle.tac_base.proofs.Signed.{decimal_lacks}
 use Rattle.tac_base.specs.Ranges.{IsCall, IsReply, IsTrade}
 use Rattle.text_forms.specs.Words.{parts_of, words_of}
 use Rattle.text_forms.specs.Rows.{row_text}
 use Rattle.text_forms.proofs.Joins.{joined_parts}
-use Rattle.text_forms.proofs.Columns.{IsWithin, in_within}
-use Rattle.text_forms.proofs.RowLaws.{is_same}
+use Rattle.text_forms.proofs.Columns.{in_within}
 use Rattle.bid_strings.specs.BidForm.{points_of, judged}
 use Rattle.bid_strings.specs.Spelling.{spelling}
 use Rattle.bid_strings.proofs.Laws.{bid_is, bid_again}
@@ -34,10 +30,8 @@ use Rattle.line_protocol.proofs.Numbers.{bound, either_way, is_word}
 use Rattle.line_protocol.proofs.RequestLaws.{judged_good}
 use Rattle.line_protocol.proofs.ReplyRead.{answer_if}
 use Rattle.line_protocol.proofs.ReplyAgain.{answer_again}
-use Rattle.log_text.specs.LogText.{call_text}
-use Rattle.log_text.specs.HeadForms.{digit_of, read_numbers, number_at}
+use Rattle.log_text.specs.{call_text, digit_of, read_numbers, number_at, IsShownCall, IsShownReply}
 use Rattle.log_text.specs.EntryForms.{auction_of, trade_of, bid_by, read_update, word_call, call_of_words, read_call, read_caller, sides_of, read_entry, read_cash_line}
-use Rattle.log_text.specs.Logged.{IsShownCall, IsShownReply}
 use Rattle.log_text.proofs.RowForms.{digit_is, digit_again, numbers_is, numbers_again, Within, columns_of, each_within}
 use Rattle.log_text.proofs.Cuts.{lacks_append}
 use Rattle.log_text.proofs.Answered.{call_lacks}

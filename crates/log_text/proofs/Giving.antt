@@ -1,11 +1,11 @@
 -- What is read of bytes that were printed.
-use Rattle.std.proofs.Common.{◌≡◌, ◌≢◌, ℕ, zero, suc, ◌+◌, ◌≤◌, Bool, true, false, cond, eqb, List, [], ◌∷◌, ◌++◌, Option, Some, Result, Ok, length, refl, sym, ap, ◌∙◌, subst, append_assoc, arith}
+use Rattle.std.proofs.Common.{◌≡◌, ◌≢◌, ℕ, zero, suc, ◌+◌, ◌≤◌, Bool, true, false, eqb, List, [], ◌∷◌, ◌++◌, Option, Some, Result, Ok, length, refl, sym, ap, ◌∙◌, subst, append_assoc, arith}
 use Rattle.std.specs.Prelude.{⊤}
 use Rattle.std.proofs.lemmas.List.Splits.{length-slice_split}
 use Rattle.tac_base.proofs.Signed.{Lacks}
 use Rattle.text_forms.specs.declared.lines.BadLine.{BadLine}
 use Rattle.text_forms.specs.Words.{parts_of, words_of}
-use Rattle.text_forms.specs.Lines.{NumberedLine, Remaining, lines_from}
+use Rattle.text_forms.specs.Lines.{Remaining, lines_from}
 use Rattle.text_forms.specs.Steps.{◌>>=◌, repeat}
 use Rattle.text_forms.proofs.Joins.{parts_more}
 use Rattle.log_text.specs.EntryForms.{first_is}

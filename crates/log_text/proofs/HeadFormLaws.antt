@@ -1,9 +1,9 @@
 -- The lines of a log's head are read as they are spelled.
-use Rattle.std.proofs.Common.{◌≡◌, ℕ, ◌≤◌, ◌<◌, ◌^◌, Bool, true, false, cond, ◌&&◌, eqb, List, [], ◌∷◌, ◌++◌, Option, Some, None, length, refl, sym, ap, ◌∙◌, subst, arith, ℤ, pos, decimal, lit<, lit≤, inl, inr, append_assoc}
-use Rattle.std.specs.Prelude.{codes, unsigned_abs}
+use Rattle.std.proofs.Common.{◌≡◌, ℕ, ◌≤◌, ◌<◌, ◌^◌, true, ◌&&◌, List, [], ◌∷◌, Some, None, refl, sym, ap, ◌∙◌, subst, arith, ℤ, pos, decimal, lit<, lit≤, inl, inr}
+use Rattle.std.specs.Prelude.{codes}
 use Rattle.std.specs.Str.{bytes_eq}
 use Rattle.std.specs.List.{AllByRecursion, join_with_byte}
-use Rattle.std.proofs.lemmas.Option.{cond_some, same_Some}
+use Rattle.std.proofs.lemmas.Option.{same_Some}
 use Rattle.std.proofs.lemmas.List.Splits.{join_with_byte-slice_split}
 use Rattle.tac_base.proofs.NumeralLaws.{both_true}
 use Rattle.tac_base.proofs.Signed.{Lacks, decimal_lacks}
@@ -19,9 +19,8 @@ use Rattle.line_protocol.specs.declared.admission.Cause.TheVariants.{Quit, End, 
 use Rattle.line_protocol.specs.ReplyForms.{◌>>=◌}
 use Rattle.line_protocol.proofs.JoinedWords.{lacks}
 use Rattle.line_protocol.proofs.Numbers.{bound, either_way, is_word}
-use Rattle.log_text.specs.LogText.{verdict_text, cause_text}
+use Rattle.log_text.specs.{cause_text, IsLoggedVerdict, IsLoggedEnd}
 use Rattle.log_text.specs.HeadForms.{digit_of, read_numbers, number_at, read_refused, seated_of, read_verdict, link_of_words, read_link, read_cause, ended_of, end_of_words, read_end, read_missed}
-use Rattle.log_text.specs.LoggedGames.{IsLoggedVerdict, IsLoggedEnd}
 use Rattle.log_text.proofs.RowForms.{digit_is, digit_again, numbers_is, numbers_again, Within, columns_of, each_within}
 
 -- ---- links

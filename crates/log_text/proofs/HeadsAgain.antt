@@ -16,8 +16,7 @@ use Rattle.line_protocol.specs.declared.admission.Cause.{Cause}
 use Rattle.line_protocol.specs.declared.admission.Cause.TheVariants.{Quit, End, ReadFault, WriteFault, Budget}
 use Rattle.line_protocol.proofs.JoinedWords.{lacks}
 use Rattle.line_protocol.specs.Heads.{Head, Play, Serve}
-use Rattle.log_text.specs.LogText.{then_number, verdict_text, cause_text, link_line, end_line, missed_line, first_lines}
-use Rattle.log_text.specs.Logged.{IsNumber, IsVerdict, IsEnd, IsHead}
+use Rattle.log_text.specs.{then_number, verdict_text, cause_text, link_line, end_line, missed_line, first_lines, IsNumber, IsVerdict, IsEnd, IsHead}
 use Rattle.log_text.proofs.Cuts.{IsWord, row, row_same, cut_same, lacks_append, number_word, number_again, pieces_cons}
 use Rattle.log_text.proofs.Trades.{known_word}
 

@@ -14,8 +14,7 @@ use Rattle.trade_ledger.specs.declared.cash_calls.CashEntry.{CashEntry}
 use Rattle.auction_core.specs.ClosedGame.{ClosedGame}
 use Rattle.line_protocol.specs.Heads.{Head}
 use Rattle.log_text.proofs.InOrder.{kept_text, in_order}
-use Rattle.log_text.specs.LogText.{then_signed, cash_call_text, cash_reply_text, cash_entry_line, cash_line, cash_text, first_lines, play_part}
-use Rattle.log_text.specs.Logged.{IsNumber, IsSigned, AreCashNumbers, IsShownCashReply, FitsCall, IsCashEntry, IsHead, IsPlayed, HaveOneHistory}
+use Rattle.log_text.specs.{then_signed, cash_call_text, cash_reply_text, cash_entry_line, cash_line, cash_text, first_lines, play_part, IsNumber, IsSigned, AreCashNumbers, IsShownCashReply, FitsCall, IsCashEntry, IsHead, IsPlayed, HaveOneHistory}
 use Rattle.log_text.proofs.Cuts.{IsWord, row, row_same, number_word, signed_word, signed_same, pieces_cons}
 use Rattle.log_text.proofs.HeadsAgain.{head_same}
 use Rattle.log_text.proofs.Trades.{known_word, auctions_same}

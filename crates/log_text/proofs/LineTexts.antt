@@ -1,5 +1,5 @@
 -- The lines of a log with their line ends.
-use Rattle.std.proofs.Common.{◌≡◌, ℕ, List, [], ◌∷◌, ◌++◌, refl, sym, ap, ◌∙◌, append_assoc, ℤ, decimal}
+use Rattle.std.proofs.Common.{◌≡◌, ℕ, List, [], ◌∷◌, ◌++◌, refl, sym, ap, ◌∙◌, append_assoc, decimal}
 use Rattle.std.specs.Prelude.{codes}
 use Rattle.std.specs.List.{join_with_byte}
 use Rattle.tac_base.specs.declared.calls.Call.{Call}
@@ -10,13 +10,10 @@ use Rattle.trade_ledger.specs.declared.cash_calls.CashCall.TheVariants.{Post, Re
 use Rattle.trade_ledger.specs.declared.cash_calls.CashReply.{CashReply}
 use Rattle.trade_ledger.specs.declared.cash_calls.CashReply.TheVariants.{Done, Cash}
 use Rattle.trade_ledger.specs.declared.cash_calls.CashEntry.{CashEntry}
-use Rattle.line_protocol.specs.Replies.{reply_text}
 use Rattle.line_protocol.specs.declared.admission.Verdict.{Verdict}
 use Rattle.line_protocol.specs.declared.admission.Verdict.TheVariants.{Seated, Syntax, WrongWord, Taken, Lost}
 use Rattle.line_protocol.specs.declared.admission.Cause.{Cause}
-use Rattle.log_text.specs.LogText.{call_text, verdict_text, link_line, end_line, missed_line, auction_line, trade_line, entry_line, cash_line, cash_entry_line, cash_call_text, cash_reply_text}
-use Rattle.log_text.specs.Logged.{FitsCall}
-use Rattle.log_text.specs.LoggedGames.{IsLoggedCash, IsLoggedCashEntry}
+use Rattle.log_text.specs.{verdict_text, link_line, end_line, missed_line, auction_line, trade_line, entry_line, cash_line, cash_entry_line, FitsCall, IsLoggedCash, IsLoggedCashEntry}
 use Rattle.log_text.proofs.HeadFormLaws.{link_words, end_words, missed_text}
 use Rattle.log_text.proofs.EntryFormLaws.{auction_body, trade_body, entry_body, cash_body}
 use Rattle.log_text.proofs.CashFormLaws.{cash_call_body, cash_entry_body}

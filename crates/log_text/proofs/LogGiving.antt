@@ -1,18 +1,14 @@
 -- A log in its ranges is read as itself.
-use Rattle.std.proofs.Common.{◌≡◌, ℕ, zero, suc, ◌^◌, ◌+◌, ◌≤◌, ◌<◌, Bool, true, false, cond, eqb, List, [], ◌∷◌, ◌++◌, Option, Some, None, Result, Ok, Err, length, map, refl, sym, ap, ◌∙◌, subst, append_assoc, arith, ℤ, pos, negsuc, ◌≤ℤ◌, decimal, lit<, lit≤, ◌⊎◌, inl, inr, eq-eqb, ltb}
-use Rattle.std.specs.Prelude.{⊤, codes, unsigned_abs, option_map}
+use Rattle.std.proofs.Common.{◌≡◌, ℕ, ◌^◌, ◌+◌, ◌≤◌, ◌<◌, Bool, true, false, List, [], ◌∷◌, ◌++◌, Ok, length, map, refl, sym, ap, ◌∙◌, subst, append_assoc, arith, ℤ, pos, negsuc, ◌≤ℤ◌, decimal, lit<, ◌⊎◌, inl, inr}
+use Rattle.std.specs.Prelude.{codes, unsigned_abs}
 use Rattle.std.specs.Fmt.{signed_decimal}
 use Rattle.std.specs.Str.{bytes_eq}
-use Rattle.std.specs.List.{All, AllByRecursion, flat_map, enumerate_from, join_with_byte, list_all}
-use Rattle.std.proofs.lemmas.Bool.{le-ltb}
+use Rattle.std.specs.List.{All, AllByRecursion, flat_map, enumerate_from, join_with_byte}
 use Rattle.std.proofs.lemmas.Int.{ints}
 use Rattle.std.proofs.lemmas.Fmt.{decimal_digit}
-use Rattle.std.proofs.lemmas.Grind.{flat_map-append}
-use Rattle.std.proofs.lemmas.List.{append-nil}
 use Rattle.std.proofs.lemmas.List.Concat.{flat_map-cons}
 use Rattle.std.proofs.lemmas.List.Elements.{All-head, All-tail}
 use Rattle.tac_base.specs.declared.calls.Call.{Call}
-use Rattle.tac_base.specs.declared.calls.Call.TheVariants as calls
 use Rattle.tac_base.specs.declared.calls.Reply.{Reply}
 use Rattle.tac_base.specs.declared.calls.Trade.{Trade}
 use Rattle.tac_base.proofs.Signed.{Lacks, decimal_lacks, signed_lacks}
@@ -24,11 +20,8 @@ use Rattle.trade_ledger.specs.declared.cash_calls.CashCall.TheVariants as cash_c
 use Rattle.trade_ledger.specs.declared.cash_calls.CashReply.{CashReply}
 use Rattle.trade_ledger.specs.declared.cash_calls.CashReply.TheVariants as cash_replies
 use Rattle.trade_ledger.specs.declared.cash_calls.CashEntry.{CashEntry}
-use Rattle.text_forms.specs.declared.lines.BadLine.{BadLine}
-use Rattle.text_forms.specs.Words.{parts_of, words_of}
-use Rattle.text_forms.specs.Rows.{row_text}
-use Rattle.text_forms.specs.Lines.{Remaining, lines_from, text_of, block_of, nothing_left}
-use Rattle.text_forms.specs.Steps.{◌>>=◌, repeat, lines_of_parts, one_line}
+use Rattle.text_forms.specs.Words.{words_of}
+use Rattle.text_forms.specs.Steps.{◌>>=◌, repeat}
 use Rattle.text_forms.proofs.Joins.{joined_parts, parts_more}
 use Rattle.text_forms.proofs.PrintedLines.{join_lacks}
 use Rattle.text_forms.proofs.RowLaws.{is_same}
@@ -39,11 +32,8 @@ use Rattle.line_protocol.specs.declared.admission.Cause.TheVariants as causes
 use Rattle.line_protocol.specs.Heads.{Head, Play, Serve}
 use Rattle.line_protocol.specs.Replies.{reply_text}
 use Rattle.line_protocol.proofs.JoinedWords.{lacks, same_or_not}
-use Rattle.log_text.specs.LogText.{call_text, verdict_text, cause_text, link_line, end_line, missed_line, head_text, first_lines, auction_line, trade_line, entry_line, entry_text, auction_text, cash_line, cash_entry_line, cash_text, histories_text}
-use Rattle.log_text.specs.HeadForms.{is_text, read_link, read_end, read_missed}
-use Rattle.log_text.specs.EntryForms.{first_is, auction_of, trade_of, read_entry, read_cash_line, cash_entry_of}
+use Rattle.log_text.specs.{call_text, cause_text, link_line, end_line, missed_line, first_lines, auction_line, trade_line, entry_line, entry_text, auction_text, cash_line, cash_entry_line, cash_text, histories_text, is_text, read_link, read_end, read_missed, first_is, auction_of, trade_of, read_entry, read_cash_line, cash_entry_of, IsLoggedVerdict, IsLoggedEnd, IsServedHead, IsLoggedHead, IsLoggedCash, IsLoggedCashEntry, AreHistories}
 use Rattle.log_text.specs.LogReading.{line_by, begins, as_long_as, is_served, served_in, head_by, head_in, entry_in, history_in, cash_in}
-use Rattle.log_text.specs.LoggedGames.{IsLoggedVerdict, IsLoggedEnd, IsServedHead, IsLoggedHead, IsLoggedCash, IsLoggedCashEntry, AreHistories}
 use Rattle.log_text.proofs.Cuts.{lacks_append}
 use Rattle.log_text.proofs.Answered.{call_one_line, reply_lacks}
 use Rattle.log_text.proofs.EntryFormLaws.{auction_body, auction_again, trade_body, trade_again, entry_body, entry_again, logged_call, logged_reply, cash_body, cash_again}
@@ -51,7 +41,7 @@ use Rattle.log_text.proofs.CashFormLaws.{cash_call_body, cash_entry_body, cash_e
 use Rattle.log_text.proofs.HeadFormLaws.{link_words, link_again, end_words, end_again, missed_text, missed_again, verdict_words}
 use Rattle.log_text.proofs.LineTexts.{link_text, end_text, missed_end, auction_end, trade_end, entry_end, cash_end, cash_entry_end}
 use Rattle.log_text.proofs.Taking.{bytes_of_parts, AllFrom, parts_numbered, parts_alike}
-use Rattle.log_text.proofs.Giving.{Any, and_then, at, line_given, begins_at, BeginsNot, GivesBytes, Keeps, Starts, keeps_all, repeat_given, as_long_given}
+use Rattle.log_text.proofs.Giving.{Any, and_then, at, line_given, begins_at, BeginsNot, GivesBytes, Keeps, Starts, repeat_given, as_long_given}
 
 -- ---- lines of known words
 

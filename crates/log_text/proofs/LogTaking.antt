@@ -36,19 +36,14 @@ use Rattle.line_protocol.specs.declared.admission.Verdict.{Verdict}
 use Rattle.line_protocol.specs.declared.admission.Cause.{Cause}
 use Rattle.line_protocol.specs.Heads.{Head, Play, Serve}
 use Rattle.line_protocol.proofs.Numbers.{either_way, is_word}
-use Rattle.log_text.specs.LogText.{link_line, end_line, missed_line, head_text, first_lines, auction_line, trade_line, entry_line, entry_text, auction_text, cash_line, cash_entry_line, cash_text, histories_text}
-use Rattle.log_text.specs.SheetText.{score_line, package_line, cert_line, agent_lines, sheet_lines, sheet_part}
-use Rattle.log_text.specs.HeadForms.{formed, is_text, read_link, read_end, read_missed}
-use Rattle.log_text.specs.EntryForms.{auction_of, trade_of, read_entry, read_cash_line, cash_entry_of}
-use Rattle.log_text.specs.SheetForms.{read_score, package_of, read_count}
+use Rattle.log_text.specs.{link_line, end_line, missed_line, head_text, first_lines, auction_line, trade_line, entry_line, entry_text, auction_text, cash_line, cash_entry_line, cash_text, histories_text, score_line, package_line, cert_line, agent_lines, sheet_part, formed, is_text, read_link, read_end, read_missed, auction_of, trade_of, read_entry, read_cash_line, cash_entry_of, read_score, package_of, read_count, LoggedGame, logged_text, IsLoggedVerdict, IsLoggedEnd, IsLoggedHead, IsLoggedCashEntry, IsLoggedScore, AreHistories, IsLogged}
 use Rattle.log_text.specs.LogReading.{line_by, as_long_as, is_served, served_in, head_by, head_in, entry_in, history_in, cash_in, cert_by, block_by, cert_in, score_in, log_in}
-use Rattle.log_text.specs.LoggedGames.{LoggedGame, logged_text, IsLoggedVerdict, IsLoggedEnd, IsServedHead, IsLoggedHead, IsLoggedCashEntry, IsLoggedScore, AreHistories, IsLogged}
 use Rattle.log_text.proofs.HeadFormLaws.{link_is, end_is, missed_is}
 use Rattle.log_text.proofs.EntryFormLaws.{auction_is, trade_is, entry_is, cash_is}
 use Rattle.log_text.proofs.CashFormLaws.{cash_entry_is}
 use Rattle.log_text.proofs.SheetFormLaws.{score_is, package_is, count_is}
 use Rattle.log_text.proofs.LineTexts.{link_text, end_text, missed_end, auction_end, trade_end, entry_end, cash_end, cash_entry_end}
-use Rattle.log_text.proofs.Taking.{bytes_left, AreLines, later_lines, TookBytes, took_both, took_as, took_none, line_took, bytes_of_parts, AllFrom, TakesBytes, TookAll, repeat_took_bytes, as_long_took, all_of, parts_numbered, parts_alike, parts_of_lines, whole_text, took_text}
+use Rattle.log_text.proofs.Taking.{bytes_left, AreLines, later_lines, TookBytes, took_both, took_as, took_none, line_took, AllFrom, TakesBytes, repeat_took_bytes, as_long_took, all_of, parts_numbered, parts_alike, parts_of_lines, whole_text, took_text}
 
 -- ---- lines
 

@@ -1,6 +1,6 @@
 -- Lines of a keyword and numbers: what is read is the one spelling of its numbers, and is read again.
-use Rattle.std.proofs.Common.{◌≡◌, ℕ, ◌≤◌, ◌<◌, Bool, true, false, cond, ◌&&◌, leb, eqb, List, [], ◌∷◌, Option, Some, None, Result, Ok, Err, length, map, get_or, refl, sym, ap, ◌∙◌, subst, arith, ℤ, pos, decimal, lit<}
-use Rattle.std.specs.Prelude.{⊤, ◌-◌, ◌+◌, codes, unsigned_abs}
+use Rattle.std.proofs.Common.{◌≡◌, ℕ, ◌≤◌, true, ◌&&◌, leb, List, [], ◌∷◌, Some, Result, Ok, Err, length, map, sym, ap, ◌∙◌, arith, ℤ, decimal}
+use Rattle.std.specs.Prelude.{⊤, ◌-◌, ◌+◌}
 use Rattle.std.specs.List.{list_all}
 use Rattle.std.proofs.lemmas.Bool.{le-leb, leb-true}
 use Rattle.std.proofs.lemmas.Option.{cond_some, same_Some}
@@ -10,7 +10,7 @@ use Rattle.tac_base.proofs.Signed.{Lacks}
 use Rattle.text_forms.specs.declared.lines.Reason.{Reason}
 use Rattle.text_forms.specs.declared.rows.Column.{Column}
 use Rattle.text_forms.specs.Rows.{within, is_in, all_in, row, row_text}
-use Rattle.text_forms.proofs.Columns.{IsWithin, is_within, in_within}
+use Rattle.text_forms.proofs.Columns.{IsWithin, is_within}
 use Rattle.text_forms.proofs.RowLaws.{IsRow, is_column, row_is, row_again}
 use Rattle.log_text.specs.HeadForms.{digit_of, numbers_by, read_numbers}
 

@@ -1,6 +1,6 @@
 -- The lines of a sheet are read as they are spelled.
-use Rattle.std.proofs.Common.{◌≡◌, ℕ, ◌^◌, ◌≤◌, ◌<◌, Bool, true, false, cond, ◌&&◌, eqb, List, [], ◌∷◌, ◌++◌, Option, Some, None, length, map, get_or, refl, sym, ap, ◌∙◌, subst, arith, ℤ, pos, negsuc, ◌≤ℤ◌, decimal, lit<, lit≤, inl, inr, append_assoc, eq-eqb, eqb-true}
-use Rattle.std.specs.Prelude.{codes, unsigned_abs, slice_index}
+use Rattle.std.proofs.Common.{◌≡◌, ℕ, ◌^◌, ◌≤◌, ◌<◌, true, false, cond, ◌&&◌, eqb, List, [], ◌∷◌, Some, None, length, map, get_or, refl, sym, ap, ◌∙◌, subst, arith, ℤ, pos, negsuc, decimal, lit<, inl, inr, append_assoc, eq-eqb, eqb-true}
+use Rattle.std.specs.Prelude.{codes, unsigned_abs}
 use Rattle.std.specs.Fmt.{signed_decimal}
 use Rattle.std.specs.Str.{bytes_eq}
 use Rattle.std.specs.List.{join_with_byte}
@@ -10,7 +10,6 @@ use Rattle.std.proofs.lemmas.Option.{cond_some, same_Some}
 use Rattle.tac_base.proofs.NumeralLaws.{both_true}
 use Rattle.tac_base.proofs.Signed.{Lacks, decimal_lacks, signed_lacks}
 use Rattle.text_forms.proofs.PrintedLines.{join_lacks}
-use Rattle.text_forms.specs.declared.rows.Column.{Column}
 use Rattle.text_forms.specs.Words.{words_of}
 use Rattle.text_forms.specs.Rows.{within, is_in, all_in, row_text}
 use Rattle.text_forms.proofs.Joins.{joined_parts}
@@ -20,12 +19,10 @@ use Rattle.packages.specs.declared.travel_packages.Package.{Package}
 use Rattle.packages.specs.declared.travel_packages.Package.TheVariants as packages
 use Rattle.packages.specs.Packages.{is_night, is_package, IsPackage}
 use Rattle.packages.proofs.Found.{IsFound, ranges_of}
-use Rattle.line_protocol.specs.ReplyForms.{◌>>=◌}
 use Rattle.line_protocol.proofs.JoinedWords.{lacks, same_or_not}
 use Rattle.line_protocol.proofs.Numbers.{bound, either_way, is_word}
-use Rattle.log_text.specs.SheetText.{package_line, cert_line}
-use Rattle.log_text.specs.HeadForms.{read_numbers, number_at}
-use Rattle.log_text.specs.SheetForms.{amount_column, any_column, score_columns, read_score, trip_columns, trip_in, checked, read_trip, package_of, count_columns, read_count}
+use Rattle.log_text.specs.{package_line, read_numbers, number_at}
+use Rattle.log_text.specs.SheetForms.{amount_column, any_column, score_columns, read_score, trip_columns, trip_in, checked, read_trip, package_of, read_count}
 use Rattle.log_text.proofs.RowForms.{numbers_is, numbers_again, Within, columns_of, each_within}
 
 -- ---- scores

@@ -1,19 +1,15 @@
 -- A sheet in its ranges is read as itself, and so is a whole log.
-use Rattle.std.proofs.Common.{◌≡◌, ℕ, zero, suc, ◌^◌, ◌+◌, ◌≤◌, ◌<◌, Bool, true, false, cond, eqb, List, [], ◌∷◌, ◌++◌, Option, Some, None, Result, Ok, Err, length, map, refl, sym, ap, ◌∙◌, subst, append_assoc, arith, ℤ, pos, negsuc, ◌≤ℤ◌, decimal, lit<, lit≤, inl, inr, eq-eqb}
-use Rattle.std.specs.Prelude.{codes, unsigned_abs, option_map}
-use Rattle.std.specs.Fmt.{signed_decimal}
-use Rattle.std.specs.List.{All, AllByRecursion, flat_map, enumerate_from, join_with_byte}
+use Rattle.std.proofs.Common.{◌≡◌, ℕ, suc, ◌+◌, ◌≤◌, ◌<◌, List, [], ◌∷◌, ◌++◌, Some, Ok, length, refl, sym, ap, ◌∙◌, append_assoc, arith, decimal, lit<, eq-eqb}
+use Rattle.std.specs.Prelude.{codes}
+use Rattle.std.specs.List.{All, AllByRecursion}
 use Rattle.std.proofs.lemmas.Grind.{flat_map-append}
 use Rattle.std.proofs.lemmas.List.{append-nil, length-append}
 use Rattle.std.proofs.lemmas.List.Concat.{flat_map-cons}
 use Rattle.std.proofs.lemmas.List.Elements.{All-head, All-tail}
-use Rattle.tac_base.proofs.Signed.{Lacks, decimal_lacks, signed_lacks}
+use Rattle.tac_base.proofs.Signed.{Lacks, decimal_lacks}
 use Rattle.auction_rules.specs.History.{Entry}
 use Rattle.trade_ledger.specs.declared.cash_calls.CashEntry.{CashEntry}
-use Rattle.text_forms.specs.declared.lines.BadLine.{BadLine}
-use Rattle.text_forms.specs.Words.{parts_of, words_of}
-use Rattle.text_forms.specs.Rows.{row_text}
-use Rattle.text_forms.specs.Lines.{NumberedLine, Remaining, lines_from, text_of, due_of, at_line, first_number, with_line, block_in, block_of, nothing_left}
+use Rattle.text_forms.specs.Lines.{Remaining, text_of, first_number, block_in, block_of, nothing_left}
 use Rattle.text_forms.specs.Steps.{◌>>=◌, repeat, lines_of_parts, one_line}
 use Rattle.text_forms.proofs.PrintedLines.{join_lacks}
 use Rattle.packages.specs.declared.travel_packages.Package.{Package}
@@ -21,22 +17,17 @@ use Rattle.packages.specs.declared.travel_packages.Package.TheVariants as packag
 use Rattle.packages.specs.Packages.{IsPackage}
 use Rattle.bound_cert.specs.Trees.{Tree, leaf, split, IsCertificate}
 use Rattle.bound_cert.specs.Texts.{tree_lines, cert_text}
-use Rattle.bound_cert.specs.Reading.{cert_of}
 use Rattle.bound_cert.proofs.TreesAgain.{text_again}
 use Rattle.score_sheet.specs.Sheets.{Scored}
 use Rattle.line_protocol.specs.Heads.{Head}
 use Rattle.line_protocol.proofs.JoinedWords.{lacks}
-use Rattle.log_text.specs.LogText.{cash_text, histories_text, first_lines}
-use Rattle.log_text.specs.SheetText.{score_line, package_line, cert_line, agent_lines, sheet_lines, sheet_part}
-use Rattle.log_text.specs.HeadForms.{formed, is_text}
-use Rattle.log_text.specs.SheetForms.{read_score, package_of, read_count}
-use Rattle.log_text.specs.LogReading.{line_by, cert_by, block_by, cert_in, score_in, head_in, history_in, cash_in, log_in}
-use Rattle.log_text.specs.LoggedGames.{LoggedGame, logged_text, IsLoggedScore, IsLogged}
+use Rattle.log_text.specs.{cash_text, histories_text, first_lines, score_line, package_line, cert_line, agent_lines, sheet_part, is_text, read_score, package_of, LoggedGame, logged_text, IsLoggedScore, IsLogged}
+use Rattle.log_text.specs.LogReading.{line_by, cert_in, score_in, head_in, history_in, cash_in, log_in}
 use Rattle.log_text.proofs.SheetFormLaws.{score_again, package_again, count_again, package_lacks, score_lacks}
 use Rattle.log_text.proofs.TreesCut.{tree_lacks}
 use Rattle.log_text.proofs.Taking.{bytes_of_parts, AllFrom, parts_of_lines}
-use Rattle.log_text.proofs.Giving.{Any, and_then, at, next_at, in_front, line_given, GivesBytes, Keeps, repeat_given}
-use Rattle.log_text.proofs.LogGiving.{whole_line, text_given, head_given, histories_given, any_kept}
+use Rattle.log_text.proofs.Giving.{Any, and_then, at, next_at, in_front, line_given, GivesBytes, repeat_given}
+use Rattle.log_text.proofs.LogGiving.{text_given, head_given, histories_given, any_kept}
 
 -- ---- certificates
 

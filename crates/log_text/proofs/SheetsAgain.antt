@@ -12,9 +12,7 @@ use Rattle.bound_cert.specs.Trees.{Tree}
 use Rattle.auction_core.specs.ClosedGame.{ClosedGame}
 use Rattle.score_sheet.specs.Sheets.{Scored}
 use Rattle.line_protocol.specs.Heads.{Head}
-use Rattle.log_text.specs.Logged.{IsNumber, IsSigned, IsHead, IsPlayed, HaveOneHistory}
-use Rattle.log_text.specs.LoggedSheet.{IsShownPackage, IsKnownScore, IsShownScore, IsShownSheet}
-use Rattle.log_text.specs.SheetText.{score_line, package_line, cert_line, agent_lines, sheet_lines, sheet_part, log_text}
+use Rattle.log_text.specs.{IsNumber, IsSigned, IsHead, IsPlayed, HaveOneHistory, IsShownPackage, IsKnownScore, IsShownScore, IsShownSheet, score_line, package_line, cert_line, agent_lines, sheet_lines, sheet_part, log_text}
 use Rattle.log_text.proofs.Cuts.{IsWord, row, row_same, number_word}
 use Rattle.log_text.proofs.Trades.{known_word}
 use Rattle.std.proofs.lemmas.List.{append_cancel_left, length-append, length-map}

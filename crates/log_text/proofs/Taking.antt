@@ -2,7 +2,6 @@
 use Rattle.std.proofs.Common.{◌≡◌, ℕ, zero, suc, ◌+◌, ◌≤◌, ◌⊎◌, inl, inr, Bool, true, false, cond, List, [], ◌∷◌, ◌++◌, Option, Some, None, Result, Ok, Err, length, map, refl, sym, ap, ◌∙◌, subst, append_assoc, arith}
 use Rattle.std.specs.Prelude.{⊤}
 use Rattle.std.specs.List.{All, AllByRecursion, flat_map, enumerate_from, join_with_byte}
-use Rattle.std.proofs.lemmas.Option.{same_Some}
 use Rattle.std.proofs.lemmas.Grind.{flat_map-append}
 use Rattle.std.proofs.lemmas.List.{append-nil}
 use Rattle.std.proofs.lemmas.List.Concat.{flat_map-cons}
@@ -13,8 +12,8 @@ use Rattle.text_forms.specs.declared.lines.Reason.{Reason}
 use Rattle.text_forms.specs.declared.lines.Reason.TheVariants.{TextEnd}
 use Rattle.text_forms.specs.declared.lines.BadLine.{BadLine}
 use Rattle.text_forms.specs.Words.{parts_of}
-use Rattle.text_forms.specs.Lines.{NumberedLine, Remaining, lines_from, text_of, due_of, nothing_left, AreLinesLeft, is_nothing}
-use Rattle.text_forms.specs.Steps.{◌>>=◌, read_by, repeat, lines_of_parts}
+use Rattle.text_forms.specs.Lines.{Remaining, lines_from, text_of, due_of, nothing_left, is_nothing}
+use Rattle.text_forms.specs.Steps.{◌>>=◌, repeat, lines_of_parts}
 use Rattle.text_forms.proofs.Reading.{Took, bind_ok, ok_is, read_took, took_all}
 use Rattle.log_text.specs.HeadForms.{formed}
 use Rattle.log_text.specs.LogReading.{line_by, begins, refused_line, as_long_as}

@@ -15,8 +15,7 @@ use Rattle.line_protocol.specs.Replies.{reply_text}
 use Rattle.auction_rules.specs.History.{Entry}
 use Rattle.auction_core.specs.Auctions.{AuctionHistory}
 use Rattle.log_text.proofs.InOrder.{kept_text}
-use Rattle.log_text.specs.LogText.{call_text, trade_line, entry_line, entry_text, auction_line}
-use Rattle.log_text.specs.Logged.{AreTradeNumbers, IsShownEntry, IsAuction}
+use Rattle.log_text.specs.{call_text, trade_line, entry_line, entry_text, auction_line, AreTradeNumbers, IsShownEntry, IsAuction}
 use Rattle.log_text.proofs.Cuts.{cut_same, lacks_append, IsWord, row, row_same, number_word, pieces_cons}
 use Rattle.log_text.proofs.Items.{both_all}
 use Rattle.log_text.proofs.Answered.{call_same, reply_same, call_lacks, reply_lacks}

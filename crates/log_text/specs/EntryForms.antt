@@ -1,5 +1,5 @@
 -- How the lines of the histories are read.
-use Rattle.std.specs.Prelude.{ℕ, ◌-◌, ◌==◌, ◌&&◌, Bool, true, false, if◌then◌else◌, List, [], ◌∷◌, ℤ, pos, negsuc, Option, Some, None, Result, Ok, Err, codes, length, take, drop, replicate, slice_index, slice_index_or}
+use Rattle.std.specs.Prelude.{ℕ, ◌-◌, ◌==◌, ◌&&◌, Bool, true, false, if◌then◌else◌, List, [], ◌∷◌, ℤ, pos, negsuc, Option, Some, None, Result, Ok, Err, codes, length, take, drop, replicate, slice_index}
 use Rattle.std.specs.List.{join_with_byte}
 use Rattle.std.specs.Str.{bytes_eq}
 use Rattle.tac_base.specs.declared.limits.TheConstants.{AUCTION_ENTRIES, CASH_ENTRIES, BID_UNITS, BID_PRICE, CASH_DIGITS, UPDATE_TICKS, LAST_POSITION}
@@ -10,6 +10,7 @@ use Rattle.tac_base.specs.declared.calls.Call.TheVariants as calls
 use Rattle.tac_base.specs.declared.calls.Reply.{Reply}
 use Rattle.tac_base.specs.declared.calls.Trade.{Trade}
 use Rattle.tac_base.specs.Numerals.{signed_numeral}
+use Rattle.tac_base.specs.Goods.{clock, house}
 use Rattle.text_forms.specs.declared.rows.Column.{Column}
 use Rattle.text_forms.specs.declared.rows.Digits.TheVariants.{Ten}
 use Rattle.text_forms.specs.Words.{parts_of, words_of}
@@ -33,7 +34,7 @@ auction_of good line =
     >>= λ numbers. if number_at numbers 0 == good then Some (number_at numbers 1) else None
 
 abbrev pub trade_columns : List Column
-trade_columns = within 0 8 ∷ within 0 8 ∷ within 1 BID_UNITS ∷ within 0 BID_PRICE ∷ []
+trade_columns = within 0 house ∷ within 0 house ∷ within 1 BID_UNITS ∷ within 0 BID_PRICE ∷ []
 
 -- the trade of a line, in the auction of a good
 unfoldable pub trade_of : ℕ → List ℕ → Option Trade
@@ -96,7 +97,7 @@ sides_of (call ∷ part ∷ parts) = before_space call >>= λ left. after_space 
 -- the caller, the call and the reply of the line of an entry
 unfoldable pub read_entry : List ℕ → Option (ℕ × Call × Reply)
 read_entry line =
-    read_caller 8 line >>= λ called.
+    read_caller clock line >>= λ called.
     sides_of (parts_of 61 called.1) >>= λ sides.
     read_call sides.0 >>= λ call.
     answer_of sides.1 >>= λ reply.
@@ -151,8 +152,8 @@ starts_post text = first_is (codes "post") (words_of text)
 abbrev pub cash_entry_by : ℕ → List ℕ → Option CashEntry
 cash_entry_by caller text =
     if starts_post text then post_of caller text
-    else if caller == 8 then None
+    else if caller == clock then None
     else read_reading caller (words_of text)
 
 unfoldable pub cash_entry_of : List ℕ → Option CashEntry
-cash_entry_of line = read_caller 8 line >>= λ called. cash_entry_by called.0 called.1
+cash_entry_of line = read_caller clock line >>= λ called. cash_entry_by called.0 called.1

@@ -1,8 +1,7 @@
 -- How a log is read, line by line.
 use Rattle.std.specs.Prelude.{ℕ, zero, suc, ◌+◌, ◌==◌, Bool, true, false, if◌then◌else◌, List, [], ◌∷◌, Option, Some, None, Result, Ok, Err, codes}
 use Rattle.std.specs.Str.{bytes_eq}
-use Rattle.tac_base.specs.declared.limits.TheConstants.{ENTRY_TRADES, TEXT_BYTES}
-use Rattle.tac_base.specs.declared.calls.Trade.{Trade}
+use Rattle.tac_base.specs.declared.limits.TheConstants.{AGENTS, ENTRY_TRADES, GOODS, TEXT_BYTES}
 use Rattle.auction_rules.specs.History.{Entry}
 use Rattle.trade_ledger.specs.declared.cash_calls.CashEntry.{CashEntry}
 use Rattle.text_forms.specs.declared.lines.Reason.TheVariants.{TextEnd}
@@ -10,14 +9,11 @@ use Rattle.text_forms.specs.declared.lines.BadLine.{BadLine}
 use Rattle.text_forms.specs.Words.{words_of}
 use Rattle.text_forms.specs.Lines.{NumberedLine, Remaining, due_of, at_line, block_of, nothing_left}
 use Rattle.text_forms.specs.Steps.{◌>>=◌, read_by, repeat}
-use Rattle.packages.specs.declared.travel_packages.Package.{Package}
 use Rattle.bound_cert.specs.Trees.{Tree}
 use Rattle.bound_cert.specs.declared.faults.CertFault.{CertFault}
 use Rattle.bound_cert.specs.declared.faults.CertFault.TheVariants as certs
 use Rattle.bound_cert.specs.Reading.{cert_of}
 use Rattle.score_sheet.specs.Sheets.{Scored}
-use Rattle.line_protocol.specs.declared.admission.Verdict.{Verdict}
-use Rattle.line_protocol.specs.declared.admission.Cause.{Cause}
 use Rattle.line_protocol.specs.Heads.{Head, Play, Serve}
 use Rattle.log_text.specs.HeadForms.{formed, is_text, read_link, read_end, read_missed}
 use Rattle.log_text.specs.EntryForms.{first_is, auction_of, trade_of, read_entry, read_cash_line, cash_entry_of}
@@ -127,10 +123,10 @@ score_in agent left = do
 unfoldable pub log_in : Remaining → Result LoggedGame BadLine
 log_in left = do
   head ← head_in left
-  histories ← repeat 28 0 history_in head.1
+  histories ← repeat GOODS 0 history_in head.1
   cash ← cash_in histories.1
   sheet ← line_by (is_text (codes "sheet")) cash.1
-  scores ← repeat 8 0 score_in sheet.1
+  scores ← repeat AGENTS 0 score_in sheet.1
   end ← line_by (is_text (codes "end")) scores.1
   done ← nothing_left end.1
   Ok (record { head = head.0; histories = histories.0; cash = cash.0; scores = scores.0 })

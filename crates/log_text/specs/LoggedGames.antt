@@ -1,7 +1,7 @@
 -- What a log says, which values it may have, and its text.
 use Rattle.std.specs.Prelude.{◌≡◌, ℕ, ◌+◌, ◌<◌, ◌≤◌, ◌^◌, ⊤, List, [], ◌∷◌, ◌++◌, length, unsigned_abs}
 use Rattle.std.specs.List.{All}
-use Rattle.tac_base.specs.declared.limits.TheConstants.{CASH_ENTRIES, TEXT_BYTES, BEST_TOTAL}
+use Rattle.tac_base.specs.declared.limits.TheConstants.{AGENTS, BEST_TOTAL, CASH_ENTRIES, GOODS, TEXT_BYTES}
 use Rattle.tac_base.specs.Ranges.{IsPost, IsCashReading}
 use Rattle.auction_rules.specs.History.{Entry}
 use Rattle.auction_core.specs.Ranges.{IsHistory}
@@ -85,9 +85,9 @@ AreHistories good (history ∷ histories) = IsHistory good history × AreHistori
 -- a log in its ranges
 pub record IsLogged (log : LoggedGame) : Type 0 where
   pub head : IsLoggedHead log.head
-  pub goods : length log.histories ≡ 28
+  pub goods : length log.histories ≡ GOODS
   pub histories : AreHistories 0 log.histories
   pub few_cash : length log.cash ≤ CASH_ENTRIES
   pub cash : All IsLoggedCashEntry log.cash
-  pub agents : length log.scores ≡ 8
+  pub agents : length log.scores ≡ AGENTS
   pub scores : All IsLoggedScore log.scores

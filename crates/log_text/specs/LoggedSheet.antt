@@ -1,6 +1,7 @@
 -- Which sheets have different texts.
 use Rattle.std.specs.Prelude.{◌≡◌, ℕ, ⊤, List, length, slice_index}
 use Rattle.std.specs.List.{AllByRecursion}
+use Rattle.tac_base.specs.declared.limits.TheConstants.{AGENTS}
 use Rattle.packages.specs.declared.travel_packages.Package.{Package}
 use Rattle.packages.specs.declared.travel_packages.Package.TheVariants.{None, Trip}
 use Rattle.bound_cert.specs.Texts.{tree_lines}
@@ -36,5 +37,5 @@ pub record IsShownScore (scored : Scored) : Type 0 where
 
 -- the scores of eight agents
 pub record IsShownSheet (sheet : List Scored) : Type 0 where
-  pub count : length sheet ≡ 8
+  pub count : length sheet ≡ AGENTS
   pub scores : AllByRecursion IsShownScore sheet

@@ -5,10 +5,7 @@ ghost use Rattle.text_forms.specs.Lines.{lines_from};
 ghost use Rattle.auction_core.specs.ClosedGame.{ClosedGame};
 ghost use Rattle.score_sheet.specs.Sheets.{Scored};
 ghost use Rattle.line_protocol.specs.Heads.{Head};
-ghost use Rattle.log_text.specs.LogText.{histories_of};
-ghost use Rattle.log_text.specs.SheetText.{log_text};
-ghost use Rattle.log_text.specs.LoggedGames.{LoggedGame, IsLogged, logged_text};
-ghost use Rattle.log_text.specs.LogReading.{log_in};
+ghost use Rattle.log_text.specs.{histories_of, log_text, LoggedGame, IsLogged, logged_text, log_in};
 
 /// The law of reading logs, as this call's contract: what is read of a text is a log in its ranges, whose text it is; each log in its
 /// ranges is read as itself, if its text is no longer than 67,108,864 bytes; and the log of a game is the text of what it says.

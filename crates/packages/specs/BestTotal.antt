@@ -2,6 +2,7 @@
 use Rattle.std.specs.Prelude.{◌≡◌, ℕ, ◌+◌, ◌<◌, ◌≤◌, List, [], ◌∷◌, length}
 use Rattle.std.specs.List.{All, sum_by}
 use Rattle.tac_base.specs.Clients.{Preferences}
+use Rattle.tac_base.specs.declared.limits.TheConstants.{GOODS}
 use Rattle.game_text.specs.Accounts.{AccountFile}
 use Rattle.packages.specs.declared.travel_packages.Package.{Package}
 use Rattle.packages.specs.Packages.{IsPackage, use_of, utility_of}
@@ -21,7 +22,7 @@ total_of (client ∷ clients) (p ∷ ps) = utility_of client p + total_of client
 pub record IsFeasible (account : AccountFile) (allocation : List Package) : Type 0 where
   pub eight : length allocation ≡ 8
   pub lawful : All IsPackage allocation
-  pub enough : (good : ℕ) → good < 28 → used_by allocation good ≤ stock_of account.holdings good
+  pub enough : (good : ℕ) → good < GOODS → used_by allocation good ≤ stock_of account.holdings good
 
 -- some feasible allocation is worth the total, and none is worth more
 pub record IsBest (account : AccountFile) (total : ℕ) : Type 0 where

@@ -3,6 +3,7 @@ use Rattle.std.specs.Prelude.{ℕ, zero, suc, ◌+◌, ◌*◌, ℤ, pos, ◌+�
 use Rattle.std.specs.List.{filter}
 use Rattle.std.specs.Int.{int_max}
 use Rattle.tac_base.specs.Clients.{Preferences}
+use Rattle.tac_base.specs.declared.limits.TheConstants.{GOODS}
 use Rattle.game_text.specs.Accounts.{AccountFile}
 use Rattle.packages.specs.Stocks.{stock_of}
 use Rattle.packages.specs.declared.travel_packages.Package.{Package}
@@ -20,11 +21,11 @@ sum_below f (suc n) = sum_below f n + f n
 
 -- what a package costs
 abbrev pub cost_of : List ℕ → Package → ℕ
-cost_of prices p = sum_below (λ good. slice_index prices good * use_of p good) 28
+cost_of prices p = sum_below (λ good. slice_index prices good * use_of p good) GOODS
 
 -- what the stock costs
 abbrev pub stock_value : List ℤ → List ℕ → ℕ
-stock_value holdings prices = sum_below (λ good. slice_index prices good * stock_of holdings good) 28
+stock_value holdings prices = sum_below (λ good. slice_index prices good * stock_of holdings good) GOODS
 
 -- what a package is worth to a client beyond its cost
 abbrev pub margin_of : Preferences → List ℕ → Package → ℤ

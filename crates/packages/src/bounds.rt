@@ -12,6 +12,7 @@ use crate::prices::Prices;
 use crate::travel_packages::Package;
 use crate::utilities::utility;
 use game_text::Account;
+use tac_base::limits::GOODS;
 use tac_base::Client;
 
 /// Which packages each client has left.
@@ -27,7 +28,7 @@ pub trait Narrowing {
 
 /// How many units of a good can be used: none if the agent is short of it. The good's number is 0..27.
 pub fn stock(account: &Account, good: usize) -> u32
-    requires { good < 28 }
+    requires { good < GOODS }
     ensures value { result ≡ stock_of account.now.holdings good }
     ensures few { pos result ≤ℤ HOLDING }
 {
@@ -37,7 +38,7 @@ pub fn stock(account: &Account, good: usize) -> u32
 
 /// What the stock of one good costs.
 fn stock_value_at(account: &Account, prices: &Prices, good: usize) -> u64
-    requires { good < 28 }
+    requires { good < GOODS }
     ensures value { result ≡ slice_index prices.now good * stock_of account.now.holdings good }
     ensures few { result ≤ 2 ^ 48 }
 {
@@ -48,7 +49,7 @@ fn stock_value_at(account: &Account, prices: &Prices, good: usize) -> u64
 #[tactic(auto, using(crate::proofs::Sums::sum_below_more, crate::proofs::Sums::sum_below_none))]
 pub fn stock_value(account: &Account, prices: &Prices) -> u64
     ensures value { result ≡ bounds.stock_value account.now.holdings prices.now }
-    ensures few { result ≤ 28 * 2 ^ 48 }
+    ensures few { result ≤ GOODS * 2 ^ 48 }
 {
     let mut total = 0;
     for good in 0..28 {

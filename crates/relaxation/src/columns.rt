@@ -1,5 +1,6 @@
 // The columns of the linear program.
 ghost use Rattle.std.specs.Prelude.{◌≡◌, ◌<◌};
+ghost use Rattle.tac_base.specs.declared.limits.TheConstants.{GOODS};
 ghost use Rattle.packages.specs.Packages.{IsPackage};
 
 use packages::{Package, package};
@@ -16,7 +17,7 @@ pub(crate) const ROWS: usize = GOOD_ROWS + AGENTS as usize;
 #[derive(Clone, Copy)]
 pub(crate) struct GoodRow {
     pub(crate) good: usize,
-    ghost is_good: { good < 28 },
+    ghost is_good: { good < GOODS },
 }
 
 /// A package of a client, both by number.

@@ -5,7 +5,7 @@ use crate::charges::charges;
 use crate::columns::{ClientPackage, Column, Entering, GOOD_ROWS, GoodRow};
 use crate::tableau::{Row, TOLERANCE, Tableau};
 use crate::worth_table::WorthTable;
-use tac_base::limits::DUAL_PRICE;
+use tac_base::limits::{DUAL_PRICE, GOODS};
 
 /// At most so many columns enter.
 const MOST_STEPS: u32 = 2000;
@@ -143,7 +143,7 @@ fn after(turn: usize, column: &Column) -> usize
 /// The slack or the surplus of a good, 0..27, whichever keeps its price to the nearer limit; the reduced cost is below 0 where the price is
 /// within the limits.
 fn beyond(prices: &Row, limits: &Limits, good: usize) -> Entering
-    requires { good < 28 }
+    requires { good < GOODS }
 {
     let below = limits.low[good] - prices[good];
     let above = prices[good] - limits.high[good];

@@ -9,7 +9,7 @@ use crate::tableau::{Row, TOLERANCE, Tableau, WIDTH};
 use crate::worth_table::WorthTable;
 use packages::Prices;
 use std::num::saturating_f64_to_u16;
-use tac_base::limits::DUAL_PRICE;
+use tac_base::limits::{DUAL_PRICE, GOODS};
 
 /// One more than the prices that can be kept at whole dollars in turn.
 const MOST_KEPT: u32 = 29;
@@ -133,7 +133,7 @@ impl Relaxation {
 impl Tableau {
     /// The price of a good, 0..27, raised by a part of a dollar and then cut to whole dollars.
     fn price(&self, good: usize, shift: f64) -> u16
-        requires { good < 28 }
+        requires { good < GOODS }
         ensures { result ≤ DUAL_PRICE }
     {
         whole(self.prices[good] + shift)
@@ -150,7 +150,7 @@ impl Tableau {
 
     /// Whether the price of a good, 0..27, is between whole dollars.
     pub(crate) fn is_between(&self, good: usize) -> bool
-        requires { good < 28 }
+        requires { good < GOODS }
     {
         let price = self.prices[good].min(f64::from(DUAL_PRICE));
         price - f64::from(self.price(good, TOLERANCE)) > TOLERANCE
@@ -158,7 +158,7 @@ impl Tableau {
 
     /// A good whose price is between whole dollars.
     fn fractional(&self) -> Option<usize>
-        ensures { IfSome result (λ good. good < 28) }
+        ensures { IfSome result (λ good. good < GOODS) }
     {
         for good in 0..28 {
             if self.is_between(good) {

@@ -1,5 +1,6 @@
 -- The sheet of a game: what each agent's score is, and why.
 use Rattle.std.specs.Prelude.{◌≡◌, ℕ, List, [], ℤ, pos, Some, length, slice_get, slice_index_or}
+use Rattle.tac_base.specs.declared.limits.TheConstants.{AGENTS}
 use Rattle.game_text.specs.Accounts.{AccountFile}
 use Rattle.game_text.specs.Games.{GameFile}
 use Rattle.packages.specs.declared.travel_packages.Package.{Package}
@@ -34,5 +35,5 @@ IsDueScore game settlement agent scored = IsScored (agents_account game settleme
 
 -- the scores of the eight agents, in their order
 pub record IsSheet (game : GameFile) (settlement : Settlement) (sheet : List Scored) : Type 0 where
-  pub count : length sheet ≡ 8
+  pub count : length sheet ≡ AGENTS
   pub due : (agent : ℕ) (scored : Scored) → slice_get sheet agent ≡ Some scored → IsDueScore game settlement agent scored

@@ -7,6 +7,7 @@ use crate::settling::Accounts;
 use game_text::Game;
 use std::alloc::{AllocError, Global};
 use std::thread::{Threads, map_indices};
+use tac_base::limits::AGENTS;
 use tac_base::Memory;
 
 /// Scores the eight agents, each in a thread of its own if threads can be made.
@@ -17,14 +18,14 @@ fn score_all<R: Threads + Sync>(
     accounts: &Accounts,
 ) -> Result<Vec<Result<AgentScore, Memory>>, AllocError>
     ensures count { IfOk result (λ found. vec_len found ≡ 8) }
-    ensures due { IfOk result (λ found. (agent : ℕ) (d : _) → agent < 8 → IfOk (slice_index_or found.items agent d) (IsDueScore game.now accounts.now agent)) }
+    ensures due { IfOk result (λ found. (agent : ℕ) (d : _) → agent < AGENTS → IfOk (slice_index_or found.items agent d) (IsDueScore game.now accounts.now agent)) }
 {
     map_indices(
         rt,
         alloc,
         8,
         &|agent: usize| -> Result<AgentScore, Memory>
-            requires { agent < 8 }
+            requires { agent < AGENTS }
             ensures { IfOk result (IsDueScore game.entry.now accounts.entry.now agent) }
         { score_agent(alloc, game, accounts, agent) },
     )

@@ -13,6 +13,7 @@ use allocator::{Solved, solve};
 use game_text::{Account, Game};
 use std::alloc::Global;
 use std::marker::Model;
+use tac_base::limits::AGENTS;
 use tac_base::Memory;
 
 /// The score of an agent with its parts.
@@ -110,7 +111,7 @@ pub fn short(holdings: &[i32]) -> u32
 
 /// The account of an agent, 0..7.
 fn account(game: &Game, accounts: &Accounts, agent: usize) -> Account
-    requires { agent < 8 }
+    requires { agent < AGENTS }
     ensures { result ≡ agents_account game.now accounts.now agent }
 {
     Account {
@@ -121,7 +122,7 @@ fn account(game: &Game, accounts: &Accounts, agent: usize) -> Account
 
 /// The cash of an agent, 0..7.
 fn cash(accounts: &Accounts, agent: usize) -> i64
-    requires { agent < 8 }
+    requires { agent < AGENTS }
     ensures value { result ≡ slice_index_or accounts.now.cash agent (pos 0) }
     ensures bound { IsWithin 1000000000000000 result }
 {
@@ -144,7 +145,7 @@ pub(crate) fn score_agent(
     accounts: &Accounts,
     agent: usize,
 ) -> Result<AgentScore, Memory>
-    requires { agent < 8 }
+    requires { agent < AGENTS }
     ensures { IfOk result (IsDueScore game.now accounts.now agent) }
 {
     let account = account(game, accounts, agent);

@@ -10,9 +10,7 @@ use Rattle.script_run.specs.declared.fault.ScriptFault.{ScriptFault}
 use Rattle.script_run.specs.declared.fault.ScriptFault.TheVariants as scripts
 use Rattle.script_run.specs.declared.game.lines.GameLine.{GameLine}
 use Rattle.script_run.specs.declared.game.stepping.Stepper.{Stepper}
-use Rattle.script_run.specs.HeardScripts.{Heard, heard_from}
-use Rattle.script_run.specs.OneThreadRun.{replies}
-use Rattle.script_run.specs.Stepping.{Answered, HasAnswered, IsStepping, StopsAt, stopped_by}
+use Rattle.script_run.specs.{Heard, heard_from, replies, Answered, HasAnswered, IsStepping, StopsAt, stopped_by}
 use Rattle.script_run.proofs.Hearing.{heard_rest}
 
 -- all replies are written once no text is left

@@ -21,8 +21,7 @@ use Rattle.clock_events.specs.Laws.{IsFor, IsDueCall}
 use Rattle.clock_events.specs.MadeCalls.{calls_until}
 use Rattle.clock_events.proofs.MadeCalls.{calls_of_good}
 use Rattle.clock_events.proofs.TickCalls.{tick_done}
-use Rattle.script_run.specs.GameStates.{GameState, past_at, entry_at, called, clocked}
-use Rattle.script_run.specs.LawfulGames.{calls_by}
+use Rattle.script_run.specs.{GameState, past_at, entry_at, called, clocked, calls_by}
 use Rattle.script_run.proofs.Counted.{with_entry}
 
 -- the clock's calls in a past, the oldest first

@@ -11,8 +11,7 @@ use Rattle.auction_rules.specs.Effects.{all_trades}
 use Rattle.auction_core.specs.Auctions.{AuctionHistory}
 use Rattle.auction_core.specs.ClosedGame.{ClosedGame}
 use Rattle.script_run.specs.declared.game.play_count.PlayCount.{PlayCount}
-use Rattle.script_run.specs.GameStates.{GameState}
-use Rattle.script_run.specs.OneThreadRun.{auction_with, closed_of, count_in}
+use Rattle.script_run.specs.{GameState, auction_with, closed_of, count_in}
 
 sum_reversed : {X : Type 0} (f : X → ℕ) (xs : List X) → sum_by f (reverse xs) ≡ sum_by f xs
 sum_reversed f [] = refl

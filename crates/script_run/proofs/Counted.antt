@@ -15,8 +15,7 @@ use Rattle.trade_ledger.specs.declared.cash_calls.CashCall.TheVariants.{Post}
 use Rattle.trade_ledger.specs.declared.cash_calls.CashReply.TheVariants.{Done}
 use Rattle.trade_ledger.specs.declared.cash_calls.CashEntry.{CashEntry}
 use Rattle.trade_ledger.specs.Posts.{post_for, due_post}
-use Rattle.script_run.specs.GameStates.{past_at, reads, readings_of, reading_of}
-use Rattle.script_run.specs.Tables.{made}
+use Rattle.script_run.specs.{past_at, reads, readings_of, reading_of, made}
 
 abbrev pub one_if : Bool → ℕ
 one_if b = cond b 1 0

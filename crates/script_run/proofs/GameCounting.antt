@@ -11,8 +11,7 @@ use Rattle.line_protocol.specs.declared.asking.RequestFault.{RequestFault}
 use Rattle.script_run.specs.declared.game.lines.GameLine.{GameLine}
 use Rattle.script_run.specs.declared.game.lines.GameLine.TheVariants.{Asks}
 use Rattle.script_run.specs.declared.game.counts.GameCounts.{GameCounts}
-use Rattle.script_run.specs.GameScripts.{is_tick_line, is_line_of, is_quit, count_of_agent, has_quit, limited_game_line}
-use Rattle.script_run.specs.GameCounts.{AreGameCounts}
+use Rattle.script_run.specs.{is_tick_line, is_line_of, is_quit, count_of_agent, has_quit, limited_game_line, AreGameCounts}
 use Rattle.script_run.proofs.Counted.{count_set}
 
 -- a line of an agent that may stand here

@@ -13,13 +13,7 @@ use Rattle.script_run.specs.declared.fault.StepFault.TheVariants.{Line, TooLong,
 use Rattle.script_run.specs.declared.game.lines.GameLine.{GameLine}
 use Rattle.script_run.specs.declared.game.run.GameRun.{GameRun}
 use Rattle.script_run.specs.declared.game.stepping.Stepper.{Stepper}
-use Rattle.script_run.specs.GameRuns.{HasRunGame}
-use Rattle.script_run.specs.HeardScripts.{Heard, heard, heard_from, heard_lines, Reading, AtEnd, AtFault, Before, Standing, Whole, BadAt, Overlong, BrokenOff, Open, standing, standing_after}
-use Rattle.script_run.specs.OneThreadRun.{replies}
-use Rattle.script_run.specs.ScriptLines.{BadLine}
-use Rattle.script_run.specs.HeardReads.{HasReadCause, IsPrompt, StopsThere}
-use Rattle.script_run.specs.SteppedGames.{StepsGame, Tells}
-use Rattle.script_run.specs.Stepping.{Answered, Ends, HasAnswered, HearsLines, IsStepping, TookMore}
+use Rattle.script_run.specs.{HasRunGame, Heard, heard, heard_from, heard_lines, Reading, AtEnd, AtFault, Before, Standing, Whole, BadAt, Overlong, BrokenOff, Open, standing, standing_after, replies, BadLine, HasReadCause, IsPrompt, StopsThere, StepsGame, Tells, Answered, Ends, HasAnswered, HearsLines, IsStepping, TookMore}
 use Rattle.script_run.proofs.Answering.{all_written}
 use Rattle.script_run.proofs.SteppedGames.{heard_beyond, heard_so_far, heard_within, open_stands, prompt_after, prompt_now, stands_beyond, stands_within, tells_as, took_none, took_replies}
 

@@ -7,11 +7,9 @@ use Rattle.tac_io.specs.LineText.{has_end}
 use Rattle.script_run.specs.declared.game.lines.GameLine.{GameLine}
 use Rattle.script_run.specs.declared.fault.ScriptReason.{ScriptReason}
 use Rattle.script_run.specs.declared.fault.ScriptReason.TheVariants.{NoLineEnd}
-use Rattle.script_run.specs.GameScripts.{judge_game_line, game_script}
+use Rattle.script_run.specs.{judge_game_line, game_script, Heard, heard_from, BadLine, script_lines_from, script_reason_number}
 use Rattle.script_run.specs.HeardScripts as heard
-use Rattle.script_run.specs.HeardScripts.{Heard, heard_from}
 use Rattle.script_run.specs.ScriptLines as scripts
-use Rattle.script_run.specs.ScriptLines.{BadLine, script_lines_from, script_reason_number}
 use Rattle.script_run.proofs.LineParts.{Splits, first_line, line_part, one_part}
 use Rattle.script_run.proofs.ScriptReading.{some_part}
 

@@ -20,11 +20,7 @@ use Rattle.clock_events.specs.MadeCalls.{calls_until}
 use Rattle.trade_ledger.specs.Posts.{Matched}
 use Rattle.game_log.specs.LogText.{histories_of}
 use Rattle.script_run.specs.declared.game.lines.GameLine.{GameLine}
-use Rattle.script_run.specs.GameStates.{GameState, past_at}
-use Rattle.script_run.specs.OneThreadRun.{auction_with, closed_of, whole_game}
-use Rattle.script_run.specs.GameOuts.{closed_game}
-use Rattle.script_run.specs.GameScripts.{game_script}
-use Rattle.script_run.specs.LawfulGames.{closed_history, calls_by, IsLawfulGame}
+use Rattle.script_run.specs.{GameState, past_at, auction_with, closed_of, whole_game, closed_game, game_script, closed_history, calls_by, IsLawfulGame}
 use Rattle.script_run.proofs.Counted.{entries_of-reverse}
 use Rattle.script_run.proofs.LawfulSteps.{IsOnTime, time_whole}
 use Rattle.script_run.proofs.LineRanges.{script_low}

@@ -34,9 +34,7 @@ use Rattle.line_protocol.specs.declared.saying.Said.{Said}
 use Rattle.line_protocol.specs.declared.saying.Said.TheVariants as said
 use Rattle.script_run.specs.declared.game.lines.GameLine.{GameLine}
 use Rattle.script_run.specs.declared.game.lines.GameLine.TheVariants.{Tick, Asks}
-use Rattle.script_run.specs.GameStates.{GameState, opening, past_at, entry_at, called, reading_of, readings_of, call_turn, cash_turn, turn, clocked, ticked}
-use Rattle.script_run.specs.OneThreadRun.{played, ticked_often, whole_game}
-use Rattle.script_run.specs.LawfulGames.{IsAskedInRange, IsLine}
+use Rattle.script_run.specs.{GameState, opening, past_at, entry_at, called, reading_of, readings_of, call_turn, cash_turn, turn, clocked, ticked, played, ticked_often, whole_game, IsAskedInRange, IsLine}
 use Rattle.script_run.proofs.ClockParts.{clock_made, agent_made, clocked_made, past_there, past_elsewhere, IsOfGood, tick_low, until_next}
 use Rattle.script_run.proofs.Counted.{one_if, one_if_other, one_if_le, with_entry}
 use Rattle.script_run.proofs.OwedPosts.{owed, owed_more, posts_more, posts_read}

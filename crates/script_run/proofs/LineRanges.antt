@@ -13,11 +13,8 @@ use Rattle.script_run.specs.declared.fault.ScriptReason.{ScriptReason}
 use Rattle.script_run.specs.declared.fault.ScriptReason.TheVariants.{Form, Ended, NoLineEnd, TooMany}
 use Rattle.script_run.specs.declared.game.lines.GameLine.{GameLine}
 use Rattle.script_run.specs.declared.game.lines.GameLine.TheVariants.{Tick, Asks}
-use Rattle.script_run.specs.HotelLines.{agent_of}
-use Rattle.script_run.specs.ScriptLines.{BadLine, script_reason_number, then_lines, script_lines_from}
+use Rattle.script_run.specs.{agent_of, BadLine, script_reason_number, then_lines, script_lines_from, ticks_of, count_of_agent, has_quit, limited_game_line, judged_game_line, judge_game_line, game_script, IsAskedInRange, IsLine}
 use Rattle.script_run.specs.GameLines.{asks_of, request_line, game_line_of}
-use Rattle.script_run.specs.GameScripts.{ticks_of, count_of_agent, has_quit, limited_game_line, judged_game_line, judge_game_line, game_script}
-use Rattle.script_run.specs.LawfulGames.{IsAskedInRange, IsLine}
 
 abbrev read : GameLine → Result GameLine ScriptReason
 read line = Ok line

@@ -17,9 +17,7 @@ use Rattle.trade_ledger.specs.Posts.{due_post}
 use Rattle.auction_core.specs.Setups.{setup_of}
 use Rattle.auction_core.specs.Auctions.{AuctionHistory}
 use Rattle.auction_core.specs.ClosedGame.{all_goods}
-use Rattle.script_run.specs.GameStates.{past_at, called}
-use Rattle.script_run.specs.OneThreadRun.{auction_with, closed_of}
-use Rattle.script_run.specs.OpenGames.{pasts_of, setups_of, all_setups, state_of}
+use Rattle.script_run.specs.{past_at, called, auction_with, closed_of, pasts_of, setups_of, all_setups, state_of}
 use Rattle.script_run.proofs.Counted.{entries_of-reverse}
 
 -- the auction of a good before the first call

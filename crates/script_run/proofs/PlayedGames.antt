@@ -20,13 +20,7 @@ use Rattle.script_run.specs.declared.fault.ScriptFault.{ScriptFault}
 use Rattle.script_run.specs.declared.fault.ScriptFault.TheVariants.{Line, TooLong, Failed, Memory}
 use Rattle.script_run.specs.declared.game.play_count.PlayCount.{PlayCount}
 use Rattle.script_run.specs.declared.game.playing.FinishedGame.{FinishedGame}
-use Rattle.script_run.specs.GameScripts.{judge_game_line}
-use Rattle.script_run.specs.GameRuns.{HasRunGame, PlaysGameLine, PlaysLines}
-use Rattle.script_run.specs.GameOuts.{closed_game, first_out, play_out, IsGoodScript}
-use Rattle.script_run.specs.PlayOuts.{IsPlayOut, IsFirstOut, PlaysScript}
-use Rattle.script_run.specs.OneThreadRun.{whole_game, count_in}
-use Rattle.script_run.specs.PlayedGames.{HasPlayed, PlaysToEnd, WritesPlayed, first_text}
-use Rattle.script_run.specs.QuietRuns.{PlaysQuietly}
+use Rattle.script_run.specs.{judge_game_line, HasRunGame, PlaysGameLine, PlaysLines, closed_game, first_out, play_out, IsGoodScript, IsPlayOut, IsFirstOut, PlaysScript, whole_game, count_in, HasPlayed, PlaysToEnd, WritesPlayed, first_text, PlaysQuietly}
 use Rattle.script_run.proofs.ClosedCounts.{counted, count_closed}
 use Rattle.script_run.proofs.ScriptReading.{HasRead, stops}
 

@@ -14,14 +14,11 @@ use Rattle.auction_core.specs.Auctions.{AuctionHistory}
 use Rattle.auction_core.proofs.Counting.{length-part}
 use Rattle.script_run.specs.declared.hotel.lines.HotelLine.{HotelLine}
 use Rattle.script_run.specs.declared.hotel.run.HotelRun.{HotelRun}
-use Rattle.script_run.specs.HotelLines.{asked}
-use Rattle.script_run.specs.HotelScripts.{count_of_caller, judged_hotel_line, judge_hotel_line, one_hotel, script_past, hotel_entry_text, hotel_out}
+use Rattle.script_run.specs.{asked, count_of_caller, judged_hotel_line, judge_hotel_line, one_hotel, script_past, hotel_entry_text, hotel_out, hotel_called, HasRunHotel, RunsHotelLine, RunsLines}
 use Rattle.script_run.specs.declared.fault.ScriptReason.{ScriptReason}
 use Rattle.script_run.specs.declared.fault.ScriptReason.TheVariants.{TooMany, TooManyOfCaller}
 use Rattle.script_run.specs.declared.fault.ScriptFault.{ScriptFault}
 use Rattle.script_run.specs.declared.fault.ScriptFault.TheVariants.{Line, TooLong, Failed, Memory}
-use Rattle.script_run.specs.HotelRuns.{hotel_called, HasRunHotel, RunsHotelLine}
-use Rattle.script_run.specs.HotelOuts.{RunsLines}
 use Rattle.script_run.proofs.ScriptReading.{HasRead, stops}
 
 -- some lines of a script were run

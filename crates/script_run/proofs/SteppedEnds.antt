@@ -19,14 +19,7 @@ use Rattle.script_run.specs.declared.fault.StepFault.TheVariants.{Unwritten, Mem
 use Rattle.script_run.specs.declared.game.lines.GameLine.{GameLine}
 use Rattle.script_run.specs.declared.game.run.GameRun.{GameRun}
 use Rattle.script_run.specs.declared.game.playing.FinishedGame.{FinishedGame}
-use Rattle.script_run.specs.GameOuts.{first_out, IsGoodScript}
-use Rattle.script_run.specs.GameRuns.{HasRunGame}
-use Rattle.script_run.specs.HeardScripts.{heard_lines, AtEnd, Whole}
-use Rattle.script_run.specs.OneThreadRun.{replies}
-use Rattle.script_run.specs.PlayedGames.{IsEnd, WritesPlayed, first_text}
-use Rattle.script_run.specs.PlayOuts.{IsFirstOut, IsPlayOut}
-use Rattle.script_run.specs.SteppedGames.{StepsGame, TellsGame}
-use Rattle.script_run.specs.Stepping.{HearsLines, TookMore, stopped_by}
+use Rattle.script_run.specs.{first_out, IsGoodScript, HasRunGame, heard_lines, AtEnd, Whole, replies, IsEnd, WritesPlayed, first_text, IsFirstOut, IsPlayOut, StepsGame, TellsGame, HearsLines, TookMore, stopped_by}
 use Rattle.script_run.proofs.SteppedGames.{prompt_now, tells_as}
 use Rattle.script_run.proofs.StoodScripts.{whole_is}
 

@@ -12,12 +12,7 @@ use Rattle.tac_io.specs.Taken.{TookWhole}
 use Rattle.script_run.specs.declared.fault.StepFault.{StepFault}
 use Rattle.script_run.specs.declared.game.lines.GameLine.{GameLine}
 use Rattle.script_run.specs.declared.game.stepping.Stepper.{Stepper}
-use Rattle.script_run.specs.HeardScripts.{Heard, heard, heard_from, heard_lines, Reading, Before, Standing, Overlong, Open, standing, standing_after}
-use Rattle.script_run.specs.OneThreadRun.{replies}
-use Rattle.script_run.specs.ScriptLines.{BadLine}
-use Rattle.script_run.specs.HeardReads.{IsPrompt}
-use Rattle.script_run.specs.SteppedGames.{Tells}
-use Rattle.script_run.specs.Stepping.{IsStepping, HasAnswered, TookMore}
+use Rattle.script_run.specs.{Heard, heard, heard_from, heard_lines, Reading, Before, Standing, Overlong, Open, standing, standing_after, replies, BadLine, IsPrompt, Tells, IsStepping, HasAnswered, TookMore}
 use Rattle.script_run.proofs.Hearing.{heard_rest}
 
 -- ---- what was heard of bytes within the limit

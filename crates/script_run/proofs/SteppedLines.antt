@@ -15,14 +15,7 @@ use Rattle.script_run.specs.declared.fault.ScriptFault.TheVariants as scripts
 use Rattle.script_run.specs.declared.game.lines.GameLine.{GameLine}
 use Rattle.script_run.specs.declared.game.stepping.Stepper.{Stepper}
 use Rattle.script_run.specs.GameLines.{asks_of, request_line, game_line_of}
-use Rattle.script_run.specs.GameRuns.{HasRunGame, IsGranted, PlaysGameLine}
-use Rattle.script_run.specs.GameScripts.{judge_game_line, judged_game_line}
-use Rattle.script_run.specs.HeardScripts.{heard_from}
-use Rattle.script_run.specs.HeldLines.{IsHeld}
-use Rattle.script_run.specs.HotelLines.{agent_of}
-use Rattle.script_run.specs.OneThreadRun.{replies}
-use Rattle.script_run.specs.ScriptLines.{script_reason_number}
-use Rattle.script_run.specs.Stepping.{IsStepping, StopsAt}
+use Rattle.script_run.specs.{HasRunGame, IsGranted, PlaysGameLine, judge_game_line, judged_game_line, heard_from, IsHeld, agent_of, replies, script_reason_number, IsStepping, StopsAt}
 use Rattle.script_run.proofs.Hearing.{heard_next}
 
 -- ---- a line that is longer than any good one

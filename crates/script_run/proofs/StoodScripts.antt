@@ -5,9 +5,7 @@ use Rattle.std.proofs.lemmas.Bool.Decides.{nat_tests}
 use Rattle.text_forms.specs.Words.{parts_of}
 use Rattle.script_run.specs.declared.fault.ScriptReason.TheVariants.{NoLineEnd}
 use Rattle.script_run.specs.declared.game.lines.GameLine.{GameLine}
-use Rattle.script_run.specs.GameScripts.{game_script}
-use Rattle.script_run.specs.HeardScripts.{heard, heard_from, heard_lines, Reading, AtEnd, AtFault, Before, Whole, BadAt, Overlong, standing, standing_after}
-use Rattle.script_run.specs.ScriptLines.{BadLine, script_reason_number}
+use Rattle.script_run.specs.{game_script, heard, heard_from, heard_lines, Reading, AtEnd, AtFault, Before, Whole, BadAt, Overlong, standing, standing_after, BadLine, script_reason_number}
 use Rattle.script_run.proofs.Hearing.{bad_stays, lines_in, script_heard}
 use Rattle.script_run.proofs.SteppedGames.{heard_within}
 

@@ -27,10 +27,7 @@ use Rattle.game_text.specs.Schedule as schedule
 use Rattle.clock_events.specs.Laws.{tick_calls_of, IsFor, IsDueCall}
 use Rattle.script_run.specs.declared.game.call_counts.CallCounts.{CallCounts}
 use Rattle.script_run.specs.declared.game.call_counts.GoodCounts.{GoodCounts}
-use Rattle.script_run.specs.CallCounts.{count_at, no_calls_counted}
-use Rattle.script_run.specs.GameStates.{GameState, opening, call_turn, clocked, past_at, entry_at, called, readings_of, reading_of}
-use Rattle.script_run.specs.OpenGames.{SeenGame}
-use Rattle.script_run.specs.Tables.{made, due, HasClockRoom, AreCounted}
+use Rattle.script_run.specs.{count_at, no_calls_counted, GameState, opening, call_turn, clocked, past_at, entry_at, called, readings_of, reading_of, SeenGame, made, due, HasClockRoom, AreCounted}
 use Rattle.script_run.proofs.Counted.{by, one_if, one_if_le, one_if_same, one_if_other, entries_called, made_called, made_below, made_most, part_posts, part_read, readings_posts, readings_read}
 
 caps : (b : Bool) → b ≡ false → (cond {A = ℕ} b 64 1024 ≡ 1024) × (cond {A = ℕ} b 480 29696 ≡ 29696)

@@ -1,6 +1,6 @@
 -- A game that one thread plays, step by step.
 use Rattle.std.specs.Prelude.{ℕ, ◌+◌, ◌==◌, Bool, false, nat_le, if◌then◌else◌, List, [], ◌∷◌, ◌++◌, length, replicate, count_by, slice_index_or, slice_set, Result, Ok, Err}
-use Rattle.tac_base.specs.declared.limits.TheConstants.{TICKS, AGENT_CALLS, CASH_READINGS}
+use Rattle.tac_base.specs.declared.limits.TheConstants.{AGENT_CALLS, CASH_READINGS, GOODS, TICKS}
 use Rattle.tac_base.specs.declared.calls.Call.{Call}
 use Rattle.tac_base.specs.declared.calls.Call.TheVariants as calls
 use Rattle.game_text.specs.Games.{GameFile}
@@ -31,7 +31,7 @@ pub record GameState : Type 0 where
 
 -- nobody has called
 abbrev pub opening : GameState
-opening = record { pasts = replicate 28 []; cash = []; ticks = 0 }
+opening = record { pasts = replicate GOODS []; cash = []; ticks = 0 }
 
 abbrev pub past_at : List (List Entry) → ℕ → List Entry
 past_at pasts good = slice_index_or pasts good []

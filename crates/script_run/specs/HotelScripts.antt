@@ -1,7 +1,7 @@
 -- Which hotel scripts are run, and what is written of their run.
 use Rattle.std.specs.Prelude.{ℕ, ◌==◌, nat_le, if◌then◌else◌, List, [], ◌∷◌, ◌++◌, length, map, count_by, replicate, pos, Result, Ok, Err, false}
 use Rattle.std.specs.List.{flat_map}
-use Rattle.tac_base.specs.declared.limits.TheConstants.{AUCTION_ENTRIES}
+use Rattle.tac_base.specs.declared.limits.TheConstants.{AGENTS, AUCTION_ENTRIES}
 use Rattle.auction_rules.specs.Setup.{Setup}
 use Rattle.auction_rules.specs.declared.rules.Rules.TheVariants.{Hotel as HotelRules}
 use Rattle.auction_rules.specs.History.{Entry}
@@ -40,7 +40,7 @@ script_of text = lines_of_text judge_hotel_line text
 
 -- the hotel of a script: the first night of Shoreline Shanties with 16 rooms, quotes that are not live and no endowments
 abbrev pub one_hotel : Setup
-one_hotel = record { good = 8; rules = HotelRules 16 false; endow = replicate 8 (pos 0) }
+one_hotel = record { good = 8; rules = HotelRules 16 false; endow = replicate AGENTS (pos 0) }
 
 -- the history of a script's lines, the newest entry first
 abbrev pub script_past : List HotelLine → List Entry

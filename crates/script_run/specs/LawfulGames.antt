@@ -2,6 +2,7 @@
 use Rattle.std.specs.Prelude.{◌≡◌, ℕ, ◌<◌, ◌≤◌, ⊤, List, [], map, slice_index_or, Result, Ok, Err}
 use Rattle.tac_base.specs.declared.calls.Call.{Call}
 use Rattle.tac_base.specs.Goods.{clock}
+use Rattle.tac_base.specs.declared.limits.TheConstants.{GOODS}
 use Rattle.game_text.specs.Games.{GameFile}
 use Rattle.game_text.specs.Schedule.{clock_calls}
 use Rattle.auction_rules.specs.History.{Entry}
@@ -44,7 +45,7 @@ calls_by caller history = map (λ p. p.1.call) (part (λ e. e.caller) history ca
 -- schedule, all 54 ticks. The cash history is legal, and has exactly one post for each entry with a trade.
 pub record IsLawfulGame (game : GameFile) (closed : ClosedGame) : Type 0 where
   pub setups : map (λ auction. auction.setup) closed.auctions ≡ map (λ good. setup_of good game) all_goods
-  pub legal : (good : ℕ) → good < 28 → Legal (setup_of good game) (closed_history closed good)
-  pub scheduled : (good : ℕ) → good < 28 → calls_by clock (closed_history closed good) ≡ clock_calls game good
+  pub legal : (good : ℕ) → good < GOODS → Legal (setup_of good game) (closed_history closed good)
+  pub scheduled : (good : ℕ) → good < GOODS → calls_by clock (closed_history closed good) ≡ clock_calls game good
   pub cash : IsLegalCash closed.cash
   pub matched : Matched (histories_of closed) closed.cash

@@ -1,6 +1,6 @@
 -- The counts that are kept beside a game that is being played.
 use Rattle.std.specs.Prelude.{◌≡◌, ℕ, ◌+◌, ◌≤◌, ◌==◌, List, length, sum_by, count_by, take, slice_index}
-use Rattle.tac_base.specs.declared.limits.TheConstants.{TICKS, AGENT_CALLS, CASH_READINGS}
+use Rattle.tac_base.specs.declared.limits.TheConstants.{AGENT_CALLS, CASH_READINGS, GOODS, TICKS}
 use Rattle.tac_base.specs.declared.calls.Call.{Call}
 use Rattle.game_text.specs.Games.{GameFile}
 use Rattle.tac_base.specs.Goods.{clock}
@@ -28,7 +28,7 @@ pub record HasClockRoom (game : GameFile) (state : GameState) (left : List (ℕ 
 
 -- the agents' calls and readings are counted, and no more than each has; each post in the cash history is that of an entry
 pub record AreCounted (game : GameFile) (state : GameState) (counts : CallCounts) (read : List ℕ) : Type 0 where
-  pub goods : length state.pasts ≡ 28
+  pub goods : length state.pasts ≡ GOODS
   pub ticks : state.ticks ≤ TICKS
   pub calls : (agent good : ℕ) → agent ≤ 7 → good ≤ 27 → count_at counts agent good ≡ entries_of (past_at state.pasts good) agent
   pub few_calls : (agent good : ℕ) → agent ≤ 7 → entries_of (past_at state.pasts good) agent ≤ AGENT_CALLS

@@ -2,8 +2,6 @@
 ghost use Rattle.std.specs.Prelude.{◌≡◌};
 ghost use Rattle.script_run.specs.ScriptLines.{script_reason_number};
 
-use thiserror::Error;
-
 /// Why a line of a script is bad. Its number is what a script's fault shows.
 #[derive(Clone, Copy, Debug, PartialEq, Eq)]
 pub enum ScriptReason {
@@ -37,54 +35,42 @@ impl ScriptReason {
 }
 
 /// Why a script was not run, or not to its end.
-#[derive(Clone, Copy, Debug, PartialEq, Eq, Error)]
+#[derive(Clone, Copy, Debug, PartialEq, Eq)]
 pub enum ScriptFault {
     /// The first bad line, counted from 1, and the first reason that applies to it: 1 to 5 of a hotel script, 1 to 4 of a game script,
     /// which are our own and not the same. Nothing was written.
-    #[error("line {line} of the script is bad, reason {reason}")]
     Line { line: u32, reason: u8 },
     /// The script has more than 67,108,864 bytes. Nothing was written.
-    #[error("the script is too long")]
     TooLong,
     /// A write failed, and the sink counted it. The first bytes of the text were written, or none, but not all.
-    #[error("the sink failed")]
     Failed,
     /// Memory was refused. Nothing was written; or, where a game was played, the replies and the first part of its log.
-    #[error("out of memory")]
     Memory,
 }
 
 /// Why a game that is played line by line was not played to its end, or its log not written. But for memory that was refused at the start, the
 /// replies to all lines before were written.
-#[derive(Clone, Copy, Debug, PartialEq, Eq, Error)]
+#[derive(Clone, Copy, Debug, PartialEq, Eq)]
 pub enum StepFault {
     /// The first bad line, counted from 1, and the first reason, 1 to 4, that applies to it.
-    #[error("line {line} of the script is bad, reason {reason}")]
     Line { line: u32, reason: u8 },
     /// The script has more than 67,108,864 bytes, and no bad line among them.
-    #[error("the script is too long")]
     TooLong,
     /// A read failed, and the files counted it.
-    #[error("the script could not be read")]
     Unread,
     /// A write failed, and the sink counted it. The first bytes of the text were written, or none, but not all.
-    #[error("the sink failed")]
     Unwritten,
     /// Memory was refused. Nothing was read or written; or all but the last part of the log was written.
-    #[error("out of memory")]
     Memory,
 }
 
 /// Why a game was not played, by a call that writes nothing.
-#[derive(Clone, Copy, Debug, PartialEq, Eq, Error)]
+#[derive(Clone, Copy, Debug, PartialEq, Eq)]
 pub enum QuietFault {
     /// The first bad line, counted from 1, and the first reason, 1 to 4, that applies to it.
-    #[error("line {line} of the script is bad, reason {reason}")]
     Line { line: u32, reason: u8 },
     /// The script has more than 67,108,864 bytes.
-    #[error("the script is too long")]
     TooLong,
     /// Memory was refused.
-    #[error("out of memory")]
     Memory,
 }

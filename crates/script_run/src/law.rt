@@ -1,9 +1,7 @@
 // The law of games that are played by scripts.
 ghost use Rattle.std.specs.Prelude.{◌≡◌, ℕ, List, Ok};
 ghost use Rattle.script_run.specs.declared.game.lines.GameLine.{GameLine};
-ghost use Rattle.script_run.specs.GameOuts.{closed_game};
-ghost use Rattle.script_run.specs.GameScripts.{game_script};
-ghost use Rattle.script_run.specs.LawfulGames.{IsLawfulGame};
+ghost use Rattle.script_run.specs.{closed_game, game_script, IsLawfulGame};
 
 use clock_events::schedule_law;
 use game_text::Game;

@@ -4,7 +4,6 @@ ghost use Rattle.tac_base.specs.Bids.{fault_of, left_fault, total_size, point_at
 use crate::limits::{BID_POINTS, BID_PRICE, BID_UNITS};
 use arrayvec::ArrayVec;
 use std::marker::Model;
-use thiserror::Error;
 
 /// A number of units at a price each.
 #[derive(Clone, Copy, Debug, Default, PartialEq, Eq)]
@@ -33,22 +32,17 @@ impl Point {
 }
 
 /// Why a list of points is no bid. The limits are our own.
-#[derive(Clone, Copy, Debug, PartialEq, Eq, Error)]
+#[derive(Clone, Copy, Debug, PartialEq, Eq)]
 pub enum BidFault {
     /// The text is no list of points, or the list is empty.
-    #[error("this is no list of points")]
     Syntax,
     /// There is a 17th point.
-    #[error("a bid has at most 16 points")]
     TooManyPoints,
     /// The units of all points, bought and sold ones alike, exceed 16.
-    #[error("a bid has at most 16 units")]
     TooManyUnits,
     /// A price is outside 1..10000 dollars.
-    #[error("a price is outside 1..10000")]
     Price,
     /// A point has no units.
-    #[error("a point has no units")]
     ZeroUnits,
 }
 

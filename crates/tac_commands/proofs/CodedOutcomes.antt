@@ -4,8 +4,7 @@ use Rattle.std.specs.Prelude.{◌==◌, ◌⊎◌, MatchBool}
 use Rattle.std.proofs.lemmas.Bool.{eqb-true}
 use Rattle.tac_io.specs.Counts.{Rose}
 use Rattle.tac_io.specs.States.{SinkState}
-use Rattle.tac_commands.specs.Outcomes.{Outcome, code_of}
-use Rattle.tac_commands.specs.Reporting.{Reports}
+use Rattle.tac_commands.specs.{Outcome, code_of, Reports}
 
 -- it is 4 if the count of the sink rose, or the outcome's
 abbrev pub IsCoded : SinkState → SinkState → ℕ → Outcome → Type 0

@@ -4,13 +4,7 @@ use Rattle.std.specs.Prelude.{◌⊎◌, IfSome}
 use Rattle.tac_io.specs.Counts.{Rose}
 use Rattle.tac_io.specs.States.{FilesState, SinkState, LinksState, TickerState}
 use Rattle.tac_commands.specs.declared.refusals.Refusal.TheVariants.{Usage}
-use Rattle.tac_commands.specs.Commands.{BatchCommand, Command, Batch, Serve, service_or_batch}
-use Rattle.tac_commands.specs.Outcomes.{Outcome, Refused, code_of}
-use Rattle.tac_commands.specs.Outsides.{outside_of}
-use Rattle.tac_commands.specs.Allowed.{Allows, steps_of}
-use Rattle.tac_commands.specs.Reporting.{Reports}
-use Rattle.tac_commands.specs.Selected.{Selects}
-use Rattle.tac_commands.specs.Causes.{IsQuiet, UsageExactly, ReadFaultExactly, GameRefusedExactly, TextRefusedExactly, HasRefusedGame, HasRefusedText, HasGoodFiles, HasUnsoundLog, UnsoundExactly, IsGoodEnd, IsFaultless, IsComplete, LinkFaultExactly, ClockFaultExactly}
+use Rattle.tac_commands.specs.{BatchCommand, Command, Batch, Serve, service_or_batch, Outcome, Refused, code_of, outside_of, Allows, steps_of, Reports, Selects, IsQuiet, UsageExactly, ReadFaultExactly, GameRefusedExactly, TextRefusedExactly, HasRefusedGame, HasRefusedText, HasGoodFiles, HasUnsoundLog, UnsoundExactly, IsGoodEnd, IsFaultless, IsComplete, LinkFaultExactly, ClockFaultExactly}
 use Rattle.tac_commands.proofs.CodedOutcomes.{IsCoded, coded, explained_only, explained_always, told_four}
 use Rattle.tac_commands.proofs.OwnCodes.{OwnCode, own_code, last_code}
 use Rattle.tac_commands.proofs.FileCauses as causes

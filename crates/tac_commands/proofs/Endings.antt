@@ -7,9 +7,8 @@ use Rattle.tac_io.specs.Taken.{TookWhole, TookPart}
 use Rattle.tac_commands.specs.declared.refusals.Refusal.{Refusal}
 use Rattle.tac_commands.specs.declared.ends.End.{End}
 use Rattle.tac_commands.specs.declared.ends.End.TheVariants as ends
-use Rattle.tac_commands.specs.Outcomes.{Outcome, Done, Unsound, Stopped, Unwritten, Refused, refusal_end}
+use Rattle.tac_commands.specs.{Outcome, Done, Unsound, Stopped, Unwritten, Refused, refusal_end, Reports}
 use Rattle.tac_commands.specs.Ends.{Ends, EndsOrStops, Stops, Finishes}
-use Rattle.tac_commands.specs.Reporting.{Reports}
 
 -- a write of a text failed
 reports_some : (allows : Outcome → Type 0) (sink sink' : SinkState) (text : List ℕ) → allows (Done text) ⊎ allows (Unsound text) ⊎ allows (Unwritten text) → TookPart sink sink' text →

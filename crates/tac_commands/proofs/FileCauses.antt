@@ -13,12 +13,8 @@ use Rattle.tac_commands.specs.declared.file_kinds.FileKind.{FileKind}
 use Rattle.tac_commands.specs.declared.file_kinds.FileKind.TheVariants.{Game, HotelScript, GameScript, Account, Log}
 use Rattle.tac_commands.specs.declared.refusals.Refusal.{Refusal}
 use Rattle.tac_commands.specs.declared.refusals.Refusal.TheVariants.{Memory}
-use Rattle.tac_commands.specs.FileKinds.{Value, read_as, refusal_of, refused_code}
-use Rattle.tac_commands.specs.Files.{Content, IsFileRead, IsNotRead, HasFault}
-use Rattle.tac_commands.specs.Outcomes.{Outcome, Unsound, Refused, refusal_end, code_of}
+use Rattle.tac_commands.specs.{Value, read_as, refusal_of, refused_code, Content, IsFileRead, IsNotRead, HasFault, Outcome, Unsound, Refused, refusal_end, code_of, IsQuiet, Holds, HasBad, HasRefused, AreGood, HasUnsound, EndsAt, EndsAtAudit, SelectsFiles}
 use Rattle.tac_commands.specs.Runs.{Runs, StopsAt, with_name}
-use Rattle.tac_commands.specs.Causes.{IsQuiet, Holds, HasBad, HasRefused, AreGood, HasUnsound}
-use Rattle.tac_commands.specs.Selected.{EndsAt, EndsAtAudit, SelectsFiles}
 use Rattle.tac_commands.specs.Steps.{NamedFile, Steps, Reads, Audits, Hears, EndsWith, file as named}
 use Rattle.tac_commands.proofs.HeardFiles.{HeardSo, StopsSo, heard_so}
 use Rattle.tac_commands.proofs.Unambiguous.{not_both, same_file, same_value}

@@ -14,10 +14,7 @@ use Rattle.script_run.specs.HeardReads.{HasReadCause, StopsThere}
 use Rattle.script_run.proofs.StoodScripts.{bad_is, overlong_is, whole_is}
 use Rattle.tac_commands.specs.declared.file_kinds.FileKind.{FileKind}
 use Rattle.tac_commands.specs.declared.file_kinds.FileKind.TheVariants.{GameScript}
-use Rattle.tac_commands.specs.FileKinds.{read_as, refused_code}
-use Rattle.tac_commands.specs.Files.{Content, HasFault, IsFileRead}
-use Rattle.tac_commands.specs.HeardFiles.{Answers, IsGiven, IsHeard, IsUnheard}
-use Rattle.tac_commands.specs.Outcomes.{Outcome, code_of}
+use Rattle.tac_commands.specs.{read_as, refused_code, Content, HasFault, IsFileRead, Answers, IsGiven, IsHeard, IsUnheard, Outcome, code_of}
 use Rattle.tac_commands.proofs.LongFiles.{bad_script, good_script, long_file}
 
 -- why the run stopped at a file, with its code

@@ -16,8 +16,7 @@ use Rattle.script_run.specs.HotelScripts.{script_of}
 use Rattle.script_run.specs.GameScripts.{game_script}
 use Rattle.tac_commands.specs.declared.file_kinds.FileKind.{FileKind}
 use Rattle.tac_commands.specs.declared.file_kinds.FileKind.TheVariants.{Game, HotelScript, GameScript, Account, Log}
-use Rattle.tac_commands.specs.FileKinds.{most_bytes, lines_or_fault, script_in, read_as, logged_or_fault}
-use Rattle.tac_commands.specs.Files.{Content, HasFault}
+use Rattle.tac_commands.specs.{most_bytes, lines_or_fault, script_in, read_as, logged_or_fault, Content, HasFault}
 
 long_game : (bytes : List ℕ) → 1048576 < length bytes → game_of bytes ≡ Err TooLong
 unfolding game_of

@@ -5,10 +5,7 @@ use Rattle.game_text.specs.Games.{GameFile}
 use Rattle.log_text.specs.LoggedGames.{LoggedGame}
 use Rattle.script_run.specs.declared.game.lines.GameLine.{GameLine as ScriptLine}
 use Rattle.tac_commands.specs.declared.refusals.Refusal.TheVariants.{LinkFault, Memory}
-use Rattle.tac_commands.specs.Allowed.{WritesDue, WritesInParts, WritesOrStops, IsServiceEnd, table_steps, batch_steps, steps_of}
-use Rattle.tac_commands.specs.Commands.{BatchCommand, Hotel, Show, Upgrade, Make, Solve, Worth, Play, Step, Trial, Audit, Table, Command, Batch, Serve}
-use Rattle.tac_commands.specs.FileKinds.{Value}
-use Rattle.tac_commands.specs.Outcomes.{Outcome, Done, Lapsed, Stopped, Refused, code_of}
+use Rattle.tac_commands.specs.{WritesDue, WritesInParts, WritesOrStops, IsServiceEnd, table_steps, batch_steps, steps_of, BatchCommand, Hotel, Show, Upgrade, Make, Solve, Worth, Play, Step, Trial, Audit, Table, Command, Batch, Serve, Value, Outcome, Done, Lapsed, Stopped, Refused, code_of}
 use Rattle.tac_commands.specs.Steps.{Steps, Reads, Audits, Hears, EndsWith}
 
 -- the codes of what the last step allows, whatever the files hold

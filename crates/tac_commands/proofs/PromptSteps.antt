@@ -14,11 +14,7 @@ use Rattle.script_run.proofs.SteppedGames.{prompt_kept, prompt_nothing, took_non
 use Rattle.tac_commands.specs.declared.ends.End.{End}
 use Rattle.tac_commands.specs.declared.ends.End.TheVariants as ends
 use Rattle.tac_commands.specs.declared.file_kinds.FileKind.TheVariants.{Game}
-use Rattle.tac_commands.specs.Causes.{IsQuiet}
-use Rattle.tac_commands.specs.Commands.{BatchCommand, Step}
-use Rattle.tac_commands.specs.Ends.{Finishes}
-use Rattle.tac_commands.specs.Files.{Content, IsFileRead}
-use Rattle.tac_commands.specs.Prompt.{HearsPromptly, StepsPromptly, IsPromptBatch}
+use Rattle.tac_commands.specs.{IsQuiet, BatchCommand, Step, Finishes, Content, IsFileRead, HearsPromptly, StepsPromptly, IsPromptBatch}
 use Rattle.tac_commands.proofs.Unambiguous.{same_file, same_value}
 
 -- ---- a script

@@ -21,12 +21,8 @@ use Rattle.script_run.specs.OneThreadRun.{replies}
 use Rattle.tac_commands.specs.declared.file_kinds.FileKind.TheVariants.{HotelScript, GameScript}
 use Rattle.tac_commands.specs.declared.refusals.Refusal.TheVariants as refusals
 use Rattle.tac_commands.specs.declared.ends.End.TheVariants as ends
-use Rattle.tac_commands.specs.Allowed.{batch_steps, play_steps}
-use Rattle.tac_commands.specs.Commands.{Hotel}
-use Rattle.tac_commands.specs.Outcomes.{Done, Stopped}
+use Rattle.tac_commands.specs.{batch_steps, play_steps, Hotel, Done, Stopped, log_of_game, EndsInSoundLog, EndsBatch, EndsSteps, script_end}
 use Rattle.tac_commands.specs.Runs.{Runs}
-use Rattle.tac_commands.specs.SoundTexts.{log_of_game, EndsInSoundLog}
-use Rattle.tac_commands.specs.Ends.{EndsBatch, EndsSteps, script_end}
 use Rattle.tac_commands.proofs.LongFiles.{long_file, good_hotel, bad_hotel, good_script, bad_script}
 use Rattle.tac_commands.proofs.OneThreadCash.{cash_of_script}
 use Rattle.tac_commands.proofs.SoundLogs.{played_soundly}

@@ -9,10 +9,7 @@ use Rattle.script_run.specs.HeardReads.{HasReadCause}
 use Rattle.tac_commands.specs.declared.ends.End.{End}
 use Rattle.tac_commands.specs.declared.file_kinds.FileKind.{FileKind}
 use Rattle.tac_commands.specs.declared.refusals.Refusal.{Refusal}
-use Rattle.tac_commands.specs.FileKinds.{Value}
-use Rattle.tac_commands.specs.Files.{Content, IsFileRead, IsNotRead, HasFault}
-use Rattle.tac_commands.specs.HeardFiles.{IsGiven, IsHeard, IsUnheard}
-use Rattle.tac_commands.specs.Outcomes.{Outcome}
+use Rattle.tac_commands.specs.{Value, Content, IsFileRead, IsNotRead, HasFault, IsGiven, IsHeard, IsUnheard, Outcome}
 use Rattle.tac_commands.specs.Runs.{Runs, with_name}
 use Rattle.tac_commands.specs.Steps.{NamedFile, Steps, Reads, Audits, Hears, EndsWith}
 use Rattle.tac_commands.specs.Ends.{Ends, EndsSteps}

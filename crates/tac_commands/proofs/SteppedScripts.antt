@@ -19,11 +19,7 @@ use Rattle.script_run.specs.SteppedGames.{Gave, StepsGame, Tells, TellsFault, Te
 use Rattle.script_run.proofs.StoodScripts.{whole_is}
 use Rattle.tac_commands.specs.declared.refusals.Refusal.{Refusal}
 use Rattle.tac_commands.specs.declared.refusals.Refusal.TheVariants as refusals
-use Rattle.tac_commands.specs.Allowed.{IsPlayText, StepAllows, step_steps}
-use Rattle.tac_commands.specs.Ends.{EndsSteps, step_end}
-use Rattle.tac_commands.specs.Files.{Content}
-use Rattle.tac_commands.specs.HeardFiles.{Answers, IsGiven}
-use Rattle.tac_commands.specs.Outcomes.{Outcome, Done, Stopped}
+use Rattle.tac_commands.specs.{IsPlayText, StepAllows, step_steps, EndsSteps, step_end, Content, Answers, IsGiven, Outcome, Done, Stopped}
 use Rattle.tac_commands.specs.Outcomes as outcomes
 use Rattle.tac_commands.specs.Runs.{Runs}
 use Rattle.tac_commands.proofs.OneThreadCash.{cash_of_script}

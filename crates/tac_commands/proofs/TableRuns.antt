@@ -13,15 +13,10 @@ use Rattle.tac_commands.specs.declared.refusals.Refusal.{Refusal}
 use Rattle.tac_commands.specs.declared.table_command.TableFault.{TableFault}
 use Rattle.tac_commands.specs.declared.table_command.TableFault.TheVariants as faults
 use Rattle.tac_commands.specs.declared.ends.End.{End}
-use Rattle.tac_commands.specs.Allowed.{WritesDue, table_steps}
-use Rattle.tac_commands.specs.Commands.{in_pairs}
+use Rattle.tac_commands.specs.{WritesDue, table_steps, in_pairs, IsFileRead, IsNotRead, unsound_text, Outcome, Unsound, Refused, EndsAtPair, TableGoesOn, IsAdded, outcome_of}
 use Rattle.tac_commands.specs.Ends.{Ends, EndsSteps}
-use Rattle.tac_commands.specs.Files.{IsFileRead, IsNotRead}
-use Rattle.tac_commands.specs.FlawTexts.{unsound_text}
-use Rattle.tac_commands.specs.Outcomes.{Outcome, Unsound, Refused}
 use Rattle.tac_commands.specs.Runs.{Runs, StopsAt, with_name}
 use Rattle.tac_commands.specs.Steps.{Steps, Reads, Audits, file}
-use Rattle.tac_commands.specs.TableRuns.{EndsAtPair, TableGoesOn, IsAdded, outcome_of}
 use Rattle.tac_commands.proofs.Endings.{weaker}
 use Rattle.tac_commands.proofs.Pairs.{named_at, none_left}
 use Rattle.tac_commands.proofs.ReadFiles.{runs_from, runs_on}

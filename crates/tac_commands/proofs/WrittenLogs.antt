@@ -15,11 +15,8 @@ use Rattle.log_reader.specs.SoundLog.{IsSound}
 use Rattle.log_reader.proofs.LogTexts.{only_log}
 use Rattle.tac_commands.specs.declared.file_kinds.FileKind.TheVariants.{Log}
 use Rattle.tac_commands.specs.declared.refusals.Refusal.TheVariants.{Memory}
-use Rattle.tac_commands.specs.Allowed.{WritesDue, IsFlawText, audit_steps}
-use Rattle.tac_commands.specs.FileKinds.{read_as, logged_or_fault}
-use Rattle.tac_commands.specs.Outcomes.{Outcome, Done, Lapsed, Unsound, Stopped, Unwritten, Refused}
+use Rattle.tac_commands.specs.{WritesDue, IsFlawText, audit_steps, read_as, logged_or_fault, Outcome, Done, Lapsed, Unsound, Stopped, Unwritten, Refused, EndsInSoundLog}
 use Rattle.tac_commands.specs.Runs.{StopsAt, Runs}
-use Rattle.tac_commands.specs.SoundTexts.{EndsInSoundLog}
 use Rattle.tac_commands.proofs.LoggedNumbers.{head_is, game_in, game_is, same_histories}
 
 -- the text that follows is that of the log

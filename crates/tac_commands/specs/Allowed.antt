@@ -1,5 +1,6 @@
 -- What each command does with its files and makes of their values, and so which outcomes the words and the files allow.
 use Rattle.std.specs.Prelude.{◌≡◌, ℕ, ◌<◌, ⊤, codes, List, [], ◌∷◌, ◌++◌, length, Option, Some, None, ◌≤ℤ◌, ◌<ℤ◌, pos}
+use Rattle.tac_base.specs.declared.limits.TheConstants.{GOODS}
 use Rattle.tac_io.specs.States.{FilesState}
 use Rattle.game_text.specs.Games.{GameFile, canonical_text, upgraded}
 use Rattle.game_text.specs.Accounts.{AccountFile}
@@ -73,13 +74,13 @@ pub record AreWorthsOf (account : AccountFile) (v : Valuation) (good : ℕ) : Ty
 -- the numbers of each good.
 abbrev pub IsValued : AccountFile → List ℕ → Type 0
 IsValued account text =
-    (v : Valuation) × AreWorths account v × ((good : ℕ) → good < 28 → AreWorthsOf account v good) × (text ≡ worth_spelling v)
+    (v : Valuation) × AreWorths account v × ((good : ℕ) → good < GOODS → AreWorthsOf account v good) × (text ≡ worth_spelling v)
 
 -- a game by the lines of a script is written so, and the cash in its sheet is that of the posts
 abbrev pub PlayAllows : GameFile → List ScriptLine → Outcome → Type 0
 PlayAllows game lines outcome = WritesInParts (IsPlayText game lines) (λ text. text ≡ first_out game lines) outcome × IsCashOfPosts (closed_game game lines)
 
--- The same for a game whose replies were written line by line: memory may be refused for its sheet, and not before.
+-- a game whose replies were written line by line is written so: memory may be refused for its sheet, and not before
 abbrev pub StepAllows : GameFile → List ScriptLine → Outcome → Type 0
 StepAllows game lines outcome = WritesOrStops (IsPlayText game lines) (λ text. text ≡ first_out game lines) outcome × IsCashOfPosts (closed_game game lines)
 

@@ -1,11 +1,9 @@
 // The command that judges the log of a game by the game.
 ghost use Rattle.std.specs.Prelude.{◌≡◌, ◌≤◌, [], ◌∷◌, length, IfSome};
 ghost use Rattle.tac_base.specs.declared.limits.TheConstants.{NAME_BYTES};
-ghost use Rattle.tac_commands.specs.Allowed.{audit_steps};
+ghost use Rattle.tac_commands.specs.{audit_steps, EndsBatch, EndsSteps, EndsUnread, Reads, file};
 ghost use Rattle.tac_commands.specs.Commands as commands;
 ghost use Rattle.tac_commands.specs.declared.file_kinds.FileKind.TheVariants.{Log as LogKind};
-ghost use Rattle.tac_commands.specs.Ends.{EndsBatch, EndsSteps, EndsUnread};
-ghost use Rattle.tac_commands.specs.Steps.{Reads, file};
 ghost use Rattle.tac_commands.specs.FlawTexts as texts;
 ghost use Rattle.tac_io.specs.States.{MaySelect};
 

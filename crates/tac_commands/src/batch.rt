@@ -3,12 +3,9 @@ ghost use Rattle.std.specs.Prelude.{◌≡◌, [], IfSome};
 ghost use Rattle.game_text.specs.Games.{canonical_text, upgraded};
 ghost use Rattle.draw_maker.specs.Games.{made_game};
 ghost use Rattle.allocator.specs.Solutions.{IsSolvedText};
-ghost use Rattle.tac_commands.specs.Allowed.{WritesDue};
+ghost use Rattle.tac_commands.specs.{WritesDue, seen_batch, IsPromptBatch, IsShortBatch};
 ghost use Rattle.tac_commands.specs.Commands as commands;
-ghost use Rattle.tac_commands.specs.Commands.{seen_batch};
 ghost use Rattle.tac_commands.specs.Ends.{Ends, EndsBatch};
-ghost use Rattle.tac_commands.specs.Prompt.{IsPromptBatch};
-ghost use Rattle.tac_commands.specs.Words.{IsShortBatch};
 ghost use Rattle.tac_io.specs.States.{MaySelect};
 
 use crate::audit_command::audit_files;

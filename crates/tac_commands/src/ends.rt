@@ -1,7 +1,6 @@
 // How a command ended, and how it is finished.
 ghost use Rattle.std.specs.Prelude.{◌≡◌};
-ghost use Rattle.tac_commands.specs.Codes.{code_number};
-ghost use Rattle.tac_commands.specs.Ends.{Finishes};
+ghost use Rattle.tac_commands.specs.{code_number, Finishes};
 
 use crate::code::Code;
 use crate::refusals::Refusal;

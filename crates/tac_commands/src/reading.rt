@@ -5,8 +5,7 @@ ghost use Rattle.tac_io.specs.States.{MaySelect};
 ghost use Rattle.tac_io.specs.Known.{known_then};
 ghost use Rattle.game_text.specs.declared.fault.GameFault.{GameFault};
 ghost use Rattle.tac_commands.specs.declared.refusals.Refusal.TheVariants.{Memory};
-ghost use Rattle.tac_commands.specs.FileKinds.{most_bytes, read_as, refusal_of};
-ghost use Rattle.tac_commands.specs.Files.{IsNotRead, IsFileRead};
+ghost use Rattle.tac_commands.specs.{most_bytes, read_as, refusal_of, IsNotRead, IsFileRead};
 
 use crate::file_kinds::FileKind;
 use crate::refusals::Refusal;

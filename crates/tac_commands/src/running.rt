@@ -1,12 +1,7 @@
 // Running the words of a command that needs no links.
 ghost use Rattle.std.specs.Prelude.{◌≡◌, ◌≤◌, [], map, string_bytes, string_len, None, All, IfSome};
 ghost use Rattle.tac_base.specs.declared.limits.TheConstants.{NAME_BYTES};
-ghost use Rattle.tac_commands.specs.Allowed.{Allows};
-ghost use Rattle.tac_commands.specs.Codes.{code_number};
-ghost use Rattle.tac_commands.specs.Commands.{batch_of, service_or_batch};
-ghost use Rattle.tac_commands.specs.Outcomes.{Outcome};
-ghost use Rattle.tac_commands.specs.Prompt.{IsPromptCommand};
-ghost use Rattle.tac_commands.specs.Reporting.{Reports};
+ghost use Rattle.tac_commands.specs.{Allows, code_number, batch_of, service_or_batch, Outcome, IsPromptCommand, Reports};
 
 use crate::batch::run_batch;
 use crate::code::Code;

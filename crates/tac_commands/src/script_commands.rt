@@ -2,8 +2,7 @@
 ghost use Rattle.std.specs.Prelude.{◌≡◌, ◌≤◌, [], ◌∷◌, length, IfSome};
 ghost use Rattle.tac_base.specs.declared.limits.TheConstants.{NAME_BYTES};
 ghost use Rattle.tac_commands.specs.Commands as commands;
-ghost use Rattle.tac_commands.specs.Allowed.{play_steps};
-ghost use Rattle.tac_commands.specs.Ends.{EndsBatch, EndsSteps};
+ghost use Rattle.tac_commands.specs.{play_steps, EndsBatch, EndsSteps};
 ghost use Rattle.tac_commands.specs.Ends as ends;
 ghost use Rattle.tac_io.specs.States.{MaySelect};
 

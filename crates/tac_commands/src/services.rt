@@ -2,9 +2,8 @@
 ghost use Rattle.std.specs.Prelude.{◌≡◌, ◌≤◌, [], ◌∷◌, length, map, string_bytes, string_len, MatchOption, Some, None, All, IfSome};
 ghost use Rattle.tac_base.specs.declared.limits.TheConstants.{NAME_BYTES};
 ghost use Rattle.tac_base.specs.Numerals.{numeral};
-ghost use Rattle.tac_commands.specs.Commands.{seen_service};
+ghost use Rattle.tac_commands.specs.{seen_service, service_of};
 ghost use Rattle.tac_commands.specs.Services as services;
-ghost use Rattle.tac_commands.specs.Services.{service_of};
 
 use tac_base::limits::{NAME_BYTES, PACE, PORT};
 use tac_base::read_numeral;

@@ -1,11 +1,9 @@
 // The command that plays a game line by line.
 ghost use Rattle.std.specs.Prelude.{◌≡◌, ◌<◌, ◌≤◌, [], length, IfSome};
 ghost use Rattle.tac_base.specs.declared.limits.TheConstants.{FILE_NAMES, NAME_BYTES};
-ghost use Rattle.tac_commands.specs.Allowed.{step_steps};
+ghost use Rattle.tac_commands.specs.{step_steps, EndsBatch, EndsSteps, HearsPromptly, StepsPromptly};
 ghost use Rattle.tac_commands.specs.Commands as commands;
-ghost use Rattle.tac_commands.specs.Ends.{EndsBatch, EndsSteps};
 ghost use Rattle.tac_commands.specs.Ends as ends;
-ghost use Rattle.tac_commands.specs.Prompt.{HearsPromptly, StepsPromptly};
 
 use crate::ends::End;
 use crate::reading::read_value;

@@ -7,14 +7,12 @@ ghost use Rattle.log_text.specs.LoggedGames.{LoggedGame};
 ghost use Rattle.log_reader.specs.SoundLog.{IsSound};
 ghost use Rattle.tourney.specs.StandingsTexts.{IsPrinted};
 ghost use Rattle.tourney.specs.Tallies.{AreStandingsOf};
-ghost use Rattle.tac_commands.specs.Allowed.{WritesDue, table_steps};
+ghost use Rattle.tac_commands.specs.{WritesDue, table_steps, in_pairs, EndsAtPair, TableGoesOn, HasAdded, IsAdded, outcome_of};
 ghost use Rattle.tac_commands.specs.Commands as commands;
-ghost use Rattle.tac_commands.specs.Commands.{in_pairs};
 ghost use Rattle.tac_commands.specs.Ends.{Ends, EndsBatch};
 ghost use Rattle.tac_commands.specs.FlawTexts as texts;
 ghost use Rattle.tac_commands.specs.Outcomes as outcomes;
 ghost use Rattle.tac_commands.specs.Runs.{Runs, StopsAt};
-ghost use Rattle.tac_commands.specs.TableRuns.{EndsAtPair, TableGoesOn, HasAdded, IsAdded, outcome_of};
 
 use crate::ends::End;
 use crate::numbered_lines::counted;

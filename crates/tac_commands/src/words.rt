@@ -2,8 +2,7 @@
 ghost use Rattle.std.specs.Prelude.{◌≡◌, ◌+◌, ◌≤◌, ◌^◌, length, map, string_bytes, string_len, MatchOption, Some, None, All, IfSome};
 ghost use Rattle.tac_base.specs.Numerals.{below, numeral};
 ghost use Rattle.tac_commands.specs.Commands as commands;
-ghost use Rattle.tac_commands.specs.Commands.{batch_of, seen_batch};
-ghost use Rattle.tac_commands.specs.Words.{IsShortBatch};
+ghost use Rattle.tac_commands.specs.{batch_of, seen_batch, IsShortBatch};
 
 use tac_base::limits::{FILE_NAMES, MADE_REQUESTS, NAME_BYTES};
 use tac_base::read_numeral;

@@ -4,13 +4,10 @@ ghost use Rattle.tac_base.specs.declared.limits.TheConstants.{TEXT_BYTES};
 ghost use Rattle.tac_io.specs.States.{FilesState};
 ghost use Rattle.game_text.specs.Games.{GameFile};
 ghost use Rattle.log_text.specs.LoggedGames.{LoggedGame};
-ghost use Rattle.tac_commands.specs.Allowed.{audit_steps};
+ghost use Rattle.tac_commands.specs.{audit_steps, read_as, Outcome, Done, Refused, EndsInSoundLog};
 ghost use Rattle.tac_commands.specs.declared.file_kinds.FileKind.TheVariants.{Log};
 ghost use Rattle.tac_commands.specs.declared.refusals.Refusal.TheVariants.{Memory};
-ghost use Rattle.tac_commands.specs.FileKinds.{read_as};
-ghost use Rattle.tac_commands.specs.Outcomes.{Outcome, Done, Refused};
 ghost use Rattle.tac_commands.specs.Runs.{Runs};
-ghost use Rattle.tac_commands.specs.SoundTexts.{EndsInSoundLog};
 
 use game_log::one_game;
 

@@ -7,19 +7,15 @@ ghost use Rattle.tac_io.specs.Known.{IsAtEnd, known_then, then_known};
 
 use crate::{Failed, Files};
 use std::alloc::{AllocError, Global};
-use thiserror::Error;
 
 /// Why a file was not read.
-#[derive(Clone, Copy, Debug, PartialEq, Eq, Error)]
+#[derive(Clone, Copy, Debug, PartialEq, Eq)]
 pub enum FileFault {
     /// A call failed, and the files counted it.
-    #[error("the file could not be read")]
     Failed,
     /// No call failed, and the file has more bytes than the limit.
-    #[error("the file is too long")]
     TooLong,
     /// Memory was refused.
-    #[error("out of memory")]
     Memory,
 }
 

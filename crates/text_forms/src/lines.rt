@@ -5,31 +5,23 @@ ghost use Rattle.text_forms.specs.Words.{parts_of};
 
 use crate::cut;
 use std::marker::Model;
-use thiserror::Error;
 
 /// Why a line is bad. A refusal shows the variant's number.
-#[derive(Clone, Copy, Debug, PartialEq, Eq, Error)]
+#[derive(Clone, Copy, Debug, PartialEq, Eq)]
 pub enum Reason {
     /// The first word is not the one that is due.
-    #[error("the first word is not the one that is due")]
     Keyword = 1,
     /// There are too few or too many words; an empty word counts.
-    #[error("there are too few or too many words")]
     WordCount = 2,
     /// A later word has another spelling than its place requires, such as a numeral with a leading zero.
-    #[error("a word is spelled wrongly")]
     Spelling = 3,
     /// A number is outside the range of its place.
-    #[error("a number is outside its range")]
     OutOfRange = 4,
     /// A number that counts lines of a kind is not the one that is due.
-    #[error("the number that counts the lines is not the one that is due")]
     NotDue = 5,
     /// Two words or numbers that have to differ are equal.
-    #[error("two words or numbers are equal")]
     Repeated = 6,
     /// The text ends before or within this line, or goes on after its last line.
-    #[error("the text ends too early or too late")]
     TextEnd = 7,
 }
 
@@ -43,8 +35,7 @@ impl Reason {
 }
 
 /// The first bad line of a text, with the first reason that applies to it.
-#[derive(Clone, Copy, Debug, PartialEq, Eq, Error)]
-#[error("line {line} is bad: {reason}")]
+#[derive(Clone, Copy, Debug, PartialEq, Eq)]
 pub struct BadLine {
     /// Counted from 1, comments and empty lines among them.
     pub line: u32,

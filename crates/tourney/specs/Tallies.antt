@@ -4,6 +4,7 @@ use Rattle.std.specs.List.{All}
 use Rattle.std.specs.Map.{lookup, values_of}
 use Rattle.std.specs.Option.{unwrap_or}
 use Rattle.std.specs.Str.{bytes_eq}
+use Rattle.tac_base.specs.declared.limits.TheConstants.{AGENTS}
 use Rattle.indexmap.specs.IndexMap.{insert_entry}
 use Rattle.game_text.specs.Games.{GameFile}
 use Rattle.log_text.specs.LoggedGames.{LoggedGame}
@@ -68,7 +69,7 @@ pub record IsTally (most : ℕ) (tally : Tally) : Type 0 where
 
 -- at most eight teams per game, and none that counts in more games than there were
 pub record AreTallies (tallies : List (List ℕ × Tally)) (games : ℕ) : Type 0 where
-  pub few : length tallies ≤ 8 * games
+  pub few : length tallies ≤ AGENTS * games
   pub each : All (λ team. IsTally games team.1) tallies
 
 -- ---- rows

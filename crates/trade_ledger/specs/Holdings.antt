@@ -1,7 +1,7 @@
 -- What the parties hold of one good.
 use Rattle.std.specs.Prelude.{ℕ, ◌≤◌, ◌⊎◌, ℤ, pos, ◌+ℤ◌, unsigned_abs, List, map, fold, slice_index_or}
 use Rattle.tac_base.specs.declared.calls.Trade.{Trade}
-use Rattle.tac_base.specs.Goods.{parties}
+use Rattle.tac_base.specs.Goods.{house, parties}
 use Rattle.auction_rules.specs.Effects.{net_units}
 
 -- what each party holds after trades: what it held before, and its net units
@@ -18,4 +18,4 @@ Stays before after = (unsigned_abs after ≤ 1000000) ⊎ (unsigned_abs after �
 
 -- no party's holding leaves its range by trades
 abbrev pub NoneLeaves : List ℤ → List Trade → Type 0
-NoneLeaves held trades = (party : ℕ) → party ≤ 8 → Stays (slice_index_or held party (pos 0)) (slice_index_or (held_after held trades) party (pos 0))
+NoneLeaves held trades = (party : ℕ) → party ≤ house → Stays (slice_index_or held party (pos 0)) (slice_index_or (held_after held trades) party (pos 0))

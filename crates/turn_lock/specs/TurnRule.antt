@@ -6,6 +6,7 @@ use mathlib.Core.Option.{Option as Option_}
 use lib.ListN.{get_elem?}
 use Rattle.atomic_table.specs.Table.{State}
 use Rattle.tac_base.specs.declared.calls.Board.{Board}
+use Rattle.tac_base.specs.declared.limits.TheConstants.{CALLERS}
 use Rattle.turn_lock.specs.declared.view.View.{View}
 use Rattle.turn_lock.specs.declared.view.Returned.{Returned}
 use Rattle.turn_lock.specs.Part.{part}
@@ -85,7 +86,7 @@ module _ {S G E : Type 0} (setup : S → G) (history : S → List E) (legal : G 
     pub quiet : own.live ≡ 0
     pub origin : own.start ≡ Some start
     pub seats : length s.views ≡ own.passes + 1
-    pub few : own.passes ≤ 9
+    pub few : own.passes ≤ CALLERS
     -- each pass is live or returned, and a caller without a pass has no entry
     pub lives : sum_by (λ v. v.live) s.views + length own.returned ≡ own.passes
     pub nobody_else : (c : ℕ) → own.passes ≤ c → part caller_of log c ≡ []

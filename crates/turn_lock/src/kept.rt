@@ -1,6 +1,7 @@
 ghost use Rattle.std.specs.Prelude.{◌≡◌, ℕ, ◌<◌, ◌≤◌, List, [], ◌∷◌, ◌++◌, length};
 ghost use Rattle.tac_base.specs.declared.limits.TheConstants.{SHOWN_PRICE};
 ghost use Rattle.tac_base.specs.declared.calls.Board.{Board};
+ghost use Rattle.tac_base.specs.Goods.{clock};
 ghost use Rattle.turn_lock.specs.Part.{part};
 
 use tac_base::{Board, Caller};
@@ -58,5 +59,5 @@ pub trait Kept: Drop + Send {
         ensures count { result.count ≡ length (history self.now) }
         ensures small { (result.count < 16777216) × (result.bid ≤ SHOWN_PRICE) × (result.ask ≤ SHOWN_PRICE) }
         ensures legal { legal (setup self.now) (history self.now) }
-        ensures capped { (caller : ℕ) → caller ≤ 8 → length (part caller_of (history self.now) caller) ≤ cap caller };
+        ensures capped { (caller : ℕ) → caller ≤ clock → length (part caller_of (history self.now) caller) ≤ cap caller };
 }

@@ -10,8 +10,7 @@ ghost use Rattle.auction_core.specs.Calls.{IsFit};
 ghost use Rattle.auction_core.specs.ClosedGame.{all_goods};
 ghost use Rattle.auction_core.specs.Setups.{setup_of};
 ghost use Rattle.auction_core.specs.Struck.{struck_of};
-ghost use Rattle.script_run.specs.GameStates.{opening, past_at, entry_at, called, reading_of};
-ghost use Rattle.script_run.specs.OneThreadRun.{closed_of};
+ghost use Rattle.script_run.specs.{opening, past_at, entry_at, called, reading_of, closed_of};
 
 use auction_core::{Auction, Closed, Struck};
 use game_text::Game;

@@ -1,11 +1,8 @@
 // A game that is played from a script.
 ghost use Rattle.std.specs.Prelude.{◌≡◌, ◌≤◌, ℕ, List, length};
 ghost use Rattle.tac_io.specs.Written.{WritesPiece};
-ghost use Rattle.script_run.specs.PlayOuts.{PlaysScript};
+ghost use Rattle.script_run.specs.{PlaysScript, PlaysLines, PlaysToEnd, WritesPlayed, first_text, PlaysQuietly, IsQuietFault, quiet_of};
 ghost use Rattle.script_run.specs.declared.game.lines.GameLine.{GameLine};
-ghost use Rattle.script_run.specs.GameRuns.{PlaysLines};
-ghost use Rattle.script_run.specs.PlayedGames.{PlaysToEnd, WritesPlayed, first_text};
-ghost use Rattle.script_run.specs.QuietRuns.{PlaysQuietly, IsQuietFault, quiet_of};
 
 use crate::fault::{QuietFault, ScriptFault, ScriptReason};
 use crate::game::play_count::{PlayCount, counted};
@@ -28,8 +25,7 @@ pub(crate) struct FinishedGame {
 }
 
 impl FinishedGame {
-    ghost use Rattle.script_run.specs.GameRuns.{HasRunGame};
-    ghost use Rattle.script_run.specs.PlayedGames.{IsEnd};
+    ghost use Rattle.script_run.specs.{HasRunGame, IsEnd};
 
     /// The game after its last line, once the ticks that are left are made.
     pub(crate) fn end(game: &Game, run: GameRun<'_>) -> FinishedGame

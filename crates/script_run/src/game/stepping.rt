@@ -6,8 +6,7 @@ ghost use Rattle.tac_io.specs.States.{SinkState};
 ghost use Rattle.tac_io.specs.Known.{IsAtEnd, then_known};
 ghost use Rattle.tac_io.specs.Written.{WritesPiece};
 ghost use Rattle.game_text.specs.Games.{GameFile};
-ghost use Rattle.script_run.specs.SteppedGames.{StepsGame};
-ghost use Rattle.script_run.specs.Stepping.{Answered, Ends, HasAnswered, HearsLines, IsStepping, StopsAt, TookMore, stopped_by};
+ghost use Rattle.script_run.specs.{StepsGame, Answered, Ends, HasAnswered, HearsLines, IsStepping, StopsAt, TookMore, stopped_by};
 
 use crate::fault::{ScriptFault, ScriptReason, StepFault};
 use crate::game::held_line::HeldLine;

@@ -3,9 +3,7 @@ ghost use Rattle.std.specs.Prelude.{◌≡◌, ◌++◌, ◌≤◌, ◌<◌, [],
 ghost use Rattle.std.specs.List.{flat_map};
 ghost use Rattle.auction_rules.specs.Legal.{cap, entry_of};
 ghost use Rattle.turn_lock.specs.Part.{part};
-ghost use Rattle.script_run.specs.HotelLines.{asked};
-ghost use Rattle.script_run.specs.HotelRuns.{hotel_called};
-ghost use Rattle.script_run.specs.HotelScripts.{hotel_entry_text};
+ghost use Rattle.script_run.specs.{asked, hotel_called, hotel_entry_text};
 ghost use Rattle.script_run.specs.Replies as replies;
 ghost use Rattle.game_log.specs.LogText as log;
 ghost use Rattle.tac_base.specs.declared.limits.TheConstants.{AUCTION_ENTRIES};

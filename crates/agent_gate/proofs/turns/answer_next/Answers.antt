@@ -1,8 +1,7 @@
 use Rattle.std.proofs.Common.{subst}
 use Rattle.tac_io.specs.Lines.{held_of}
 use Rattle.tac_io.specs.declared.line_got.LineGot.TheVariants as gots
-use Rattle.agent_gate.specs.Items.{IsItem}
-use Rattle.agent_gate.specs.Answering.{TakesTurn}
+use Rattle.agent_gate.specs.{IsItem, TakesTurn}
 use Rattle.agent_gate.proofs.Making.{line_skipped}
 use Rattle.agent_gate.proofs.turns.answer_next.Goals as goal
 

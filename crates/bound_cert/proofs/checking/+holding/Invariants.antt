@@ -1,7 +1,5 @@
 use Rattle.std.proofs.Common.{◌≡◌, drop}
-use Rattle.bound_cert.specs.Views.{forest_of}
-use Rattle.bound_cert.specs.Ways.{left_by}
-use Rattle.bound_cert.specs.Certificate.{all_hold}
+use Rattle.bound_cert.specs.{forest_of, left_by, all_hold}
 use Rattle.bound_cert.proofs.checking.+holding.Given as goal
 
 abbrev pub invariant-children_hold-loop-value : goal.invariant-children_hold-loop-value

@@ -1,7 +1,6 @@
 use Rattle.std.proofs.Common.{◌≡◌, ◌++◌, drop}
 use Rattle.text_forms.specs.Lines.{text_of}
-use Rattle.bound_cert.specs.Views.{forest_of}
-use Rattle.bound_cert.specs.Texts.{forest_lines}
+use Rattle.bound_cert.specs.{forest_of, forest_lines}
 use Rattle.bound_cert.proofs.printing.+printing.Given as goal
 
 abbrev pub invariant-print_children-loop-child : goal.invariant-print_children-loop-child

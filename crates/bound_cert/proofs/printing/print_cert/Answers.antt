@@ -1,7 +1,6 @@
 use Rattle.std.proofs.Common.{◌≡◌, List, ℕ, ◌++◌, ◌∙◌, ap, length}
 use Rattle.text_forms.specs.Words.{parts_of}
-use Rattle.bound_cert.specs.Texts.{cert_text}
-use Rattle.bound_cert.specs.Views.{tree_of}
+use Rattle.bound_cert.specs.{cert_text, tree_of}
 use Rattle.bound_cert.proofs.TreesAgain.{spelling_parts, text_again}
 use Rattle.bound_cert.proofs.printing.print_cert.Goals as goal
 

@@ -1,7 +1,6 @@
 use Rattle.std.proofs.Common.{◌≡◌, ◌+◌, ◌-◌, [], ◌∷◌, ◌++◌, cond, not, Ok, Err, sym, ap, ◌∙◌, arith}
 use Rattle.text_forms.specs.Steps.{◌>>=◌}
-use Rattle.bound_cert.specs.Reading.{forest_by, tree_in}
-use Rattle.bound_cert.specs.Views.{forest_of}
+use Rattle.bound_cert.specs.{forest_by, tree_in, forest_of}
 use Rattle.bound_cert.proofs.Views.{tree_of-Leaf, tree_of-Split}
 use Rattle.bound_cert.proofs.NodeCases.{join, refusal_is, handed_on, refused_through, no_node, leaf_node, deep_node, split_node, forest_step, forest_bad, forest_done}
 use Rattle.bound_cert.proofs.reading.+reading.Goals as goal

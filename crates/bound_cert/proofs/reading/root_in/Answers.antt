@@ -1,6 +1,5 @@
 use Rattle.std.proofs.Common.{sym}
-use Rattle.bound_cert.specs.Faults.{cert_fault}
-use Rattle.bound_cert.specs.Reading.{tree_in, root_in}
+use Rattle.bound_cert.specs.{cert_fault, tree_in, root_in}
 use Rattle.bound_cert.proofs.NodeCases.{refusal_is, handed_on, refused_through}
 use Rattle.bound_cert.proofs.RootCases.{no_root, more_lines, whole_root}
 use Rattle.bound_cert.proofs.reading.root_in.Goals as goal

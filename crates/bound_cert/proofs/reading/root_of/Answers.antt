@@ -1,7 +1,5 @@
 use Rattle.std.proofs.Common.{sym, subst, arith}
-use Rattle.bound_cert.specs.Faults.{IsCertReading}
-use Rattle.bound_cert.specs.Reading.{root_in}
-use Rattle.bound_cert.specs.Views.{tree_of}
+use Rattle.bound_cert.specs.{IsCertReading, root_in, tree_of}
 use Rattle.bound_cert.proofs.RootCases.{long_text, short_text, root_short, reading_short}
 use Rattle.bound_cert.proofs.reading.root_of.Goals as goal
 

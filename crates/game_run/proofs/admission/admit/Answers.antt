@@ -1,7 +1,6 @@
 use Rattle.std.proofs.Common.{◌≡◌, ◌+◌, ◌∙◌, arith, sym, ap, subst, count_by, length}
 use Rattle.std.specs.Prelude.{if◌then◌else◌}
-use Rattle.game_run.specs.Admission.{MayGoOn, is_seated, seats_given}
-use Rattle.game_run.specs.Arriving.{AreTaken}
+use Rattle.game_run.specs.{MayGoOn, is_seated, seats_given, AreTaken}
 use Rattle.game_run.proofs.TakenLinks.{none_taken, one_taken, gate_after, seats_counted, one_if, none_if}
 use Rattle.game_run.proofs.admission.admit.Goals as goal
 

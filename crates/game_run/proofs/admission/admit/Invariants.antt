@@ -1,7 +1,6 @@
 use Rattle.std.proofs.Common.{◌≡◌, ◌-◌, ◌≤◌, ◌∷◌, [], IsTrue, count_by, vec_len, vec_capacity}
 use Rattle.tac_io.specs.Known.{known_then}
-use Rattle.game_run.specs.Admission.{is_seated, seats_given}
-use Rattle.game_run.specs.Arriving.{AreTaken}
+use Rattle.game_run.specs.{is_seated, seats_given, AreTaken}
 use Rattle.game_run.proofs.admission.admit.Given as goal
 
 abbrev pub invariant-loop-seated : goal.invariant-loop-seated

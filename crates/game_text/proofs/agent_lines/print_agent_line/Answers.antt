@@ -1,6 +1,5 @@
 use Rattle.std.proofs.Common.{◌≡◌, ℕ, ◌-◌, [], ◌++◌, get_or, sym, subst, arith}
-use Rattle.game_text.specs.ClientLines.{client_text}
-use Rattle.game_text.specs.Games.{GameFile}
+use Rattle.game_text.specs.{client_text, GameFile}
 use Rattle.game_text.proofs.AgentLineLaws.{IsAppended, endow_appended, client_appended}
 use Rattle.game_text.proofs.agent_lines.print_agent_line.Goals as goal
 

@@ -3,14 +3,7 @@ use Rattle.std.specs.Prelude.{codes}
 use Rattle.text_forms.specs.Lines.{text_of}
 use Rattle.text_forms.specs.Steps.{lines_of_parts, one_line}
 use Rattle.text_forms.specs.Rows.{row_text}
-use Rattle.game_text.specs.Headers.{header_text}
-use Rattle.game_text.specs.HotelNights.{night_lines}
-use Rattle.game_text.specs.SeatWords.{seats_text}
-use Rattle.game_text.specs.Flights.{flight_text}
-use Rattle.game_text.specs.ClosingOrders.{order_text}
-use Rattle.game_text.specs.Endowments.{endow_text}
-use Rattle.game_text.specs.AgentLines.{client_lines}
-use Rattle.game_text.specs.Games.{GameFile, nights_of, canonical_text}
+use Rattle.game_text.specs.{header_text, night_lines, seats_text, flight_text, order_text, endow_text, client_lines, GameFile, nights_of, canonical_text}
 use Rattle.game_text.proofs.PrintedGames.{in_parts, spelled}
 use Rattle.game_text.proofs.printing.print_lines.Goals as goal
 

@@ -4,8 +4,7 @@ use Rattle.auction_core.specs.Auctions.{AuctionHistory}
 use Rattle.auction_core.specs.ClosedGame.{all_goods}
 use Rattle.score_sheet.specs.Settlement.{settlement_of}
 use Rattle.log_audit.specs.declared.findings.Flaw.TheVariants as flaws
-use Rattle.log_audit.specs.Parts.{IsFirstFrom, HasNoneFrom}
-use Rattle.log_audit.specs.Replays.{AreReplays, AreReplayed, AreUnfair}
+use Rattle.log_audit.specs.{IsFirstFrom, HasNoneFrom, AreReplays, AreReplayed, AreUnfair}
 use Rattle.log_audit.proofs.Opened.{goods_of}
 use Rattle.log_audit.proofs.Parting.{none_before, found_first, free_of_all, entry_found, entries_free, unsound_is, sound_is}
 use Rattle.log_audit.proofs.auditing.audit_log.Goals as goal
@@ -60,8 +59,8 @@ settle_auctions-accounts-requires c =
     let goods : map good_of c.in-Fair.auctions.items ≡ all_goods = ap (map good_of) replayed.auctions_are ∙ goods_of game log c.in_ok-auctions.ensures.logged.goods in
     ap length c.deref-2.ensures.value ∙ sym (length-map c.in-Fair.auctions.items good_of) ∙ ap length goods
 
-pub last_flaw-requires : goal.last_flaw-requires
-last_flaw-requires c =
+pub last_flaw-requires-clause-accounts : goal.last_flaw-requires-clause-accounts
+last_flaw-requires-clause-accounts c =
     let game = c.args.game.now in let log = c.args.log.now in
     let replayed : AreReplayed game log c.in-Fair.auctions.items c.in-Fair.nets.items = subst (AreReplays game log) c.in-Fair.is c.in_ok-auctions.ensures.played in
     c.settle_auctions-accounts.ensures ∙ ap settlement_of (c.deref-2.ensures.value ∙ replayed.auctions_are)

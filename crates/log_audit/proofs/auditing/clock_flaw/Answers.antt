@@ -1,7 +1,6 @@
 use Rattle.std.proofs.Common.{subst}
 use Rattle.log_reader.specs.SoundLog.{logged_history}
-use Rattle.log_audit.specs.Flaws.{IsOnSchedule}
-use Rattle.log_audit.specs.Auditing.{IsLowestBelow}
+use Rattle.log_audit.specs.{IsOnSchedule, IsLowestBelow}
 use Rattle.log_audit.proofs.Parting.{clock_found, clock_free}
 use Rattle.log_audit.proofs.auditing.clock_flaw.Goals as goal
 

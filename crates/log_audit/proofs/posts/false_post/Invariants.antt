@@ -1,6 +1,5 @@
 use Rattle.std.proofs.Common.{ℕ, ◌<◌, take}
-use Rattle.log_audit.specs.Flaws.{HasDuePost}
-use Rattle.log_audit.specs.Auditing.{AreNamed}
+use Rattle.log_audit.specs.{HasDuePost, AreNamed}
 use Rattle.log_audit.proofs.posts.false_post.Given as goal
 
 abbrev pub invariant-loop-position : goal.invariant-loop-position

@@ -14,7 +14,7 @@ index-requires c =
     let from : c.from.result ≡ good = c.from.ensures ∙ c.get.ensures.value in
     let is : row ≡ get_or earned good row = c.index-earned-from.is ∙ ap (λ (k : ℕ). get_or earned k row) from in
     let low = c.get.ensures.range in
-    let items = row_of log earned good row c.requires.nets (earned_within log earned good c.head-head.ensures.logged.goods c.requires.nets (omega (arith, low, c.get.ensures.value))) is in
+    let items = row_of log earned good row c.requires.nets (earned_within log earned good c.requires.logged.goods c.requires.nets (omega (arith, low, c.get.ensures.value))) is in
     let inside = c.requires.inside in
     omega (arith, row.ok.0, ap (λ (l : List Nets). length l) items, length-map (logged_history log good) nets_by, inside)
 
@@ -24,7 +24,7 @@ returns c =
     let from : c.from.result ≡ good = c.from.ensures ∙ c.get.ensures.value in
     let is : row ≡ get_or earned good row = c.index-earned-from.is ∙ ap (λ (k : ℕ). get_or earned k row) from in
     let low = c.get.ensures.range in
-    let items = row_of log earned good row c.requires.nets (earned_within log earned good c.head-head.ensures.logged.goods c.requires.nets (omega (arith, low, c.get.ensures.value))) is in
+    let items = row_of log earned good row c.requires.nets (earned_within log earned good c.requires.logged.goods c.requires.nets (omega (arith, low, c.get.ensures.value))) is in
     let inside = c.requires.inside in
     let found : Nets = c.index.result.now in
     let at : slice_get row.items c.args.position ≡ Some found = slice_get_read row.items (length row.items) c.args.position found refl (omega (arith, ap (λ (l : List Nets). length l) items, length-map (logged_history log good) nets_by, inside)) c.index.ensures in

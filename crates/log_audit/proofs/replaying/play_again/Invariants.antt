@@ -1,7 +1,6 @@
 use Rattle.std.proofs.Common.{◌≡◌, ℕ, ◌<◌, ◌≤◌, length, map, take, vec_len, vec_capacity}
 use Rattle.auction_core.specs.Setups.{setup_of}
-use Rattle.log_audit.specs.Flaws.{HasFairEntry}
-use Rattle.log_audit.specs.Auditing.{AreCounts, nets_by}
+use Rattle.log_audit.specs.{HasFairEntry, AreCounts, nets_by}
 use Rattle.log_audit.proofs.replaying.play_again.Given as goal
 
 abbrev pub invariant-loop-position : goal.invariant-loop-position

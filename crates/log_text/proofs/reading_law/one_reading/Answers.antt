@@ -1,6 +1,5 @@
-use Rattle.std.proofs.Common.{◌++◌, append_assoc}
-use Rattle.log_text.specs.LogText.{first_lines, histories_of, histories_text}
-use Rattle.log_text.specs.SheetText.{sheet_part}
+use Rattle.std.proofs.Common.{append_assoc}
+use Rattle.log_text.specs.{first_lines, histories_of, histories_text, sheet_part}
 use Rattle.log_text.proofs.LogTaking.{log_is}
 use Rattle.log_text.proofs.SheetGiving.{log_given}
 use Rattle.log_text.proofs.reading_law.one_reading.Goals as goal

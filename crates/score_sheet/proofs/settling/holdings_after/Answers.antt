@@ -1,4 +1,4 @@
-use Rattle.std.proofs.Common.{◌≡◌, ◌<◌, ℤ, List, length, length-set, sym, ap, ◌∙◌, subst, arith, to_z, of_z, w32}
+use Rattle.std.proofs.Common.{◌≡◌, ◌<◌, ℤ, length, length-set, sym, ◌∙◌, subst, arith, to_z, of_z, w32}
 use Rattle.std.specs.Prelude.{reverse}
 use Rattle.auction_rules.specs.Effects.{holding}
 use Rattle.auction_core.specs.Auctions.{AuctionHistory}

@@ -1,6 +1,5 @@
 use Rattle.tac_commands.specs.declared.file_kinds.FileKind.TheVariants.{Log}
-use Rattle.tac_commands.specs.Allowed.{audit_steps}
-use Rattle.tac_commands.specs.Steps.{file}
+use Rattle.tac_commands.specs.{audit_steps, file}
 use Rattle.tac_commands.proofs.ReadFiles.{ends_later}
 use Rattle.tac_commands.proofs.audit_command.audit_by_file.Goals as goal
 

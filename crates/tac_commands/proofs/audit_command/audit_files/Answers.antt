@@ -1,6 +1,5 @@
 use Rattle.tac_commands.specs.declared.file_kinds.FileKind.TheVariants.{Game, Log}
-use Rattle.tac_commands.specs.Allowed.{audit_steps}
-use Rattle.tac_commands.specs.Steps.{Reads, file}
+use Rattle.tac_commands.specs.{audit_steps, Reads, file}
 use Rattle.tac_commands.proofs.ReadFiles.{ends_later}
 use Rattle.tac_commands.proofs.audit_command.audit_files.Goals as goal
 

@@ -1,6 +1,5 @@
 use Rattle.tac_commands.specs.declared.file_kinds.FileKind.TheVariants.{Game}
-use Rattle.tac_commands.specs.Allowed.{play_steps}
-use Rattle.tac_commands.specs.Steps.{file}
+use Rattle.tac_commands.specs.{play_steps, file}
 use Rattle.tac_commands.proofs.ReadFiles.{ends_later}
 use Rattle.tac_commands.proofs.script_commands.play_files.Goals as goal
 

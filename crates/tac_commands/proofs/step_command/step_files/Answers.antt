@@ -1,6 +1,5 @@
 use Rattle.tac_commands.specs.declared.file_kinds.FileKind.TheVariants.{Game}
-use Rattle.tac_commands.specs.Allowed.{step_steps}
-use Rattle.tac_commands.specs.Steps.{file}
+use Rattle.tac_commands.specs.{step_steps, file}
 use Rattle.tac_commands.proofs.PromptSteps.{steps_promptly, unread_promptly}
 use Rattle.tac_commands.proofs.ReadFiles.{ends_later}
 use Rattle.tac_commands.proofs.step_command.step_files.Goals as goal

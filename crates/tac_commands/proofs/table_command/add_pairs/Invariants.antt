@@ -1,6 +1,5 @@
 use Rattle.std.proofs.Common.{◌≡◌, ◌*◌, List, ℕ, drop, length, map, string_bytes, IfSome}
-use Rattle.tac_commands.specs.Commands.{in_pairs}
-use Rattle.tac_commands.specs.TableRuns.{TableGoesOn}
+use Rattle.tac_commands.specs.{in_pairs, TableGoesOn}
 use Rattle.tac_commands.proofs.table_command.add_pairs.Given as goal
 
 abbrev pub invariant-loop-pair : goal.invariant-loop-pair

@@ -1,8 +1,7 @@
 use Rattle.std.proofs.Common.{◌≡◌, List, slice_get, subst, sym, ap, ◌∙◌}
 use Rattle.std.specs.Option.{option_copied}
 use Rattle.tac_base.specs.declared.calls.Entry.{Entry as StoredEntry}
-use Rattle.auction_core.specs.Auctions.{AuctionHistory}
-use Rattle.auction_core.specs.Stored.{IsShown}
+use Rattle.auction_core.specs.{AuctionHistory, IsShown}
 use Rattle.auction_core.proofs.Chains.{shown_at}
 use Rattle.auction_core.proofs.auction.Auction.entry.Goals as goal
 

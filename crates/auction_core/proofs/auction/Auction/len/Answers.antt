@@ -3,9 +3,7 @@ use Rattle.std.proofs.lemmas.List.{length-map}
 use Rattle.std.proofs.lemmas.List.Elements.{All-from_recursion}
 use Rattle.std.specs.List.{All}
 use Rattle.auction_rules.specs.History.{Entry}
-use Rattle.auction_core.specs.Auctions.{AuctionHistory}
-use Rattle.auction_core.specs.Ranges.{IsEntry, IsHistory, IsToldInRange}
-use Rattle.auction_core.specs.Stored.{stored, entry_with}
+use Rattle.auction_core.specs.{AuctionHistory, IsEntry, IsHistory, IsToldInRange, stored, entry_with}
 use Rattle.auction_core.proofs.Keeping.{few_stored}
 use Rattle.auction_core.proofs.auction.Auction.len.Goals as goal
 

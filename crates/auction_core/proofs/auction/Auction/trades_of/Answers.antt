@@ -4,8 +4,7 @@ use Rattle.std.proofs.lemmas.Option.{slice_get-get_or}
 use Rattle.tac_base.specs.declared.calls.Entry.{Entry as StoredEntry}
 use Rattle.tac_base.specs.declared.calls.Trade.{Trade}
 use Rattle.auction_rules.specs.History.{Entry}
-use Rattle.auction_core.specs.Auctions.{AuctionHistory}
-use Rattle.auction_core.specs.Stored.{entry_with, stored}
+use Rattle.auction_core.specs.{AuctionHistory, entry_with, stored}
 use Rattle.auction_core.proofs.Chains.{trades_end, trades_are}
 use Rattle.auction_core.proofs.auction.Auction.trades_of.Goals as goal
 

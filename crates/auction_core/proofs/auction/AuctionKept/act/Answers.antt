@@ -9,12 +9,7 @@ use Rattle.auction_rules.specs.Traded.{traded}
 use Rattle.auction_rules.proofs.Histories.{entry_caller, entry_call}
 use Rattle.turn_lock.specs.Part.{part}
 use Rattle.trade_ledger.specs.Holdings.{held_after}
-use Rattle.auction_core.specs.Auctions.{AuctionHistory}
-use Rattle.auction_core.specs.KeptAuctions.{IsAuctionSound}
-use Rattle.auction_core.specs.Books.{Stands}
-use Rattle.auction_core.specs.Stored.{stored, entry_behind}
-use Rattle.auction_core.specs.Struck.{struck_of}
-use Rattle.auction_core.specs.Setups.{AreInRange}
+use Rattle.auction_core.specs.{AuctionHistory, IsAuctionSound, Stands, stored, entry_behind, struck_of, AreInRange}
 use Rattle.auction_core.proofs.LawsHold.{Laws, laws_hold}
 use Rattle.auction_core.proofs.Counting.{by}
 use Rattle.auction_core.proofs.Telling.{call_ranged}

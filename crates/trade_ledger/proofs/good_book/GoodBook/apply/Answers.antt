@@ -1,7 +1,7 @@
 use Rattle.std.proofs.Common.{rules, ◌≡◌, ◌≤◌, ◌∷◌, [], pos, ◌+ℤ◌, ◌-ℤ◌, neg_ℤ, get_or, ◌<◌, ℕ, List, ℤ, sym, ap, ◌∙◌, subst, arith, to_z, of_z, w32}
 use Rattle.std.proofs.lemmas.Int.{ints}
 use Rattle.trade_ledger.specs.Holdings.{held_after, sum_held, Stays, NoneLeaves}
-use Rattle.trade_ledger.proofs.Trading.{given, given_is, taken_is, moved_is, sum_held-moved, buyer_stays, seller_stays, alone_is}
+use Rattle.trade_ledger.proofs.Trading.{given_is, taken_is, moved_is, sum_held-moved, buyer_stays, seller_stays, alone_is}
 use Rattle.trade_ledger.proofs.good_book.GoodBook.apply.Goals as goal
 
 -- the units as the code has them

@@ -1,7 +1,6 @@
 use Rattle.std.proofs.Common.{rules, ◌≡◌, ℕ, ◌+◌, ◌<◌, ◌≤◌, Bool, false, ◌∷◌, length, get_or, set, sym, ◌∙◌, subst}
 use Rattle.script_run.specs.declared.game.lines.GameLine.TheVariants.{Asks}
-use Rattle.script_run.specs.GameScripts.{count_of_agent}
-use Rattle.script_run.specs.GameCounts.{AreGameCounts}
+use Rattle.script_run.specs.{count_of_agent, AreGameCounts}
 use Rattle.script_run.proofs.GameCounting.{limited_line, counted_line}
 use Rattle.script_run.proofs.game.counts.GameCounts.count_line.Goals as goal
 

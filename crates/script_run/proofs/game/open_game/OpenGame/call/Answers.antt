@@ -6,8 +6,7 @@ use Rattle.auction_core.specs.declared.entries.Struck.{Struck}
 use Rattle.auction_rules.proofs.Histories.{entry_caller}
 use Rattle.trade_ledger.specs.Posts.{due_post}
 use Rattle.auction_core.specs.Setups.{setup_of}
-use Rattle.script_run.specs.GameStates.{past_at, called}
-use Rattle.script_run.specs.OpenGames.{SeenGame, setups_of, state_of}
+use Rattle.script_run.specs.{past_at, called, SeenGame, setups_of, state_of}
 use Rattle.script_run.proofs.OpenGames.{IsFound, found, room_there, one_past, one_setup, position_is, same_setups, called_is}
 use Rattle.script_run.proofs.game.open_game.OpenGame.call.Goals as goal
 

@@ -1,6 +1,5 @@
 use Rattle.std.proofs.Common.{sym, ap, ◌∙◌}
-use Rattle.script_run.specs.OneThreadRun.{closed_of}
-use Rattle.script_run.specs.OpenGames.{SeenGame}
+use Rattle.script_run.specs.{closed_of, SeenGame}
 use Rattle.script_run.proofs.OpenGames.{closed_is, goods_are}
 use Rattle.script_run.proofs.game.open_game.OpenGame.close.Goals as goal
 

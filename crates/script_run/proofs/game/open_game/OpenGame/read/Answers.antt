@@ -1,7 +1,6 @@
 use Rattle.std.proofs.Common.{[], ◌∷◌, ◌++◌, ap, ◌∙◌}
 use Rattle.trade_ledger.specs.declared.cash_calls.CashCall.TheVariants.{Read}
-use Rattle.script_run.specs.GameStates.{reading_of}
-use Rattle.script_run.specs.OpenGames.{SeenGame}
+use Rattle.script_run.specs.{reading_of, SeenGame}
 use Rattle.script_run.proofs.CashMore.{cash_more}
 use Rattle.script_run.proofs.game.open_game.OpenGame.read.Goals as goal
 

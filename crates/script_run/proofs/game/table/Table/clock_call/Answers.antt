@@ -6,9 +6,7 @@ use Rattle.auction_rules.specs.Legal.{cap, entries_of}
 use Rattle.turn_lock.specs.Part.{part}
 use Rattle.trade_ledger.specs.CashHistory.{cash_cap}
 use Rattle.game_text.specs.Schedule.{calls_at}
-use Rattle.script_run.specs.GameStates.{GameState, past_at, called, clocked}
-use Rattle.script_run.specs.OpenGames.{SeenGame}
-use Rattle.script_run.specs.Tables.{AreCounted, HasClockRoom}
+use Rattle.script_run.specs.{GameState, past_at, called, clocked, SeenGame, AreCounted, HasClockRoom}
 use Rattle.script_run.proofs.Counted.{by}
 use Rattle.script_run.proofs.Tables.{ClockStep, clock_step, none_left}
 use Rattle.script_run.proofs.game.table.Table.clock_call.Goals as goal

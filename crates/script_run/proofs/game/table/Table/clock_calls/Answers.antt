@@ -2,9 +2,7 @@ use Rattle.std.proofs.Common.{rules, sym, ap, ◌∙◌, subst, ◌≤◌, ℕ, 
 use Rattle.tac_base.specs.declared.calls.Call.{Call}
 use Rattle.game_text.specs.Games.{GameFile}
 use Rattle.game_text.specs.Schedule.{calls_at}
-use Rattle.script_run.specs.GameStates.{clocked}
-use Rattle.script_run.specs.OpenGames.{SeenGame}
-use Rattle.script_run.specs.Tables.{HasClockRoom}
+use Rattle.script_run.specs.{clocked, SeenGame, HasClockRoom}
 use Rattle.script_run.proofs.Tables.{drop_all}
 use Rattle.script_run.proofs.game.table.Table.clock_calls.Goals as goal
 

@@ -1,8 +1,7 @@
 use Rattle.std.proofs.Common.{rules, ◌≡◌, ℕ, ◌+◌, ◌<◌, ◌≤◌, [], ◌∷◌, ◌++◌, length, get_or, set, sym, ◌∙◌, subst, slice_index}
 use Rattle.std.specs.Prelude.{◌==◌}
 use Rattle.game_text.specs.Games.{GameFile}
-use Rattle.script_run.specs.GameStates.{GameState, reading_of}
-use Rattle.script_run.specs.Tables.{AreCounted}
+use Rattle.script_run.specs.{GameState, reading_of, AreCounted}
 use Rattle.script_run.proofs.Counted.{count_set, one_if}
 use Rattle.script_run.proofs.Tables.{read_room, counted_read}
 use Rattle.script_run.proofs.game.table.Table.read.Goals as goal

@@ -2,8 +2,7 @@ use Rattle.std.proofs.Common.{rules, ℕ, ◌≤◌, sym, subst}
 use Rattle.game_text.specs.Games.{GameFile}
 use Rattle.game_text.specs.Schedule.{calls_at}
 use Rattle.clock_events.specs.Laws.{tick_calls_of}
-use Rattle.script_run.specs.GameStates.{GameState}
-use Rattle.script_run.specs.Tables.{AreCounted, HasClockRoom}
+use Rattle.script_run.specs.{GameState, AreCounted, HasClockRoom}
 use Rattle.script_run.proofs.Tables.{counted_tick, tick_room}
 use Rattle.script_run.proofs.game.table.Table.tick.Goals as goal
 
