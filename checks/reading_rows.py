@@ -23,28 +23,23 @@ class Row(NamedTuple):
 
 ROWS = [
     # Goods, bids, calls and replies
-    Row(["worked_rows/Units:last_and_first_goods_of_each_kind"], ["tac_base/Kinds.kind_of"],
+    Row(["auction_rules/Rows:last_and_first_goods_of_each_kind"], ["tac_base/Kinds.kind_of"],
         "Goods 0 and 7 are flights, 8 and 15 hotel nights, 16 and 27 tickets"),
-    Row(["auction_rules/Rows:outbound_flights_are_4_to_7",
-         "auction_rules/Rows:hotel_nights_are_8_to_15",
-         "auction_rules/Rows:ticket_nights_are_16_to_27"],
+    Row(["auction_rules/Rows:goods_are_numbered_by_days_and_nights"],
         ["tac_base/Goods.outbound_flight", "tac_base/Goods.hotel_night",
          "tac_base/Goods.ticket_night"],
         ("The flights out on the days 2 to 5 are the goods 4 to 7; the nights 1 to 4 of the "
          "two hotels are 8 to 15, and those of the three ticket types 16 to 27")),
-    Row(["bid_strings/Worked:units_before_price", "bid_strings/Worked:price_above_limit",
-         "bid_strings/Worked:no_price", "bid_strings/Worked:too_many_units",
-         "bid_strings/Worked:too_many_points"],
+    Row(["bid_strings/Worked:faults_of_points_in_their_order"],
         ["tac_base/Bids.fault_of", "tac_base/Bids.point_fault"],
         ("0 units at 10001: no units. 1 unit at 10001, or at 0: the price. 9 to buy and 8 to "
          "sell: too many units. Sixteen points of 1 unit, and then one of 0 units: too many "
          "points")),
-    Row(["bid_strings/Worked:leading_zero", "bid_strings/Worked:minus_zero",
-         "bid_strings/Worked:six_digits", "bid_strings/Worked:selling"],
+    Row(["bid_strings/Worked:numerals_have_one_form"],
         ["tac_base/Numerals.numeral", "tac_base/Numerals.signed_numeral"],
         "`01`, `-0` and `100000` are no numbers of a bid; `-1` is a number of units"),
     # The rules of the auctions: bids and units
-    Row(["worked_rows/Units:units_go_on_through_the_points"], ["auction_rules/Units.units_of"],
+    Row(["auction_rules/Rows:units_go_on_through_the_points"], ["auction_rules/Units.units_of"],
         ("A bid at position 5 buys two units at 70 and sells one at 90: the units 0 and 1 buy "
          "at 70, and the unit 2 sells at 90")),
     Row(["auction_rules/Rows:new_bid_takes_its_own_place_in_time"],
@@ -52,64 +47,56 @@ ROWS = [
         ("A hotel of 16 rooms. Agent 0 bids for 13 at 100, agent 1 for 3 at 120; the clock "
          "publishes; agent 2 bids for 14 at 101, and then agent 1 for 3 at 101. The closing "
          "sells 16 at 101: 2 to agent 1, which came later, and 14 to agent 2")),
-    Row(["auction_rules/Rows:nothing_stands_after_a_closing"], ["auction_rules/Standing.stand"],
+    Row(["auction_rules/Rows:two_bids_win_until_the_closing"], ["auction_rules/Standing.stand"],
         "A hotel with bids was closed: no unit stands"),
     Row(["auction_rules/Rows:part_of_a_sale_is_left"],
         ["auction_rules/Standing.left", "auction_rules/Effects.holding"],
         ("Agent 1 sells 2 tickets at 60 that it does not have, and agent 0 buys 1: agent 1 is "
          "answered that it holds -1, and that 1 unit at 60 is left to sell")),
     # .. refusals
-    Row(["auction_rules/Rows:closed_hotel_refuses",
-         "auction_rules/Rows:withdrawal_from_a_hotel_is_wrong",
-         "auction_rules/Rows:seller_of_a_flight_is_refused",
-         "auction_rules/Rows:self_crossing_bid_leaves_nothing_to_withdraw"],
-        ["auction_rules/Refusals.refusal"],
+    Row(["auction_rules/Rows:calls_and_bids_that_are_refused"], ["auction_rules/Refusals.refusal"],
         ("After a closing a bid and a second closing are `closed`; a withdrawal from a hotel "
          "is a wrong call; selling a seat at 300 is `sell`; buying a ticket at 80 and selling "
          "one at 70 crosses itself, and leaves no bid to withdraw")),
-    Row(["worked_rows/Bounds:each_has_its_own_calls", "worked_rows/Bounds:flight_is_not_published",
-         "worked_rows/Bounds:tickets_are_not_published"],
+    Row(["auction_rules/Rows:each_has_its_own_calls"],
         ["auction_rules/Refusals.is_wrong_caller", "auction_rules/Refusals.is_wrong_place"],
         ("Wrong calls: the clock, 8, bids or looks; agent 0 publishes or closes; an update of a "
          "hotel; publishing a flight; publishing or updating tickets")),
-    Row(["worked_rows/Bounds:closed_comes_first"], ["auction_rules/Refusals.refusal"],
+    Row(["auction_rules/Rows:closed_comes_first"], ["auction_rules/Refusals.refusal"],
         ("After the closing of a hotel agent 0 publishes and withdraws, both wrong calls: "
          "both are answered `closed`. To look is answered as ever: it holds 0")),
-    Row(["worked_rows/Bounds:equal_prices_cross_themselves"],
+    Row(["auction_rules/Rows:equal_prices_cross_themselves"],
         ["auction_rules/Refusals.crosses_itself"],
         "Buying at 70 and selling at 70 crosses itself; buying at 69 and selling at 70 is taken"),
-    Row(["worked_rows/Bounds:withdrawn_bid_is_gone"],
+    Row(["auction_rules/Rows:withdrawn_bid_is_gone"],
         ["auction_rules/Refusals.has_standing", "auction_rules/History.bid_after"],
         ("Agent 0 bids for 2 seats at 200 when the price is 300, and withdraws: done; a second "
          "withdrawal is `nobid`, and nothing is left")),
     # .. flights
-    Row(["worked_rows/Bounds:one_dollar_below_the_price"],
+    Row(["auction_rules/Rows:one_dollar_below_the_price"],
         ["auction_rules/FlightSales.is_sold", "auction_rules/FlightRule.flight_gone"],
         "At the price 300 a bid at 299 stands, and those at 300 and at 301 buy 1 seat at 300 each"),
-    Row(["worked_rows/Bounds:sold_units_never_stand_again"],
+    Row(["auction_rules/Rows:sold_units_never_stand_again"],
         ["auction_rules/Standing.gone", "auction_rules/Standing.gone_by"],
         ("Agent 0 buys 1 seat at 300 by a bid; after that, and after an update too, none of the "
          "bid stands, and the seat is not sold again")),
-    Row(["auction_rules/Rows:rising_price", "auction_rules/Rows:drift_is_rounded_down"],
+    Row(["auction_rules/Rows:draws_raise_and_lower_the_price"],
         ["auction_rules/FlightRule.next_price", "auction_rules/FlightRule.drift"],
         ("Price 300, bound 30, tick 27, draw 30: 320, the highest that this draw's interval "
          "has. Price 300, bound -10, tick 28, draw 0: 299, since the drift, which lies between "
          "-1 and 0, is rounded down")),
-    Row(["auction_rules/Rows:price_stops_at_800", "auction_rules/Rows:price_stops_at_150"],
-        ["auction_rules/FlightRule.clamped"],
+    Row(["auction_rules/Rows:price_stops_at_800_and_150"], ["auction_rules/FlightRule.clamped"],
         "Bound 30, tick 27, draw 30: from 795 to 800. Bound 10, tick 1, draw 0: from 151 to 150"),
     Row(["auction_rules/Rows:points_above_the_price_are_sold_one_by_one"],
         ["auction_rules/FlightSales.flight_trades", "auction_rules/Standing.left"],
         ("At the price 300 agent 0 bids for 1 unit at 300, 2 at 200 and 1 at 400: two trades "
          "of 1 unit at 300 each, and the 2 at 200 stand")),
-    Row(["auction_rules/Rows:falling_price_reaches_a_bid", "auction_rules/Rows:last_update_sells"],
+    Row(["auction_rules/Rows:falling_price_reaches_a_bid"],
         ["auction_rules/FlightSales.flight_trades", "auction_rules/FlightRule.price"],
         ("From 250 the draw 0 lowers the price by 10 a tick: the tenth update reaches 150, and "
          "sells the 2 seats that were bid for at 150")),
     # .. hotels
-    Row(["auction_rules/Rows:sixteenth_price_is_paid_for_all",
-         "auction_rules/Rows:fifteen_units_are_sold_at_0",
-         "auction_rules/Rows:closing_without_bids_sells_nothing"],
+    Row(["auction_rules/Rows:price_of_the_last_room_is_paid_for_all"],
         ["auction_rules/HotelClosing.closing_trades", "auction_rules/Ask.ask"],
         ("Sixteen units at 100, 101 .. 115 for 16 rooms: all 16 are sold at 100. Of 15 units "
          "at 100 each is sold at 0. Without bids 0 units are sold at 0")),
@@ -117,35 +104,31 @@ ROWS = [
         ["auction_rules/Precedence.wins", "auction_rules/HotelClosing.closing_trades"],
         ("15 units at 200, then agent 1 and then agent 2 with 1 unit at 150 each: agent 1 gets "
          "the sixteenth room, and all 16 cost 150")),
-    Row(["auction_rules/Rows:two_units_do_not_replace_three_that_win",
-         "auction_rules/Rows:one_unit_does_not_replace_fifteen"],
+    Row(["auction_rules/Rows:fewer_units_do_not_replace_those_that_win"],
         ["auction_rules/BeatQuote.is_below_quote", "auction_rules/WinningNumber.winning_number"],
         ("13 units of agent 0 at 100 and 3 of agent 1 at 120; published: 100. Agent 1 then "
          "offers 2 at 150 and 1 at 100: refused, it needs 3 at 101 or more and offers 2. With "
          "15 units at 10 and 0 published, 1 unit at 1 is refused: 15 at 1 or more are needed")),
-    Row(["auction_rules/Rows:unpublished_ask_is_not_shown",
-         "auction_rules/Rows:closed_board_shows_the_closing_ask"],
+    Row(["auction_rules/Rows:ask_is_shown_when_published_or_closed"],
         ["auction_rules/Ask.published", "auction_rules/Board.board"],
         ("After 1 bid and no publication a hotel shows the ask 0; after 2 bids and the closing "
          "it shows 100, and that it is closed, and counts 3 entries")),
-    Row(["auction_rules/Rows:live_bid_must_beat_the_last_one",
-         "auction_rules/Rows:refused_live_bid_is_not_shown"],
+    Row(["auction_rules/Rows:live_bid_must_beat_the_last_one"],
         ["auction_rules/Ask.published", "auction_rules/BeatQuote.is_below_quote"],
         ("One room and live quotes: after a bid at 50 another at 50 is refused, since it needs "
          "1 at 51, and the ask stays 50; one at 51 is taken, and wins the room at 51")),
-    Row(["worked_rows/Bounds:enough_at_one_dollar_more"],
+    Row(["auction_rules/Rows:enough_at_one_dollar_more"],
         ["auction_rules/BeatQuote.quote_to_beat", "auction_rules/BeatQuote.need"],
         ("16 units at 50, published. Another agent's unit at 50 is refused: it needs 1 at 51, and "
          "offers 0. At 51 it is taken, and wins: 15 rooms and 1, all at 50")),
     # .. tickets
-    Row(["worked_rows/Bounds:equal_prices_trade"], ["auction_rules/TicketMatch.crosses"],
+    Row(["auction_rules/Rows:equal_prices_trade"], ["auction_rules/TicketMatch.crosses"],
         "One ticket is asked for at 60: a bid at 59 does not trade, and one at 60 does"),
-    Row(["worked_rows/Bounds:cheapest_then_earliest", "worked_rows/Bounds:dearest_buyer_first"],
+    Row(["auction_rules/Rows:cheapest_then_earliest_and_dearest_first"],
         ["auction_rules/TicketMatch.goes_before", "auction_rules/TicketMatch.better"],
         ("Asks at 60, 50 and 50, by the agents 0, 1 and 2: a bid for 2 at 90 buys agent 1's and "
          "then agent 2's, at 50. Bids at 60 and 80: an ask at 40 sells to the one at 80, at 80")),
-    Row(["auction_rules/Rows:trade_is_at_the_standing_price",
-         "auction_rules/Rows:rest_of_a_bid_is_shown"],
+    Row(["auction_rules/Rows:trade_is_at_the_standing_price"],
         ["auction_rules/TicketMatch.partner", "auction_rules/TicketMatch.ticket_trades",
          "auction_rules/Board.board"],
         ("Agent 0 sells 1 at 60, then agent 1 buys 2 at 70: 1 is traded at 60, the standing "
@@ -155,8 +138,7 @@ ROWS = [
         ("Agent 0 sells 1 at 60, and then bids to buy 1 at 70: nothing is traded, and of its "
          "bids only the later stands")),
     # .. trades, holdings, dollars
-    Row(["auction_rules/Rows:two_flights_and_a_ticket_cost_660",
-         "auction_rules/Rows:nets_add_up_to_0"],
+    Row(["auction_rules/Rows:buyers_pay_and_nets_add_up_to_0"],
         ["auction_rules/Effects.dollars", "auction_rules/Effects.nets"],
         ("Two seats at 300 and a ticket at 60 give their buyer -660 dollars. Agent 1 sells a "
          "ticket at 60 to each of the agents 0 and 2: the nets are -60, 120 and -60, and 0 for "
@@ -166,88 +148,70 @@ ROWS = [
         "Agent 1 sells 2 tickets that it does not have, to two buyers: it holds -2"),
     Row(["auction_rules/Rows:part_has_its_positions"], ["auction_rules/Legal.entry_of"],
         "Of the five calls of that auction agent 1 made those at the positions 0 and 3"),
-    Row(["worked_rows/Bounds:history_of_two_calls", "worked_rows/Bounds:wrong_reply_is_unlawful"],
-        ["auction_rules/Legal.IsLawful"],
+    Row(["auction_rules/Rows:history_is_lawful_by_its_replies"], ["auction_rules/Legal.IsLawful"],
         ("The entries that the rules give for a bid and a publication are lawful; a publication "
          "that is answered `closed`, before any closing, is not")),
-    Row(["worked_rows/Bounds:cap_of_agents_and_clock"], ["auction_rules/Legal.cap"],
+    Row(["auction_rules/Rows:cap_of_agents_and_clock"], ["auction_rules/Legal.cap"],
         "The agents 0 and 7 may have 1024 entries, and the clock, 8, 64"),
     # The cash book
-    Row(["worked_rows/Cash:trades_are_posted_with_their_nets",
-         "worked_rows/Cash:no_trade_no_post"],
-        ["trade_ledger/Posts.due_post"],
+    Row(["worked_rows/Logs:trades_are_posted_with_their_nets"], ["trade_ledger/Posts.due_post"],
         ("Agent 0 buys 2 seats at 300 by the entry 0 of good 0: the post due is agent 0's, "
          "with -600 for it, 600 for the house, and 0 for the others. An entry without a trade "
          "has no post")),
-    Row(["worked_rows/Cash:reading_sums_the_posts_before_it"],
+    Row(["worked_rows/Logs:reading_sums_the_posts_before_it"],
         ["trade_ledger/CashHistory.cash_reply_of"],
         ("The book has a post of -60 for agent 0, a reading, and a post of -600: a reading "
          "after 0, 1, 2 or 3 of these entries answers 0, -60, -60 and -660")),
-    Row(["worked_rows/Cash:totals_of_the_book"], ["trade_ledger/CashHistory.cash_total"],
+    Row(["worked_rows/Logs:totals_of_the_book"], ["trade_ledger/CashHistory.cash_total"],
         "In all that is -660 for agent 0, 60 for agent 1 and 600 for the house, 8"),
-    Row(["worked_rows/Cash:posts_match_in_any_order"], ["trade_ledger/Posts.Matched"],
+    Row(["worked_rows/Logs:posts_match_in_any_order"], ["trade_ledger/Posts.Matched"],
         ("The post of good 1 may stand before that of good 0: the book still has one post for "
          "each entry with a trade, and no other")),
     # The game file
-    Row(["clock_events/Worked:first_update", "clock_events/Worked:updates_alone"],
-        ["game_text/Schedule.calls_at"],
+    Row(["clock_events/Worked:flights_alone_are_updated_first"], ["game_text/Schedule.calls_at"],
         "At tick 1 flight 0 is updated by its draw 10 first, and no call follows the eighth"),
-    Row(["clock_events/Worked:first_hotel_closes", "clock_events/Worked:others_publish",
-         "clock_events/Worked:last_publishes", "clock_events/Worked:seven_publish"],
+    Row(["clock_events/Worked:first_hotel_closes_and_seven_publish"],
         ["game_text/Schedule.hotel_calls_at", "game_text/Schedule.open_after"],
         ("At tick 6 the ninth call closes hotel 8, and the seven others, 9 to 15, publish; no "
          "call follows")),
-    Row(["clock_events/Worked:last_hotel_closes", "clock_events/Worked:no_hotel_is_left"],
-        ["game_text/Schedule.hotel_calls"],
+    Row(["clock_events/Worked:last_hotel_closes_alone"], ["game_text/Schedule.hotel_calls"],
         "At tick 48 the ninth call closes hotel 15, and none publishes"),
-    Row(["clock_events/Worked:tickets_follow_flights", "clock_events/Worked:last_ticket_closes",
-         "clock_events/Worked:last_tick_ends"],
-        ["game_text/Schedule.closed_last"],
+    Row(["clock_events/Worked:tickets_close_after_the_flights"], ["game_text/Schedule.closed_last"],
         "At tick 54 the flights close, then good 16, and at last good 27; no call follows"),
-    Row(["clock_events/Worked:all_calls", "clock_events/Worked:third_hotel",
-         "clock_events/Worked:ticket"],
+    Row(["clock_events/Worked:all_calls_and_those_of_two_goods"],
         ["game_text/Schedule.schedule", "game_text/Schedule.clock_calls"],
         ("480 calls in all. Hotel 10, the third to close, publishes, publishes and closes; "
          "good 20, a ticket, closes alone")),
     # The auctions of a game
-    Row(["worked_rows/Setups:flight_has_its_first_price_and_bound",
-         "worked_rows/Setups:hotel_has_its_rooms",
-         "worked_rows/Setups:tickets_have_the_endowments"],
-        ["auction_core/Setups.setup_of"],
+    Row(["worked_rows/Links:auctions_have_their_rules"], ["auction_core/Setups.setup_of"],
         ("In a game file of which nobody has a ticket at first, good 0 is a flight with first "
          "price 300 and bound 10, good 15 a hotel night of 16 rooms without live quotes, good "
          "27 tickets")),
-    Row(["worked_rows/Sessions:calls_are_the_agents_part"], ["turn_lock/Part.part"],
+    Row(["worked_rows/Sessions:turns_make_the_agents_part"], ["turn_lock/Part.part"],
         ("A hotel has four entries: agent 1 bids, agent 0 bids for 1 at 50, the clock "
          "publishes, agent 0 looks. Agent 0's part is the entries 1 and 3")),
     Row(["worked_rows/Sessions:shown_board_is_of_a_prefix"], ["floor/ClosedBoards.board_of"],
         "The board with the count 3 that agent 0 was shown there is that of the first 3 entries"),
     # Packages and the best total
-    Row(["worked_rows/Trips:museum_trip_uses_four_goods",
-         "worked_rows/Trips:long_trip_uses_eight_goods"],
+    Row(["worked_rows/Trips:trips_use_four_and_eight_goods"],
         ["packages/Packages.use_of", "packages/Goods.thing_of"],
         ("Tampa Towers (1) from day 2 to 3 with the museum on night 2 uses the goods 1, 5, 13 "
          "and 25. Shoreline Shanties (0) from day 1 to 5, with the first ticket type on night "
          "1 and the second on night 3: 0, 7, 8, 9, 10, 11, 16 and 22")),
-    Row(["packages/Worked:museum_trip", "worked_rows/Trips:long_trip_is_worth_830",
-         "worked_rows/Trips:staying_at_home_is_worth_0"],
+    Row(["packages/Worked:museum_trip", "worked_rows/Trips:long_trip_is_worth_830_and_home_0"],
         ["packages/Packages.utility_of"],
         ("The first to a client of day 1 to 3, premium 100 and 200 for the museum: 1000 - 100 "
          "+ 100 + 200 = 1200. The second to one of day 2 to 4, premium 80 and the values 10, "
          "20 and 30: 1000 - 200 + 10 + 20 = 830. To stay at home: 0")),
-    Row(["worked_rows/Trips:good_packages", "worked_rows/Trips:no_packages"],
+    Row(["worked_rows/Trips:packages_keep_to_days_nights_and_tickets"],
         ["packages/Packages.is_package"],
         ("None, and both trips, are packages. No package: a hotel 2, no night, day 6, a ticket "
          "on the day of departure, two tickets on one night, four ticket types")),
-    Row(["worked_rows/Trips:one_traveller_is_feasible",
-         "worked_rows/Trips:second_traveller_has_no_seat",
-         "worked_rows/Trips:owed_ticket_is_none"],
+    Row(["worked_rows/Trips:second_traveller_has_no_seat"],
         ["packages/BestTotal.used_by", "packages/Stocks.stock_of"],
         ("With one seat in, two seats out, two rooms and a ticket owed: no good lacks for one "
          "traveller, and good 0 lacks for two; of the owed good 27 there are 0")),
-    Row(["worked_rows/Trips:no_trip_without_a_seat_in",
-         "worked_rows/Trips:no_museum_on_night_4_without_a_ticket",
-         "worked_rows/Trips:seven_packages_are_too_few"],
+    Row(["worked_rows/Trips:lacking_goods_or_seven_packages_are_not_feasible"],
         ["packages/BestTotal.IsFeasible"],
         ("Not feasible, of itself: a trip from day 1 where there are 8 of each good but 0 of good "
          "0, the first; a museum trip on night 4 where there are 8 of each but good 27, the last; "
@@ -255,102 +219,87 @@ ROWS = [
     Row(["worked_rows/Trips:one_traveller_is_worth_1000"], ["packages/BestTotal.total_of"],
         "One traveller and seven at home are worth 1000 together"),
     # Scores
-    Row(["worked_rows/Scores:goods_that_are_left", "worked_rows/Scores:cash_that_is_gained"],
+    Row(["worked_rows/Logs:goods_and_cash_that_are_left"],
         ["score_sheet/Settlement.settlement_of", "score_sheet/Settlement.holdings_of",
          "score_sheet/Settlement.cash_gained"],
         ("Agent 0 buys 2 seats at 300. Agent 1, which has 1 ticket, sells 3 at 60: one to "
          "agent 0 and two to agent 2. Left are 2 seats and 1 ticket, none and -2, none and 2; "
          "and -660, 180 and -120 dollars")),
-    Row(["worked_rows/Scores:three_tickets_short"], ["score_sheet/Score.short_of"],
+    Row(["worked_rows/Logs:three_tickets_short"], ["score_sheet/Score.short_of"],
         ("-2 seats and -1 room count nothing; of the tickets -2, 4 and -1 make the agent short "
          "of 3")),
-    Row(["worked_rows/Scores:two_tickets_short_cost_400",
-         "worked_rows/Scores:score_may_be_negative"],
-        ["score_sheet/Score.score_of"],
+    Row(["worked_rows/Logs:ticket_short_costs_200"], ["score_sheet/Score.score_of"],
         ("Best total 1150, -360 dollars and 2 short: 1150 - 360 - 2 * 200 = 390. Best total 0, "
          "60 dollars and 1 short: -140")),
     # Requests and replies as lines
-    Row(["worked_rows/Requests:bid_of_two_points", "worked_rows/Requests:lines_of_two_words",
-         "worked_rows/Requests:lines_of_one_word"],
+    Row(["worked_rows/Lines:lines_of_three_two_and_one_words"],
         ["line_protocol/Requests.request_of", "bid_strings/BidForm.points_of"],
         ("`bid 24 ((2 70) (-1 65))` asks to buy 2 at 70 and sell 1 at 65; `withdraw 24`, `own "
          "0`, `quote 27`, `cash` and `quit` ask what they say")),
-    Row(["worked_rows/Requests:lines_without_a_form", "worked_rows/Requests:goods_above_27",
-         "worked_rows/Requests:faults_of_points"],
+    Row(["worked_rows/Lines:faults_of_lines_goods_and_points"],
         ["line_protocol/Requests.request_of", "bid_strings/BidForm.judged"],
         ("Syntax: `hold`, an empty line, `cash` with a space after it, `own  1`, `own 01`, "
          "`own 100000`, `bid 24`. No auction: `own 28`, `quote 99999`, `bid 28 x`. Points "
          "without a form: `bid 5` and a space, `bid 5 ((1 1))` and a space. Price: `((1 "
          "10001))`. Too many units: `((16 1) (1 1))`")),
-    Row(["worked_rows/Replies:replies_to_calls"], ["line_protocol/Replies.said_text",
-                                                   "bid_strings/Spelling.spelling"],
+    Row(["worked_rows/Lines:replies_to_calls"],
+        ["line_protocol/Replies.said_text", "bid_strings/Spelling.spelling"],
         ("`@7 taken 1 0`, `@8 own -1 ((-1 60))`, `@0 own 1 ()`, `@9 done`, `@3 no belowquote 3 "
          "101 2`, `@5 no selfcross`")),
-    Row(["worked_rows/Replies:other_replies"], ["line_protocol/Replies.said_text"],
+    Row(["worked_rows/Lines:other_replies"], ["line_protocol/Replies.said_text"],
         ("`@31 cash -660`, `@9 quote 70 0 open`, `no spent`, `no auction`, `no bid 5` for 0 "
          "units, `no toolong`, `bye`")),
     # The outside
-    Row(["worked_rows/Links:two_lines_and_a_half", "worked_rows/Links:used_up_bytes"],
-        ["tac_io/AllAnswers.all_answers"],
+    Row(["worked_rows/Links:lines_have_ends_and_fit_the_budget"], ["tac_io/AllAnswers.all_answers"],
         ("A link gives `own 1`, a line end, another one, and `qui`: two lines, the second "
          "empty, and the end; `qui` is dropped. Where 3 bytes may be taken of `ab`, a line end "
          "and more: the line `ab`, and then the bytes are used up")),
     Row(["worked_rows/Links:longest_line"], ["tac_io/AllAnswers.ended_line"],
         ("512 bytes before a line end are a line; 513 are one that is too long, with nothing "
          "of it; the line after it counts")),
-    Row(["worked_rows/Links:known_bytes_grow", "worked_rows/Links:known_bytes_are_given",
-         "worked_rows/Links:unknown_bytes_stay_unknown"],
+    Row(["worked_rows/Links:known_bytes_grow_and_unknown_stay"],
         ["tac_io/Known.known_then", "tac_io/Known.then_known"],
         ("`ab` and then `c` is `abc`; `a` and then `bc` is `abc`; what is not known (`None`) "
          "is not known with `c` either")),
     Row(["worked_rows/Links:cut_line"], ["tac_io/Known.TakesSome"],
         "A write of a line failed: of its bytes the first 3 were taken, but not all"),
-    Row(["worked_rows/Links:fault_is_counted", "worked_rows/Links:full_count_stays"],
-        ["tac_io/Counts.Rose"],
+    Row(["worked_rows/Links:counts_rise_or_stay"], ["tac_io/Counts.Rose"],
         "A count of 3 faults rose to 4; at 2 ^ 64 - 1 it stays"),
     # The session of a link
-    Row(["worked_rows/Admission:one_seat_is_given", "worked_rows/Admission:first_line_decides",
-         "worked_rows/Admission:no_greetings"],
+    Row(["worked_rows/Links:first_line_decides"],
         ["agent_gate/Gates.verdict_of", "agent_gate/Gates.seats_after"],
         ("The seat of agent 2 is given. `hello seat7`: seat 7; `hello seat2`: taken; `hello "
          "seat8`: wrong word. Syntax: `Hello seat7`, `hello`, `hello Seat7`, two spaces, a "
          "space at the end, a word that is too long, an empty line")),
-    Row(["worked_rows/Setups:ten_lines_are_sent_first", "worked_rows/Setups:first_three_lines"],
+    Row(["worked_rows/Links:ten_lines_are_sent_first"],
         ["agent_gate/Welcome.welcome_lines", "game_text/OneAgent.lines_of_agent"],
         ("A link with seat 3 is sent 10 lines: `welcome 3`, `endow 3 0 0 ..`, `client 3 0 1 2 "
          "100 0 0 100`, and seven more clients")),
-    Row(["worked_rows/Sessions:each_line_is_asked_once",
-         "worked_rows/Sessions:each_line_is_answered_once"],
+    Row(["worked_rows/Sessions:each_line_is_asked_and_answered_once"],
         ["agent_gate/Turns.asked_and_said", "agent_gate/Served.reply_line"],
         ("Six lines, six turns, six replies: `bid 8 ((1 50))`: `@1 taken 0 0`; `quote 8`: `@3 "
          "quote 0 40 open`; `own 8`: `@3 own 0 ((1 50))`; `cash`: `@0 cash 0`; `sell 8`: `no "
          "syntax`; `quit`: `bye`")),
-    Row(["worked_rows/Sessions:calls_are_the_agents_part",
-         "worked_rows/Sessions:nothing_is_made_elsewhere",
-         "worked_rows/Sessions:readings_are_in_the_cash_history"],
+    Row(["worked_rows/Sessions:turns_make_the_agents_part"],
         ["agent_gate/Turns.made_at", "agent_gate/Turns.cash_made"],
         ("What these turns made at good 8 is agent 0's part of that history, at good 9 they "
          "made nothing, and in the cash history one reading, at 0")),
-    Row(["worked_rows/Sessions:answers_tell_lengths", "worked_rows/Sessions:nothing_follows_quit"],
+    Row(["worked_rows/Sessions:answers_tell_lengths_and_quit_is_last"],
         ["agent_gate/Turns.shown_length", "agent_gate/Turns.has_left"],
         ("Their answers say that the history of good 8 has at least 2, 3 and 4 entries, so "
          "that a later position there is at least 4; the agent has left after turn 6, and not "
          "after 5")),
-    Row(["worked_rows/Lawful:nothing_after_quit", "worked_rows/Lawful:quit_comes_last"],
-        ["agent_gate/Turns.AreLawful"],
+    Row(["worked_rows/Sessions:nothing_comes_after_quit"], ["agent_gate/Turns.AreLawful"],
         ("`quit` and then a line that is too long: not lawful. That line first, and then `quit`: "
          "lawful")),
-    Row(["worked_rows/Lawful:call_is_denied_after_1024",
-         "worked_rows/Lawful:call_is_not_denied_after_1023",
-         "worked_rows/Lawful:call_is_not_made_after_1024"],
+    Row(["worked_rows/Sessions:call_is_denied_after_1024"],
         ["agent_gate/Turns.IsLawfulTurn", "agent_gate/Turns.asked_call"],
         ("A call at good 8 may be denied (`CallDenied`) after 1024 calls there, and not after "
          "1023; after 1024 none may be made")),
-    Row(["worked_rows/Lawful:reading_is_denied_after_1024",
-         "worked_rows/Lawful:reading_is_not_made_after_1024"],
+    Row(["worked_rows/Sessions:reading_is_denied_after_1024"],
         ["agent_gate/Turns.IsLawfulTurn", "agent_gate/Turns.is_reading"],
         "So with cash: after 1024 readings one is denied, and none made"),
-    Row(["worked_rows/Lawful:board_is_not_shorter"], ["agent_gate/Turns.IsNotBehind"],
+    Row(["worked_rows/Sessions:board_is_not_shorter"], ["agent_gate/Turns.IsNotBehind"],
         ("After a call at position 3 of good 8 no board of the first 3 entries may be shown: it "
          "would be behind that call")),
     Row(["worked_rows/Ends:quit_after_bye", "worked_rows/Ends:no_quit_without_it"],
@@ -379,31 +328,24 @@ ROWS = [
         ("A count of failed reads that rose from 3 to 4 is a `ReadFault`, and no `End`; one of "
          "failed writes is a `WriteFault`")),
     # A game over links
-    Row(["worked_rows/Refused:second_greeting_is_taken"], ["game_run/Admission.HasFirstLine"],
+    Row(["worked_rows/Links:second_greeting_is_taken"], ["game_run/Admission.HasFirstLine"],
         ("The seat of agent 2 is given. A link gives `hello seat2`, and then `hello seat3`: by its "
          "first line it is `Taken`, and no later line counts")),
-    Row(["worked_rows/Refused:refusal_is_sent", "worked_rows/Refused:refusal_is_cut"],
-        ["game_run/Admission.IsSentOrCut"],
+    Row(["worked_rows/Links:refusal_is_sent_or_cut"], ["game_run/Admission.IsSentOrCut"],
         ("`refused taken` was sent whole, and no fault counted; or the first 7 bytes of it, "
          "`refused`, and failed writes rose from 0 to 1")),
-    Row(["worked_rows/Refused:lost_at_its_end", "worked_rows/Refused:lost_at_a_failed_read"],
-        ["game_run/Admission.IsLost"],
+    Row(["worked_rows/Links:lost_at_its_end_or_a_failed_read"], ["game_run/Admission.IsLost"],
         ("`hello seat2` without a line end, and no more: lost. `hello`, and then a read failed, "
          "though the rest of the line was still to come: lost. Nothing was sent")),
-    Row(["worked_rows/Refused:eighth_seat_may_be_taken",
-         "worked_rows/Refused:none_after_eight_seats",
-         "worked_rows/Refused:sixty_fourth_link_may_be_taken",
-         "worked_rows/Refused:none_after_64_links"],
+    Row(["worked_rows/Links:links_are_taken_up_to_8_seats_or_64_links"],
         ["game_run/Admission.MayGoOn", "game_run/Admission.is_seated"],
         ("After seven seats another link may be taken, and after eight none; after 63 links that "
          "were refused another one, and after 64 none")),
-    Row(["worked_rows/Waits:one_tick_lapsed"],
+    Row(["worked_rows/CommandLines:one_tick_lapsed"],
         ["clock_events/Clocking.WaitsForAll", "clock_events/Clocking.HasMissedCause"],
         ("The ticks 1 to 54 were waited for, tick 7 lapsed, and the count of faults rose from 0 to "
          "1: 1 tick was missed. The pace, 500, stays")),
-    Row(["worked_rows/Admission:one_seat_is_given",
-         "worked_rows/Admission:long_first_line_is_no_greeting",
-         "worked_rows/Admission:refused_links_are_told"],
+    Row(["worked_rows/Links:one_seat_is_given_and_refused_links_are_told"],
         ["game_run/Admission.seats_given", "game_run/Admission.first_verdict",
          "game_run/Admission.refusal_line"],
         ("After a wrong word, seat 2 and a lost link the seat of agent 2 alone is taken. A "
@@ -415,80 +357,67 @@ ROWS = [
          "no belowquote 1 51 0`, `8 close = sold 1 50`, `trade 0 8 1 50`")),
     Row(["worked_rows/Logs:cash_history"], ["log_text/LogText.cash_text"],
         "`cash 2`, `8 post 8 3 -50 0 0 0 0 0 0 0 50`, `0 read = -50`"),
-    Row(["worked_rows/Logs:head_of_a_script", "worked_rows/Logs:head_over_links"],
-        ["log_text/LogText.first_lines"],
+    Row(["worked_rows/Logs:heads_of_a_script_and_of_links"], ["log_text/LogText.first_lines"],
         ("`taclog 1`, and then `play`; or `serve`, `link 0 seated 2`, `link 1 wrongword`, "
          "`link 2 seated 0`, `link 3 lost`, `end 0 quit`, `end 2 readfault`, `missed 1`")),
-    Row(["worked_rows/Logs:score_of_an_agent", "worked_rows/Logs:packages_of_clients"],
+    Row(["worked_rows/Logs:lines_of_the_sheet"],
         ["log_text/SheetText.score_line", "log_text/SheetText.package_line",
          "log_text/SheetText.cert_line"],
         "`score 0 1150 -360 2 390`, `package 0 3 none`, `package 0 4 1 2 3 0 0 2`, `cert 0 1`"),
     # Outcomes and codes
-    Row(["worked_rows/CommandLines:service_in_words", "worked_rows/CommandLines:service_in_json",
-         "worked_rows/CommandLines:no_services"],
+    Row(["worked_rows/CommandLines:services_have_a_port_a_pace_and_a_form"],
         ["tac_commands/Services.service_of"],
         ("`serve a.game 7000 10000`, and `serve a.game 1 60000 json`. No service: port 0, "
          "65536 or 07000, pace 60001, no pace, another form")),
-    Row(["worked_rows/CommandLines:codes_of_texts", "worked_rows/CommandLines:codes_of_refusals"],
+    Row(["worked_rows/CommandLines:codes_of_texts_and_refusals"],
         ["tac_commands/Outcomes.exit_of", "tac_commands/Outcomes.refusal_end"],
         ("A text has the code 0, with lapsed ticks 6, of an unsound log 9, cut off by a failed "
          "write 4; a first part is followed by `memory`, with 7. Refusals: 1 `usage`, 2 `game 3 "
          "2`, 3 `fault read`, 5 `fault links`, 7 `memory`")),
-    Row(["worked_rows/Waits:text_is_written_with_its_code", "worked_rows/Waits:cut_text_has_code_4",
-         "worked_rows/Waits:cut_text_has_no_other_code"],
+    Row(["worked_rows/CommandLines:text_is_written_with_its_code_or_cut"],
         ["tac_commands/Reporting.Reports", "tac_io/Taken.TookPart"],
         ("The text `ab` of a game with lapsed ticks: all of it, and code 6. Of `ab` only `a`, and "
          "a fault counted: code 4. Only `a` and code 0: never")),
     # The command `step`
-    Row(["worked_rows/Heard:two_lines_and_a_rest", "worked_rows/Heard:first_bad_line"],
+    Row(["worked_rows/Lines:good_lines_and_a_rest_or_a_bad_line"],
         ["script_run/HeardScripts.heard", "script_run/HeardScripts.heard_from"],
         ("`tick`, `3 own` and `0 ca` without a line end: two good lines, the last one first, of "
          "which one asks what is no request, and the rest `0 ca`. `0 cash`, `tock`, `tick`: one "
          "good line, and line 2 is bad for reason 1")),
-    Row(["worked_rows/Heard:rest_may_go_on", "worked_rows/Heard:rest_lacks_its_end",
-         "worked_rows/Heard:read_failed", "worked_rows/Heard:whole_script",
-         "worked_rows/Heard:bad_line_comes_first"],
+    Row(["worked_rows/Lines:script_is_open_bad_broken_off_or_whole"],
         ["script_run/HeardScripts.standing"],
         ("`tick` and the rest `0 ca`: open where more may come; at the end line 2 is bad for "
          "reason 3; where a read failed it is broken off. `tick`, `0 cash`: whole at the end. "
          "`tock`, `tick`: line 1 is bad for reason 1, though a read failed")),
     # Beside
-    Row(["game_text/Worked:earlier_bad_line_is_the_one", "game_text/Worked:skipped_lines_count",
-         "game_text/Worked:comment_without_end"],
-        ["game_text/Games.game_in"],
+    Row(["game_text/Worked:first_bad_line_is_told"], ["game_text/Games.game_in"],
         ("`tic 1` is bad at line 1 for its keyword; a comment and an empty line count, so "
          "`seats` after `tac 1` is line 4; a comment without a line end is bad for reason 7")),
-    Row(["packages/Worked:good_prices", "packages/Worked:no_prices", "packages/Worked:one_price"],
-        ["packages/Bounds.leaf_bound"],
+    Row(["packages/Worked:prices_bound_all_allocations"], ["packages/Bounds.leaf_bound"],
         ("With one seat in and one ticket that two clients want, the prices 1000 and 150 bound "
          "every allocation by 1150; without prices the bound is 8650, and at 50 for the seat "
          "8300")),
-    Row(["json_dialect/Worked:bid", "json_dialect/Worked:last_of_two",
-         "json_dialect/Worked:further_key", "json_dialect/Worked:no_whole_number"],
-        ["json_dialect/JsonRequests.asked_by_value"],
+    Row(["json_dialect/Worked:forms_of_a_request"], ["json_dialect/JsonRequests.asked_by_value"],
         ("`{\"do\":\"bid\",\"auction\":0,\"points\":[[1,300]]}` asks to buy 1 at 300; of two "
          "keys `do` the last counts; a further key, or 1.0 for an auction, is a syntax fault")),
-    Row(["worked_rows/Replies:replies_to_calls_in_json",
-         "worked_rows/Replies:other_replies_in_json"],
-        ["json_dialect/JsonReplies.json_text"],
+    Row(["worked_rows/Lines:replies_in_json"], ["json_dialect/JsonReplies.json_text"],
         ("`{\"at\":7,\"taken\":[1,0]}`, `{\"at\":8,\"own\":-1,\"points\":[[-1,60]]}`, "
          "`{\"at\":9,\"quote\":[70,0],\"open\":true}`, `{\"no\":\"bid\",\"fault\":5}`")),
     # The other commands
-    Row(["good_worth/Worked:seat_up", "good_worth/Worked:seat_down"],
+    Row(["good_worth/Worked:seat_is_worth_1000_more_and_1150_less"],
         ["good_worth/Worths.up_at", "good_worth/Worths.down_at"],
         ("Best total 1150 with one seat, 2150 with two and 0 with none: one more is worth "
          "1000, one less 1150")),
     Row(["draw_maker/Worked:first_words_of_42"], ["draw_maker/Words.next_words"],
         "The first words of the seed 42: 2707161783, 2068313097, 3122475824, 2211639955"),
-    Row(["draw_maker/Worked:first_place_turns_order"], ["draw_maker/ClosingOrders.made_order"],
+    Row(["draw_maker/Worked:own_place_keeps_order_and_the_first_turns_it"],
+        ["draw_maker/ClosingOrders.made_order"],
         "Seven draws that each exchange with the first place: 9, 10, 11, 12, 13, 14, 15, 8"),
-    Row(["tourney/Worked:twice_total", "tourney/Worked:twice_rank"],
+    Row(["tourney/Worked:standings_of_one_game_twice"],
         ["tourney/Standings.total", "tourney/Standings.rank"],
         ("Two games with the scores 440, -280, -60 and five times 0: 880, -560 and -120; the "
          "ranks are 1, 8 and 7, and 2 for the others")),
-    Row(["tourney/Worked:whole_average", "tourney/Worked:third_average",
-         "tourney/Worked:no_average"],
-        ["tourney/Rows.IsAverage"],
+    Row(["tourney/Worked:averages_in_lowest_terms"], ["tourney/Rows.IsAverage"],
         "-560 of 2 games is -280/1; 440 of 3 is 440/3; 0 of 3 is 0/1"),
 ]
 

@@ -5,14 +5,8 @@ use Rattle.good_worth.specs.Worth.{one_more, one_less}
 use Rattle.good_worth.specs.Worths.{Solution, Valuation, up_at, down_at}
 
 -- an account holds no more than 200000 of a good, and is short of no more
-most : one_more (pos 200000) ≡ pos 200000
-most = refl
-
-least : one_less (negsuc 199999) ≡ negsuc 199999
-least = refl
-
-owed : one_less (pos 0) ≡ negsuc 0
-owed = refl
+holdings_stop_at_their_limits : (one_more (pos 200000) ≡ pos 200000) × (one_less (negsuc 199999) ≡ negsuc 199999) × (one_less (pos 0) ≡ negsuc 0)
+holdings_stop_at_their_limits = (refl, refl, refl)
 
 -- the total alone
 solved : ℕ → Solution
@@ -22,10 +16,6 @@ solved total = record { total = total; allocation = []; tree = leaf [] }
 seat : Valuation
 seat = record { base = solved 1150; more = solved 2150 ∷ []; less = solved 0 ∷ [] }
 
-seat_up : up_at seat 0 ≡ 1000
+seat_is_worth_1000_more_and_1150_less : (up_at seat 0 ≡ 1000) × (down_at seat 0 ≡ 1150)
 unfolding seat solved
-seat_up = refl
-
-seat_down : down_at seat 0 ≡ 1150
-unfolding seat solved
-seat_down = refl
+seat_is_worth_1000_more_and_1150_less = (refl, refl)

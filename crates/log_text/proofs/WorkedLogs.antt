@@ -20,21 +20,10 @@ read text = log_in (lines_from false 1 (parts_of 10 text))
 abbrev bad : ℕ → Reason → Result LoggedGame BadLine
 bad line reason = Err (record { line = line; reason = reason })
 
-empty_log : read [] ≡ bad 1 TextEnd
-unfolding log_in head_in
-empty_log = refl
-
--- a history has at most 8256 entries
-too_many_entries : read (codes "taclog 1\nplay\nauction 0 8257\n") ≡ bad 3 Spelling
-unfolding log_in head_in repeat history_in auction_of row numeral
-too_many_entries = refl
-
--- an entry that is due is no trade
-trade_first : read (codes "taclog 1\nplay\nauction 0 1\ntrade 0 1 1 60\n") ≡ bad 4 Spelling
+-- no line, too many entries, since a history has at most 8256, a trade where an entry is due, and a line that has no line end
+texts_that_are_no_logs : (read [] ≡ bad 1 TextEnd)
+    × (read (codes "taclog 1\nplay\nauction 0 8257\n") ≡ bad 3 Spelling)
+    × (read (codes "taclog 1\nplay\nauction 0 1\ntrade 0 1 1 60\n") ≡ bad 4 Spelling)
+    × (read (codes "taclog 1\nplay\nauction 0 0") ≡ bad 3 TextEnd)
 unfolding log_in head_in repeat history_in entry_in auction_of read_entry row numeral
-trade_first = refl
-
--- the text ends too early, after a line that has no line end
-half_a_line : read (codes "taclog 1\nplay\nauction 0 0") ≡ bad 3 TextEnd
-unfolding log_in head_in repeat history_in
-half_a_line = refl
+texts_that_are_no_logs = (refl, refl, refl, refl)

@@ -15,16 +15,11 @@ use Rattle.packages.specs.Bounds.{sum_below, leaf_bound}
 museum_trip : utility_of (record { arrive = 1; depart = 3; premium = 100; values = 0 ∷ 0 ∷ 200 ∷ [] }) (Trip 1 2 3 (0 ∷ 0 ∷ 2 ∷ [])) ≡ 1200
 museum_trip = refl
 
--- each good has its number
-goods : map (λ good. good_number (thing_of good)) (range_with_len 0 28) ≡ range_with_len 0 28
-goods = refl
-
 -- the trips stand in the order of their ranks
-ranks : map (λ trip. rank_of trip.0 trip.1) trips ≡ range_with_len 0 10
-ranks = refl
-
-trips_of_hotel : length (flat_map (packages_of 1) trips) ≡ 196
-trips_of_hotel = refl
+goods_and_trips_have_their_numbers : (map (λ good. good_number (thing_of good)) (range_with_len 0 28) ≡ range_with_len 0 28)
+    × (map (λ trip. rank_of trip.0 trip.1) trips ≡ range_with_len 0 10)
+    × (length (flat_map (packages_of 1) trips) ≡ 196)
+goods_and_trips_have_their_numbers = (refl, refl, refl)
 
 -- ---- one seat in and one ticket that two clients want
 
@@ -37,16 +32,10 @@ one_seat = record {
   holdings = pos 1 ∷ replicate 3 (pos 0) ++ (pos 2 ∷ replicate 3 (pos 0)) ++ (pos 2 ∷ replicate 7 (pos 0)) ++ (pos 1 ∷ replicate 11 (pos 0));
 }
 
--- prices of the seat in and the ticket bound all allocations by what the best is worth
-good_prices : leaf_bound one_seat (λ client p. true) (1000 ∷ replicate 3 1750 ++ (0 ∷ replicate 3 1750) ++ (0 ∷ replicate 7 1750) ++ (150 ∷ replicate 11 1750)) ≡ Some (pos 1150)
+-- prices of the seat in and the ticket bound all allocations by what the best is worth; if nothing has a price, each client takes
+-- what it likes best
+prices_bound_all_allocations : (leaf_bound one_seat (λ client p. true) (1000 ∷ replicate 3 1750 ++ (0 ∷ replicate 3 1750) ++ (0 ∷ replicate 7 1750) ++ (150 ∷ replicate 11 1750)) ≡ Some (pos 1150))
+    × (leaf_bound one_seat (λ client p. true) (replicate 28 0) ≡ Some (pos 8650))
+    × (leaf_bound one_seat (λ client p. true) (50 ∷ replicate 27 0) ≡ Some (pos 8300))
 unfolding fan one_seat packages sum_below
-good_prices = refl
-
--- if nothing has a price, each client takes what it likes best
-no_prices : leaf_bound one_seat (λ client p. true) (replicate 28 0) ≡ Some (pos 8650)
-unfolding fan one_seat packages sum_below
-no_prices = refl
-
-one_price : leaf_bound one_seat (λ client p. true) (50 ∷ replicate 27 0) ≡ Some (pos 8300)
-unfolding fan one_seat packages sum_below
-one_price = refl
+prices_bound_all_allocations = (refl, refl, refl)

@@ -37,45 +37,33 @@ served = (game_of (codes "a" ∷ codes "b" ∷ codes "seat0" ∷ codes "d" ∷ c
 twice : List (GameFile × LoggedGame)
 twice = traded ∷ traded ∷ []
 
-twice_teams : teams twice ≡ numbered_seats
+standings_of_one_game_twice : (teams twice ≡ numbered_seats)
+    × (total twice (codes "seat0") ≡ pos 880) × (total twice (codes "seat1") ≡ negsuc 559) × (total twice (codes "seat2") ≡ negsuc 119) × (games twice (codes "seat7") ≡ 2)
+    × (rank twice (codes "seat0") ≡ 1) × (rank twice (codes "seat1") ≡ 8) × (rank twice (codes "seat2") ≡ 7) × (rank twice (codes "seat3") ≡ 2) × (rank twice (codes "seat7") ≡ 2)
 unfolding twice traded game_of log_of scored
-twice_teams = refl
-
-twice_total : (total twice (codes "seat0") ≡ pos 880) × (total twice (codes "seat1") ≡ negsuc 559) × (total twice (codes "seat2") ≡ negsuc 119) × (games twice (codes "seat7") ≡ 2)
-unfolding twice traded game_of log_of scored
-twice_total = (refl, refl, refl, refl)
-
-twice_rank : (rank twice (codes "seat0") ≡ 1) × (rank twice (codes "seat1") ≡ 8) × (rank twice (codes "seat2") ≡ 7) × (rank twice (codes "seat3") ≡ 2) × (rank twice (codes "seat7") ≡ 2)
-unfolding twice traded game_of log_of scored
-twice_rank = (refl, refl, refl, refl, refl)
+standings_of_one_game_twice = (refl, refl, refl, refl, refl, refl, refl, refl, refl, refl)
 
 -- ---- a game, and two in which nobody traded
 
 thrice : List (GameFile × LoggedGame)
 thrice = traded ∷ quiet_one ∷ quiet_one ∷ []
 
-thrice_total : (games thrice (codes "seat0") ≡ 3) × (total thrice (codes "seat0") ≡ pos 440) × (total thrice (codes "seat1") ≡ negsuc 279) × (total thrice (codes "seat2") ≡ negsuc 59)
+standings_of_three_games : (games thrice (codes "seat0") ≡ 3) × (total thrice (codes "seat0") ≡ pos 440) × (total thrice (codes "seat1") ≡ negsuc 279) × (total thrice (codes "seat2") ≡ negsuc 59)
 unfolding thrice traded quiet_one game_of log_of scored
-thrice_total = (refl, refl, refl, refl)
+standings_of_three_games = (refl, refl, refl, refl)
 
 -- ---- seats
 
 -- agents without a seat do not count, and a team may have another agent's place in another game
-seats_teams : teams (served ∷ traded ∷ []) ≡ codes "a" ∷ numbered_seats
+standings_over_links : (teams (served ∷ traded ∷ []) ≡ codes "a" ∷ numbered_seats)
+    × (games (served ∷ traded ∷ []) (codes "seat0") ≡ 2) × (total (served ∷ traded ∷ []) (codes "seat0") ≡ pos 460)
+    × (games (served ∷ traded ∷ []) (codes "a") ≡ 1) × (games (served ∷ traded ∷ []) (codes "b") ≡ 0)
 unfolding served traded game_of log_of scored
-seats_teams = refl
+standings_over_links = (refl, refl, refl, refl, refl)
 
-seats_total : (games (served ∷ traded ∷ []) (codes "seat0") ≡ 2) × (total (served ∷ traded ∷ []) (codes "seat0") ≡ pos 460) × (games (served ∷ traded ∷ []) (codes "a") ≡ 1) × (games (served ∷ traded ∷ []) (codes "b") ≡ 0)
-unfolding served traded game_of log_of scored
-seats_total = (refl, refl, refl, refl)
-
--- ---- averages
-
-whole_average : IsAverage (negsuc 559) 2 (negsuc 279) 1
-whole_average = record { same = refl; positive = omega arith; lowest = IsGcd-from_mod 280 1 1 (IsGcd-from_zero 1 0 refl) }
-
-third_average : IsAverage (pos 440) 3 (pos 440) 3
-third_average = record { same = refl; positive = omega arith; lowest = IsGcd-from_mod 440 3 1 (IsGcd-from_mod 3 2 1 (IsGcd-from_mod 2 1 1 (IsGcd-from_zero 1 0 refl))) }
-
-no_average : IsAverage (pos 0) 3 (pos 0) 1
-no_average = record { same = refl; positive = omega arith; lowest = IsGcd-from_mod 0 1 1 (IsGcd-from_zero 1 0 refl) }
+averages_in_lowest_terms : IsAverage (negsuc 559) 2 (negsuc 279) 1 × IsAverage (pos 440) 3 (pos 440) 3 × IsAverage (pos 0) 3 (pos 0) 1
+averages_in_lowest_terms = (
+  record { same = refl; positive = omega arith; lowest = IsGcd-from_mod 280 1 1 (IsGcd-from_zero 1 0 refl) },
+  record { same = refl; positive = omega arith; lowest = IsGcd-from_mod 440 3 1 (IsGcd-from_mod 3 2 1 (IsGcd-from_mod 2 1 1 (IsGcd-from_zero 1 0 refl))) },
+  record { same = refl; positive = omega arith; lowest = IsGcd-from_mod 0 1 1 (IsGcd-from_zero 1 0 refl) },
+)

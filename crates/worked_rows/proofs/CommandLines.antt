@@ -1,35 +1,68 @@
--- Which words ask for a service, and what is written of outcomes.
-use Rattle.std.proofs.Common.{◌≡◌, [], ◌∷◌, Some, None, map, refl}
-use Rattle.std.specs.Prelude.{codes, replicate}
+-- Which words ask for a service, what the clock of one waited for, and what is written of outcomes.
+use Rattle.std.proofs.Common.{◌≡◌, ℕ, Bool, List, [], ◌∷◌, length, Option, Some, None, map, refl, ap, arith}
+use Rattle.std.specs.Prelude.{codes, replicate, ◌==◌}
 use Rattle.std.specs.Fmt.{digits}
 use Rattle.tac_base.specs.Numerals.{numeral}
+use Rattle.game_text.specs.Schedule.{ticks}
+use Rattle.tac_io.specs.States.{TickerState, SinkState}
+use Rattle.clock_events.specs.Clocking.{WaitsForAll}
 use Rattle.tac_commands.specs.declared.services.Form.TheVariants.{Lines, Json}
 use Rattle.tac_commands.specs.declared.refusals.Refusal.TheVariants as refusals
 use Rattle.tac_commands.specs.Services.{service_of}
 use Rattle.tac_commands.specs.Outcomes.{Done, Lapsed, Unsound, Stopped, Unwritten, Refused, exit_of}
+use Rattle.tac_commands.specs.Reporting.{Reports}
+use Rattle.worked_rows.proofs.Links.{counts_rise_or_stay}
 
-service_in_words : service_of (codes "serve" ∷ codes "a.game" ∷ codes "7000" ∷ codes "10000" ∷ []) ≡ Some (record { game = codes "a.game"; port = 7000; pace = 10000; form = Lines })
-unfolding numeral
-service_in_words = refl
-
-service_in_json : service_of (codes "serve" ∷ codes "a.game" ∷ codes "1" ∷ codes "60000" ∷ codes "json" ∷ []) ≡ Some (record { game = codes "a.game"; port = 1; pace = 60000; form = Json })
-unfolding numeral
-service_in_json = refl
-
--- port 0, port 65536, a leading zero, pace 60001, no pace, and another form
-no_services : map service_of (
+-- no service: port 0, port 65536, a leading zero, pace 60001, no pace, and another form
+services_have_a_port_a_pace_and_a_form :
+    (service_of (codes "serve" ∷ codes "a.game" ∷ codes "7000" ∷ codes "10000" ∷ []) ≡ Some (record { game = codes "a.game"; port = 7000; pace = 10000; form = Lines }))
+    × (service_of (codes "serve" ∷ codes "a.game" ∷ codes "1" ∷ codes "60000" ∷ codes "json" ∷ []) ≡ Some (record { game = codes "a.game"; port = 1; pace = 60000; form = Json }))
+    × (map service_of (
     (codes "serve" ∷ codes "a.game" ∷ codes "0" ∷ codes "1" ∷ []) ∷ (codes "serve" ∷ codes "a.game" ∷ codes "65536" ∷ codes "1" ∷ [])
     ∷ (codes "serve" ∷ codes "a.game" ∷ codes "07000" ∷ codes "1" ∷ []) ∷ (codes "serve" ∷ codes "a.game" ∷ codes "1" ∷ codes "60001" ∷ [])
     ∷ (codes "serve" ∷ codes "a.game" ∷ codes "1" ∷ []) ∷ (codes "serve" ∷ codes "a.game" ∷ codes "1" ∷ codes "1" ∷ codes "xml" ∷ []) ∷ [])
-    ≡ replicate 6 None
+    ≡ replicate 6 None)
 unfolding numeral
-no_services = refl
+services_have_a_port_a_pace_and_a_form = (refl, refl, refl)
 
-codes_of_texts : map exit_of (Done (codes "a") ∷ Lapsed (codes "a") ∷ Unsound (codes "a") ∷ Stopped (codes "a\n") refusals.Memory ∷ Unwritten (codes "a") ∷ [])
-    ≡ (0, codes "a") ∷ (6, codes "a") ∷ (9, codes "a") ∷ (7, codes "a\nmemory\n") ∷ (4, codes "a") ∷ []
-codes_of_texts = refl
+-- a ticker at 500 milliseconds a tick
+abbrev ticker : List (ℕ × Bool) → ℕ → TickerState
+ticker waited faults = record { paced = Some (Some 500); waited = Some waited; faults = faults }
 
-codes_of_refusals : map (λ refusal. exit_of (Refused refusal)) (refusals.Usage ∷ refusals.GameLine 3 2 ∷ refusals.ReadFault ∷ refusals.LinkFault ∷ refusals.Memory ∷ [])
-    ≡ (1, codes "usage\n") ∷ (2, codes "game 3 2\n") ∷ (3, codes "fault read\n") ∷ (5, codes "fault links\n") ∷ (7, codes "memory\n") ∷ []
+-- tick 7 lapsed, and was counted
+abbrev waits : List (ℕ × Bool)
+waits = map (λ tick. (tick, tick == 7)) ticks
+
+one_tick_lapsed : WaitsForAll (ticker [] 0) (ticker waits 1) 1
+one_tick_lapsed = record {
+  waits = waits;
+  known = refl;
+  all_ticks = refl;
+  lapses = refl;
+  cause = record { rose = λ lapsed. counts_rise_or_stay.0; same = λ none. omega (arith, none) };
+  paced = refl;
+}
+
+codes_of_texts_and_refusals : (map exit_of (Done (codes "a") ∷ Lapsed (codes "a") ∷ Unsound (codes "a") ∷ Stopped (codes "a\n") refusals.Memory ∷ Unwritten (codes "a") ∷ [])
+    ≡ (0, codes "a") ∷ (6, codes "a") ∷ (9, codes "a") ∷ (7, codes "a\nmemory\n") ∷ (4, codes "a") ∷ [])
+    × (map (λ refusal. exit_of (Refused refusal)) (refusals.Usage ∷ refusals.GameLine 3 2 ∷ refusals.ReadFault ∷ refusals.LinkFault ∷ refusals.Memory ∷ [])
+    ≡ (1, codes "usage\n") ∷ (2, codes "game 3 2\n") ∷ (3, codes "fault read\n") ∷ (5, codes "fault links\n") ∷ (7, codes "memory\n") ∷ [])
 unfolding digits
-codes_of_refusals = refl
+codes_of_texts_and_refusals = (refl, refl)
+
+abbrev sink : List ℕ → ℕ → SinkState
+sink taken faults = record { taken = Some taken; faults = faults }
+
+-- how many bytes are known
+abbrev count_known : Option (List ℕ) → ℕ
+count_known None = 0
+count_known (Some bytes) = length bytes
+
+text_is_written_with_its_code_or_cut : Reports (Lapsed (codes "ab")) (sink [] 0) (sink (codes "ab") 0) 6
+    × Reports (Done (codes "ab")) (sink [] 0) (sink (codes "a") 1) 4
+    × (Reports (Done (codes "ab")) (sink [] 0) (sink (codes "a") 0) 0 → ⊥)
+text_is_written_with_its_code_or_cut = (
+  (refl, (refl, refl)),
+  (record { count = 1; proper = omega arith; taken = refl }, counts_rise_or_stay.0),
+  λ written. let e : ◌≡◌ {A = ℕ} 1 2 = ap count_known written.1.0 in omega (arith, e),
+)

@@ -1,15 +1,15 @@
 -- Why a session ends: what was sent, what the link had left, and the counts of its faults.
-use Rattle.std.proofs.Common.{◌≡◌, ◌<◌, ◌⊎◌, inl, inr, ℕ, true, false, List, [], ◌∷◌, length, map, Option, Some, None, refl, ap, arith}
+use Rattle.std.proofs.Common.{◌≡◌, ◌<◌, inl, inr, ℕ, true, false, List, [], ◌∷◌, length, map, Option, Some, None, refl, ap, arith}
 use Rattle.std.specs.Prelude.{codes}
 use Rattle.std.specs.List.{concat}
-use Rattle.tac_io.specs.Counts.{Rose}
 use Rattle.tac_io.specs.States.{LinkState}
 use Rattle.tac_io.specs.declared.line_got.LineGot.{LineGot}
 use Rattle.tac_io.specs.declared.line_got.LineGot.TheVariants as gots
 use Rattle.line_protocol.specs.declared.admission.Cause.TheVariants as causes
 use Rattle.line_protocol.specs.Replies.{said_text}
 use Rattle.agent_gate.specs.Turns.{Turn, Skipped, Left, has_left}
-use Rattle.agent_gate.specs.Served.{Session, reply_line, IsUsedUp, ComesTo, EndsBy, HasSessionCause}
+use Rattle.agent_gate.specs.Served.{Session, reply_line, EndsBy, HasSessionCause}
+use Rattle.worked_rows.proofs.Links.{counts_rise_or_stay}
 
 -- a link that was sent some bytes, has some left, and had so many faults of reads and of writes
 abbrev link : List ℕ → List ℕ → ℕ → ℕ → LinkState
@@ -31,52 +31,33 @@ answered answers = map (λ answer. answer.0) answers
 one_line : 1 < 65536
 one_line = omega arith
 
-rises_to_4 : Rose 3 4
-rises_to_4 = record { never_falls = omega arith; rises = omega arith; stays = λ last. omega (arith, last) }
-
 quit_after_bye : EndsBy causes.Quit said_text (session (Left ∷ []) (codes "hi\nbye\n") (codes "cash\n"))
 quit_after_bye = (refl, refl)
 
 no_quit_without_it : EndsBy causes.Quit said_text (session (Skipped ∷ []) (codes "hi\nno toolong\n") []) → ⊥
-no_quit_without_it ends = left_not ends.0
-  where
-    left_not : false ≡ true → ⊥
-    left_not e = cc
+no_quit_without_it ends = let e : false ≡ true = ends.0 in cc
 
 end_with_all_taken : EndsBy causes.End said_text (session (Skipped ∷ []) (codes "hi\nno toolong\n") [])
 end_with_all_taken = ((refl, one_line, refl), refl, refl)
 
 no_end_with_bytes_left : EndsBy causes.End said_text (session (Skipped ∷ []) (codes "hi\nno toolong\n") (codes "x")) → ⊥
-no_end_with_bytes_left ends = none_left ends.1
-  where
-    none_left : ◌≡◌ {A = List ℕ} (120 ∷ []) [] → ⊥
-    none_left e = cc
+no_end_with_bytes_left ends = let e : ◌≡◌ {A = List ℕ} (120 ∷ []) [] = ends.1 in cc
 
 read_fault_with_bytes_left : EndsBy causes.ReadFault said_text (session (Skipped ∷ []) (codes "hi\nno toolong\n") (codes "x"))
 read_fault_with_bytes_left = ((refl, one_line, refl), refl)
 
 no_end_with_a_reply_unsent : EndsBy causes.End said_text (session (Skipped ∷ []) (codes "hi\nno too") []) → ⊥
-no_end_with_a_reply_unsent ends = never (ap count_known ends.2)
-  where
-    never : ◌≡◌ {A = ℕ} 9 14 → ⊥
-    never e = omega (arith, e)
+no_end_with_a_reply_unsent ends = let e : ◌≡◌ {A = ℕ} 9 14 = ap count_known ends.2 in omega (arith, e)
 
 write_fault_cuts_the_last_line : EndsBy causes.WriteFault said_text (session (Skipped ∷ []) (codes "hi\nno too") [])
 write_fault_cuts_the_last_line = record { whole = codes "hi\n" ∷ []; last = codes "no toolong\n"; pieces = refl; cut = record { count = 6; proper = omega arith; taken = refl } }
 
 -- one turn is less than all, and the bytes give their end
 no_budget_after_one_turn : EndsBy causes.Budget said_text (session (Skipped ∷ []) (codes "hi\nno toolong\n") []) → ⊥
-no_budget_after_one_turn ends = neither ends.0
-  where
-    never : ◌≡◌ {A = ℕ} 1 65536 → ⊥
-    never e = omega (arith, e)
-
-    differ : ◌≡◌ {A = List LineGot} (gots.End ∷ []) (gots.Budget ∷ []) → ⊥
-    differ e = cc
-
-    neither : IsUsedUp (session (Skipped ∷ []) (codes "hi\nno toolong\n") []) ⊎ ComesTo gots.Budget (session (Skipped ∷ []) (codes "hi\nno toolong\n") []) → ⊥
-    neither (inl used_up) = never used_up.1
-    neither (inr comes) = differ (ap answered comes.2)
+no_budget_after_one_turn ends = elim ends.0 [
+  | inl used_up ↦ let e : ◌≡◌ {A = ℕ} 1 65536 = used_up.1 in omega (arith, e)
+  | inr comes ↦ let e : ◌≡◌ {A = List LineGot} (gots.End ∷ []) (gots.Budget ∷ []) = ap answered comes.2 in cc
+]
 
 budget_after_65536_turns : (turns : List Turn) → has_left turns ≡ false → length turns ≡ 65536
     → EndsBy causes.Budget said_text (session turns (concat (codes "hi\n" ∷ map (reply_line said_text) turns)) (codes "cash\n"))
@@ -86,13 +67,10 @@ budget_with_all_bytes_used_up : EndsBy causes.Budget said_text (record (session 
 budget_with_all_bytes_used_up = (inr (refl, one_line, refl), refl)
 
 read_fault_is_counted : HasSessionCause (link [] [] 3 0) (link [] [] 4 0) causes.ReadFault
-read_fault_is_counted = (rises_to_4, refl)
+read_fault_is_counted = (counts_rise_or_stay.1, refl)
 
 write_fault_is_counted : HasSessionCause (link [] [] 0 3) (link [] [] 0 4) causes.WriteFault
-write_fault_is_counted = (refl, rises_to_4)
+write_fault_is_counted = (refl, counts_rise_or_stay.1)
 
 end_counts_no_fault : HasSessionCause (link [] [] 3 0) (link [] [] 4 0) causes.End → ⊥
-end_counts_no_fault cause = never cause.0
-  where
-    never : ◌≡◌ {A = ℕ} 4 3 → ⊥
-    never e = omega (arith, e)
+end_counts_no_fault cause = let e : ◌≡◌ {A = ℕ} 4 3 = cause.0 in omega (arith, e)

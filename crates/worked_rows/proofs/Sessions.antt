@@ -1,15 +1,16 @@
--- A session of six lines at a hotel in which agent 1 also bids: its turns, and what of them stands in the histories.
-use Rattle.std.proofs.Common.{◌≡◌, ℕ, true, false, List, [], ◌∷◌, pos, map, refl}
+-- A session of six lines at a hotel in which agent 1 also bids: its turns, what of them stands in the histories, and what a turn may be
+-- after those before it.
+use Rattle.std.proofs.Common.{◌≡◌, ℕ, ◌<◌, ◌≤◌, true, false, List, [], ◌∷◌, pos, map, refl, arith}
 use Rattle.std.specs.Prelude.{codes, replicate, reverse, take}
 use Rattle.std.specs.Fmt.{digits}
+use Rattle.std.proofs.lemmas.List.Elements.{recursion_from_All}
 use Rattle.tac_base.specs.Numerals.{numeral, signed_numeral}
 use Rattle.tac_base.specs.declared.bids.Point.{Point}
 use Rattle.tac_base.specs.declared.calls.Board.{Board}
-use Rattle.tac_base.specs.declared.calls.Call.{Call}
 use Rattle.tac_base.specs.declared.calls.Call.TheVariants as calls
 use Rattle.tac_base.specs.declared.calls.Reply.TheVariants as replies
-use Rattle.auction_rules.specs.Setup.{Setup}
 use Rattle.auction_rules.specs.declared.rules.Rules.TheVariants.{Hotel as HotelRules}
+use Rattle.auction_rules.specs.Setup.{Setup}
 use Rattle.auction_rules.specs.History.{Entry}
 use Rattle.auction_rules.specs.Legal.{past_of}
 use Rattle.auction_core.specs.Auctions.{AuctionHistory}
@@ -23,8 +24,9 @@ use Rattle.line_protocol.specs.declared.asking.RequestFault.TheVariants as fault
 use Rattle.line_protocol.specs.Requests.{request_of}
 use Rattle.line_protocol.specs.Replies.{said_text}
 use Rattle.agent_gate.specs.Items.{Asks}
-use Rattle.agent_gate.specs.Turns.{Turn, Called, CashRead, Quoted, Refused, Left, item_of, made_at, cash_made, boards_shown, shown_length, has_left}
+use Rattle.agent_gate.specs.Turns.{Turn, Called, CallDenied, CashRead, CashDenied, Quoted, Refused, Skipped, Left, item_of, made_at, cash_made, boards_shown, shown_length, has_left, IsLawfulTurn, AreLawful}
 use Rattle.agent_gate.specs.Served.{reply_line}
+use Rattle.agent_gate.proofs.LawfulTurns.{none_lawful, lawful_more}
 
 abbrev bid : Point
 bid = record { units = pos 1; price = 50 }
@@ -34,53 +36,71 @@ abbrev hotel : Setup
 hotel = record { good = 8; rules = HotelRules 16 false; endow = replicate 8 (pos 0) }
 
 -- the calls of the hotel: agent 1 bids, agent 0 bids, the clock publishes, and agent 0 looks
-abbrev called : List (ℕ × Call)
-called = (1, calls.Bid (record { units = pos 16; price = 40 } ∷ [])) ∷ (0, calls.Bid (bid ∷ [])) ∷ (8, calls.Publish) ∷ (0, calls.Own) ∷ []
-
 abbrev auction : AuctionHistory
-auction = record { setup = hotel; history = reverse (past_of hotel (reverse called)) }
+auction = record {
+  setup = hotel;
+  history = reverse (past_of hotel (reverse ((1, calls.Bid (record { units = pos 16; price = 40 } ∷ [])) ∷ (0, calls.Bid (bid ∷ [])) ∷ (8, calls.Publish) ∷ (0, calls.Own) ∷ [])));
+}
 
--- the entry of agent 0's bid, and that of its look
+-- the entry of agent 0's bid, and that of its look at these points that are left
 abbrev bid_entry : Entry
 bid_entry = record { caller = 0; call = calls.Bid (bid ∷ []); reply = replies.Taken 0 0; trades = [] }
 
-abbrev own_entry : Entry
-own_entry = record { caller = 0; call = calls.Own; reply = replies.Own (pos 0) (bid ∷ []); trades = [] }
+abbrev own_entry : List Point → Entry
+own_entry left = record { caller = 0; call = calls.Own; reply = replies.Own (pos 0) left; trades = [] }
 
--- what agent 0 was shown of the hotel after three calls
-abbrev board : Board
-board = record { count = 3; bid = 0; ask = 40; closed = false }
+-- what agent 0 is shown of the hotel after so many calls
+abbrev board : ℕ → ℕ → Board
+board count ask = record { count = count; bid = 0; ask = ask; closed = false }
 
 abbrev turns : List Turn
-turns = Called (requests.Bid 8 (bid ∷ [])) 8 1 bid_entry 0 ∷ Quoted 8 board ∷ Called (requests.Own 8) 8 3 own_entry 0 ∷ CashRead 0 (pos 0) ∷ Refused faults.Syntax ∷ Left ∷ []
+turns = Called (requests.Bid 8 (bid ∷ [])) 8 1 bid_entry 0 ∷ Quoted 8 (board 3 40) ∷ Called (requests.Own 8) 8 3 (own_entry (bid ∷ [])) 0 ∷ CashRead 0 (pos 0) ∷ Refused faults.Syntax ∷ Left ∷ []
 
-each_line_is_asked_once : map item_of turns
-    ≡ map (λ line. Asks (request_of line)) (codes "bid 8 ((1 50))" ∷ codes "quote 8" ∷ codes "own 8" ∷ codes "cash" ∷ codes "sell 8" ∷ codes "quit" ∷ [])
-unfolding request_of points_of point_of numeral signed_numeral
-each_line_is_asked_once = refl
-
-each_line_is_answered_once : map (reply_line said_text) turns
-    ≡ codes "@1 taken 0 0\n" ∷ codes "@3 quote 0 40 open\n" ∷ codes "@3 own 0 ((1 50))\n" ∷ codes "@0 cash 0\n" ∷ codes "no syntax\n" ∷ codes "bye\n" ∷ []
-unfolding digits
-each_line_is_answered_once = refl
-
-calls_are_the_agents_part : part (λ e. e.caller) auction.history 0 ≡ made_at 8 turns
-calls_are_the_agents_part = refl
-
-nothing_is_made_elsewhere : made_at 9 turns ≡ []
-nothing_is_made_elsewhere = refl
+each_line_is_asked_and_answered_once :
+    (map item_of turns ≡ map (λ line. Asks (request_of line)) (codes "bid 8 ((1 50))" ∷ codes "quote 8" ∷ codes "own 8" ∷ codes "cash" ∷ codes "sell 8" ∷ codes "quit" ∷ []))
+    × (map (reply_line said_text) turns ≡ codes "@1 taken 0 0\n" ∷ codes "@3 quote 0 40 open\n" ∷ codes "@3 own 0 ((1 50))\n" ∷ codes "@0 cash 0\n" ∷ codes "no syntax\n" ∷ codes "bye\n" ∷ [])
+unfolding request_of points_of point_of numeral signed_numeral digits
+each_line_is_asked_and_answered_once = (refl, refl)
 
 -- no call had a trade, so there is no post
-readings_are_in_the_cash_history : cash_made 0 turns ≡ (0, record { caller = 0; call = cash_calls.Read 0; reply = cash_replies.Cash (pos 0) }) ∷ []
-readings_are_in_the_cash_history = refl
+turns_make_the_agents_part : (part (λ e. e.caller) auction.history 0 ≡ made_at 8 turns)
+    × (made_at 9 turns ≡ [])
+    × (cash_made 0 turns ≡ (0, record { caller = 0; call = cash_calls.Read 0; reply = cash_replies.Cash (pos 0) }) ∷ [])
+turns_make_the_agents_part = (refl, refl, refl)
 
 -- the board that was shown is that of the first three entries
 shown_board_is_of_a_prefix : map (λ note. (note.0, board_of auction (take note.0 auction.history))) (boards_shown 8 turns) ≡ boards_shown 8 turns
 shown_board_is_of_a_prefix = refl
 
 -- at least so long is the hotel's history, by each answer: a later position is 2 or more, then 3 or more, then 4 or more
-answers_tell_lengths : map (shown_length 8) turns ≡ 2 ∷ 3 ∷ 4 ∷ 0 ∷ 0 ∷ 0 ∷ []
-answers_tell_lengths = refl
+answers_tell_lengths_and_quit_is_last : (map (shown_length 8) turns ≡ 2 ∷ 3 ∷ 4 ∷ 0 ∷ 0 ∷ 0 ∷ [])
+    × (map (λ n. has_left (take n turns)) (0 ∷ 5 ∷ 6 ∷ []) ≡ false ∷ false ∷ true ∷ [])
+answers_tell_lengths_and_quit_is_last = (refl, refl)
 
-nothing_follows_quit : map (λ n. has_left (take n turns)) (0 ∷ 5 ∷ 6 ∷ []) ≡ false ∷ false ∷ true ∷ []
-nothing_follows_quit = refl
+-- ---- lawful turns: at the limits of calls and readings, behind what was answered, and after `quit`
+
+-- agent 0 looks at a hotel in which it has nothing
+abbrev look_at : ℕ → Turn
+look_at position = Called (requests.Own 8) 8 position (own_entry []) 0
+
+nothing_comes_after_quit : AreLawful (Skipped ∷ Left ∷ []) × (AreLawful (Left ∷ Skipped ∷ []) → ⊥)
+nothing_comes_after_quit = (
+  lawful_more (Skipped ∷ []) Left (lawful_more [] Skipped none_lawful tt refl) tt refl,
+  λ lawful. let e : true ≡ false = (lawful 1 Skipped refl).1 in cc,
+)
+
+-- calls at good 8
+call_is_denied_after_1024 : IsLawfulTurn (replicate 1024 (look_at 3)) (CallDenied (requests.Own 8) 8)
+    × (IsLawfulTurn (replicate 1023 (look_at 3)) (CallDenied (requests.Own 8) 8) → ⊥)
+    × (IsLawfulTurn (replicate 1024 (look_at 3)) (look_at 4) → ⊥)
+call_is_denied_after_1024 = (
+  ((calls.Own, refl), omega arith, refl),
+  (λ denied. let e : ◌≡◌ {A = ℕ} 1023 1024 = denied.2 in omega (arith, e)),
+  λ made. let below : 1024 < 1024 = made.2 in omega (arith, below),
+)
+
+reading_is_denied_after_1024 : IsLawfulTurn (replicate 1024 (CashRead 5 (pos 0))) CashDenied × (IsLawfulTurn (replicate 1024 (CashRead 5 (pos 0))) (CashRead 6 (pos 0)) → ⊥)
+reading_is_denied_after_1024 = (refl, λ made. let below : 1024 < 1024 = made in omega (arith, below))
+
+board_is_not_shorter : IsLawfulTurn (look_at 3 ∷ []) (Quoted 8 (board 3 0)) → ⊥
+board_is_not_shorter shown = let le : 4 ≤ 3 = (recursion_from_All (λ (turn : Turn). shown_length 8 turn ≤ 3) (look_at 3 ∷ []) shown.1).0 in omega (arith, le)

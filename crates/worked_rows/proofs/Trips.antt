@@ -17,27 +17,18 @@ long_trip = Trip 0 1 5 (1 ∷ 3 ∷ 0 ∷ [])
 abbrev goods_of : Package → List ℕ
 goods_of p = filter (λ good. nat_lt 0 (use_of p good)) (range_with_len 0 28)
 
-museum_trip_uses_four_goods : goods_of (Trip 1 2 3 (0 ∷ 0 ∷ 2 ∷ [])) ≡ 1 ∷ 5 ∷ 13 ∷ 25 ∷ []
-museum_trip_uses_four_goods = refl
-
-long_trip_uses_eight_goods : goods_of long_trip ≡ 0 ∷ 7 ∷ 8 ∷ 9 ∷ 10 ∷ 11 ∷ 16 ∷ 22 ∷ []
-long_trip_uses_eight_goods = refl
+trips_use_four_and_eight_goods : (goods_of (Trip 1 2 3 (0 ∷ 0 ∷ 2 ∷ [])) ≡ 1 ∷ 5 ∷ 13 ∷ 25 ∷ []) × (goods_of long_trip ≡ 0 ∷ 7 ∷ 8 ∷ 9 ∷ 10 ∷ 11 ∷ 16 ∷ 22 ∷ [])
+trips_use_four_and_eight_goods = (refl, refl)
 
 -- 1000, less 100 for each of the two days, and the values 10 and 20; no premium in the other hotel
-long_trip_is_worth_830 : utility_of (record { arrive = 2; depart = 4; premium = 80; values = 10 ∷ 20 ∷ 30 ∷ [] }) long_trip ≡ 830
-long_trip_is_worth_830 = refl
+long_trip_is_worth_830_and_home_0 : map (utility_of (record { arrive = 2; depart = 4; premium = 80; values = 10 ∷ 20 ∷ 30 ∷ [] })) (long_trip ∷ None ∷ []) ≡ 830 ∷ 0 ∷ []
+long_trip_is_worth_830_and_home_0 = refl
 
-staying_at_home_is_worth_0 : utility_of (record { arrive = 2; depart = 4; premium = 80; values = 10 ∷ 20 ∷ 30 ∷ [] }) None ≡ 0
-staying_at_home_is_worth_0 = refl
-
-good_packages : map is_package (None ∷ long_trip ∷ Trip 1 2 3 (0 ∷ 0 ∷ 2 ∷ []) ∷ []) ≡ true ∷ true ∷ true ∷ []
-good_packages = refl
-
--- a third hotel, no night, a sixth day, a ticket on the day of departure, two tickets on one night, and a fourth ticket type
-no_packages : map is_package
-    (Trip 2 1 2 (0 ∷ 0 ∷ 0 ∷ []) ∷ Trip 0 2 2 (0 ∷ 0 ∷ 0 ∷ []) ∷ Trip 0 4 6 (0 ∷ 0 ∷ 0 ∷ []) ∷ Trip 0 1 2 (2 ∷ 0 ∷ 0 ∷ []) ∷ Trip 0 1 3 (1 ∷ 1 ∷ 0 ∷ []) ∷ Trip 0 1 2 (0 ∷ 0 ∷ 0 ∷ 0 ∷ []) ∷ [])
-    ≡ replicate 6 false
-no_packages = refl
+-- no packages: a third hotel, no night, a sixth day, a ticket on the day of departure, two tickets on one night, and a fourth ticket type
+packages_keep_to_days_nights_and_tickets : (map is_package (None ∷ long_trip ∷ Trip 1 2 3 (0 ∷ 0 ∷ 2 ∷ []) ∷ []) ≡ true ∷ true ∷ true ∷ [])
+    × (map is_package (Trip 2 1 2 (0 ∷ 0 ∷ 0 ∷ []) ∷ Trip 0 2 2 (0 ∷ 0 ∷ 0 ∷ []) ∷ Trip 0 4 6 (0 ∷ 0 ∷ 0 ∷ []) ∷ []) ≡ replicate 3 false)
+    × (map is_package (Trip 0 1 2 (2 ∷ 0 ∷ 0 ∷ []) ∷ Trip 0 1 3 (1 ∷ 1 ∷ 0 ∷ []) ∷ Trip 0 1 2 (0 ∷ 0 ∷ 0 ∷ 0 ∷ []) ∷ []) ≡ replicate 3 false)
+packages_keep_to_days_nights_and_tickets = (refl, refl, refl)
 
 -- one seat in on day 1, two seats out on day 2, two rooms of Shoreline Shanties on night 1, and one museum ticket owed for night 4
 abbrev one_seat : AccountFile
@@ -54,42 +45,21 @@ travelling n = replicate n (Trip 0 1 2 (0 ∷ 0 ∷ 0 ∷ [])) ++ replicate (8 -
 abbrev lacking_for : List Package → List ℕ
 lacking_for allocation = filter (λ good. nat_lt (stock_of one_seat.holdings good) (used_by allocation good)) (range_with_len 0 28)
 
-one_traveller_is_feasible : lacking_for (travelling 1) ≡ []
-one_traveller_is_feasible = refl
-
-second_traveller_has_no_seat : lacking_for (travelling 2) ≡ 0 ∷ []
-second_traveller_has_no_seat = refl
+second_traveller_has_no_seat : (lacking_for (travelling 1) ≡ []) × (lacking_for (travelling 2) ≡ 0 ∷ []) × (stock_of one_seat.holdings 27 ≡ 0)
+second_traveller_has_no_seat = (refl, refl, refl)
 
 one_traveller_is_worth_1000 : total_of one_seat.clients (travelling 1) ≡ 1000
 one_traveller_is_worth_1000 = refl
-
-owed_ticket_is_none : stock_of one_seat.holdings 27 ≡ 0
-owed_ticket_is_none = refl
 
 -- an agent that holds these goods, eight of each being enough for all
 abbrev holder : List ℤ → AccountFile
 holder goods = record { clients = one_seat.clients; holdings = goods }
 
-no_trip_without_a_seat_in : IsFeasible (holder (pos 0 ∷ replicate 27 (pos 8))) (travelling 1) → ⊥
-no_trip_without_a_seat_in feasible = never (feasible.enough 0 first)
-  where
-    first : 0 < 28
-    first = omega arith
-
-    never : 1 ≤ 0 → ⊥
-    never below = omega (arith, below)
-
-no_museum_on_night_4_without_a_ticket : IsFeasible (holder (replicate 27 (pos 8) ++ negsuc 0 ∷ [])) (Trip 0 4 5 (0 ∷ 0 ∷ 4 ∷ []) ∷ replicate 7 None) → ⊥
-no_museum_on_night_4_without_a_ticket feasible = never (feasible.enough 27 last)
-  where
-    last : 27 < 28
-    last = omega arith
-
-    never : 1 ≤ 0 → ⊥
-    never below = omega (arith, below)
-
-seven_packages_are_too_few : IsFeasible (holder (replicate 28 (pos 8))) (replicate 7 None) → ⊥
-seven_packages_are_too_few feasible = never feasible.eight
-  where
-    never : ◌≡◌ {A = ℕ} 7 8 → ⊥
-    never e = omega (arith, e)
+lacking_goods_or_seven_packages_are_not_feasible : (IsFeasible (holder (pos 0 ∷ replicate 27 (pos 8))) (travelling 1) → ⊥)
+    × (IsFeasible (holder (replicate 27 (pos 8) ++ negsuc 0 ∷ [])) (Trip 0 4 5 (0 ∷ 0 ∷ 4 ∷ []) ∷ replicate 7 None) → ⊥)
+    × (IsFeasible (holder (replicate 28 (pos 8))) (replicate 7 None) → ⊥)
+lacking_goods_or_seven_packages_are_not_feasible = (
+  (λ feasible. let first : 0 < 28 = omega arith in let below : 1 ≤ 0 = feasible.enough 0 first in omega (arith, below)),
+  (λ feasible. let last : 27 < 28 = omega arith in let below : 1 ≤ 0 = feasible.enough 27 last in omega (arith, below)),
+  λ feasible. let e : ◌≡◌ {A = ℕ} 7 8 = feasible.eight in omega (arith, e),
+)
