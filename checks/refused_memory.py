@@ -7,14 +7,21 @@ has to end as it does with memory, or with status 7 and a text that docs/FORMATS
 and then that line. A served game that is played has to be sound whatever was refused, and each link
 has to be sent all its lines; in JSON `{"no":"memory"}` may stand for a reply. If memory for a
 thread is refused, the clock and the sessions run one after the other, so a bid may find its auction
-closed. If a command has more than MOST growths (2000), evenly spaced ones are tried. It needs a C
-compiler, takes some minutes, and ends with 0 if each run ended as it has to, and with 1 if one did
-not, or something that it needs is missing.
+closed.
+
+Two games are served over links in memory, by tests of `tacd` that tell how their run of `tac`
+ended; of their growths only those of that run are refused. If the program of these tests is not
+there, which `rt test` in crates/tacd leaves, they are skipped with a line.
+
+If a command has more than MOST growths (2000), evenly spaced ones are tried. It needs a C compiler,
+takes some minutes, and ends with 0 if each run ended as it has to, and with 1 if one did not, or
+something else that it needs is missing.
 """
 
 import contextlib
 import os
 import re
+import resource
 import shutil
 import subprocess
 import sys
@@ -34,6 +41,9 @@ GAME, ACCOUNT = str(EXAMPLES / "first.game"), str(EXAMPLES / "one_seat.account")
 MOST = 60  # seconds of a run
 PACE = "4"  # milliseconds from tick to tick, so that all agents ask before the auctions close
 NO_MEMORY = '{"no":"memory"}'
+TESTS = TOP / "crates" / "tacd" / "out" / "tacd_tests"
+MARK = "76543"  # bytes of the two growths between which a test has its run of `tac`
+TELL = "1"  # the word of one byte for which a test tells how that run ended
 
 # A whole game: agent 0 takes two seats, a room and a ticket, agent 1 sells two tickets that it does
 # not have, and agent 2 keeps one. The replies and scores are those of the rules.
@@ -73,6 +83,24 @@ MANY_HEAD = "\n".join(
      *(f"link {number} syntax" for number in range(3, 64)), "end 0 quit", "missed 0",
      "auction 0 54\n"])
 
+# Of the first test one link in memory is seated, and three are refused. Of the second eight are
+# seated: agent 0 asks once agent 1 has its reply, and agent 1 leaves once agent 0 has its own. If
+# the two come one after the other, one of them gives up, and the log tells that its read failed.
+FOUR_HEAD = """\
+taclog 1
+serve
+link 0 seated 0
+link 1 wrongword
+link 2 taken
+link 3 syntax
+end 0 quit
+missed 0
+auction 0 54
+"""
+EIGHT_HEAD = "\n".join(["taclog 1", "serve", *(f"link {seat} seated {seat}" for seat in range(8)),
+                        *(f"end {seat} quit" for seat in range(8)), "missed 0\n"])
+OWNS = [r"@\d+ own 0 \(\)", "bye"]
+
 
 def plain_game() -> str:
     """A game whose flights stay at 300 dollars, whose agents have no tickets, and whose clients all
@@ -104,18 +132,21 @@ class Case(NamedTuple):
         heard: The forms of the replies that each agent of such a game gets after the ten lines of
             its welcome. None if there is one log, byte for byte.
         due: What the text is known to have by the rules.
+        tests: The program of tests whose words these are; None for a command of `tac`. The test
+            has the links, and tells what they were sent.
     """
 
     name: str
     words: List[str]
     game: Optional[str] = None
     links: Sequence[str] = ()
-    heard: Optional[Sequence[str]] = None
+    heard: Optional[Sequence[Sequence[str]]] = None
     due: Sequence[str] = ()
+    tests: Optional[str] = None
 
 
-def cases(program: str, folder: Path) -> Iterator[Case]:
-    """The commands, with their files in a folder."""
+def cases(program: str, tests: Optional[str], folder: Path) -> Iterator[Case]:
+    """The commands, and tests if there is a program of them, with their files in a folder."""
     plain, script, log = (folder / name for name in ("plain.game", "whole_game.script", "log"))
     plain.write_text(plain_game())
     script.write_text(WHOLE_GAME)
@@ -139,12 +170,27 @@ def cases(program: str, folder: Path) -> Iterator[Case]:
                due=[MANY_HEAD])
     asked = [f"hello seat{seat}\nbid {16 + seat} ((1 70))\ncash\nquit\n" for seat in range(8)]
     yield Case("serve, eight agents", ["serve", GAME, "PORT", PACE], GAME, asked,
-               [r"@\d+ (taken 0 0|no closed)", r"@\d+ cash 0", "bye"])
+               [[r"@\d+ (taken 0 0|no closed)", r"@\d+ cash 0", "bye"]] * 8)
     asked = [f'hello seat{seat}\n{{"do":"bid","auction":{seat},"points":[[1,400]]}}\n'
              '{"do":"cash"}\n{"do":"quit"}\n' for seat in range(8)]
     yield Case("serve, JSON", ["serve", str(plain), "PORT", PACE, "json"], str(plain), asked,
-               [r'{"at":\d+,("taken":\[1,0\]|"no":"closed")}', r'{"at":\d+,"cash":(0|-300)}',
-                '{"bye":true}'])
+               [[r'{"at":\d+,("taken":\[1,0\]|"no":"closed")}', r'{"at":\d+,"cash":(0|-300)}',
+                 '{"bye":true}']] * 8)
+    if tests:
+        yield Case("serve, four links in memory",
+                   ["serve_tests::the_pace_is_set_before_the_first_wait", TELL], str(plain),
+                   due=[FOUR_HEAD, "\nscore 7 0 0 0 0\n"], tests=tests)
+        yield Case("serve, eight links in memory",
+                   ["serve_tests::sessions_run_beside_one_another", TELL], str(plain),
+                   heard=[OWNS, OWNS, *[["bye"]] * 6], due=[EIGHT_HEAD], tests=tests)
+
+
+def told(output: bytes) -> Ran:
+    """The run that a test told of, by its parts, each with a form feed behind it: its status and
+    how many lines its links were sent; its text; and what each link that it gave back was sent."""
+    numbers, text, *sent = output.split(b"\f")[:-1]
+    status, *lines = map(int, numbers.split())
+    return Ran(status, text, sent or [b"%d lines" % count for count in lines if count])
 
 
 class Trial:
@@ -155,19 +201,22 @@ class Trial:
     """
 
     def __init__(self, program: str, shim: str, case: Case, folder: Path) -> None:
-        self.program, self.shim, self.case = program, shim, case
+        self.program, self.case = program, case
+        self.shim = {"LD_PRELOAD": shim, **({"MARK": MARK} if case.tests else {})}
         counted = folder / "counted"
         counted.unlink(missing_ok=True)
         self.usual = self.run({"COUNTED": str(counted)})
         self.growths = int.from_bytes(counted.read_bytes(), sys.byteorder)
         text = self.usual.text.decode("latin-1")
+        if case.tests and not self.growths:
+            raise ProgramError(f"{case.tests} is older than this check: build it by rt test")
         if self.usual.status or not all(part in text for part in case.due):
             raise ProgramError(f"{case.name}: status {self.usual.status} and {text[:200]!r}")
         if case.heard is not None and not self.is_whole(self.usual):
             raise ProgramError(f"{case.name}: its links were sent {self.usual.sent}")
 
     def run(self, more: Dict[str, str]) -> Ran:
-        """A run with more variables.
+        """A run with more variables; that of a test is the run that it tells of.
 
         Raises:
             ProgramError: It took too long.
@@ -178,11 +227,14 @@ class Trial:
         with links or contextlib.nullcontext():
             try:
                 done = subprocess.run(
-                    [self.program, *words], timeout=MOST, stdin=subprocess.DEVNULL,
-                    env={**os.environ, "LD_PRELOAD": self.shim, **more}, stdout=subprocess.PIPE,
-                    check=False)
+                    [self.case.tests or self.program, *words], timeout=MOST,
+                    stdin=subprocess.DEVNULL, env={**os.environ, **self.shim, **more},
+                    stdout=subprocess.PIPE, check=False,
+                    stderr=subprocess.DEVNULL if self.case.tests else None)
             except subprocess.TimeoutExpired:
                 raise ProgramError(f"{self.case.name}: longer than {MOST} seconds") from None
+        if self.case.tests and b"\f" in done.stdout:
+            return told(done.stdout)
         return Ran(done.returncode, done.stdout, links.sent if links else [])
 
     def is_right(self, ran: Ran) -> bool:
@@ -203,6 +255,7 @@ class Trial:
         verdict = self.audit(text)
         # Where a bid was not taken, the usual sheet is another game's.
         return verdict == "sound" or (ran.status == 7 and verdict.startswith("unsound score ")
+                                      and not self.case.tests
                                       and not all(b"taken" in sent for sent in ran.sent))
 
     def is_whole(self, ran: Ran) -> bool:
@@ -210,11 +263,16 @@ class Trial:
         heard = self.case.heard
         if heard is None:
             return ran.sent == self.usual.sent
-        for sent, usual in zip(ran.sent, self.usual.sent):
+        if len(ran.sent) != len(heard):
+            return False
+        for number, (sent, usual, forms) in enumerate(zip(ran.sent, self.usual.sent, heard)):
             lines, welcome = sent.decode("latin-1").split("\n"), usual.decode("latin-1").split("\n")
-            if lines[:10] != welcome[:10] or lines[-1] or len(lines) != 11 + len(heard) or not all(
+            replies, last = lines[10:-1], lines[-1]
+            if self.case.tests and b"\nend %d readfault\n" % number in ran.text:
+                forms = forms[:len(replies)]
+            if lines[:10] != welcome[:10] or last or len(replies) != len(forms) or not all(
                     line == NO_MEMORY or re.fullmatch(form, line)
-                    for form, line in zip(heard, lines[10:])):
+                    for form, line in zip(forms, replies)):
                 return False
         return True
 
@@ -261,11 +319,18 @@ def main() -> int:
                         help="how many growths of a command are refused (2000)")
     parser.add_argument("--at-once", type=whole(1, 16), default=4, metavar="N",
                         help="how many runs at a time; 4")
+    parser.add_argument("--tests", type=Path, default=TESTS, metavar="FILE",
+                        help="the program of the tests of tacd; crates/tacd/out/tacd_tests")
+    parser.add_argument("--only", default="", metavar="PART",
+                        help="only the commands and games whose names have this part")
     given = parser.parse_args()
     program = program_of(given.program)
+    tests = str(given.tests.resolve()) if given.tests.is_file() else None
     compiler = shutil.which("cc") or shutil.which("gcc")
     if not compiler:
         raise ProgramError("there is no C compiler, neither cc nor gcc")
+    # A failed assertion of a test, as where memory was refused, ends it by a signal.
+    resource.setrlimit(resource.RLIMIT_CORE, (0, 0))
     wrong = 0
     with tempfile.TemporaryDirectory() as place:
         folder = Path(place)
@@ -274,10 +339,13 @@ def main() -> int:
                               check=False)
         if made.returncode:
             raise ProgramError(f"{compiler} did not compile {source.name}")
-        for case in cases(program, folder):
-            trial = Trial(program, shim, case, folder)
-            for after in WAYS:
-                wrong += trial.refuse(given.most, given.at_once, after)
+        for case in cases(program, tests, folder):
+            if given.only in case.name:
+                trial = Trial(program, shim, case, folder)
+                for after in WAYS:
+                    wrong += trial.refuse(given.most, given.at_once, after)
+    if tests is None:
+        print(f"skipped: games over links in memory: there is no program of tests {given.tests}")
     return 1 if wrong else 0
 
 

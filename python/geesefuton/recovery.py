@@ -140,8 +140,12 @@ class Auction:
     def guesses(self, tick: int) -> Iterator[Guess]:
         """Ways in which requests without a reply may have been made, the likeliest first, if the
         clock has called until a tick."""
+        gaps = self._gaps()  # before any guess is taken
+        least = {agent: [self._least(call) for call in calls[:len(gaps)]]
+                 for agent, calls in self.pending.items()}
         # The lobby's clock may be behind: then all ticks are tried.
-        guesses = itertools.chain(self._guesses(tick), self._guesses(TICKS))
+        guesses = itertools.chain(self._guesses(gaps, least, tick),
+                                  self._guesses(gaps, least, TICKS))
         return itertools.islice(guesses, MOST_TRIES)
 
     def guess(self, known: Dict[int, Call], guess: Guess) -> bool:
@@ -156,12 +160,10 @@ class Auction:
 
     # Where requests without a reply may have been.
 
-    def _guesses(self, tick: int) -> Iterator[Guess]:
+    def _guesses(self, gaps: List[int], least: Dict[int, List[int]],
+                 tick: int) -> Iterator[Guess]:
         """Ways to fill the gaps that the clock leaves until a tick, those with few first."""
-        gaps = self._gaps()
         fewest = max(0, len(gaps) - self._schedule.most(self.good, tick))
-        least = {agent: [self._least(call) for call in calls[:len(gaps)]]
-                 for agent, calls in self.pending.items()}
         first = min((places[0] for places in least.values() if places), default=0)
         gaps = [at for at in gaps if at >= first]
         most = min(sum(map(len, least.values())), len(gaps))

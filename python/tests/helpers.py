@@ -3,6 +3,7 @@
 import contextlib
 import importlib
 import os
+import re
 import subprocess
 import sys
 import unittest
@@ -11,8 +12,11 @@ from typing import Any, Dict, List, Optional, Tuple
 from unittest import mock
 
 from geesefuton import program
-from geesefuton.games import Game, read_game
+from geesefuton.dialects import asked_by
+from geesefuton.games import CLOCK, GOODS, HOTELS, SEATS, Game, read_game
+from geesefuton.journal import Schedule
 from geesefuton.logs import Log, read_log
+from geesefuton.replies import read_points
 
 DATA = Path(__file__).resolve().parent / "data"
 PACKAGE = DATA.parents[1]
@@ -76,6 +80,13 @@ def refusal(module: str, *words: object) -> Tuple[int, str]:
         return command.main(), "".join(told)
 
 
+def cells_of(part: str) -> List[List[str]]:
+    """The cells of the first table in a text, row by row, without marks."""
+    rows = part.split("</table>")[0].split("<tr>")[1:]
+    cells = [re.findall(r"<t[dh][^>]*>(.*?)</t[dh]>", row) for row in rows]
+    return [[re.sub("<[^>]*>", "", cell) for cell in row] for row in cells]
+
+
 def python(code: str, *words: object) -> List[str]:
     """The words that run a text with Python."""
     return [sys.executable, "-c", code, *map(str, words)]
@@ -92,3 +103,83 @@ def fake_program(folder: Path, body: str) -> str:
     file.write_text("#!/bin/sh\n" + body)
     file.chmod(0o755)
     return str(file)
+
+
+class CountingPlayer:
+    """Stands for `tac play` in a game in which nobody trades: it counts positions, and knows what
+    stands. Each bid costs its agent a dollar.
+
+    Attributes:
+        given: The games and scripts that it played.
+    """
+
+    def __init__(self) -> None:
+        self.given: List[Tuple[str, str]] = []
+
+    def play(self, game: str, script: str) -> Tuple[List[str], str]:
+        """The reply lines of a script, and the log."""
+        self.given.append((game, script))
+        table, told, bids = _Table(read_game(game)), [], [0] * SEATS
+        for line in script.splitlines():
+            if line == "tick":
+                table.advance()
+                continue
+            caller, text = int(line[0]), line[2:]
+            told.append(f"{caller} {table.answer(caller, text)}")
+            bids[caller] += text.startswith("bid")
+        while table.tick < 54:
+            table.advance()
+        lines = ["taclog 1", "play"]
+        for good in GOODS:
+            lines += [f"auction {good} {len(table.entries[good])}", *table.entries[good]]
+        lines += ["cash 0", "sheet"]
+        for agent, count in enumerate(bids):
+            lines += [f"score {agent} 0 {-count} 0 {-count}",
+                      *(f"package {agent} {client} none" for client in range(8)),
+                      f"cert {agent} 1", "leaf" + " 0" * 28]
+        return told, "".join(line + "\n" for line in [*lines, "end"])
+
+
+class _Table:
+    """The auctions of a game in which nobody trades."""
+
+    def __init__(self, game: Game) -> None:
+        self.game, self.schedule, self.tick = game, Schedule(game), 0
+        self.entries: List[List[str]] = [[] for _ in GOODS]
+        self.standing: Dict[Tuple[int, int], str] = {}
+        self.readings = 0
+
+    def advance(self) -> None:
+        """The clock makes the calls of the next tick."""
+        self.tick += 1
+        for good in GOODS:
+            ticks = self.schedule.ticks[good]
+            if self.tick in ticks:
+                call = "close" if self.tick == ticks[-1] else "publish" if good in HOTELS else \
+                    f"update {self.tick} {self.game.flights[good].draws[self.tick - 1]}"
+                reply = "sold 0 0" if good in HOTELS and call == "close" else "done"
+                self.entries[good].append(f"{CLOCK} {call} = {reply}")
+
+    def answer(self, caller: int, text: str) -> str:
+        """The reply to a request."""
+        asked = asked_by(text, "words")
+        if asked is None:
+            return "no syntax"
+        if asked.keyword == "cash":
+            self.readings += 1
+            return f"@{self.readings - 1} cash 0"
+        entries, key = self.entries[asked.good], (caller, asked.good)
+        if asked.keyword == "quote":
+            prices = [price for (_, good), points in self.standing.items() if good == asked.good
+                      for units, price in read_points(points) if units > 0]
+            return f"@{len(entries)} quote {max(prices, default=0)} 0 open"
+        call, reply = asked.keyword, "done"
+        if call == "bid":
+            self.standing[key], reply = asked.text.split(" ", 2)[2], "taken 0 0"
+            call = f"bid {self.standing[key]}"
+        elif call == "withdraw":
+            self.standing.pop(key, None)
+        else:
+            reply = f"own 0 {self.standing.get(key, '()')}"
+        entries.append(f"{caller} {call} = {reply}")
+        return f"@{len(entries) - 1} {reply}"

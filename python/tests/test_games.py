@@ -2,7 +2,7 @@ import unittest
 from typing import List
 
 from geesefuton import games
-from geesefuton.games import Client, Flight, GameError, Package, read_game
+from geesefuton.games import Client, Flight, Game, GameError, Package, read_game
 from tests.helpers import TOP, served_game
 
 
@@ -50,6 +50,24 @@ class Texts(unittest.TestCase):
         game = read_game(text_of("first.game"))
         self.assertEqual((game.rooms, game.live), ((16,) * 8, False))
 
+    def test_quotes_by_the_minute_in_version_two(self) -> None:
+        game = read_game(text_of("first.game")).with_rooms([3] * 8, live=False)
+        self.assertIn("\nrooms 3 3 3 3 3 3 3 3\nquotes minute\n", game.text())
+        self.assertTrue(game.text().startswith("tac 2\n"))
+        self.assertEqual(read_game(game.text()), game)
+
+    def test_a_game_that_says_nothing_of_rooms_and_quotes(self) -> None:
+        game = read_game(text_of("first.game"))
+        self.assertEqual(Game(game.words, game.flights, game.closing, game.endow, game.clients),
+                         game)
+
+    def test_the_greatest_game_file(self) -> None:
+        text = text_of("first.game")
+        text += "#" * ((1 << 20) - len(text) - 1) + "\n"
+        self.assertEqual(read_game(text), read_game(text_of("first.game")))
+        with self.assertRaises(GameError):
+            read_game(text + "\n")
+
     def test_names_and_rooms_can_be_changed(self) -> None:
         game = read_game(text_of("first.game"))
         words = list("abcdefgh")
@@ -86,6 +104,7 @@ class Faults(unittest.TestCase):
     def test_words(self) -> None:
         for bad in ("Seat", "s" * 17, "a-b", ""):
             self.refuse(self.changed(2, f"words {bad} b c d e f g h"), 2, "no seat word")
+            self.refuse(self.changed(2, f"words a b c d e f g {bad}"), 2, "no seat word")
         self.refuse(self.changed(2, "words a b c d e f g a"), 2, "equal")
         self.refuse(self.changed(2, "words a b c d e f g"), 2, "8 words after it, not 7")
         longest = self.changed(2, f"words {'s' * 16} b c d e f g h")
@@ -100,8 +119,10 @@ class Faults(unittest.TestCase):
         self.refuse(self.changed(3, "flight 0 300 31" + draws), 3, "from -10 to 30")
         self.refuse(self.changed(3, "flight 0 300 0" + " 0" * 52), 3, "56 words")
         self.refuse(self.changed(3, "flight 0 300 0" + " 0" * 52 + " 4294967296"), 3, "4294967295")
-        bounds = self.changed(3, "flight 0 250 -10" + " 4294967295" * 53)
-        self.assertEqual(read_game(bounds).flights[0].bound, -10)
+        self.refuse(self.changed(3, "flight 0 300 0" + " 0" * 52 + " -1"), 3, "one spelling")
+        for first, bound, draw in ((250, -10, 4294967295), (400, 30, 0)):
+            text = self.changed(3, f"flight 0 {first} {bound}" + f" {draw}" * 53)
+            self.assertEqual(read_game(text).flights[0], Flight(first, bound, (draw,) * 53))
 
     def test_spelling_of_numbers(self) -> None:
         for bad in ("01", "+1", "-0", "1.0", "", "x", "99999999999", "٣"):
@@ -119,6 +140,12 @@ class Faults(unittest.TestCase):
     def test_seats(self) -> None:
         self.refuse(self.changed(14, "endow 0 17" + " 0" * 11), 14, "from 0 to 16")
         self.refuse(self.changed(15, "endow 0" + " 0" * 12), 15, "0 is not from 1 to 1")
+        self.refuse(self.changed(14, "endow 0 -1" + " 0" * 11), 14, "one spelling")
+        self.refuse(self.changed(22, "client 0 0 5 5 50 0 0 0"), 22, "from 1 to 4")
+        self.refuse(self.changed(22, "client 0 0 1 2 49 0 0 0"), 22, "from 50 to 150")
+        self.refuse(self.changed(23, "client 1 1 1 2 50 0 0 0"), 23, "1 is not from 0 to 0")
+        for text in ("client 0 0 1 5 50 0 0 0", "client 0 0 4 5 150 200 200 200"):
+            self.assertEqual(read_game(self.changed(22, text)).text().split("\n")[21], text)
         self.refuse(self.changed(22, "client 0 0 2 2 50 0 0 0"), 22, "not after the arrival")
         self.refuse(self.changed(22, "client 0 0 0 2 50 0 0 0"), 22, "from 1 to 4")
         self.refuse(self.changed(22, "client 0 0 1 6 50 0 0 0"), 22, "from 2 to 5")
@@ -152,6 +179,13 @@ class Rules(unittest.TestCase):
                          ["in, day 1", "out, day 2", "Shanties, night 4", "Towers, night 1",
                           "alligators, night 1", "park, night 4", "museum, night 4"])
 
+    def test_auctions_have_groups_and_days(self) -> None:
+        groups = ["Flights in", "Flights out", "Shoreline Shanties", "Tampa Towers",
+                  "Alligator wrestling", "Amusement park", "Museum"]
+        self.assertEqual([(auction.group, auction.day) for auction in games.AUCTIONS],
+                         [(group, day) for group in groups
+                          for day in (range(2, 6) if group == "Flights out" else range(1, 5))])
+
     def test_kinds_of_goods_are_ranges_of_their_numbers(self) -> None:
         self.assertEqual([*games.INBOUND, *games.OUTBOUND], list(range(8)))
         self.assertEqual((list(games.INBOUND), list(games.FLIGHTS)), ([0, 1, 2, 3], list(range(8))))
@@ -179,6 +213,13 @@ class Rules(unittest.TestCase):
         self.assertEqual(client.worth(Package(1, 2, 3, (0, 0, 2))), 1200)
         self.assertEqual(client.worth(Package(0, 1, 3, (0, 0, 0))), 1000)
         self.assertEqual(client.worth(None), 0)
+        early = Client(2, 4, 70, (10, 20, 40))
+        for package, worth in (((1, 5), 800), ((3, 5), 800), ((1, 2), 700), ((2, 3), 900),
+                               ((4, 5), 700), ((2, 4), 1000), ((2, 5), 900), ((1, 4), 900)):
+            self.assertEqual(early.worth(Package(0, *package, (0, 0, 0))), worth, package)
+            self.assertEqual(early.worth(Package(1, *package, (0, 0, 0))), worth + 70, package)
+        for nights, more in (((2, 0, 0), 10), ((0, 3, 0), 20), ((0, 0, 2), 40), ((3, 0, 2), 50)):
+            self.assertEqual(early.worth(Package(0, 2, 4, nights)), 1000 + more)
         self.assertEqual(list(client.nights()), [1, 2])
 
     def test_how_a_flight_moves(self) -> None:

@@ -1,12 +1,17 @@
 """Journals: what the server takes a line for, what a reader makes of a journal, and its errors."""
 
 import json
+import os
 import tempfile
+import threading
 import unittest
 from pathlib import Path
+from typing import Any, Dict, List
+from unittest import mock
 
 from geesefuton.dialects import CASH, Asked, asked_by, reply_of
-from geesefuton.journal import Journal, JournalError, JournalReader, Schedule, read_journal
+from geesefuton.journal import (SYNC, Call, Journal, JournalError, JournalReader, Schedule,
+                                read_journal)
 
 DATA = Path(__file__).resolve().parent / "data"
 LINES = (DATA / "lobby.journal").read_text().split("\n")[:-1]
@@ -137,6 +142,237 @@ class Writer(unittest.TestCase):
             self.assertEqual(lines[3]["r"], "no syntax")
             reader = read_journal(file)
             self.assertEqual((reader.agents[3].asked, reader.agents[3].refused), (2, 1))
+
+
+class Keeping(unittest.TestCase):
+    """What stands in the file, and when."""
+
+    def setUp(self) -> None:
+        place = tempfile.TemporaryDirectory()
+        self.addCleanup(place.cleanup)
+        self.file = Path(place.name, "journal")
+        self.warned: List[str] = []
+
+    def open(self) -> Journal:
+        journal = Journal(self.file, self.warned.append)
+        self.addCleanup(journal.close)
+        return journal
+
+    def test_objects_are_written_at_once_and_lines_with_the_next_flush(self) -> None:
+        journal = self.open()
+        self.assertTrue(journal.is_whole)
+        journal.tell(tick=3, t=300)
+        self.assertEqual(self.file.read_text(), '{"tick":3,"t":300}\n')
+        journal.request(1, b"cash")
+        journal.reply(1, b"@0 cash 0")
+        journal.tell(gone=1)
+        self.assertEqual(self.file.read_text(),
+                         '{"tick":3,"t":300}\n{"a":1,"q":"cash"}\n'
+                         '{"a":1,"r":"@0 cash 0","t":0}\n{"gone":1}\n')
+        journal.request(2, b"own 5")
+        journal.close()
+        self.assertEqual(self.file.read_text().split("\n")[-2:], ['{"a":2,"q":"own 5"}', ""])
+
+    def test_times_are_milliseconds_since_the_welcome(self) -> None:
+        journal = self.open()
+        with mock.patch("time.monotonic", return_value=1000.25) as clock, \
+                mock.patch("time.time", return_value=1795906748.9):
+            journal.head(2000, "json", "the game")
+            self.assertEqual(journal.now(), 0)
+            journal.timed(here=1)
+            journal.begin_time()
+            self.assertEqual(journal.now(), 0)
+            clock.return_value = 1002.75
+            self.assertEqual(journal.now(), 2500)
+            journal.timed(gone=1)
+            journal.tell(without=2)
+            journal.reply(3, b"bye")
+            journal.flush()
+        self.assertEqual(self.file.read_text(),
+                         '{"journal":1,"at":1795906748,"pace":2000,"form":"json",'
+                         '"game":"the game"}\n{"here":1}\n{"gone":1,"t":2500}\n{"without":2}\n'
+                         '{"a":3,"r":"bye","t":2500}\n')
+
+    def test_it_is_a_new_file_of_its_owner(self) -> None:
+        journal = self.open()
+        self.assertTrue(journal._syncing.daemon)  # a lobby that fails does not wait for it
+        self.assertEqual(self.file.stat().st_mode & 0o777, 0o600)
+        with self.assertRaises(FileExistsError):
+            Journal(self.file, self.fail)
+        with self.assertRaises(OSError):
+            Journal(self.file / "none", self.fail)
+
+    def test_a_system_that_takes_a_piece_at_a_time(self) -> None:
+        journal, write = self.open(), os.write
+        with mock.patch("os.write", lambda number, data: write(number, data[:7])):
+            for number in range(3):
+                journal.request(number, b"cash")
+            journal.flush()
+        self.assertEqual(self.file.read_text(),
+                         "".join(f'{{"a":{number},"q":"cash"}}\n' for number in range(3)))
+        self.assertEqual(self.warned, [])
+
+    def test_after_a_fault_nothing_more_is_written(self) -> None:
+        journal = self.open()
+        journal.tell(tick=0, t=0)
+        with mock.patch("os.write", side_effect=OSError(28, "No space left on device")):
+            journal.tell(tick=1, t=1)
+        self.assertFalse(journal.is_whole)
+        journal.tell(tick=2, t=2)
+        journal.flush()
+        self.assertEqual((self.file.read_text(), len(self.warned)), ('{"tick":0,"t":0}\n', 1))
+        self.assertIn(str(self.file), self.warned[0])
+        self.assertIn("No space left on device", self.warned[0])
+
+    def test_what_was_written_is_put_onto_the_disk(self) -> None:
+        synced = threading.Event()
+
+        def sync(number: int) -> None:
+            self.assertEqual(os.fstat(number).st_ino, self.file.stat().st_ino)
+            synced.set()
+
+        with mock.patch("geesefuton.journal.SYNC", 0.01), mock.patch("os.fsync", sync):
+            journal = self.open()
+            for tick in range(2):  # again and again, and not once alone
+                journal.tell(tick=tick, t=0)
+                self.assertTrue(synced.wait(20))
+                synced.clear()
+            journal.close()
+        with mock.patch("geesefuton.journal.SYNC", 100.0), mock.patch("os.fsync") as fsync:
+            self.file.unlink()
+            journal = self.open()
+            journal.tell(tick=0, t=0)
+            fsync.assert_not_called()
+            journal.close()  # waits for the disk
+            fsync.assert_called_once()
+        self.assertLessEqual(SYNC, 1.0)  # the page for hosts says once a second
+
+    def test_a_file_that_no_disk_has(self) -> None:
+        journal = self.open()
+        with mock.patch("os.fsync", side_effect=OSError(22, "Invalid argument")):
+            journal.tell(tick=0, t=0)
+            journal.close()
+        self.assertEqual((self.warned, self.file.read_text()), ([], '{"tick":0,"t":0}\n'))
+
+    def test_a_closed_journal_holds_no_file(self) -> None:
+        with mock.patch("os.close") as close:
+            journal = Journal(self.file, self.fail)
+            number = journal._number
+            journal.close()
+            close.assert_called_once_with(number)
+        assert number is not None
+        os.close(number)
+
+
+class Meaning(unittest.TestCase):
+    """What a reader makes of each line."""
+
+    def setUp(self) -> None:
+        self.reader = JournalReader()
+        self.reader.read(LINES[0])
+
+    def read(self, *lines: Dict[str, Any]) -> JournalReader:
+        self.reader.read("".join(json.dumps(line) + "\n" for line in lines))
+        return self.reader
+
+    def test_the_first_line(self) -> None:
+        head = json.loads(LINES[0])
+        reader = self.reader
+        self.assertEqual((reader.text, reader.form, reader.pace, reader.at, reader.lines),
+                         (head["game"], "words", 100, head["at"], 1))
+        assert reader.game is not None and reader.schedule is not None
+        self.assertEqual(reader.game.text(), head["game"])
+        self.assertEqual(reader.schedule.ticks, Schedule(reader.game).ticks)
+        self.assertEqual((reader.has_begun, reader.is_playing, reader.status, reader.calls),
+                         (False, False, None, []))
+
+    def test_links(self) -> None:
+        agents = self.reader.agents
+        self.read({"without": 3}, {"here": 1, "from": "x"})
+        self.assertEqual([agent.is_here for agent in agents], [False, True] + [False] * 6)
+        self.assertEqual([agent.is_waived for agent in agents], [False] * 3 + [True] + [False] * 4)
+        self.assertFalse(any(agent.has_played for agent in agents))
+        self.read({"here": 3, "from": "x"}, {"gone": 1})
+        self.assertEqual((agents[3].is_waived, agents[3].is_here, agents[1].is_here),
+                         (False, True, False))
+        self.read({"begin": [3, 5]})
+        self.assertEqual([agent.has_played for agent in agents],
+                         [False] * 3 + [True, False, True, False, False])
+        self.read({"here": 6, "from": "x"})  # before the welcome
+        self.assertTrue(agents[6].has_played)
+        self.read({"tick": 6, "t": 600}, {"here": 1, "from": "x", "t": 601})
+        self.assertEqual((agents[1].has_played, agents[1].last, agents[3].last), (True, 6, 0))
+        self.read({"end": 1, "why": "hung", "t": 700}, {"gone": 1, "t": 701})
+        self.assertEqual((agents[1].end, agents[1].has_played, agents[3].end), ("hung", True, None))
+
+    def test_time(self) -> None:
+        reader = self.read({"begin": []})
+        self.assertEqual((reader.has_begun, reader.is_playing), (False, True))
+        self.read({"tick": 0, "t": 0})
+        self.assertEqual((reader.has_begun, reader.tick, reader.time), (True, 0, 0))
+        self.read({"tick": 4, "t": 433}, {"gone": 2, "t": 430})
+        self.assertEqual((reader.tick, reader.time, reader.status), (4, 433, None))
+        self.read({"over": 137, "t": 440})
+        self.assertEqual((reader.status, reader.time, reader.lines), (137, 440, 6))
+
+    def test_requests_and_replies(self) -> None:
+        reader = self.read({"tick": 2, "t": 200}, {"a": 1, "q": "own 20"}, {"a": 1, "q": "cash"},
+                           {"tick": 3, "t": 300}, {"a": 2, "q": "hm"},
+                           {"a": 1, "r": "@4 own 0 ()", "t": 311},
+                           {"a": 2, "r": "no syntax", "t": 322},
+                           {"a": 1, "r": "@0 cash -7", "t": 333}, {"a": 1, "q": "quit"},
+                           {"tick": 4, "t": 400}, {"a": 1, "r": "bye", "t": 404})
+        self.assertEqual(reader.calls, [
+            Call(1, Asked("own", 20, "own 20"), 3, 2, "@4 own 0 ()", 4, 311, 7),
+            Call(2, None, 6, 3, "no syntax", None, 322, 8),
+            Call(1, Asked("cash", CASH, "cash"), 4, 2, "@0 cash -7", 0, 333, 9),
+            Call(1, None, 10, 3, "bye", None, 404, 12)])
+        first, second = reader.agents[1:3]
+        self.assertEqual((first.asked, first.answered, first.refused, first.last), (3, 3, 0, 3))
+        self.assertEqual((second.asked, second.answered, second.refused, second.last), (1, 1, 1, 3))
+
+    def test_requests_without_a_reply(self) -> None:
+        reader = self.read({"tick": 2, "t": 200}, *(
+            {"a": 5, "q": line} for line in ("cash", "quote 3", "bid 3 ((1 0))", "hm", "quit",
+                                             "withdraw 4", "own 28", "bid 27 ((1 5))")),
+            {"a": 7, "q": "own 0"}, {"a": 0, "q": "own 1"})
+        self.assertEqual(reader.pending(), [Call(0, Asked("own", 1, "own 1"), 12, 2),
+                                            Call(5, Asked("withdraw", 4, "withdraw 4"), 8, 2),
+                                            Call(5, Asked("bid", 27, "bid 27 ((1 5))"), 10, 2),
+                                            Call(7, Asked("own", 0, "own 0"), 11, 2)])
+
+    def test_json(self) -> None:
+        reader = JournalReader()
+        reader.read(json.dumps({**json.loads(LINES[0]), "form": "json"}))
+        lines = [{"a": 1, "q": '{"do":"own","auction":20}'},
+                 {"a": 1, "r": '{"at":4,"own":0,"points":[]}', "t": 3}, {"a": 1, "q": "own 20"},
+                 {"a": 1, "r": '{"no":"syntax"}', "t": 5},
+                 {"a": 1, "q": '{"do":"own","auction":2}'}]
+        reader.read("\n".join(map(json.dumps, lines)))
+        self.assertEqual([(call.asked and call.asked.text, call.reply, call.at)
+                          for call in reader.calls],
+                         [("own 20", "@4 own 0 ()", 4), (None, "no syntax", None)])
+        self.assertEqual((reader.agents[1].refused, [call.asked for call in reader.pending()]),
+                         (1, [Asked("own", 2, "own 2")]))
+
+    def test_a_copy_stays_as_it_is(self) -> None:
+        reader = self.read({"tick": 2, "t": 200}, {"a": 1, "q": "own 20"})
+        other = reader.copy()
+        self.read({"a": 1, "r": "@0 own 0 ()", "t": 210}, {"a": 1, "q": "own 21"},
+                  {"here": 4, "from": "x"}, {"tick": 3, "t": 300}, {"over": 0, "t": 310})
+        self.assertEqual((other.tick, other.time, other.status, other.calls, other.lines),
+                         (2, 200, None, [], 3))
+        agent = other.agents[1]
+        self.assertEqual((agent.asked, agent.answered, len(agent.waiting)), (1, 0, 1))
+        self.assertFalse(other.agents[4].is_here)
+
+    def test_a_journal_that_is_not_there(self) -> None:
+        with tempfile.TemporaryDirectory() as place:
+            with self.assertRaises(OSError):
+                read_journal(Path(place, "none"))
+            file = Path(place, "journal")
+            file.write_bytes(LINES[0].encode() + b'\n{"gone":1}\n\xff\xfe{"a')
+            self.assertEqual(read_journal(file).lines, 2)
 
 
 class Clock(unittest.TestCase):

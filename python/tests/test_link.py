@@ -70,7 +70,8 @@ class Greeting(unittest.TestCase):
                 self.assertEqual((agent.agent, agent.word), (3, "red"))
                 self.assertEqual(agent.endow, [0, 1, 1, 2, 2, 0, 2, 2, 2, 0, 1, 1])
                 self.assertEqual(len(agent.clients), 8)
-                self.assertEqual(agent.clients[2], Client(3, 5, 52, (1, 2, 2)))
+                self.assertEqual(agent.clients, [
+                    Client(1 + number % 4, 5, 50 + number, (1, 2, number)) for number in range(8)])
                 self.assertEqual(server.heard, ["hello red\n"])
 
     def test_a_refusal_ends_the_agent_with_the_answer(self) -> None:
@@ -79,6 +80,17 @@ class Greeting(unittest.TestCase):
             Link.greet("127.0.0.1", server.port, "red")
         self.assertEqual(caught.exception.code, "red: refused taken")
         self.assertIsInstance(caught.exception, SystemExit)
+
+    def test_a_link_that_was_refused_is_closed(self) -> None:
+        server = Server([["refused wrongword"]])
+        with mock.patch.object(Link, "close", autospec=True, side_effect=Link.close) as close:
+            with self.assertRaises(LinkError):
+                Link.greet("127.0.0.1", server.port, "red")
+        close.assert_called_once()
+
+    def test_each_line_is_sent_at_once(self) -> None:
+        with seated() as (agent, _):
+            self.assertTrue(agent.stream.getsockopt(socket.IPPROTO_TCP, socket.TCP_NODELAY))
 
     def test_a_link_that_closes_ends_the_agent(self) -> None:
         for answers in ([], [WELCOME[:1]], [WELCOME[:5]]):
@@ -98,8 +110,15 @@ class Greeting(unittest.TestCase):
                          f"no link to 127.0.0.1 at port {port}: Connection refused")
         with self.assertRaisesRegex(LinkError, "no link to nowhere.invalid"):
             Link.greet("nowhere.invalid", 7000, "red")
-        with self.assertRaisesRegex(LinkError, "no link to 127.0.0.1 at port 70000"):
-            Link.greet("127.0.0.1", 70000, "red")
+        for port in (70000, 65536, 0, -1):
+            with self.assertRaisesRegex(LinkError, f"no link to 127.0.0.1 at port {port}: ports"):
+                Link.greet("127.0.0.1", port, "red")
+
+    def test_every_port_is_tried(self) -> None:
+        with mock.patch("socket.create_connection") as connect:
+            for port in (1, 65535):
+                self.assertIs(link._connect("there", port), connect.return_value)
+                connect.assert_called_with(("there", port))
 
     def test_a_server_that_still_starts_is_waited_for(self) -> None:
         with socket.socket() as probe:
@@ -134,6 +153,8 @@ class Words(unittest.TestCase):
             self.assertEqual(agent.cash(), -660)
             self.assertEqual(agent.ask("buy 5"), "no syntax")
             agent.quit()
+            self.assertEqual(agent.stream.fileno(), -1)
+            self.assertTrue(agent.lines.closed)
         self.assertEqual(server.heard[1:], ["bid 24 ((2 70) (-1 65))\n", "withdraw 24\n",
                                             "quote 24\n", "own 24\n", "own 5\n", "cash\n",
                                             "buy 5\n", "quit\n"])
@@ -154,6 +175,14 @@ class Words(unittest.TestCase):
             for _ in range(2):
                 with self.assertRaisesRegex(LinkError, "the link was closed"):
                     agent.ask("cash")
+
+    def test_a_link_that_fails(self) -> None:
+        for fault in (ConnectionResetError, TimeoutError):
+            stream = mock.Mock(sendall=mock.Mock(side_effect=fault))
+            lines = mock.Mock(readline=mock.Mock(side_effect=fault))
+            with self.assertRaisesRegex(LinkError, "red: the link was closed"):
+                Link(stream, lines, "red").cash()
+            stream.sendall.assert_called_once_with(b"cash\n")
 
     def test_a_reply_that_breaks_off_is_none(self) -> None:
         ours, theirs = socket.socketpair()
@@ -187,6 +216,16 @@ class Json(unittest.TestCase):
             self.assertEqual(agent.send(Request("bid", 0, ((1, 400),))), Taken(0, 1, 0))
         self.assertEqual(len(server.heard), 4)
         self.assertEqual(len(set(server.heard[1:])), 1)
+
+    def test_lines_of_words_that_ask_nothing_are_not_sent(self) -> None:
+        with seated('{"no":"bid","fault":4}', '{"at":3,"done":true}',
+                    form="json") as (agent, server):
+            self.assertEqual([agent.ask(line) for line in ("", "own 05", "quit now")],
+                             ["no syntax"] * 3)
+            self.assertEqual(agent.ask("bid 5 ((1 0))"), "no bid 4")
+            self.assertEqual(agent.withdraw(16), "@3 done")
+        self.assertEqual(server.heard[1:], ['{"do":"bid","auction":5,"points":[[1,0]]}\n',
+                                            '{"do":"withdraw","auction":16}\n'])
 
     def test_other_refusals_are_given(self) -> None:
         with seated('{"no":"auction"}', form="json") as (agent, _):
@@ -230,6 +269,10 @@ class Arguments(unittest.TestCase):
             self.assertEqual(link.arguments("what"), ("there", 7000, "red", 0.5))
         with mock.patch("sys.argv", ["mine.py", "there", "7000", "red"]):
             self.assertEqual(link.arguments("what")[3], 2.0)
+        for pause in ("-1", "x", "nan"):
+            with mock.patch("sys.argv", ["mine.py", "there", "7000", "red", "--pause", pause]), \
+                    mock.patch("sys.stderr"), self.assertRaises(SystemExit):
+                link.arguments("what")
 
     def test_with_a_seed_python_draws_from_it(self) -> None:
         def drawn(seed: str, *words: str) -> float:

@@ -22,7 +22,6 @@ from geesefuton.journal import Journal, read_journal
 from geesefuton.lobby import Lobby, LobbyError, LobbySettings
 from geesefuton.processes import free_port
 from geesefuton.relay import MOST_STRANGERS
-from geesefuton.teller import Teller
 
 HERE = Path(__file__).resolve().parent
 TOP = HERE.parents[1]
@@ -182,6 +181,7 @@ class BeforeTheGame(Case):
         host.hurry()
         self.assertEqual(host.end()["seat2"], End.GONE)
         self.assertEqual(self.asked(), ["2 own 1", "2 own 2"])
+        self.assertEqual([event.lines for event in host.of(events.Ended) if event.seat == 2], [2])
 
     def test_orders(self) -> None:
         orders = io.StringIO("hey\nwithout seat9\nwithout seat7\n\n")
@@ -293,6 +293,59 @@ class InTheGame(Case):
         host.hurry()
         self.assertEqual(host.end()["seat0"], End.HUNG)
 
+    def test_ticks_come_by_the_pace_and_links_are_ended_later(self) -> None:
+        host = Host(self.folder, pace=10, linger=0.25, start=0.3)
+        start = time.time()
+        agent = self.agents(host, "seat2")[0]
+        began = host.wait(events.Began)[0]
+        self.assertTrue(0.25 <= began.at - start < MOST / 20)
+        agent.send(b"own 1\nown 2\nown 3\n")
+        self.assertEqual(host.end(), {word: End.HUNG if word == "seat2" else End.ABSENT
+                                      for word in WORDS})
+        ticks = host.of(events.Ticked)
+        numbers = [event.tick for event in ticks]
+        self.assertEqual((numbers, numbers[-1]), (sorted(set(numbers)), 54))
+        self.assertTrue(1 <= numbers[0] and len(numbers) > 5)
+        for event in ticks:
+            self.assertGreater(event.at - began.at, event.tick * 0.01 - 0.005)
+        self.assertEqual(ticks[-1].lines, (0, 0, 3, 0, 0, 0, 0, 0))
+        ended = {event.word: event.at - began.at for event in host.of(events.Ended)}
+        self.assertGreater(ended["seat3"], 0.53)  # 54 ticks
+        self.assertGreater(ended["seat2"], 0.78)
+        lines = [json.loads(line) for line in (self.folder / "my.journal").read_text().splitlines()]
+        self.assertEqual((lines[0]["pace"], lines[0]["form"]), (10, "words"))
+        told = [(line["tick"], line["t"]) for line in lines if "tick" in line]
+        self.assertEqual([tick for tick, _ in told], [0, *numbers])
+        self.assertTrue(all(10 * tick <= at for tick, at in told))
+        self.assertEqual({**lines[-1], "t": 0}, {"over": 0, "t": 0})
+
+    def test_orders_come_at_any_time(self) -> None:
+        reading, writing = os.pipe()
+        with open(reading, "r", encoding="ascii") as orders, open(writing, "wb") as keys:
+            host = Host(self.folder, start=None, pace=1000, linger=0, orders=orders)
+            keys.write(b"without seat3\n\n")
+            keys.flush()
+            host.wait(events.Began)
+            late = Agent(host.port, "seat2")
+            self.addCleanup(late.close)
+            host.wait(events.Arrived)
+            for order in (b"without seat1\nwithout", b" seat2\nwithout seat1 seat2\n"):
+                keys.write(order)
+                keys.flush()
+            host.wait(events.Waived, 3)
+            host.wait(events.Warned)
+            given_up = Agent(host.port, "seat1")
+            self.addCleanup(given_up.close)
+            self.assertEqual(given_up.line(), "refused taken")
+            self.assertEqual(late.welcome()[0], "welcome 2")  # whoever is here stays
+            self.assertEqual(late.ask("own 1"), "@1 own 0 ()")
+            late.quit()
+            host.hurry()
+            self.assertEqual(host.end()["seat2"], End.LEFT)
+        self.assertEqual([event.word for event in host.of(events.Waived)],
+                         ["seat3", "seat1", "seat2"])
+        self.assertIn("empty line begins", host.of(events.Warned)[0].text)
+
     def test_a_reply_is_in_the_journal_before_it_is_passed_on(self) -> None:
         host = Host(self.folder, pace=1000)
         agent = self.agents(host, "seat3")[0]
@@ -316,7 +369,7 @@ class TheEnd(Case):
             journal = self.folder / f"{status}.journal"
             with open("/dev/full", "wb") as full, \
                     mock.patch.dict(os.environ, {"FAKE_STATUS": str(status)}):
-                host = Host(self.folder, log=full, pace=5, start=0, journal=journal)
+                host = Host(self.folder, log=full, pace=2, start=0, linger=0, journal=journal)
                 host.end()
             self.assertEqual(host.status, 4)
             self.assertIn("No space left on device", host.of(events.Warned)[-1].text)
@@ -340,13 +393,46 @@ class TheEnd(Case):
         taken = self.folder / "taken"
         taken.touch()
         with mock.patch.dict(os.environ, {"FAKE_STATUS": "6", "FAKE_TAKEN": str(taken)}):
-            host = Host(self.folder, pace=5, start=0)
+            host = Host(self.folder, pace=2, start=0, linger=0)
             host.end()
         self.assertEqual((host.status, taken.exists()), (6, False))
 
+    def test_a_port_is_tried_three_times(self) -> None:
+        with mock.patch.dict(os.environ, {"FAKE_EARLY": "5"}), \
+                mock.patch("geesefuton.lobby.free_port", side_effect=free_port) as ports:
+            host = Host(self.folder, pace=5, start=0)
+            host.end()
+        self.assertEqual((host.status, ports.call_count), (5, 3))
+        self.assertEqual(host.of(events.Began), [])
+        self.assertEqual(host.of(events.Finished)[0].status, 5)
+        self.assertEqual(host.of(events.Warned), [])  # no game has begun that could be recovered
+
+    def test_a_server_that_fails(self) -> None:
+        with mock.patch.dict(os.environ, {"FAKE_STATUS": "7"}):
+            host = Host(self.folder, pace=5, start=0, linger=0)
+            host.end()
+        self.assertEqual((host.status, host.of(events.Finished)[0].status), (7, 7))
+        self.assertRegex(host.of(events.Warned)[-1].text, "^the server failed.* /.*my.journal ")
+        self.assertEqual(read_journal(self.folder / "my.journal").status, 7)
+
+    def test_a_game_that_ends_well(self) -> None:
+        file, other = self.folder / "a.log", self.folder / "b.journal"
+        for log, journal, due in ((file, None, "a.log"), (io.BytesIO(), None, None),
+                                  (io.BytesIO(), other, "b.log")):
+            host = Host(self.folder, pace=2, start=0, linger=0, log=log, journal=journal)
+            host.end()
+            self.assertEqual((host.status, host.of(events.Warned)), (0, []))
+            finished, = host.of(events.Finished)
+            self.assertEqual((finished.status, finished.log), (0, due and str(self.folder / due)))
+            self.assertEqual(host.told[-1], finished)
+            if finished.log:
+                self.assertEqual(Path(finished.log).read_text(), "taclog 1\nend\n")
+            if isinstance(log, io.BytesIO):
+                self.assertEqual(log.getvalue(), b"taclog 1\nend\n")
+
     def test_a_server_that_is_killed(self) -> None:
         with mock.patch.dict(os.environ, {"FAKE_STATUS": "-9"}):
-            host = Host(self.folder, pace=5)
+            host = Host(self.folder, pace=2, start=0, linger=0)
             host.end()
         self.assertEqual(host.status, 137)
         self.assertIn("makes a log of the journal", host.of(events.Warned)[-1].text)
@@ -354,7 +440,7 @@ class TheEnd(Case):
 
     def test_a_server_that_fails_at_once(self) -> None:
         with mock.patch.dict(os.environ, {"FAKE_EARLY": "7"}):
-            host = Host(self.folder, pace=5)
+            host = Host(self.folder, pace=5, start=0.2)
             agent = self.agents(host, "seat0")[0]
             self.assertEqual(agent.line(), "")
             self.assertEqual(len(host.end()), 8)
@@ -368,6 +454,35 @@ class TheEnd(Case):
         self.assertEqual(host.status, 130)
         self.assertIn("recover", host.of(events.Warned)[-1].text)
         self.assertIsNone(read_journal(self.folder / "my.journal").status)
+        finished, = host.of(events.Finished)
+        self.assertEqual((finished.status, finished.log), (130, None))
+        host.lobby.interrupt()  # it has ended already
+
+    def test_the_page_has_a_while_to_show_the_last_scores(self) -> None:
+        for is_stopped in (False, True):
+            page = mock.Mock(poll=mock.Mock(return_value=None), wait=mock.Mock(
+                side_effect=subprocess.TimeoutExpired("page", 1)))
+            journal = self.folder / f"{is_stopped}.journal"
+            with mock.patch.object(Lobby, "_start_page", return_value=page) as started:
+                host = Host(self.folder, pace=2, start=None if is_stopped else 0, linger=0,
+                            page=free_port(), journal=journal)
+                if is_stopped:
+                    host.lobby.interrupt()
+                host.end()
+            self.assertEqual((host.status, started.call_count), (130 if is_stopped else 0, 1))
+            self.assertEqual([0 < call[0][0] <= 60 for call in page.wait.call_args_list],
+                             [] if is_stopped else [True])
+            self.assertEqual(len(host.of(events.Finished)), 1)
+
+    def test_interrupt_before_the_game(self) -> None:
+        host = Host(self.folder, start=None)
+        self.agents(host, "seat0")
+        self.assertFalse(host.lobby.is_playing)
+        host.lobby.interrupt()
+        host.end()
+        self.assertEqual((host.status, host.of(events.Began)), (130, []))
+        self.assertNotIn("recover", host.of(events.Warned)[-1].text)  # there is nothing to make
+        self.assertEqual(host.of(events.Finished)[0].status, 130)
 
     def test_a_journal_is_a_new_file(self) -> None:
         (self.folder / "my.journal").touch()
@@ -409,47 +524,10 @@ class TheEnd(Case):
                             return_value=log_files.Kept("the disk is full", None)), \
                     mock.patch.object(Journal, "is_whole", is_whole):
                 journal = self.folder / f"{is_whole}.journal"
-                host = Host(self.folder, pace=5, journal=journal)
+                host = Host(self.folder, pace=2, start=0, linger=0, journal=journal)
                 host.end()
             self.assertIn(due, host.of(events.Warned)[-1].text)
             self.assertEqual(host.status, 4)
-
-
-class Telling(unittest.TestCase):
-    """What the host is told."""
-
-    def test_texts(self) -> None:
-        told: List[str] = []
-        with mock.patch("geesefuton.teller.tell", told.append):
-            teller = Teller(WORDS)
-            for event in (
-                    events.Arrived(0.0, 1, "seat1", "10.0.0.7"), events.Departed(0.0, 1, "seat1"),
-                    events.Arrived(0.0, 3, "seat3", "10.0.0.6"),
-                    events.Rejoined(0.0, 1, "seat1", "10.0.0.8"),
-                    events.Arrived(0.0, 4, "seat4", "10.0.0.5"), events.Waived(0.0, "seat2"),
-                    events.Refused(20.0, "10.0.0.9", "taken", "hello seat1"),
-                    events.Refused(25.0, "10.0.0.9", "taken", "hello seat1"),
-                    events.Refused(31.0, "10.0.0.9", "taken", "hello seat1"),
-                    events.Began(0.0, (1,)), events.Ticked(0.0, 5, (1,) * 8),
-                    events.Ticked(0.0, 6, tuple(range(8))), events.Warned(0.0, "mind the gap"),
-                    events.Ended(0.0, 1, "seat1", End.HUNG, 17), events.Finished(0.0, 130, None),
-                    events.Finished(0.0, 6, "my.log")):
-                teller.tell(event)
-            teller.close()
-        self.assertEqual([text.replace("! ", "!", 1).split(" ", 1)[1] for text in told], [
-            "seat1 is here from 10.0.0.7; missing: seat0 seat2 seat3 seat4 seat5 seat6 seat7",
-            "seat1 went away, and may come again",
-            "seat3 is here from 10.0.0.6; missing: seat0 seat1 seat2 seat4 seat5 seat6 seat7",
-            "seat1 is here again, from 10.0.0.8",
-            "seat4 is here from 10.0.0.5; missing: seat0 seat2 seat5 seat6 seat7",
-            "seat2 is not waited for", "refused taken to 10.0.0.9, which said 'hello seat1'",
-            "refused taken to 10.0.0.9, which said 'hello seat1'",
-            "the game begins without seat0 seat2 seat3 seat4 seat5 seat6 seat7",
-            "tick 6 of 54; lines: seat0 0 seat1 1 seat2 2 seat3 3 seat4 4 seat5 5 seat6 6 seat7 7",
-            "mind the gap", "seat1 still had its link long after the last tick, 17 lines",
-            "the game is over, exit status 6: a tick lapsed; the scores stand; the log is in my.log"
-        ])
-        self.assertEqual(sum(text.startswith("! ") for text in told), 4)
 
 
 class Command(Case):
@@ -462,7 +540,9 @@ class Command(Case):
     def start(self, *more: str, pace: int = 15, **how: Any) -> "subprocess.Popen[bytes]":
         how = {"stdin": subprocess.DEVNULL, "stdout": subprocess.PIPE, "stderr": subprocess.PIPE,
                "cwd": self.folder, **how}
-        return subprocess.Popen(self.words(*more, pace=pace), **how)
+        script = subprocess.Popen(self.words(*more, pace=pace), **how)
+        self.addCleanup(script.kill)  # if the test fails
+        return script
 
     def wait_for(self, script: "subprocess.Popen[bytes]", word: bytes) -> None:
         assert script.stderr is not None

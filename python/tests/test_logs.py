@@ -2,8 +2,9 @@ import re
 import unittest
 from typing import List
 
-from geesefuton.logs import (Call, LogError, Post, Reading, Trade, Verdict, read_log, read_played,
-                             read_scores, trades_of)
+from geesefuton.games import Package
+from geesefuton.logs import (Call, Entry, Log, LogError, Post, Reading, Trade, Verdict, read_log,
+                             read_played, read_scores, trades_of)
 from geesefuton.replies import Below, Done, No, Own, Sold, Taken
 from tests.helpers import PLAYED, SERVED_LOG, served_log
 
@@ -139,6 +140,68 @@ class Faults(unittest.TestCase):
         self.assertEqual(caught.exception.line, line, str(caught.exception))
         self.assertIn(why, str(caught.exception))
         self.assertTrue(str(caught.exception).startswith(f"line {line}: "))
+
+    def accept(self, line: int, new: str) -> Log:
+        """Replaces a line by others, which fit."""
+        return read_log("\n".join([*self.lines[:line - 1], new, *self.lines[line:], ""]))
+
+    def test_who_had_a_seat(self) -> None:
+        head = ["link 0 wrongword", "link 1 seated 5", "link 2 taken", "link 3 seated 0",
+                "link 4 syntax", "link 5 lost", "end 5 writefault", "end 0 readfault",
+                "end 6 budget", "missed 255"]
+        log = read_log("\n".join([*self.lines[:2], *head, *self.lines[self.place("missed"):], ""]))
+        self.assertEqual(log.links, (Verdict("wrongword"), Verdict("seated", 5), Verdict("taken"),
+                                     Verdict("seated", 0), Verdict("syntax"), Verdict("lost")))
+        self.assertEqual((log.seats(), log.missed), ([0, 5], 255))
+        self.assertEqual([log.end_of(agent) for agent in (0, 1, 5, 6)],
+                         ["readfault", "", "writefault", "budget"])
+
+    def test_the_greatest_and_least_numbers(self) -> None:
+        for pattern, lines in (
+                ("8 update", ("8 update 1 0 = done", "8 update 53 4294967295 = done")),
+                ("[0-7] bid", ("0 bid ((16 10000)) = taken 0 0", "7 bid ((-16 1)) = taken 0 0",
+                               "0 bid ((15 1) (-1 1)) = no selfcross",
+                               f"0 bid ({' '.join(['(1 1)'] * 16)}) = taken 0 0",
+                               f"0 own = own 0 ({' '.join(['(1 1)'] * 16)})")),
+                ("trade", ("trade 8 0 16 10000", "trade 0 8 1 0")),
+                ("[0-8] post", (f"8 post 27 8255 {' '.join(['-2147483648', '2147483647'] * 4)} 0",
+                                "0 post 0 0" + " 0" * 9)),
+                ("[0-7] read", ("7 read = -123456789012345678", "0 read = 0")),
+                ("score 1", ("score 1 14000 -123456789012345678 4294967295 123456789012345678",
+                             "score 1 0 0 0 0")),
+                ("package 1 2 ", ("package 1 2 none", "package 1 2 1 1 5 4 3 2"))):
+            for line in lines:
+                self.accept(self.place(pattern), line)
+        # So many entries would be read, if they came.
+        self.refuse(self.place("auction 1 "), "auction 1 8256", "of auction 1 is due",
+                    self.place("auction 2 "))
+        self.refuse(self.place("cash "), "cash 238048", "an entry of the cash book is due",
+                    self.place("sheet"))
+
+    def test_what_numbers_of_a_line_mean(self) -> None:
+        place = self.place("8 update")
+        position = place - self.place("auction 0 ") - 1 - sum(
+            line.startswith("trade ") for line in self.lines[:place])
+        entry = self.accept(place, "8 update 7 99 = done").histories[0][position]
+        self.assertEqual(entry, Entry(8, Call("update", (), 7, 99), Done(None)))
+        entry = self.accept(place, "2 bid ((2 70) (-1 95)) = no belowquote 3 101 2\n"
+                                   "trade 1 2 3 4").histories[0][position]
+        self.assertEqual(entry, Entry(2, Call("bid", ((2, 70), (-1, 95))),
+                                      No(None, "belowquote", 0, Below(3, 101, 2)),
+                                      (Trade(1, 2, 3, 4),)))
+        post = self.place("[0-8] post")
+        self.assertIn(Post(3, 20, 11, (1, -2, 3, -4, 5, -6, 7, -8, 4)),
+                      self.accept(post, "3 post 20 11 1 -2 3 -4 5 -6 7 -8 4").cash)
+        self.assertIn(Reading(6, -77), self.accept(post, "6 read = -77").cash)
+        score = self.accept(self.place("score 1"), "score 1 2 -3 4 -5").scores[1]
+        self.assertEqual((score.agent, score.best, score.cash, score.short, score.score),
+                         (1, 2, -3, 4, -5))
+        packages = self.accept(self.place("package 1 2 "), "package 1 2 1 2 5 4 0 3").scores[1]
+        self.assertEqual(packages.packages[2], Package(1, 2, 5, (4, 0, 3)))
+
+    def test_a_package_is_none_where_the_client_stays_at_home(self) -> None:
+        log = self.accept(self.place("package 1 2 "), "package 1 2 none")
+        self.assertIsNone(log.scores[1].packages[2])
 
     def test_first_lines(self) -> None:
         self.refuse(1, "taclog 2", "the line `taclog 1` is due")
@@ -291,8 +354,11 @@ class Faults(unittest.TestCase):
         with self.assertRaises(LogError) as caught:
             read_log(b"taclog 1\n\xff\n")
         self.assertEqual(caught.exception.line, 2)
-        with self.assertRaises(LogError):
-            read_log("x" * 67_108_865)
+        for count, is_long in ((67_108_864, False), (67_108_865, True)):
+            with self.assertRaises(LogError) as caught:
+                read_log("x" * count)
+            self.assertEqual((caught.exception.line, "bytes" in str(caught.exception)),
+                             (1, is_long))
 
     def test_a_sheet_alone(self) -> None:
         with self.assertRaises(LogError) as caught:

@@ -4,7 +4,7 @@ from typing import List
 from geesefuton.games import HOTELS
 from geesefuton.logs import Call, Entry, Trade
 from geesefuton.prices import Event, all_events, ask_of, events_of
-from geesefuton.replies import Below, Done, No, Sold, Taken
+from geesefuton.replies import Below, Done, No, Own, Sold, Taken
 from tests.helpers import served_game, served_log
 
 
@@ -57,6 +57,14 @@ class Hotels(unittest.TestCase):
         wrong = Entry(0, Call("publish"), No(None, "wrongcall"))
         self.assertEqual(prices_of(self.events(False, bid(0, (2, 50)), wrong)), [("price", 0, 0)])
 
+    def test_readings_and_other_calls_change_nothing(self) -> None:
+        own = Entry(0, Call("own"), Own(None, 0, ((2, 50),)))
+        wrong = Entry(8, Call("own"), No(None, "wrongcall"))
+        withdraw = Entry(0, Call("withdraw"), No(None, "wrongcall"))
+        got = self.events(True, bid(0, (2, 50)), own, wrong, withdraw, PUBLISH)
+        self.assertEqual([(event.what, event.tick, event.dollars, event.position) for event in got],
+                         [("price", 0, 0, None), ("price", 0, 50, 0), ("price", 6, 50, 4)])
+
     def test_trades_are_those_of_agents_on_both_sides(self) -> None:
         close = Entry(8, Call("close"), Sold(None, 2, 5), (Trade(1, 8, 2, 5),))
         got = [event for event in self.events(False, close) if event.what == "trade"]
@@ -65,6 +73,33 @@ class Hotels(unittest.TestCase):
         self.assertEqual(list(events_of(served_game(), 20, [entry])),
                          [Event("trade", None, 20, 0, 4, 1, 70),
                           Event("trade", None, 20, 0, 2, -1, 70)])
+
+
+class Flights(unittest.TestCase):
+    """Flight 3, whose price each update moves by its draw."""
+
+    def events(self, *entries: Entry) -> List[Event]:
+        return list(events_of(served_game(), 3, entries))
+
+    def test_updates_and_trades(self) -> None:
+        flight = served_game().flights[3]
+        first = flight.first
+        second = flight.next_price(first, 1, 12345)
+        bought = Entry(4, Call("bid", ((2, 800),)), Taken(None, 2, 0), (Trade(4, 8, 2, second),))
+        got = self.events(Entry(8, Call("update", (), 1, 12345), Done(None)), bought)
+        self.assertEqual(got, [Event("price", 0, 3, None, None, None, first),
+                               Event("price", 1, 3, 0, None, None, second),
+                               Event("trade", 1, 3, 1, 4, 2, second)])
+
+    def test_an_update_that_an_agent_asks_moves_nothing(self) -> None:
+        wrong = Entry(4, Call("update", (), 1, 12345), No(None, "wrongcall"))
+        self.assertEqual([(event.tick, event.position) for event in self.events(wrong, bid(4))],
+                         [(0, None)])
+
+    def test_the_house_has_no_trades_of_its_own(self) -> None:
+        entry = Entry(4, Call("bid", ((1, 5),)), Taken(None, 0, 1), (Trade(8, 4, 1, 70),))
+        self.assertEqual(list(events_of(served_game(), 20, [entry])),
+                         [Event("trade", None, 20, 0, 4, -1, 70)])
 
 
 class Whole(unittest.TestCase):

@@ -2,6 +2,7 @@ import contextlib
 import os
 import resource
 import signal
+import socket
 import subprocess
 import tempfile
 import time
@@ -9,8 +10,9 @@ import unittest
 from concurrent.futures import ThreadPoolExecutor
 from pathlib import Path
 from typing import List
+from unittest import mock
 
-from geesefuton.processes import Children, Output, free_port
+from geesefuton.processes import Children, Output, Stopped, free_port, why
 from tests.helpers import python, variables
 
 MOST = 60.0  # seconds that anything may take, on a machine that is busy with other work
@@ -94,12 +96,36 @@ class Groups(unittest.TestCase):
         with Children() as children:
             first = children.start(["sh", "-c", "sleep 300 & wait"])
             second = children.start(["sleep", "300"])
+            file = children._groups / str(first.pid)
+            deadline = time.monotonic() + MOST
+            while not file.exists() and time.monotonic() < deadline:
+                time.sleep(0.005)
             self.assertEqual(children.end(first), -signal.SIGKILL)
+            self.assertFalse(file.exists())  # another process may get its number
             self.assertIsNone(second.poll())
             third = children.start(["sh", "-c", "exit 5"])
             third.wait()
             self.assertEqual(children.end(third), 5)
         self.assertEqual(second.wait(5), -signal.SIGTERM)
+
+    def test_processes_are_asked_to_end_first(self) -> None:
+        with tempfile.TemporaryDirectory() as place:
+            with Children() as children:
+                code = "trap 'echo bye > $0/file; exit 0' TERM; echo; sleep 300 & wait"
+                child = children.start(["sh", "-c", code, place], stdout=subprocess.PIPE)
+                assert child.stdout is not None
+                with child.stdout as told:
+                    told.readline()
+            self.assertEqual(Path(place, "file").read_text(), "bye\n")
+            self.assertEqual(child.wait(MOST), 0)
+
+    def test_how_a_process_is_started_is_said_as_to_popen(self) -> None:
+        with Children() as children, tempfile.TemporaryDirectory() as place:
+            child = children.start([Path("sh"), "-c", "pwd; echo $SOME; exit 3"], cwd=place,
+                                   stdout=subprocess.PIPE, env={**os.environ, "SOME": "thing"})
+            told, _ = child.communicate(timeout=MOST)
+            self.assertEqual((told.decode(), child.returncode),
+                             (f"{os.path.realpath(place)}\nthing\n", 3))
 
     def test_folders_are_new_and_gone_afterwards(self) -> None:
         with Children() as children:
@@ -122,7 +148,9 @@ class Groups(unittest.TestCase):
             self.assertEqual(caught.exception.filename, missing)
 
     def test_a_free_port(self) -> None:
-        self.assertTrue(1024 <= free_port() <= 65535)
+        port = free_port()
+        self.assertTrue(1024 <= port <= 65535)
+        socket.create_server(("127.0.0.1", port)).close()
 
 
 class Outputs(unittest.TestCase):
@@ -136,6 +164,34 @@ class Outputs(unittest.TestCase):
             self.assertEqual(file.read_text(), "one\ntwo\n")
             self.assertIsNone(out.fault)
             self.assertEqual(out.name, str(file))
+
+    def test_a_text_is_written_in_utf_8_and_at_once(self) -> None:
+        with tempfile.TemporaryDirectory() as folder:
+            out = Output(Path(folder, "out"))
+            self.assertTrue(out.write("1–2\n"))
+            self.assertEqual(Path(folder, "out").read_bytes(), b"1\xe2\x80\x932\n")
+            out.close()
+            out.close()
+
+    def test_a_file_that_it_was_given_stays_open(self) -> None:
+        reading, writing = os.pipe()
+        out = Output(writing, "a pipe")
+        out.write("x")
+        out.close()
+        self.assertTrue(out.write("y"))
+        os.close(writing)
+        self.assertEqual(os.read(reading, 9), b"xy")
+        os.close(reading)
+
+    def test_a_fault_that_comes_when_a_file_is_closed(self) -> None:
+        with tempfile.TemporaryDirectory() as folder:
+            out = Output(Path(folder, "out"))
+            number = out._number
+            with mock.patch("os.close", side_effect=OSError(5, "Input/output error")):
+                out.close()
+            self.assertEqual(out.fault, "Input/output error")
+            assert number is not None
+            os.close(number)
 
     def test_a_full_disk_is_told_once_and_nothing_more_is_written(self) -> None:
         out = Output("/dev/full")
@@ -197,7 +253,9 @@ class Commands(unittest.TestCase):
     def test_errors_are_one_line_and_a_status(self) -> None:
         for body, status, told in (
                 ("return 0", 0, ""), ("return 3", 3, ""), ("sys.exit(2)", 2, ""),
-                ("sys.exit()", 0, ""),
+                ("sys.exit()", 0, ""), ("sys.exit('why')", 1, ""),
+                ("raise processes.Stopped(15)", 143, ""),
+                ("processes.tell('1–2'); return 0", 0, "1–2\n"),
                 ("raise ProgramError('no program')", 1, "name: no program\n"),
                 ("raise OSError(13, 'x', 'my.file')", 1, "name: my.file: x\n"),
                 ("open('/nowhere/x')", 1, "name: /nowhere/x: No such file or directory\n"),
@@ -205,11 +263,16 @@ class Commands(unittest.TestCase):
             done = self.ran(body)
             self.assertEqual((done.returncode, done.stderr), (status, told), body)
 
+    def test_faults_in_words(self) -> None:
+        self.assertEqual(str(Stopped(signal.SIGTERM)), "stopped by SIGTERM")
+        self.assertEqual([why(OSError(28, "full", "file")), why(OSError("odd"))], ["full", "odd"])
+
     def test_what_python_still_keeps_is_written_or_told(self) -> None:
         done = self.ran("print('kept'); return 0")
         self.assertEqual((done.returncode, done.stdout), (0, "kept\n"))
         with open("/dev/full", "wb") as full:
             done = self.ran("print('kept'); return 0", full.fileno())
+            self.assertEqual(self.ran("print('kept'); return 3", full.fileno()).returncode, 3)
         self.assertEqual(done.returncode, 1)
         self.assertEqual(done.stderr, "name: standard output: No space left on device\n")
 

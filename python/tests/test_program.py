@@ -47,6 +47,7 @@ class Commands(unittest.TestCase):
         self.assertEqual(program.audit("game", b"a log"), "audit game /dev/stdin\na log")
         self.assertEqual(program.solve(b"an account"), "solve /dev/stdin\nan account")
         self.assertEqual(program.run("show", program.INPUT, given=b"x"), "show /dev/stdin\nx")
+        self.assertEqual(program.run("show", program.INPUT), "show /dev/stdin\n")
 
     def test_a_refusal_has_its_status_and_first_line(self) -> None:
         self.use("echo game 3 4; echo more; exit 2")
@@ -54,6 +55,26 @@ class Commands(unittest.TestCase):
         self.assertEqual((fault.status, fault.line), (2, "game 3 4"))
         self.assertEqual(str(fault), "tac show ended with exit status 2 (the game file is refused: "
                                      "game 3 4)")
+
+    def test_a_status_that_is_allowed_is_no_error(self) -> None:
+        self.use("echo some; exit 6")
+        self.assertEqual(program.run("make", 1, allowed=(program.OK, program.CLOCK)), "some\n")
+        self.assertEqual(self.refused("make", 1).status, program.CLOCK)
+
+    def test_what_the_statuses_mean(self) -> None:
+        for status, meaning in ((1, "no command"), (2, "game file"), (3, "missing"),
+                                (4, "output"), (5, "port"), (6, "lapsed"), (7, "memory"),
+                                (8, "refused"), (9, "not sound")):
+            fault = program.ended("play", status, "a line")
+            self.assertIn(meaning, str(fault))
+            self.assertTrue(str(fault).startswith(f"tac play ended with exit status {status} ("))
+            self.assertEqual((fault.status, fault.line), (status, "a line"))
+        self.assertEqual(str(program.ended("play", 77, "a line")),
+                         "tac play ended with exit status 77 (a line)")
+
+    def test_bytes_that_are_no_text_are_no_error(self) -> None:
+        self.use(r"printf 'a\377b\n'")
+        self.assertEqual(program.show("x"), "a\ufffdb\n")
 
     def test_an_end_without_output(self) -> None:
         self.use("kill -9 $$")
@@ -72,7 +93,7 @@ class Commands(unittest.TestCase):
 
     def test_a_program_that_takes_too_long(self) -> None:
         self.use("exec sleep 20")
-        with self.assertRaisesRegex(ProgramError, "took longer than 0.1 seconds"):
+        with self.assertRaisesRegex(ProgramError, "tac make took longer than 0.1 seconds"):
             program.run("make", 1, timeout=0.1)
 
     def test_a_program_that_is_not_there(self) -> None:
@@ -98,7 +119,10 @@ class Commands(unittest.TestCase):
         self.set({"TAC": os.path.relpath(file)})
         self.assertEqual(program.find(), file)
         self.assertEqual(program.served_words("g", 7000, 500), [file, "serve", "g", "7000", "500"])
-        self.assertEqual(program.served_words("g", 7000, 500, "json")[-1], "json")
+        self.assertEqual(program.served_words(Path("g"), 7000, 500, "json"),
+                         [file, "serve", "g", "7000", "500", "json"])
+        self.set({"TAC": "tac", "PATH": str(self.place)})
+        self.assertEqual(program.find(), file)  # a name without a slash is looked for
 
     def test_without_the_variable_it_is_that_of_the_clone(self) -> None:
         self.set({"TAC": ""})
@@ -115,6 +139,10 @@ class Commands(unittest.TestCase):
         top = program.top()
         assert top is not None
         self.assertTrue((top / "crates" / "tacd").is_dir())
+
+    def test_a_package_that_is_installed_stands_in_no_clone(self) -> None:
+        with mock.patch("geesefuton.program.__file__", str(self.place / "a" / "b" / "program.py")):
+            self.assertIsNone(program.top())
 
 
 @needs_program

@@ -9,17 +9,19 @@ import tempfile
 import unittest
 from dataclasses import replace
 from pathlib import Path
-from typing import Dict, List, Sequence, Tuple
+from typing import Any, Dict, List, Sequence, Tuple
 from unittest import mock
 
 from geesefuton import program
-from geesefuton.dialects import Asked
+from geesefuton.dialects import Asked, position_of
 from geesefuton.games import DRAWS, Game, read_game
 from geesefuton.journal import Call, JournalReader, Schedule, read_journal
 from geesefuton.logs import read_log
 from geesefuton.projection import Projection, View, names_of, nights_of, project, without_future
-from geesefuton.recovery import (Auction, Player, Recovery, RecoveryError, _tell_pending,
-                                 script_of)
+from geesefuton.processes import Output
+from geesefuton.recovery import (Auction, Player, Recovery, RecoveryError, Script, _tell_pending,
+                                 differences, script_of)
+from tests.helpers import CountingPlayer, fake_program, refusal
 
 HERE = Path(__file__).resolve().parent
 DATA, TOP = HERE / "data", HERE.parents[1]
@@ -88,19 +90,23 @@ class Placing(unittest.TestCase):
 class Guessing(unittest.TestCase):
     """Which requests without a reply were made, by what others were told."""
 
-    def settle(self, places: Sequence[int], pending: int, right: Dict[int, int]) -> List[int]:
-        """Ticket calls at these places, and as many requests of each of two agents without a
-        reply; the guess is right that has these agents' requests at these places."""
-        auction = Auction(20, Schedule(GAME))
+    def settle(self, places: Sequence[int], pending: int, right: Dict[int, int], good: int = 20,
+               tick: int = 10) -> List[int]:
+        """Calls at these places, and as many requests of each of two agents without a reply; the
+        guess is right that has these agents' requests at these places."""
+        auction = Auction(good, Schedule(GAME))
         for at in places:
-            auction.place(replace(call(20, at), answered=100))
+            auction.place(replace(call(good, at), answered=100))
         for agent in (2, 3):
-            auction.pending[agent] = [replace(call(20, 0, order=number, agent=agent), at=None)
+            auction.pending[agent] = [replace(call(good, 0, order=number, agent=agent), at=None)
                                       for number in range(pending)]
         known = dict(auction.calls)
-        for guess in auction.guesses(10):
+        for guess in auction.guesses(tick):
             if auction.guess(known, guess) and right == {
                     at: one.agent for at, one in auction.calls.items() if at not in known}:
+                for agent in (2, 3):  # the eldest were made
+                    orders = [one.order for one in auction.used if one.agent == agent]
+                    self.assertEqual(orders, list(range(len(orders))))
                 return [one.agent for one in auction.used]
         return []
 
@@ -110,9 +116,25 @@ class Guessing(unittest.TestCase):
     def test_one_and_two(self) -> None:
         self.assertEqual(self.settle([0, 2], 1, {1: 3}), [3])
         self.assertEqual(self.settle([0, 3], 2, {1: 3, 2: 2}), [3, 2])
+        self.assertEqual(self.settle([0, 3], 2, {1: 2, 2: 2}), [2, 2])
+        self.assertEqual(self.settle([0, 4], 2, {1: 3, 2: 2, 3: 2}), [3, 2, 2])
+        self.assertEqual(self.settle([0, 3], 1, {2: 3}, tick=54), [3])  # the other is the clock's
 
     def test_blocks(self) -> None:
-        self.assertEqual(self.settle([0, 6], 5, {at: 2 for at in range(1, 6)}), [2] * 5)
+        for agent in (2, 3):
+            self.assertEqual(self.settle([0, 6], 5, {at: agent for at in range(1, 6)}),
+                             [agent] * 5)
+        for skipped in (1, 4, 6):  # the clock's
+            places = [at for at in range(1, 7) if at != skipped]
+            self.assertEqual(self.settle([0, 7], 5, {at: 2 for at in places}), [2] * 5)
+        for first in (1, 5):  # four of a flight's eight gaps are the clock's
+            self.assertEqual(self.settle([0, 9], 4, {at: 3 for at in range(first, first + 4)},
+                                         good=0, tick=4), [3] * 4)
+
+    def test_blocks_of_two_agents(self) -> None:
+        for agents in ([2, 2, 3, 3, 3], [3, 2, 2, 2, 2], [3, 3, 3, 3, 2]):
+            self.assertEqual(self.settle([0, 6], 5, dict(enumerate(agents, 1))), agents)
+        self.assertEqual(self.settle([0, 5], 4, {1: 3, 2: 2, 3: 2, 4: 2}), [3, 2, 2, 2])
 
     def test_none_is_found(self) -> None:
         self.assertEqual(self.settle([0, 2], 1, {7: 7}), [])
@@ -122,6 +144,319 @@ class Guessing(unittest.TestCase):
         auction.place(replace(call(20, 1), answered=10))
         auction.pending[2] = [replace(call(20, 0, order=20, agent=2), at=None)]
         self.assertEqual(list(auction.guesses(54)), [[], []])
+
+
+def journal(*lines: str, tick: int = 0) -> JournalReader:
+    """A journal of a game that has begun, with these lines after a tick."""
+    ticks = [f'{{"tick":{number},"t":{100 * number}}}' for number in range(tick + 1)]
+    return of_text([LINES[0], '{"begin":[0,1,2,3,4,5,6,7]}', *ticks, *lines])
+
+
+def asks(agent: int, line: str) -> str:
+    return json.dumps({"a": agent, "q": line})
+
+
+def told(agent: int, line: str, time: int = 0) -> str:
+    return json.dumps({"a": agent, "r": line, "t": time})
+
+
+def asked(calls: Sequence[Call]) -> List[str]:
+    return [f"{call.agent} {call.asked.text}" for call in calls if call.asked is not None]
+
+
+def called(log: str) -> Dict[str, List[str]]:
+    """For each auction the callers and calls of its entries, as the lines of a log have them."""
+    calls: Dict[str, List[str]] = {}
+    for line in log[:log.index("\ncash ")].split("\n"):
+        if line.startswith("auction "):
+            calls[line] = []
+        elif calls and not line.startswith("trade "):
+            calls[list(calls)[-1]].append(line.split(" = ")[0])
+    return calls
+
+
+class Making(unittest.TestCase):
+    """Scripts of journals, with a player that counts positions."""
+
+    def setUp(self) -> None:
+        self.player = CountingPlayer()
+
+    def make(self, reader: JournalReader, pending: bool = False, live: bool = False) -> Recovery:
+        player: Any = self.player
+        return Recovery(reader, player, pending, live)
+
+    def lines(self, recovery: Recovery, quotes: bool = True) -> List[str]:
+        return recovery.script(quotes).text.splitlines()
+
+    def test_the_histories_of_a_whole_game_are_those_of_its_log(self) -> None:
+        recovery = self.make(read_journal(DATA / "lobby.journal"))
+        script = recovery.script()
+        replies, log = self.player.play(GAME.text(), script.text)
+        self.assertEqual(called(log), called((DATA / "lobby.log").read_text()))
+        for call, reply in zip(script.calls, replies):
+            assert call.asked is not None
+            if call.asked.keyword != "cash":  # in the cash book posts count, too
+                self.assertEqual(position_of(reply[2:]), call.at, call)
+        self.assertEqual(len(replies), len(script.calls))
+        without = recovery.script(quotes=False)
+        self.assertEqual(asked(without.calls), [line for line in asked(script.calls)
+                                                if " quote " not in line])
+
+    def test_readings_of_cash_come_in_the_order_of_the_book(self) -> None:
+        script = self.make(read_journal(DATA / "lobby.journal")).script()
+        book = [line.split('"')[5] for line in LINES if '"r":"@' in line and " cash " in line]
+        self.assertEqual(sorted(book, key=lambda text: position_of(text) or 0),
+                         [call.reply for call in script.calls
+                          if call.asked is not None and call.asked.keyword == "cash"])
+        reader = journal(asks(1, "cash"), asks(2, "cash"), '{"tick":3,"t":300}',
+                         told(2, "@1 cash 0"), asks(3, "cash"), told(3, "@0 cash 0"),
+                         told(1, "@2 cash 0"), asks(4, "cash"), told(4, "@3 cash 0"))
+        self.assertEqual(self.lines(self.make(reader)),
+                         ["tick"] * 3 + ["3 cash", "2 cash", "1 cash", "4 cash"])
+        reader = journal(asks(1, "cash"), told(1, "@0 cash 0"), tick=0)
+        self.assertEqual(self.lines(self.make(reader)), ["1 cash"])
+
+    def test_lines_that_were_refused_are_not_in_the_script(self) -> None:
+        reader = journal(asks(1, "buy 5"), told(1, "no syntax"), asks(1, "bid 5 ()"),
+                         told(1, "no bid 1"), asks(1, "own 20"), told(1, "@0 own 0 ()"),
+                         asks(2, "own 21"), told(2, "no spent"), asks(2, "quit"), asks(3, "hm"))
+        recovery = self.make(reader)
+        self.assertEqual((self.lines(recovery), recovery.made, recovery.left),
+                         (["1 own 20"], [], []))
+
+    def test_a_request_that_others_replies_show_was_made(self) -> None:
+        # Another agent's reply has the second position, so `own 20` of agent 1 had the first one.
+        # What agent 1 sent before that was made as well; of what it sent later nothing is known.
+        reader = journal(*(asks(1, line) for line in ("bid 21 ((-1 90))", "own 20", "own 22")),
+                         asks(2, "own 20"), told(2, "@1 own 0 ()"))
+        recovery = self.make(reader)
+        self.assertEqual((asked(recovery.made), asked(recovery.left)),
+                         (["1 own 20", "1 bid 21 ((-1 90))"], ["1 own 22"]))
+        self.assertEqual(self.lines(recovery), ["1 bid 21 ((-1 90))", "1 own 20", "2 own 20"])
+
+    def test_what_a_quote_shows_tells_whose_request_was_made(self) -> None:
+        bids = [asks(1, "bid 20 ((1 50))"), asks(3, "bid 20 ((1 70))"), asks(2, "quote 20")]
+        for reply, made in (("@0 quote 0 0 open", []), ("@1 quote 50 0 open", [1]),
+                            ("@1 quote 70 0 open", [3]), ("@2 quote 70 0 open", [1, 3])):
+            recovery = self.make(journal(*bids, told(2, reply)))
+            self.assertEqual(sorted(call.agent for call in recovery.made), made)
+            self.assertEqual([call.agent for call in recovery.left],
+                             [agent for agent in (1, 3) if agent not in made])
+            self.assertEqual(recovery.log()[1], [])
+
+    def test_a_request_stands_after_what_was_known_when_it_was_sent(self) -> None:
+        reader = journal(asks(3, "own 20"), asks(2, "quote 20"), told(2, "@1 quote 0 0 open"),
+                         asks(1, "own 20"), asks(2, "own 20"), told(2, "@2 own 0 ()"))
+        self.assertEqual(self.lines(self.make(reader)),
+                         ["3 own 20", "2 quote 20", "1 own 20", "2 own 20"])
+        reader = journal(asks(2, "own 20"), told(2, "@0 own 0 ()"), asks(1, "own 20"),
+                         asks(3, "own 20"), told(3, "@2 own 0 ()"))
+        self.assertEqual(self.lines(self.make(reader)), ["2 own 20", "1 own 20", "3 own 20"])
+        reader = journal(asks(3, "own 20"), asks(2, "own 20"), told(2, "@1 own 0 ()"),
+                         asks(1, "own 20"))
+        recovery = self.make(reader)
+        self.assertEqual((asked(recovery.made), asked(recovery.left)),
+                         (["3 own 20"], ["1 own 20"]))
+
+    def test_the_clocks_call_is_the_likelier_one(self) -> None:
+        reader = journal(asks(1, "own 20"), asks(2, "own 20"), told(2, "@1 own 0 ()"), tick=54)
+        recovery = self.make(reader)
+        self.assertEqual((recovery.made, asked(recovery.left)), ([], ["1 own 20"]))
+        self.assertEqual(self.lines(recovery), ["tick"] * 54 + ["2 own 20"])
+
+    def test_a_clock_that_is_behind(self) -> None:
+        # The lobby has not told a tick, and the server has made two: so only one bid was made.
+        reader = journal(asks(3, "bid 0 ((1 70))"), asks(2, "quote 0"),
+                         told(2, "@1 quote 0 0 open"), asks(1, "bid 0 ((1 50))"),
+                         asks(2, "quote 0"), told(2, "@3 quote 50 0 open"))
+        recovery = self.make(reader)
+        self.assertEqual((asked(recovery.made), asked(recovery.left)),
+                         (["1 bid 0 ((1 50))"], ["3 bid 0 ((1 70))"]))
+        self.assertEqual(recovery.log()[1], [])
+
+    def test_replies_of_which_no_request_can_be_the_cause(self) -> None:
+        reader = journal(asks(1, "bid 20 ((1 50))"), asks(2, "quote 20"),
+                         told(2, "@1 quote 60 0 open"))
+        with self.assertRaisesRegex(RecoveryError, "good 20: no way .* the 1 requests"):
+            self.make(reader)
+        reader = journal(asks(2, "own 20"), told(2, "@3 own 0 ()"), asks(2, "own 20"))
+        with self.assertRaisesRegex(RecoveryError, "good 20"):
+            self.make(reader)
+
+    def test_requests_in_several_auctions_are_found_together(self) -> None:
+        lines = [asks(agent, f"bid {good} ((1 5))") for agent, good in ((0, 20), (1, 21), (2, 22))]
+        lines += [asks(3, "quote 20"), told(3, "@0 quote 0 0 open"),
+                  asks(3, "quote 21"), told(3, "@1 quote 5 0 open"),
+                  asks(3, "own 22"), told(3, "@1 own 0 ()")]
+        recovery = self.make(journal(*lines))
+        self.assertEqual((asked(recovery.made), asked(recovery.left)),
+                         (["1 bid 21 ((1 5))", "2 bid 22 ((1 5))"], ["0 bid 20 ((1 5))"]))
+
+    def test_pending_requests_are_asked_after_all_others(self) -> None:
+        reader = journal(asks(1, "own 0"), asks(2, "own 0"), told(2, "@3 own 0 ()"),
+                         asks(3, "own 20"), asks(2, "own 20"), told(2, "@0 own 0 ()"), tick=5)
+        recovery = self.make(reader)
+        self.assertEqual((recovery.made, asked(recovery.left)), ([], ["1 own 0", "3 own 20"]))
+        self.assertEqual(self.lines(recovery), ["tick"] * 3 + ["2 own 0"] + ["tick"] * 2
+                         + ["2 own 20"])
+        recovery = self.make(reader, pending=True)
+        self.assertEqual((recovery.left, asked(recovery.made)), ([], ["1 own 0", "3 own 20"]))
+        self.assertEqual(self.lines(recovery), ["tick"] * 3 + ["2 own 0"] + ["tick"] * 2
+                         + ["1 own 0", "2 own 20", "3 own 20"])
+        reader = journal(asks(3, "own 20"), asks(1, "own 20"))
+        self.assertEqual(self.lines(self.make(reader, pending=True)), ["3 own 20", "1 own 20"])
+
+    def test_a_game_that_still_runs(self) -> None:
+        # The replies at position 0 of the goods 26 and 27 are about to come, and so is that at 6 of
+        # good 0.
+        lines = [asks(1, "own 27"), asks(2, "own 27"), told(2, "@1 own 0 ()"), asks(3, "own 21"),
+                 told(3, "@0 own 0 ()"), asks(3, "own 0"), told(3, "@5 own 0 ()"),
+                 asks(4, "own 0"), told(4, "@7 own 0 ()"), asks(4, "quote 0"),
+                 told(4, "@8 quote 0 300 open"), asks(4, "quote 26"),
+                 told(4, "@1 quote 0 0 open")]
+        recovery = self.make(journal(*lines, tick=4), live=True)
+        self.assertEqual((recovery.made, recovery.left), ([], []))
+        self.assertEqual(self.lines(recovery), ["tick"] * 4 + ["3 own 21", "tick", "3 own 0"])
+        recovery = self.make(journal(*lines[:-2], tick=6))
+        self.assertEqual(self.lines(recovery)[-2:], ["4 own 0", "4 quote 0"])
+
+    def test_the_lobbys_clock_may_be_one_tick_behind_by_its_ticks_or_its_times(self) -> None:
+        for tick, time, most in ((0, 0, 1), (2, 0, 3), (0, 399, 4), (2, 850, 9), (54, 0, 54)):
+            for at in (most, most + 1):
+                reader = journal(asks(1, "own 0"), told(1, f"@{at} own 0 ()", time), tick=tick)
+                if at > 54:
+                    continue
+                self.assertEqual(asked(self.make(reader, live=True).script().calls),
+                                 ["1 own 0"] if at == most else [])
+
+    def test_replies_that_are_not_as_they_were_told(self) -> None:
+        reader = journal(asks(1, "own 20"), told(1, "@0 own 3 ()"), asks(2, "cash"),
+                         told(2, "@0 cash -70"), asks(2, "own 20"), told(2, "@1 own 0 ()"))
+        log, faults = self.make(reader).log()
+        self.assertEqual(faults, ["1 own 20: it was told @0 own 3 (), and now @0 own 0 ()"])
+        self.assertEqual(called(log)["auction 20 3"], ["1 own", "2 own", "8 close"])
+
+    def test_requests_without_a_reply_are_not_compared(self) -> None:
+        calls = [replace(call(20, 0), reply=None), call(20, 1), call(20, 2)]
+        replies = ["1 @0 own 5 ()", "1 @1 own 0 ()", "1 @2 own 4 ()"]
+        self.assertEqual(differences(Script("", calls), replies), [(calls[2], "@2 own 4 ()")])
+
+
+class Playing(unittest.TestCase):
+    """The program that a player runs."""
+
+    def play(self, body: str, script: str) -> Tuple[List[str], str]:
+        with tempfile.TemporaryDirectory() as place:
+            folder = Path(place)
+            with mock.patch.dict(os.environ, {"TAC": fake_program(folder, body)}):
+                return Player(folder).play("the game\n", script)
+
+    def test_reply_lines_come_before_the_log(self) -> None:
+        body = '[ "$1" = play ] && cat "$3" && echo taclog 1 && cat "$2"'
+        self.assertEqual(self.play(body, "0 one\n1 two\n"),
+                         (["0 one", "1 two"], "taclog 1\nthe game\n"))
+        self.assertEqual(self.play(body, ""), ([], "taclog 1\nthe game\n"))
+
+    def test_bytes_of_a_script_are_those_of_the_journal(self) -> None:
+        self.assertEqual(self.play('od -An -tx1 "$3"; echo taclog 1', "0 \xfc\n"),
+                         ([" 30 20 fc 0a"], "taclog 1\n"))
+
+    def test_a_refusal(self) -> None:
+        with self.assertRaisesRegex(RecoveryError, "exit status 8 .*text 1 2"):
+            self.play("echo text 1 2; exit 8", "")
+
+
+class Telling(unittest.TestCase):
+    """What the command tells, and its exit status."""
+
+    def setUp(self) -> None:
+        place = tempfile.TemporaryDirectory()
+        self.addCleanup(place.cleanup)
+        self.folder = Path(place.name)
+        self.log = self.folder / "output"
+
+    def run_it(self, lines: Sequence[str], *words: object) -> Tuple[int, List[str]]:
+        """Runs the command on a journal, and gives its exit status and the lines that it tells."""
+        (self.folder / "journal").write_text("".join(line + "\n" for line in lines))
+        with mock.patch("geesefuton.recovery.Player", lambda folder: CountingPlayer()), \
+                mock.patch("geesefuton.recovery.Output",
+                           lambda target: Output(self.log if target == 1 else target)):
+            status, text = refusal("recovery", self.folder / "journal", *words)
+        return status, text.splitlines()
+
+    HEAD = [LINES[0], '{"begin":[0,1,2,3,4,5,6,7]}', '{"tick":0,"t":0}', '{"tick":7,"t":700}',
+            asks(0, "own 20"), told(0, "@0 own 0 ()", 701), asks(0, "quote 20"),
+            told(0, "@1 quote 0 0 open", 702), asks(0, "cash"), told(0, "@0 cash 0", 703),
+            asks(0, "hm"), told(0, "no syntax", 704)]
+
+    def test_how_the_game_ended(self) -> None:
+        more = "the scores are those of a game in which nobody asks anything more"
+        for lines, due in (
+                (self.HEAD, f"the journal ends after tick 7 of 54; 2 calls; {more}"),
+                ([*self.HEAD, '{"over":0,"t":800}'], "the game came to its end; 2 calls"),
+                ([*self.HEAD, '{"over":6,"t":800}'], "the game came to its end; 2 calls"),
+                ([*self.HEAD, '{"over":137,"t":800}'],
+                 f"the server failed (137) after tick 7 of 54; 2 calls; {more}"),
+                (LINES[:4], "the game had not begun")):
+            self.assertEqual(self.run_it(lines), (0, [due]))
+            self.assertEqual(read_log(self.log.read_bytes()).kind, "play")
+
+    def test_requests_without_a_reply(self) -> None:
+        lines = [*self.HEAD, asks(1, "bid 21 ((1 5))"), asks(2, "quote 21"),
+                 told(2, "@1 quote 5 0 open"), asks(3, "bid 23 ((1 5))"),
+                 told(3, "@0 taken 0 0"), asks(3, "bid 22 ((1 5))"), asks(4, "own 22")]
+        first, third, fourth = GAME.words[1], GAME.words[3], GAME.words[4]
+        status, text = self.run_it(lines)
+        self.assertEqual((status, text[1:]), (0, [
+            f"  without a reply, in the log: {first}: bid 21 ((1 5))",
+            f"  without a reply, left out: {third}: bid 22 ((1 5))",
+            f"  without a reply, left out: {fourth}: own 22",
+            "  nobody can know whether those left out were made; with them (--pending) scores "
+            f"change: {third} -1"]))
+        self.assertEqual([row.score for row in read_log(self.log.read_bytes()).scores],
+                         [0, -1, 0, -1, 0, 0, 0, 0])
+        status, text = self.run_it(lines, "--pending")
+        self.assertEqual((status, [line.split(": ")[0] for line in text[1:]]),
+                         (0, ["  without a reply, in the log"] * 3))
+        self.assertEqual([row.score for row in read_log(self.log.read_bytes()).scores],
+                         [0, -1, 0, -2, 0, 0, 0, 0])
+        status, text = self.run_it([*self.HEAD, asks(4, "own 22")])
+        self.assertTrue(text[-1].endswith("with them (--pending) no score changes"), text)
+
+    def test_a_difference_is_told_and_the_log_is_written(self) -> None:
+        lines = [*self.HEAD, asks(1, "own 21"), told(1, "@0 own 4 ()")]
+        status, text = self.run_it(lines)
+        self.assertEqual((status, text[1:]),
+                         (1, ["! 1 own 21: it was told @0 own 4 (), and now @0 own 0 ()"]))
+        self.assertEqual(read_log(self.log.read_bytes()).kind, "play")
+
+    def test_a_journal_of_no_game_leaves_no_log(self) -> None:
+        lines = [*self.HEAD, asks(1, "own 20"), told(1, "@0 own 0 ()")]
+        status, text = self.run_it(lines)
+        self.assertEqual((status, text), (
+            1, [f"recover: {self.folder / 'journal'}: two replies have position 0 of good 20"]))
+        status, text = self.run_it(["hey"])
+        self.assertEqual((status, len(text), "line 1 is none of a journal" in text[0]),
+                         (1, 1, True))
+        none = self.folder / "none"
+        self.assertEqual(refusal("recovery", none),
+                         (1, f"recover: {none}: No such file or directory\n"))
+        self.assertFalse(self.log.exists())
+
+    def test_other_outputs(self) -> None:
+        script, game = self.folder / "my.script", self.folder / "my.game"
+        status, _ = self.run_it(self.HEAD, "--script", script, "--game", game)
+        self.assertEqual((status, game.read_text()), (0, GAME.text()))
+        self.assertEqual(script.read_text(),
+                         "tick\n" * 7 + "0 own 20\n0 quote 20\n0 cash\n")
+        status, text = self.run_it(self.HEAD, "--script", self.folder / "no" / "where")
+        self.assertEqual((status, text[-1]), (
+            1, f"recover: {self.folder / 'no' / 'where'}: No such file or directory"))
+        self.assertEqual(read_log(self.log.read_bytes()).kind, "play")
+        self.log.unlink()
+        self.log.mkdir()
+        status, text = self.run_it(self.HEAD)
+        self.assertEqual((status, text[-1]), (1, f"recover: {self.log}: Is a directory"))
 
 
 class Showing(unittest.TestCase):
@@ -261,7 +596,8 @@ class WithTheProgram(unittest.TestCase):
         self.assertEqual((histories[21][0].caller, self.audit(log), faults), (1, "sound", []))
 
     def test_what_requests_without_a_reply_would_change_is_told(self) -> None:
-        # A seat alone makes no trip, so it would cost the agent its price; its game has tick 0 alone.
+        # A seat alone makes no trip, so it would cost the agent its price. Its game has tick 0
+        # alone.
         reader = of_text([LINES[0], '{"begin":[0,1,2,3,4,5,6,7]}', '{"tick":0,"t":0}',
                           '{"a":1,"q":"bid 0 ((1 10000))"}'])
         made = Recovery(reader, self.player)

@@ -1,38 +1,40 @@
 """The relay by itself, before a server that the test plays."""
 
+import json
 import socket
+import struct
 import tempfile
+import time
 import unittest
 from pathlib import Path
-from typing import List, Union
+from typing import Any, Dict, List, Type, Union
 from unittest import mock
 
+from geesefuton import events
 from geesefuton.dialects import MOST_LINE
+from geesefuton.events import End, Event
 from geesefuton.journal import Journal
-from geesefuton.relay import ADMISSION, OuterLink, Relay, Session
+from geesefuton.relay import (ADMISSION, MOST_HELD, MOST_SAID, MOST_STRANGERS, PARTING, OuterLink,
+                              Relay, Session)
 
 WORDS = [f"seat{number}" for number in range(8)]
 MOST = 60.0  # seconds that anything may take, on a machine that is busy with other work
 
 
-class Passing(unittest.TestCase):
+class Case(unittest.TestCase):
     """Agents on two seats, whose game has begun."""
 
     def setUp(self) -> None:
         place = tempfile.TemporaryDirectory()
         self.addCleanup(place.cleanup)
-        listener = socket.create_server(("127.0.0.1", 0))
-        self.addCleanup(listener.close)
+        self.listener = socket.create_server(("127.0.0.1", 0))
+        self.addCleanup(self.listener.close)
         self.journal = Journal(Path(place.name, "journal"), self.fail)
         self.addCleanup(self.journal.close)
-        self.relay = Relay(WORDS, listener, lambda event: None, self.journal, MOST, MOST)
+        self.told: List[Event] = []
+        self.relay = Relay(WORDS, self.listener, self.told.append, self.journal, MOST, MOST)
         self.addCleanup(self.relay.close)
-        self.agents: List[socket.socket] = []
-        for number in range(2):
-            self.agents.append(socket.create_connection(listener.getsockname()))
-            self.addCleanup(self.agents[-1].close)
-            self.agents[-1].settimeout(MOST)
-            self.agents[-1].sendall(f"hello seat{number}\n".encode())
+        self.agents = [self.connect(f"hello seat{number}\n".encode()) for number in range(2)]
         while len(self.relay.seats.missing()) > 6:
             self.relay.turn(MOST)
         pairs = [socket.socketpair() for _ in WORDS]
@@ -46,17 +48,80 @@ class Passing(unittest.TestCase):
             self.servers[number].sendall(b"w\n" * ADMISSION)
             self.turn_until(agent, b"w\n" * ADMISSION)
 
+    def connect(self, first: bytes) -> socket.socket:
+        """A new link that sends something."""
+        link = socket.create_connection(self.listener.getsockname())
+        self.addCleanup(link.close)
+        link.settimeout(MOST)
+        link.sendall(first)
+        return link
+
     def turn_until(self, link: socket.socket, text: bytes) -> None:
         """Lets the relay pass lines on until a link has been sent a text."""
-        got = b""
+        got, deadline = b"", time.monotonic() + MOST
         link.setblocking(False)
         while got != text:
+            self.assertEqual((got, text.startswith(got)), (got, True))
+            self.assertLess(time.monotonic(), deadline, (got, text))
             self.relay.turn(0.01)
             try:
-                got += link.recv(len(text))
+                got += link.recv(len(text) - len(got))
             except BlockingIOError:
                 continue
         link.setblocking(True)
+
+    def turn_until_told(self, kind: Type[Event], count: int = 1) -> List[Any]:
+        deadline = time.monotonic() + MOST
+        while len(self.of(kind)) < count:
+            self.assertLess(time.monotonic(), deadline, self.told)
+            self.relay.turn(0.01)
+        return self.of(kind)
+
+    def turns(self) -> None:
+        """Lets the relay do all that it can do now."""
+        for _ in range(8):
+            self.relay.turn(0.002)
+
+    def is_sent_nothing(self, link: socket.socket) -> bool:
+        self.turns()
+        link.setblocking(False)
+        try:
+            return link.recv(1 << 16) == b""  # it would be sent no more
+        except BlockingIOError:
+            return True
+        finally:
+            link.setblocking(True)
+
+    def has_ended(self, link: socket.socket) -> bool:
+        self.turns()
+        link.setblocking(False)
+        try:
+            return link.recv(1 << 16) == b""
+        except BlockingIOError:
+            return False
+        except ConnectionError:
+            return True
+
+    def ask(self, number: int, line: bytes, reply: bytes) -> None:
+        """An agent asks, and the server answers."""
+        self.agents[number].sendall(line)
+        self.turn_until(self.servers[number], line)
+        self.servers[number].sendall(reply)
+        self.turn_until(self.agents[number], reply)
+
+    def of(self, kind: Type[Event]) -> List[Any]:
+        return [event for event in self.told if isinstance(event, kind)]
+
+    def ends(self) -> Dict[str, End]:
+        return {event.word: event.reason for event in self.of(events.Ended)}
+
+    def lines(self) -> List[Dict[str, Any]]:
+        """The journal's lines."""
+        return [json.loads(line) for line in self.journal.file.read_text().splitlines()]
+
+
+class Passing(Case):
+    """Lines from agents to the server, and back."""
 
     def test_a_reply_is_written_before_it_is_passed_on(self) -> None:
         write, kept = Relay._write, list[int]()
@@ -104,6 +169,326 @@ class Passing(unittest.TestCase):
         # What makes it too long is kept, and the lines around it are whole.
         self.assertEqual(lines, [b"own 4", b"x" * (MOST_LINE + 1), b"own 5"])
         self.assertEqual(link.said, b"own")
+
+    def test_lines_go_one_at_a_time(self) -> None:
+        self.agents[0].sendall(b"own 1\nown 2\nown")
+        self.turn_until(self.servers[0], b"own 1\n")
+        self.assertTrue(self.is_sent_nothing(self.servers[0]))
+        self.servers[0].sendall(b"@0 own 0 ()\n")
+        self.turn_until(self.servers[0], b"own 2\n")
+        self.turn_until(self.agents[0], b"@0 own 0 ()\n")
+        self.servers[0].sendall(b"@1 own 0 ()\n")
+        self.assertTrue(self.is_sent_nothing(self.servers[0]))  # the last line has no end
+        self.turn_until(self.agents[0], b"@1 own 0 ()\n")
+        self.assertTrue(self.is_sent_nothing(self.agents[1]))
+
+    def test_nothing_is_asked_for_one_that_does_not_read(self) -> None:
+        agent, server = self.agents[0], self.servers[0]
+        link = self.relay._links[0]
+        link.held += b"x" * (8 << 20)  # more than the system keeps
+        self.relay._watch(link)
+        self.turns()
+        self.assertGreater(len(link.held), MOST_HELD)
+        agent.sendall(b"own 5\n")
+        self.assertTrue(self.is_sent_nothing(server))
+        self.turn_until(agent, b"x" * (8 << 20))
+        self.turn_until(server, b"own 5\n")
+
+    def test_one_that_sends_much_is_read_as_it_is_answered(self) -> None:
+        line, count = b"y" * 499 + b"\n", 800
+        self.agents[0].sendall(line * count)
+        self.turn_until(self.servers[0], line)
+        self.turns()
+        self.assertLess(len(self.relay._links[0].said), 2 * MOST_SAID + 1)
+        for _ in range(count - 1):
+            self.servers[0].sendall(b"no syntax\n")
+            self.turn_until(self.servers[0], line)
+        self.servers[0].sendall(b"no syntax\n")
+        self.turn_until(self.agents[0], b"no syntax\n" * count)
+
+    def test_a_reply_goes_to_the_link_that_asked_or_to_nobody(self) -> None:
+        self.agents[0].sendall(b"bid 8 ((1 1))\nown 8\n")
+        self.turn_until(self.servers[0], b"bid 8 ((1 1))\n")
+        self.agents[0].setsockopt(socket.SOL_SOCKET, socket.SO_LINGER, struct.pack("ii", 1, 0))
+        self.agents[0].close()
+        self.turn_until_told(events.Departed)
+        again = self.connect(b"hello seat0\nown 9\n")
+        self.turn_until_told(events.Rejoined)
+        self.turn_until(again, b"w\n" * ADMISSION)
+        self.assertTrue(self.is_sent_nothing(self.servers[0]))  # the bid has no answer yet
+        self.servers[0].sendall(b"@3 taken 0 0\n")
+        self.turn_until(self.servers[0], b"own 9\n")
+        self.assertTrue(self.is_sent_nothing(again))
+        self.servers[0].sendall(b"@0 own 0 ()\n")
+        self.turn_until(again, b"@0 own 0 ()\n")
+
+    def test_one_that_ends_its_side_is_still_answered(self) -> None:
+        self.agents[0].sendall(b"own 1\nown 2\nown 3")
+        self.agents[0].shutdown(socket.SHUT_WR)
+        for line in (b"own 1\n", b"own 2\n"):
+            self.turn_until(self.servers[0], line)
+            self.turns()
+            self.assertEqual(self.of(events.Departed), [])
+            self.servers[0].sendall(b"@0 own 0 ()\n")
+        self.turn_until(self.agents[0], b"@0 own 0 ()\n" * 2)
+        self.assertEqual(self.turn_until_told(events.Departed)[0].word, "seat0")
+        self.assertTrue(self.has_ended(self.agents[0]))
+        self.assertTrue(self.is_sent_nothing(self.servers[0]))  # and is not told of an end
+
+    def test_nothing_is_passed_on_before_the_whole_welcome_has_come(self) -> None:
+        late = self.connect(b"hello seat2\nown 1\n")
+        self.turn_until_told(events.Arrived, 3)
+        self.servers[2].sendall(b"w\n" * (ADMISSION - 1))
+        self.assertTrue(self.is_sent_nothing(self.servers[2]) and self.is_sent_nothing(late))
+        self.servers[2].sendall(b"v\n")
+        self.turn_until(late, b"w\n" * (ADMISSION - 1) + b"v\n")
+        self.turn_until(self.servers[2], b"own 1\n")
+        self.assertEqual(len(self.of(events.Began)), 1)
+
+
+class Ends(Case):
+    """What is told and written when links and seats come to an end."""
+
+    def test_a_game_in_the_journal_and_in_events(self) -> None:
+        self.ask(0, b"own 5\n", b"@0 own 0 ()\n")
+        self.agents[1].close()
+        self.turn_until_told(events.Departed)
+        self.assertFalse(self.relay.waive("seat9"))
+        self.assertTrue(self.relay.waive("seat7"))
+        self.ask(0, b"quit\n", b"bye\n")
+        self.relay.release()
+        here = [{"here": number, "from": "127.0.0.1"} for number in range(2)]
+        lines = self.lines()
+        self.assertEqual(lines[:4], [*here, {"begin": [0, 1]}, {"tick": 0, "t": 0}])
+        self.assertTrue(all(0 <= line["t"] < 1000 * MOST for line in lines[4:] if "q" not in line))
+        self.assertEqual([{**line, "t": 1} for line in lines[4:]], [
+            {**line, "t": 1} for line in (
+                {"a": 0, "q": "own 5"}, {"a": 0, "r": "@0 own 0 ()"}, {"gone": 1}, {"without": 7},
+                {"end": 7, "why": "absent"}, {"a": 0, "q": "quit"}, {"a": 0, "r": "bye"},
+                {"end": 0, "why": "left"}, {"end": 1, "why": "gone"}, *(
+                    {"end": number, "why": "absent"} for number in range(2, 7)))])
+        told = [event.__class__(0, *list(vars(event).values())[1:]) for event in self.told]
+        self.assertEqual(told, [
+            events.Arrived(0, 0, "seat0", "127.0.0.1"), events.Arrived(0, 1, "seat1", "127.0.0.1"),
+            events.Began(0, (0, 1)), events.Departed(0, 1, "seat1"), events.Waived(0, "seat7"),
+            events.Ended(0, 7, "seat7", End.ABSENT, 0), events.Ended(0, 0, "seat0", End.LEFT, 2),
+            events.Ended(0, 1, "seat1", End.GONE, 0),
+            *(events.Ended(0, seat, f"seat{seat}", End.ABSENT, 0) for seat in range(2, 7))])
+        for event in self.told:
+            self.assertLess(abs(event.at - time.time()), MOST)
+
+    def test_a_game_without_a_journal(self) -> None:
+        self.relay.journal = None
+        self.ask(0, b"own 5\n", b"@0 own 0 ()\n")
+        self.agents[1].close()
+        self.turn_until_told(events.Departed)
+        again = self.connect(b"hello seat1\n")
+        self.turn_until(again, b"w\n" * ADMISSION)
+        self.assertTrue(self.relay.waive("seat7"))
+        self.relay.pass_time(time.monotonic())
+        self.relay.release()
+        self.ask(0, b"quit\n", b"bye\n")
+        self.relay.finish()
+        self.assertEqual(self.ends(), {"seat0": End.LEFT, "seat1": End.HUNG, **{
+            word: End.ABSENT for word in WORDS[2:]}})
+        self.assertEqual(self.of(events.Warned), [])
+
+    def test_who_sent_only_lines_that_were_refused(self) -> None:
+        self.ask(0, b"hey\n", b"no syntax\n")
+        self.ask(1, b"hey\n", b"no syntax\n")
+        self.ask(1, b"own 1\n", b"@0 own 0 ()\n")
+        late = self.connect(b"hello seat2\nquit\n")
+        self.servers[2].sendall(b"w\n" * ADMISSION)
+        self.turn_until(self.servers[2], b"quit\n")
+        self.servers[2].sendall(b"bye\n")
+        self.turn_until(late, b"w\n" * ADMISSION + b"bye\n")
+        for number in range(2):
+            self.ask(number, b"quit\n", b"bye\n")
+        self.assertEqual(self.ends(), {"seat0": End.REFUSED, "seat1": End.LEFT, "seat2": End.LEFT})
+        self.assertEqual([event.lines for event in self.of(events.Ended)], [1, 2, 3])
+        self.assertEqual(self.servers[0].recv(9), b"")  # it is told that no more will come
+
+    def test_lines_are_counted_over_all_links_of_a_seat(self) -> None:
+        self.ask(0, b"own 1\n", b"@0 own 0 ()\n")
+        self.agents[0].close()
+        self.turn_until_told(events.Departed)
+        self.agents[0] = self.connect(b"hello seat0\nown 2\nown")
+        self.turn_until(self.agents[0], b"w\n" * ADMISSION)
+        self.turn_until(self.servers[0], b"own 2\n")
+        self.servers[0].sendall(b"@1 own 0 ()\n")
+        self.turn_until(self.agents[0], b"@1 own 0 ()\n")
+        self.agents[0].sendall(b" 3\n")
+        self.turn_until(self.servers[0], b"own 3\n")
+        self.relay.finish()
+        self.assertEqual([event.lines for event in self.of(events.Ended)][:2], [3, 0])
+
+    def test_nothing_is_asked_after_quit(self) -> None:
+        self.agents[0].sendall(b"quit\nown 1\n")
+        self.turn_until(self.servers[0], b"quit\n")
+        self.servers[0].sendall(b"bye\n")
+        self.turn_until(self.agents[0], b"bye\n")
+        self.agents[0].sendall(b"own 2\n")
+        self.turns()
+        self.assertEqual(self.servers[0].recv(99), b"")
+        self.assertEqual([line["q"] for line in self.lines() if "q" in line], ["quit"])
+        self.assertEqual(self.of(events.Warned), [])
+
+    def test_one_that_ends_its_link_after_the_last_tick_has_left(self) -> None:
+        self.relay.release()
+        self.agents[0].close()
+        self.turn_until_told(events.Ended, 7)
+        self.assertEqual((self.ends()["seat0"], self.of(events.Departed)), (End.LEFT, []))
+
+    def test_all_links_are_ended(self) -> None:
+        stranger = self.connect(b"hello")
+        self.turns()
+        self.relay.release()
+        self.assertEqual(set(self.ends()), set(WORDS[2:]))
+        late = self.connect(b"hello seat5\n")
+        self.turn_until(late, b"refused taken\n")  # its session is over
+        self.relay.finish()
+        self.assertEqual((self.ends()["seat0"], self.ends()["seat1"]), (End.HUNG, End.HUNG))
+        self.assertTrue(all(map(self.has_ended, (stranger, late, *self.agents))))
+        self.assertFalse(self.relay.is_done())
+        for link in (stranger, late, *self.agents, *self.servers):
+            link.close()
+        self.turns()
+        self.assertTrue(self.relay.is_done())
+        self.assertEqual(len(self.of(events.Ended)), 8)
+
+    def test_the_server_ends(self) -> None:
+        self.ask(0, b"own 1\n", b"@0 own 0 ()\n")
+        self.agents[1].close()
+        self.turn_until_told(events.Departed)
+        self.servers[0].sendall(b"")
+        self.servers[0].close()
+        self.assertTrue(self.has_ended(self.agents[0]))
+        self.relay.settle()
+        self.assertEqual(self.ends(), {"seat0": End.LEFT, "seat1": End.GONE, **{
+            word: End.ABSENT for word in WORDS[2:]}})
+
+
+class Strangers(Case):
+    """Links that have no seat."""
+
+    def test_one_that_is_refused(self) -> None:
+        link = self.connect(b"hello seat9 " + b"z" * 90 + b"\n")
+        self.turn_until(link, b"refused syntax\n")
+        self.assertTrue(self.has_ended(link))
+        event, = self.of(events.Refused)
+        self.assertEqual((event.source, event.answer), ("127.0.0.1", "syntax"))
+        self.assertTrue(event.line.startswith("hello seat9 z") and len(event.line) < 99)
+        link.setblocking(True)
+        link.sendall(b"hello seat2\n")  # it is not read any further
+        self.turns()
+        self.assertEqual((len(self.of(events.Arrived)), len(self.relay._links)), (2, 3))
+        self.relay.pass_time(time.monotonic() + PARTING - 0.5)
+        self.assertEqual(len(self.relay._links), 3)
+        self.relay.pass_time(time.monotonic() + PARTING + 0.1)
+        self.assertEqual(len(self.relay._links), 2)
+        self.assertEqual(self.of(events.Warned), [])
+
+    def test_one_that_is_refused_and_goes(self) -> None:
+        link = self.connect(b"hello seat9\n")
+        self.turn_until(link, b"refused wrongword\n")
+        link.close()
+        self.turns()
+        self.assertEqual((len(self.relay._links), self.of(events.Warned)), (2, []))
+
+    def test_a_word_that_is_taken(self) -> None:
+        self.agents[1].close()
+        self.turn_until_told(events.Departed)
+        self.ask(0, b"quit\n", b"bye\n")
+        link = self.connect(b"hello seat0\n")
+        self.turn_until(link, b"refused taken\n")
+        event, = self.of(events.Refused)
+        self.assertEqual((event.answer, event.line), ("taken", "hello seat0"))
+        self.assertEqual(self.of(events.Rejoined), [])
+
+    def test_a_second_link_waits_until_the_first_speaks_or_is_silent(self) -> None:
+        second = self.connect(b"hello seat0\nown 4\n")
+        self.assertTrue(self.is_sent_nothing(second))
+        self.relay.pass_time(time.monotonic() + MOST - 5)
+        self.assertTrue(self.is_sent_nothing(second))
+        self.ask(0, b"own 1\n", b"@0 own 0 ()\n")
+        self.turn_until(second, b"refused taken\n")
+        third = self.connect(b"hello seat0\nown 4\n")
+        self.turns()
+        self.relay.pass_time(time.monotonic() + MOST + 1)
+        self.turn_until(third, b"w\n" * ADMISSION)
+        self.turn_until(self.servers[0], b"own 4\n")
+        self.assertTrue(self.has_ended(self.agents[0]))
+        self.assertEqual(len(self.of(events.Rejoined)), 1)
+
+    def test_one_that_waits_has_the_seat_once_the_first_ends(self) -> None:
+        second = self.connect(b"hello seat0\nown 4\n")
+        self.assertTrue(self.is_sent_nothing(second))
+        self.agents[0].close()
+        self.turn_until(second, b"w\n" * ADMISSION)
+        self.turn_until(self.servers[0], b"own 4\n")
+        self.assertEqual(len(self.of(events.Rejoined)), 1)
+        waits = self.connect(b"hello seat1\n")
+        self.turns()
+        waits.close()  # and the first keeps its seat
+        self.turns()
+        self.ask(1, b"own 1\n", b"@0 own 0 ()\n")
+        self.assertEqual([event.word for event in self.of(events.Departed)], ["seat0"])
+
+    def test_one_that_says_nothing_is_let_go(self) -> None:
+        link = self.connect(b"hello seat2")
+        self.turns()
+        self.relay.pass_time(time.monotonic() + MOST - 5)
+        self.assertFalse(self.has_ended(link))
+        self.relay.pass_time(time.monotonic() + MOST + 1)
+        self.assertTrue(self.has_ended(link))
+        event, = self.of(events.Warned)
+        self.assertIn(f"127.0.0.1 sent no line for {MOST:g} seconds", event.text)
+        self.assertFalse(self.has_ended(self.agents[0]))
+
+    def test_one_that_goes_without_a_line_is_told(self) -> None:
+        self.connect(b"hello").close()
+        self.assertIn("127.0.0.1 went away without a line",
+                      self.turn_until_told(events.Warned)[0].text)
+        self.assertEqual(self.of(events.Departed), [])
+
+    def test_the_eldest_goes_if_there_are_too_many(self) -> None:
+        self.assertEqual(MOST_STRANGERS, 200)
+        with mock.patch("geesefuton.relay.MOST_STRANGERS", 3):
+            links = []
+            for _ in range(3):
+                links.append(self.connect(b""))
+                self.turns()
+            self.assertFalse(any(map(self.has_ended, links)))
+            links.append(self.connect(b"hello seat2\n"))
+            self.turn_until_told(events.Arrived, 3)
+            self.assertEqual([self.has_ended(link) for link in links], [True, False, False, False])
+            links.append(self.connect(b""))  # one has its seat by now
+            self.assertFalse(any(map(self.has_ended, links[1:])))
+
+    def test_no_link_is_taken_for_a_while_if_no_more_files_may_be_opened(self) -> None:
+        link = self.connect(b"hello seat2\n")
+        with mock.patch.object(socket.socket, "accept", side_effect=OSError(24, "Too many files")):
+            self.turns()
+        self.assertEqual(self.relay._select.select(0.01), [])  # nothing is tried again and again
+        self.relay.pass_time(time.monotonic() + 1.0)
+        self.servers[2].sendall(b"w\n" * ADMISSION)
+        self.turn_until(link, b"w\n" * ADMISSION)
+
+    def test_an_error_costs_one_link(self) -> None:
+        with mock.patch.object(self.relay.seats, "admit", side_effect=RuntimeError("a fault")):
+            link = self.connect(b"hello seat2\n")
+            self.assertIn("a fault", self.turn_until_told(events.Warned)[0].text)
+        self.assertTrue(self.has_ended(link))
+        self.ask(0, b"own 1\n", b"@0 own 0 ()\n")
+
+    def test_a_machine_that_has_gone_is_noticed_after_some_ten_seconds(self) -> None:
+        link = self.relay._links[0].socket
+        self.assertTrue(link.getsockopt(socket.SOL_SOCKET, socket.SO_KEEPALIVE))
+        self.assertTrue(link.getsockopt(socket.IPPROTO_TCP, socket.TCP_NODELAY))
+        if hasattr(socket, "TCP_KEEPIDLE"):
+            idle, between, probes = (link.getsockopt(socket.IPPROTO_TCP, getattr(socket, name))
+                                     for name in ("TCP_KEEPIDLE", "TCP_KEEPINTVL", "TCP_KEEPCNT"))
+            self.assertTrue(8 <= idle + between * probes <= 15)
 
 
 if __name__ == "__main__":

@@ -43,16 +43,33 @@ class Replies(unittest.TestCase):
         for reply, _, text in FORMS:
             self.assertEqual(replies.read_json(text), reply)
 
+    def test_json_is_written_in_the_order_of_the_page(self) -> None:
+        for reply, _, text in FORMS:
+            self.assertEqual(replies.reply_json(reply), text)
+
     def test_a_reply_of_an_entry_has_no_position(self) -> None:
         self.assertEqual(replies.read_entry_reply("own 2 ((1 5))"), Own(None, 2, ((1, 5),)))
         self.assertEqual(replies.read_entry_reply("done", 4), Done(4))
         self.assertEqual(replies.words_of(Done(None)), "done")
+        self.assertEqual(replies.read_entry_reply("quote 70 0 open"), Quote(0, 70, 0, False))
+        self.assertEqual(replies.entry_words(Quote(9, 70, 0, False)), "quote 70 0 open")
+        for text in ("@1 done", "bye", "no syntax", "no bid 4", "done ", ""):
+            with self.assertRaises(ReplyError, msg=text):
+                replies.read_entry_reply(text)
+
+    def test_the_greatest_numbers(self) -> None:
+        self.assertEqual(replies.read_words("@1 cash -123456789012345678"),
+                         Cash(1, -123456789012345678))
+        self.assertEqual(replies.read_words("@9999999999 done"), Done(9999999999))
 
     def test_other_words_are_refused(self) -> None:
         for line in ("", "taken 1 0", "@1 taken 1", "@01 done", "@1  done", "@1 done ", "@1 no",
                      "@1 no syntax", "no closed", "no bid 0", "no bid 6", "@1 quote 1 2 shut",
                      "@1 own 1 (1 70)", "@1 cash +5", "@1 cash -0", "bye ", "Bye", "@1 bye",
-                     "@1 sold -1 5", "@1 own 1 ((1 70)(1 65))"):
+                     "@1 sold -1 5", "@1 own 1 ((1 70)(1 65))", "no syntaxes", "the no syntax",
+                     "no bid 12", "to @1 done", "@1 done @2", "@-1 done", "@12345678901 done",
+                     "@1 cash 1234567890123456789", "@1 own 1 ((1 -70))", "@1 done\n", "no spent\n",
+                     "@1 no belowquote 3 101", "@1 spent", "no"):
             with self.assertRaises(ReplyError, msg=line):
                 replies.read_words(line)
 
@@ -61,7 +78,19 @@ class Replies(unittest.TestCase):
                      '{"at":1.5,"done":true}', '{"at":1,"done":true,"more":1}', '{"no":"closed"}',
                      '{"at":1,"no":"syntax"}', '{"at":true,"done":true}', '{"no":"bid"}',
                      '{"at":1,"quote":[1,2],"open":1}', '{"at":1,"own":1,"points":[[1]]}',
-                     '{"at":1,"no":"belowquote","need":3}', '{"at":1,"cash":"5"}'):
+                     '{"at":1,"no":"belowquote","need":3}', '{"at":1,"cash":"5"}', '7', 'null',
+                     '"bye"', '["bye"]', '{"at":1,"taken":7}', '{"at":1,"taken":"10"}',
+                     '{"at":1,"taken":{"0":1,"1":0}}', '{"at":1,"taken":[1,true]}',
+                     '{"at":1,"own":1,"points":7}', '{"at":1,"own":1,"points":{"1":5}}',
+                     '{"at":1,"quote":[1,2,3],"open":true}', '{"at":1,"sold":[1]}', '{"no":7}',
+                     '{"at":3,"no":["closed"]}', '{"at":3,"no":"closed","need":1}',
+                     '{"at":3,"no":"full"}', '{"no":"full"}', '{"no":"spent","fault":1}',
+                     '{"no":"belowquote","need":3,"price":101,"offered":2}',
+                     '{"at":3,"no":"full","need":3,"price":101,"offered":2}',
+                     '{"at":3,"no":"belowquote","need":3,"price":"101","offered":2}',
+                     '{"at":3,"no":"bid","fault":4}', '{"no":"full","fault":4}',
+                     '{"no":"bid","fault":4,"more":1}', '{"no":"bid","fault":true}',
+                     '{"bye":true,"at":1}', '{"done":true}'):
             with self.assertRaises(ReplyError, msg=line):
                 replies.read_json(line)
 
@@ -83,8 +112,16 @@ class Requests(unittest.TestCase):
             self.assertEqual(replies.request_json(request), text)
             self.assertEqual(replies.read_request(words), request)
 
+    def test_a_bid_of_no_points(self) -> None:
+        self.assertEqual(replies.read_request("bid 5 ()"), Request("bid", 5, ()))
+        self.assertEqual(replies.request_words(Request("bid", 5)), "bid 5 ()")
+        self.assertEqual(replies.request_json(Request("bid", 5)),
+                         '{"do":"bid","auction":5,"points":[]}')
+
     def test_lines_of_no_form_ask_nothing(self) -> None:
-        for line in ("", "buy 5", "own", "own 05", "cash ", "bid 5", "bid 5 (1 2)", "quote 1 2"):
+        for line in ("", "buy 5", "own", "own 05", "cash ", "bid 5", "bid 5 (1 2)", "quote 1 2",
+                     " cash", "cash\n", "cash 5", "withdraw 5 ()", "own -1", "bid 5 ((1 2)) ",
+                     "bid 5 ((1 -2))", "Own 5", "quit5", "own 12345678901"):
             self.assertIsNone(replies.read_request(line))
 
 

@@ -14,8 +14,8 @@ from geesefuton import page, report
 from geesefuton.logs import Log, read_played
 from geesefuton.page import Heading, ranks, why_nothing
 from geesefuton.prices import all_events
-from tests.helpers import (PLAYED, SERVED_GAME, SERVED_LOG, TOP, fake_program, needs_program,
-                           refusal, run, served_game, served_log, variables)
+from tests.helpers import (PLAYED, SERVED_GAME, SERVED_LOG, TOP, cells_of, fake_program,
+                           needs_program, refusal, run, served_game, served_log, variables)
 
 
 def text_of(log: Log, warning: str = "") -> str:
@@ -67,9 +67,7 @@ class Page(unittest.TestCase):
 
     def table(self, heading: str) -> "list[list[str]]":
         """The cells of the first table after a heading, without marks."""
-        part = self.text.split(f"<h2>{heading}</h2>")[1].split("</table>")[0]
-        rows = [re.findall(r"<t[dh][^>]*>(.*?)</t[dh]>", row) for row in part.split("<tr>")[1:]]
-        return [[re.sub("<[^>]*>", "", cell) for cell in row] for row in rows]
+        return cells_of(self.text.split(f"<h2>{heading}</h2>")[1])
 
     def test_scores(self) -> None:
         rows = self.table("Scores")

@@ -150,6 +150,29 @@ class Seating(unittest.TestCase):
         self.assertEqual(seat.come(OTHER, SOON + 10 * SILENCE - 0.1), [])
         self.assertEqual((seat.state, seat.holder), (CLAIMED, HOLDER))
 
+    def test_who_is_here_when_the_game_begins_has_played(self) -> None:
+        seat = Seat(0, "red")
+        seat.come(HOLDER, SOON)
+        seat.begin(SOON)
+        seat.go(HOLDER, SOON)
+        self.assertEqual(seat.come(OTHER, LATE), [Give(OTHER, True)])
+        seat.go(OTHER, LATE)
+        self.assertEqual(seat.release(), [Over(End.GONE)])
+
+    def test_a_new_seat_is_free_and_has_not_played(self) -> None:
+        seat = Seat(0, "red")
+        self.assertEqual(seat.come(HOLDER, SOON), [Give(HOLDER, False)])
+        self.assertEqual(seat.come(OTHER, SOON), [Refuse(OTHER)])
+
+    def test_a_link_gives_way_after_ten_seconds_unless_told_otherwise(self) -> None:
+        for seat, silence in ((Seat(0, "red"), 10), (Seats(["red"]).seats[0], 10),
+                              (Seats(["red"], 3.0).seats[0], 3)):
+            seat.come(HOLDER, SOON)
+            seat.begin(SOON)
+            seat.come(OTHER, SOON)
+            self.assertEqual(seat.wait(SOON + silence - 0.1), [])
+            self.assertEqual(seat.wait(SOON + silence), [Close(HOLDER), Give(OTHER, True)])
+
     def test_who_never_came_is_absent(self) -> None:
         seat = Seat(0, "red")
         seat.come(HOLDER, SOON)
@@ -171,11 +194,21 @@ class Admission(unittest.TestCase):
                 self.assertEqual(refusal, answer)
                 self.assertEqual(seat is not None and seat.number, 3 if not answer else False)
 
+    def test_a_word_has_1_to_16_bytes(self) -> None:
+        words = ["a", "0", "z9" * 8, *"bcdef"]
+        seats = Seats(words)
+        self.assertEqual([(seat.number, seat.word) for seat in seats.seats],
+                         list(enumerate(words)))
+        for seat in seats.seats:
+            self.assertEqual(seats.admit(f"hello {seat.word}".encode()), (seat, ""))
+
     def test_missing(self) -> None:
         seats = Seats(["red", "blue", *"cdefgh"])
         seats.seats[0].come(HOLDER, SOON)
         seats.seats[1].waive()
         self.assertEqual(seats.missing(), list("cdefgh"))
+        seats.seats[0].go(HOLDER, SOON)
+        self.assertEqual(seats.missing(), ["red", *"cdefgh"])
 
 
 if __name__ == "__main__":

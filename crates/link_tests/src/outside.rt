@@ -1,5 +1,6 @@
 // The two calls over the forms in memory, and forms through their traits.
 ghost use Rattle.std.specs.Prelude.{◌≡◌, ◌<◌, ◌∷◌, [], Bool, IfOk, IfSome, length, true, false};
+ghost use Rattle.tac_io.specs.Calls.{one_call_more};
 ghost use Rattle.tac_io.specs.LineAnswers.{goes_on};
 ghost use Rattle.tac_io.specs.Lines.{last_of};
 ghost use Rattle.tac_io.specs.MemFiles.{files_names};
@@ -13,8 +14,9 @@ use std::test::Fail;
 use std::thread::join;
 use tac_base::Tick;
 use tac_io::{
-    FileFault, Files, HeldLink, Hold, LineGot, Lines, LinesSent, Link, Look, LookingTicker,
-    MemFile, MemFiles, MemLink, MemSink, MemTicker, Sink, Ticker, read_file, write_all,
+    FileFault, Files, HeldLink, Hold, LineCount, LineGot, Lines, LinesSent, Link, Look,
+    LookingTicker, MemFile, MemFiles, MemLink, MemSink, MemTicker, Sink, Ticker, read_file,
+    write_all,
 };
 
 // A file `hello` of these five bytes, a file `empty`, and a file `long` of 200,000 bytes.
@@ -156,11 +158,15 @@ fn a_looking_ticker_lapses_where_no_tick_is_due(rt: HostRuntime) -> Result<(), F
 
 // A link of two lines. The second comes once another link was sent the ten lines of a welcome and
 // a reply.
-fn held(alloc: Global, lines_sent: &LinesSent, other: &LinesSent) -> Result<HeldLink, Fail> {
+fn held<C: LineCount + Drop>(
+    alloc: Global,
+    lines_sent: &LinesSent,
+    other: C,
+) -> Result<HeldLink<C>, Fail> {
     let bytes = b"hello\nquit\n".to_vec(alloc)?;
     let hold = Hold {
         read: 2,
-        other: Arc::try_clone(other)?,
+        other,
         lines: 11,
     };
     let link = MemLink::new(alloc, bytes, 100, 100, Vec::new(alloc), Vec::new(alloc))?;
@@ -192,8 +198,8 @@ fn two_links_wait_for_one_another(rt: HostRuntime) -> Result<(), Fail> {
     let alloc = rt.alloc();
     let first = Arc::new(alloc, AtomicU64::new(0))?;
     let second = Arc::new(alloc, AtomicU64::new(0))?;
-    let one = held(alloc, &first, &second)?;
-    let two = held(alloc, &second, &first)?;
+    let one = held(alloc, &first, Arc::try_clone(&second)?)?;
+    let two = held(alloc, &second, Arc::try_clone(&first)?)?;
     let (one, two) = join(&rt, || serves(one, &second), || serves(two, &first));
     assert!(rt; one);
     assert!(rt; two);
@@ -211,12 +217,37 @@ fn a_held_read_fails_at_the_end_of_its_turns(rt: HostRuntime) -> Result<(), Fail
     ] {
         let sent = Arc::new(alloc, AtomicU64::new(0))?;
         let other = Arc::new(alloc, AtomicU64::new(other_was_sent))?;
-        let mut lines = Lines::new(held(alloc, &sent, &other)?.giving_up_after(turns));
+        let mut lines = Lines::new(held(alloc, &sent, other)?.giving_up_after(turns));
         assert_eq!(rt; next_two(&mut lines), Some(got));
         assert!(rt; lines.send(b"\nok\nbye").is_ok());
         assert_eq!(rt; sent.load(Ordering::SeqCst), 2);
         let link = lines.into_link();
         assert_eq!(rt; link.faults() == 1, got == LineGot::Failed);
+    }
+    Ok(())
+}
+
+// A count that shows 0 at its first look, and one more at each look after that.
+#[derive(Drop)]
+struct Rising(u64);
+
+impl LineCount for Rising {
+    ghost shows = { λ before n after. (n ≡ before.0) × (after.0 ≡ one_call_more before.0) };
+
+    fn look(&mut self) -> u64 {
+        let count = self.0;
+        self.0 = count.saturating_add(1);
+        count
+    }
+}
+
+#[test]
+fn a_held_read_looks_until_it_sees_its_lines(rt: HostRuntime) -> Result<(), Fail> {
+    let alloc = rt.alloc();
+    for (turns, got) in [(11, LineGot::Failed), (12, LineGot::Line)] {
+        let sent = Arc::new(alloc, AtomicU64::new(0))?;
+        let mut lines = Lines::new(held(alloc, &sent, Rising(0))?.giving_up_after(turns));
+        assert_eq!(rt; next_two(&mut lines), Some(got));
     }
     Ok(())
 }

@@ -127,7 +127,7 @@ struct MeetingLook {
 impl Look for MeetingLook {
     fn is_due(&mut self, _pace: Option<u16>, tick: Tick) -> bool {
         self.shown.store(u64::from(tick.get()), Ordering::SeqCst);
-        tick.get() != 2 || was_sent(&self.awaited, 11, MOST_TURNS)
+        tick.get() != 2 || was_sent(&mut self.awaited, 11, MOST_TURNS)
     }
 }
 

@@ -1,4 +1,5 @@
 pub mod KnownPieces
+pub mod Looks
 pub mod WholeFiles
 pub mod FilesInMemory
 pub mod LineEnds

@@ -1,5 +1,6 @@
 pub mod Counts
 pub mod Known
+pub mod Looks
 pub mod States
 pub mod Taken
 pub mod Written

@@ -27,8 +27,8 @@ pub use lines::Lines;
 pub use link::Link;
 pub use links::Links;
 pub use memory::{
-    HeldLink, Hold, LinesSent, Look, LookingTicker, MOST_TURNS, MemDue, MemFile, MemFiles,
-    MemLapse, MemLink, MemLinks, MemSink, MemTicker, was_sent,
+    HeldLink, Hold, LineCount, LinesSent, Look, LookingTicker, MOST_TURNS, MemDue, MemFile,
+    MemFiles, MemLapse, MemLink, MemLinks, MemSink, MemTicker, was_sent,
 };
 pub use reading::{FileFault, read_file};
 pub use sink::Sink;

@@ -10,7 +10,7 @@ mod sink;
 mod ticker;
 
 pub use files::{MemFile, MemFiles};
-pub use held_link::{HeldLink, Hold, LinesSent, MOST_TURNS, was_sent};
+pub use held_link::{HeldLink, Hold, LineCount, LinesSent, MOST_TURNS, was_sent};
 pub use link::MemLink;
 pub use links::MemLinks;
 pub use looking_ticker::{Look, LookingTicker};

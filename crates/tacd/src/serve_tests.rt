@@ -5,10 +5,10 @@ use crate::sleep_ticker::SleepTicker;
 use crate::tcp_links::TcpLinks;
 use crate::tests::{FIRST_CLIENT, Faults, NO_FAULT, Ran, plain_game, run_over};
 use std::alloc::Global;
-use std::io::{Read, Write};
+use std::io::{Print, Read, Write};
 use std::net::TcpStream;
-use std::rt::Clock;
-use std::sync::atomic::AtomicU64;
+use std::rt::{Clock, Env};
+use std::sync::atomic::{AtomicU64, Ordering};
 use std::sync::{Arc, Wait};
 use std::test::Fail;
 use std::thread::Threads;
@@ -294,25 +294,24 @@ struct PacedLook {
 
 impl Look for PacedLook {
     fn is_due(&mut self, pace: Option<u16>, _tick: Tick) -> bool {
-        pace == Some(5) && was_sent(&self.sent, self.lines, MOST_TURNS)
+        pace == Some(5) && was_sent(&mut self.sent, self.lines, MOST_TURNS)
     }
 }
 
 #[test]
 fn the_pace_is_set_before_the_first_wait(rt: HostRuntime) -> Result<(), Fail> {
     let alloc = rt.alloc();
+    let sent = Arc::new(alloc, AtomicU64::new(0))?;
+    let mut links = Vec::new(alloc);
+    for bytes in FOUR {
+        links.push(held(alloc, bytes, &sent, None)?)?;
+    }
     let mut ticker = LookingTicker::new(PacedLook {
-        sent: Arc::new(alloc, AtomicU64::new(0))?,
+        sent: Arc::try_clone(&sent)?,
         lines: 0,
     });
-    let served = serve_by(
-        &rt,
-        alloc,
-        SERVE,
-        links(alloc, &FOUR, 1_000)?,
-        NO_FAULT,
-        &mut ticker,
-    )?;
+    let served = serve_by(&rt, alloc, SERVE, links, NO_FAULT, &mut ticker)?;
+    tell(&rt, &served, &[&sent])?;
     assert_eq!(rt; served.code, 0);
     assert!(rt; served.text.starts_with(FOUR_HEADS.as_bytes()));
     Ok(())
@@ -327,6 +326,25 @@ fn held(
 ) -> Result<HeldLink, Fail> {
     let link = link(alloc, bytes, 10_000, 10_000, 0, 0)?;
     Ok(HeldLink::new(link, Arc::try_clone(sent)?, hold))
+}
+
+// Prints how a run ended if a word of one byte stands behind the test's name, as in checks/refused_memory.py: its code, and how many lines
+// its links were sent; its text; and what each link that it gave back was sent. Each part has a form feed behind it.
+fn tell<R: Env + Print>(rt: &R, ran: &Ran<HeldLink>, sent: &[&LinesSent]) -> Result<(), Fail> {
+    if rt.arg(2, &mut [0]).is_err() {
+        return Ok(());
+    }
+    rt.println(ran.code)?;
+    for lines in sent {
+        rt.println(lines.load(Ordering::SeqCst))?;
+    }
+    rt.print("\x0c")?;
+    rt.write_all(&ran.text)?;
+    for link in &ran.ended {
+        rt.print("\x0c")?;
+        rt.write_all(link.sent())?;
+    }
+    Ok(rt.print("\x0c")?)
 }
 
 // What an agent asks in JSON.
@@ -400,11 +418,12 @@ fn sessions_run_beside_one_another(rt: HostRuntime) -> Result<(), Fail> {
         &second,
         Some(for_first),
     )?)?;
+    let others = Arc::new(alloc, AtomicU64::new(0))?;
     for bytes in OTHERS {
-        let others = Arc::new(alloc, AtomicU64::new(0))?;
         links.push(held(alloc, bytes, &others, None)?)?;
     }
     let served = serve(&rt, alloc, links, NO_FAULT)?;
+    tell(&rt, &served, &[&first, &second, &others])?;
     assert_eq!(rt; served.code, 0);
     let text = str::from_utf8(served.text.as_slice())?;
     assert!(rt;

@@ -39,6 +39,14 @@ pub(crate) const NO_FAULT: Faults = Faults {
     given_at_once: 1_000_000,
 };
 
+// A size that no other growth has. A run stands between two growths of it, so that checks/refuse.c refuses none outside.
+const MARK: usize = 76_543;
+
+fn mark(alloc: Global) -> Result<(), Fail> {
+    let _marked: Vec<u8> = Vec::with_capacity(alloc, MARK)?;
+    Ok(())
+}
+
 // Runs the words of a line, parted by spaces, over files, each with its name, over links and a ticker. Every run of the tests is one of this.
 pub(crate) fn run_over<R: Threads + Sync + Wait + Clock, L: Link + Send + Drop, T: Ticker + Send>(
     rt: &R,
@@ -75,7 +83,9 @@ pub(crate) fn run_over<R: Threads + Sync + Wait + Clock, L: Link + Send + Drop, 
     if !are_short(&words) {
         return Err(Fail::from("a word is too long"));
     }
+    mark(alloc)?;
     let answer = tac(rt, alloc, &words, &mut files, &mut out, &mut links, ticker);
+    mark(alloc)?;
     Ok(Ran {
         code: answer.code,
         text: out.bytes().to_vec(alloc)?,

@@ -1,7 +1,7 @@
 // A link in memory that gives line by line, and may wait for another.
-ghost use Rattle.std.specs.Prelude.{◌≡◌, ◌<◌, ◌≤◌, ◌==◌, [], IfSome, count_by, false, length, position, true};
+ghost use Rattle.std.specs.Prelude.{◌≡◌, ◌<◌, ◌≤◌, ◌==◌, ◌^◌, [], ℕ, MatchBool, IfSome, count_by, false, length, position, true};
 ghost use Rattle.tac_io.specs.LineText.{line_length};
-ghost use Rattle.tac_io.specs.declared.memory.held_link.TheConstants.{MOST_TURNS};
+ghost use Rattle.tac_io.specs.Looks.{SawEnough, SawFewer};
 
 use crate::{Failed, Link, MemLink};
 use std::sync::Arc;
@@ -15,11 +15,11 @@ pub type LinesSent = Arc<AtomicU64>;
 
 /// A read that answers only after another link was sent a number of lines.
 #[derive(Drop)]
-pub struct Hold {
+pub struct Hold<C = LinesSent> {
     /// Which read it is, counted from 1. The first is never held up.
     pub read: u64,
     /// The other link, by the lines that it was sent.
-    pub other: LinesSent,
+    pub other: C,
     /// How many lines the read waits for, those of the welcome included.
     pub lines: u64,
     ghost later: { 1 < read },
@@ -29,9 +29,9 @@ pub struct Hold {
 /// was sent a number of lines: it looks at that number again and again, 1,000,000,000 times if
 /// nothing else is said, and then fails.
 #[derive(Drop)]
-pub struct HeldLink {
+pub struct HeldLink<C = LinesSent> {
     link: MemLink,
-    hold: Option<Hold>,
+    hold: Option<Hold<C>>,
     lines_sent: LinesSent,
     turns: u32,
 }
@@ -63,21 +63,45 @@ fn line_ends(bytes: &[u8]) -> u64
     bytes.iter().filter(|byte| **byte == b'\n').count() as u64
 }
 
-/// Looks `turns` times at most whether a link was sent so many lines, and says whether it was.
-pub fn was_sent(link: &AtomicU64, lines: u64, turns: u32) -> bool
-    ensures never { turns ≡ 0 → result ≡ false }
-    ensures at_once { lines ≡ 0 → 0 < turns → result ≡ true }
-{
-    (0..turns).any(|_| link.load(Ordering::SeqCst) >= lines)
+/// A count of lines that others add to.
+pub trait LineCount {
+    /// What a look may show, and what it leaves.
+    ghost shows: { Self → ℕ → Self → Type 0 };
+
+    /// Looks at it once.
+    fn look(&mut self) -> u64
+        ensures { shows self.old result self.new };
 }
 
-impl HeldLink {
-    ghost use Rattle.tac_io.specs.HeldLink.{IsNextHeld, held_hold, held_link, held_turns};
+impl LineCount for LinesSent {
+    ghost shows = { λ _ _ _. Unit {0} };
+
+    fn look(&mut self) -> u64 {
+        self.load(Ordering::SeqCst)
+    }
+}
+
+/// Looks at a count until it shows so many lines, `turns` times at most, and says whether it did.
+pub fn was_sent<C: LineCount>(count: &mut C, lines: u64, turns: u32) -> bool
+    ensures { MatchBool result
+        (SawEnough C.shows count.old count.new lines turns)
+        (SawFewer C.shows count.old count.new lines turns) }
+{
+    for _ in 0..turns {
+        if count.look() >= lines {
+            return true;
+        }
+    }
+    false
+}
+
+impl<C: LineCount> HeldLink<C> {
+    ghost use Rattle.tac_io.specs.HeldLink.{IsNextHeld, Waits, held_hold, held_link, held_turns};
     ghost use Rattle.tac_io.specs.MemLink.{link_sent};
 
     /// A link over `link`. Each line end that it is sent is counted in `lines_sent`.
-    pub fn new(link: MemLink, lines_sent: LinesSent, hold: Option<Hold>) -> HeldLink
-        ensures { result ≡ record { link = link; hold = hold; lines_sent = lines_sent; turns = MOST_TURNS } }
+    pub fn new(link: MemLink, lines_sent: LinesSent, hold: Option<Hold<C>>) -> HeldLink<C>
+        ensures { result ≡ record { link = link; hold = hold; lines_sent = lines_sent; turns = 10 ^ 9 } }
     {
         HeldLink {
             link,
@@ -88,7 +112,7 @@ impl HeldLink {
     }
 
     /// The same link, but that its read which is held up looks `turns` times at most.
-    pub fn giving_up_after(mut self, turns: u32) -> HeldLink
+    pub fn giving_up_after(mut self, turns: u32) -> HeldLink<C>
         ensures { result ≡ record self { turns = turns } }
     {
         self.turns = turns;
@@ -103,38 +127,38 @@ impl HeldLink {
     }
 
     // Waits if the next read is held up, and says whether it answers.
-    fn answers(&self) -> bool
-        ensures held { result ≡ false → IsNextHeld self.now }
-        ensures never { IsNextHeld self.now → held_turns self.now ≡ 0 → result ≡ false }
-        ensures at_once { IfSome (held_hold self.now) (λ hold. hold.lines ≡ 0) → 0 < held_turns self.now → result ≡ true }
+    fn answers(&mut self) -> bool
+        ensures waits { IsNextHeld self.old → Waits C.shows self.old (held_hold self.new) result }
+        ensures held { result ≡ false → IsNextHeld self.old }
+        ensures free { ¬ IsNextHeld self.old → held_hold self.new ≡ held_hold self.old }
+        ensures same { (held_link self.new ≡ held_link self.old) × (held_turns self.new ≡ held_turns self.old) }
     {
-        match &self.hold {
-            Some(hold) if hold.read == self.link.next_read() => {
-                was_sent(&hold.other, hold.lines, self.turns)
-            }
+        let next = self.link.next_read();
+        match &mut self.hold {
+            Some(hold) if hold.read == next => was_sent(&mut hold.other, hold.lines, self.turns),
             _ => true,
         }
     }
 }
 
-impl Link for HeldLink {
-    ghost use Rattle.std.specs.Prelude.{◌≡◌, ◌⊎◌, ◌<◌, IsErr, IfOk, IfSome, length};
+impl<C: LineCount> Link for HeldLink<C> {
+    ghost use Rattle.std.specs.Prelude.{◌≡◌, ◌⊎◌, ◌<◌, IsErr, IfOk, length};
     ghost use Rattle.tac_io.specs.Calls.{IsNextToFail};
-    ghost use Rattle.tac_io.specs.HeldLink.{IsNextHeld, held_hold, held_link, held_share, held_turns};
+    ghost use Rattle.tac_io.specs.HeldLink.{IsNextHeld, Waits, held_hold, held_link, held_share, held_turns};
     ghost use Rattle.tac_io.specs.MemLink.{ReadsNext, WritesNext, link_reads, link_state};
 
     ghost state = { λ s. link_state (held_link s) };
 
     fn read(&mut self, into: &mut [u8]) -> Result<usize, Failed>
         requires { 0 < length into.old }
-        ensures fails { IsErr result → IsNextHeld self.old ⊎ IsNextToFail (link_reads (held_link self.old)) }
+        // It fails only where the link fails, or where it saw fewer lines at each of its looks.
+        ensures fails { IsErr result → Waits C.shows self.old (held_hold self.new) false ⊎ IsNextToFail (link_reads (held_link self.old)) }
         ensures failing { IsNextToFail (link_reads (held_link self.old)) → IsErr result }
-        // A read that is held up fails if it may not look, and answers at its first look if it waits for no line.
-        ensures never { IsNextHeld self.old → held_turns self.old ≡ 0 → IsErr result }
-        ensures at_once { IfSome (held_hold self.old) (λ hold. hold.lines ≡ 0) → 0 < held_turns self.old → IsErr result → IsNextToFail (link_reads (held_link self.old)) }
+        ensures waits { IsNextHeld self.old → IfOk result (λ _. Waits C.shows self.old (held_hold self.new) true) }
         ensures share { IfOk result (λ n. n ≡ held_share self.old (length into.new)) }
         ensures next { ReadsNext (held_link self.old) (held_link self.new) result into.new }
-        ensures hold { held_hold self.new ≡ held_hold self.old }
+        ensures free { ¬ IsNextHeld self.old → held_hold self.new ≡ held_hold self.old }
+        ensures turns { held_turns self.new ≡ held_turns self.old }
     {
         if !self.answers() {
             return Err(self.link.fail_read());
@@ -147,7 +171,7 @@ impl Link for HeldLink {
     fn write(&mut self, piece: &[u8]) -> Result<usize, Failed>
         requires { 0 < length piece.now }
         ensures next { WritesNext (held_link self.old) (held_link self.new) result piece.now }
-        ensures hold { held_hold self.new ≡ held_hold self.old }
+        ensures hold { (held_hold self.new ≡ held_hold self.old) × (held_turns self.new ≡ held_turns self.old) }
     {
         let count = self.link.write(piece)?;
         self.lines_sent

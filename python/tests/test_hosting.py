@@ -1,0 +1,323 @@
+"""What the lobby's command makes of its words, of signals, and of where it stands."""
+
+import contextlib
+import os
+import re
+import signal
+import socket
+import sys
+import tempfile
+import unittest
+from argparse import Namespace
+from pathlib import Path
+from typing import Any, Iterator, List, Optional
+from unittest import mock
+
+from geesefuton import events, lobby
+from geesefuton.lobby import Lobby, LobbyError, LobbySettings
+from geesefuton.teller import STOPPED
+from tests.helpers import TOP
+
+GAME = TOP / "examples" / "first.game"
+
+
+class Case(unittest.TestCase):
+    def setUp(self) -> None:
+        place = tempfile.TemporaryDirectory()
+        self.addCleanup(place.cleanup)
+        self.folder = Path(place.name).resolve()
+
+    def patch(self, name: str, *what: Any, **how: Any) -> Any:
+        change = mock.patch(f"geesefuton.lobby.{name}", *what, **how)
+        self.addCleanup(change.stop)
+        return change.start()
+
+
+class Words(Case):
+    def given(self, *words: str) -> Namespace:
+        with mock.patch("sys.argv", ["lobby", *words]):
+            return lobby._arguments()
+
+    def test_what_holds_if_nothing_is_said(self) -> None:
+        self.assertEqual(vars(self.given("my.game", "7000", "500")), {
+            "game": Path("my.game"), "port": 7000, "pace": 500, "form": None, "start": None,
+            "after": 30.0, "patience": 30.0, "silence": 10.0, "journal": None, "page": None,
+            "late": 6, "names": False})
+
+    def test_all_that_may_be_said(self) -> None:
+        self.assertEqual(vars(self.given(
+            "g", "65535", "60000", "--start", "0", "--after", "1.5", "--patience", "2",
+            "--silence", "3", "--journal", "j", "--page", "1", "--late", "54", "--names", "json"
+        )), {"game": Path("g"), "port": 65535, "pace": 60000, "form": "json", "start": 0.0,
+             "after": 1.5, "patience": 2.0, "silence": 3.0, "journal": Path("j"), "page": 1,
+             "late": 54, "names": True})
+        self.assertEqual(self.given("g", "1", "1", "--late", "0").late, 0)
+
+    def test_what_is_refused(self) -> None:
+        for words in (["g", "0", "1"], ["g", "65536", "1"], ["g", "7", "0"], ["g", "7", "60001"],
+                      ["g", "7"], ["g", "7", "1", "xml"], ["g", "7", "1", "--late", "55"],
+                      ["g", "7", "1", "--page", "65536"], ["g", "7", "1", "--start", "-1"],
+                      ["g", "7", "1", "--after", "x"], ["g", "7", "1", "--silence", "nan"],
+                      ["g", "7", "1", "--patience", "-2"], ["g", "7", "1", "--name"]):
+            with mock.patch("geesefuton.arguments.tell") as told, \
+                    self.assertRaises(SystemExit) as caught:
+                self.given(*words)
+            self.assertEqual((caught.exception.code, told.call_count), (2, 1), words)
+
+
+class Main(Case):
+    """The command, with a lobby that plays nothing."""
+
+    def setUp(self) -> None:
+        super().setUp()
+        self.made = self.patch("Lobby")
+        self.made.return_value = mock.Mock(port=7000, words=["red", "blue"])
+        self.teller = self.patch("Teller").return_value
+        self.signals = self.patch("_Signals").return_value
+        self.told = self.patch("tell")
+        self.patch("_open_standard_files", return_value=True)
+        self.patch("_default_journal", return_value=Path("default.journal"))
+
+    def run_it(self, status: int, number: int = 0, *words: str) -> int:
+        self.made.return_value.run.return_value = status
+        self.signals.number = number
+        with mock.patch("sys.argv", ["lobby", "my.game", "7000", "500", *words]):
+            return lobby._main()
+
+    def settings(self) -> LobbySettings:
+        settings: LobbySettings = self.made.call_args[0][0]
+        return settings
+
+    def test_the_lobby_is_told_all(self) -> None:
+        self.run_it(0, 0, "json", "--start", "1", "--after", "2", "--patience", "3", "--silence",
+                    "4", "--journal", "j", "--page", "8", "--late", "9", "--names")
+        self.assertEqual(self.settings(), LobbySettings(
+            game=Path("my.game"), port=7000, pace=500, log=sys.stdout.buffer, form="json",
+            start=1.0, linger=2.0, patience=3.0, silence=4.0, journal=Path("j"), page=8, late=9,
+            names=True, orders=sys.stdin))
+        said = self.teller.say.call_args[0][0]
+        self.assertIn("port 7000", said)
+        self.assertIn("red blue", said)
+        self.assertIn("the journal is j", said)
+        self.made.return_value.run.assert_called_once_with(self.teller.tell)
+        self.teller.close.assert_called_once_with()
+
+    def test_what_holds_if_nothing_is_said(self) -> None:
+        self.run_it(0)
+        self.assertEqual(self.settings(), LobbySettings(
+            game=Path("my.game"), port=7000, pace=500, log=sys.stdout.buffer, form="words",
+            start=None, linger=30.0, patience=30.0, silence=10.0, journal=Path("default.journal"),
+            page=None, late=6, names=False, orders=sys.stdin))
+
+    def test_without_an_output_and_without_a_journal(self) -> None:
+        self.patch("_open_standard_files", return_value=False)
+        self.patch("_default_journal", return_value=None)
+        self.run_it(0)
+        self.assertIsNone(self.settings().log)
+        self.assertIn("there is no journal", self.teller.say.call_args[0][0])
+
+    def test_settings_that_are_not_given(self) -> None:
+        self.assertEqual(LobbySettings(Path("g"), 7, 5, None), LobbySettings(
+            game=Path("g"), port=7, pace=5, log=None, form="words", start=None, linger=30.0,
+            patience=30.0, silence=10.0, journal=None, page=None, late=6, names=False, orders=None))
+
+    def test_exit_statuses(self) -> None:
+        for status, number, due in ((0, 0, 0), (6, 0, 6), (4, 2, 4), (137, 0, 137),
+                                    (STOPPED, signal.SIGINT, 130), (STOPPED, signal.SIGTERM, 143),
+                                    (STOPPED, signal.SIGHUP, 129), (STOPPED, 0, 130)):
+            self.assertEqual(self.run_it(status, number), due)
+        self.told.assert_not_called()
+
+    def test_errors(self) -> None:
+        self.made.return_value.run.side_effect = LobbyError("the journal is there already")
+        self.assertEqual(self.run_it(0), 1)
+        self.told.assert_called_once_with("lobby: the journal is there already")
+        self.teller.close.assert_called_once_with()
+        self.made.side_effect = LobbyError("port 7000: taken")
+        self.assertEqual(self.run_it(0), 1)
+        self.told.assert_called_with("lobby: port 7000: taken")
+
+
+class Signals(Case):
+    def setUp(self) -> None:
+        super().setUp()
+        self.handlers = {}
+        self.patch("signal.signal", self.handlers.__setitem__)
+        self.clock = self.patch("time.monotonic", return_value=0.5)
+        self.lobby, self.teller = mock.Mock(is_playing=True), mock.Mock()
+
+    def take(self, number: int, at: float) -> bool:
+        """Whether the game is ended by a signal."""
+        self.clock.return_value = at
+        self.lobby.interrupt.reset_mock()
+        self.handlers[number](number, None)
+        return bool(self.lobby.interrupt.called)
+
+    def test_in_the_game(self) -> None:
+        taken = lobby._Signals(self.lobby, self.teller)
+        self.assertEqual(set(self.handlers), {signal.SIGINT, signal.SIGTERM, signal.SIGHUP})
+        self.assertFalse(self.take(signal.SIGHUP, 0.5) or self.teller.say.called)
+        self.assertFalse(self.take(signal.SIGINT, 1.0))
+        self.assertIn("the game goes on", self.teller.say.call_args[0][0])
+        self.assertFalse(self.take(signal.SIGINT, 6.5))  # not within five seconds
+        self.assertEqual((self.teller.say.call_count, taken.number), (2, 0))
+        self.assertTrue(self.take(signal.SIGINT, 11.0))
+        self.assertEqual(taken.number, signal.SIGINT)
+        self.assertTrue(self.take(signal.SIGTERM, 20.0))
+        self.assertEqual(taken.number, signal.SIGTERM)
+
+    def test_before_the_game(self) -> None:
+        self.lobby.is_playing = False
+        for number in (signal.SIGINT, signal.SIGHUP, signal.SIGTERM):
+            taken = lobby._Signals(self.lobby, self.teller)
+            self.assertTrue(self.take(number, 1.0))
+            self.assertEqual(taken.number, number)
+
+    def test_what_is_ignored_stays_so(self) -> None:
+        self.patch("signal.getsignal", lambda number: (
+            signal.SIG_IGN if number == signal.SIGHUP else signal.SIG_DFL))
+        lobby._Signals(self.lobby, self.teller)
+        self.assertEqual(set(self.handlers), {signal.SIGINT, signal.SIGTERM})
+
+
+class Journals(Case):
+    def test_the_default_is_beside_the_log_with_the_game_and_the_date(self) -> None:
+        teller = mock.Mock()
+        self.patch("_output_folder", return_value=self.folder)
+        file = lobby._default_journal(Path("some/my.game"), teller)
+        assert file is not None
+        self.assertEqual((file.parent, file.exists()), (self.folder, False))
+        self.assertRegex(file.name, r"^my-20\d{6}-\d{6}\.journal$")
+        with mock.patch("time.strftime", return_value="DATE"):
+            (self.folder / "my-DATE.journal").touch()
+            self.assertEqual(lobby._default_journal(Path("my.game"), teller),
+                             self.folder / "my-DATE-2.journal")
+        teller.say.assert_not_called()
+
+    def test_if_none_can_be_made_there_it_is_in_this_folder(self) -> None:
+        teller = mock.Mock()
+        self.patch("_output_folder", return_value=self.folder / "none")
+        before = os.getcwd()
+        os.chdir(self.folder)
+        self.addCleanup(os.chdir, before)
+        file = lobby._default_journal(Path("my.game"), teller)
+        assert file is not None
+        self.assertEqual(file.resolve().parent, self.folder)
+        self.assertIn("no journal can be made", teller.say.call_args[0][0])
+        with mock.patch("os.open", side_effect=OSError(30, "Read-only file system")):
+            self.assertIsNone(lobby._default_journal(Path("my.game"), teller))
+
+    @contextlib.contextmanager
+    def output(self, number: int) -> Iterator[None]:
+        """Standard output is another file for a while."""
+        kept = os.dup(1)
+        try:
+            os.dup2(number, 1)
+            yield
+        finally:
+            os.dup2(kept, 1)
+            os.close(kept)
+
+    @unittest.skipUnless(Path("/proc/self").exists(), "the system does not tell")
+    def test_the_folder_of_the_output(self) -> None:
+        with open(self.folder / "my.log", "wb") as file, self.output(file.fileno()):
+            self.assertEqual(lobby._output_folder(), self.folder)
+        with open(os.devnull, "wb") as file, self.output(file.fileno()):
+            self.assertEqual(lobby._output_folder(), Path())
+
+    def test_how_a_log_is_made_of_one(self) -> None:
+        tool = os.path.relpath(TOP / "tools" / "recover")
+        self.assertEqual(lobby.recovery_line(Path("a/my-1.journal")),
+                         f"{tool} a/my-1.journal > my-1.recovered.log")
+        self.patch("program.top", return_value=None)
+        self.assertEqual(lobby.recovery_line(Path("my.journal")),
+                         "tac-recover my.journal > my.recovered.log")
+
+
+class Pages(Case):
+    """The page that the lobby starts."""
+
+    def setUp(self) -> None:
+        super().setUp()
+        change = mock.patch.dict(os.environ, {"TAC": str(Path(__file__).with_name("fake_tac.py"))})
+        change.start()
+        self.addCleanup(change.stop)
+
+    def lobby(self, page: Optional[int], **more: Any) -> Lobby:
+        made = Lobby(LobbySettings(GAME, 0, 5, None, page=page, **more))
+        for link in (made._listener, made._wake, made._waker):
+            self.addCleanup(link.close)
+        return made
+
+    def started(self, **more: Any) -> List[str]:
+        children = mock.Mock()
+        self.lobby(None, **more)._start_page(children, mock.Mock(file=Path("my.journal")))
+        how = children.start.call_args[1]
+        self.assertIn(str(TOP / "python"), how["env"]["PYTHONPATH"].split(os.pathsep))
+        words: List[str] = children.start.call_args[0][0]
+        self.assertEqual(words[:4], [sys.executable, "-m", "geesefuton.live", "my.journal"])
+        return words[5:]
+
+    def test_its_words(self) -> None:
+        self.assertEqual(self.started(), ["--late", "6", "--until-over"])
+        self.assertEqual(self.started(late=0, names=True),
+                         ["--late", "0", "--until-over", "--names"])
+
+    def test_links_come_in_at_every_address(self) -> None:
+        made = self.lobby(None)
+        self.assertIn(made._listener.getsockname()[0], ("::", "0.0.0.0"))
+        self.assertEqual(made.words, [f"seat{number}" for number in range(8)])
+        for host in ("127.0.0.1", *["::1"] * socket.has_dualstack_ipv6()):
+            socket.create_connection((host, made.port)).close()
+
+    def test_what_is_told_of_a_game_that_is_stopped(self) -> None:
+        for is_playing, given, due in ((True, "my.journal", True), (True, None, False),
+                                       (False, "my.journal", False)):
+            made, told = self.lobby(None, journal=given and Path(given)), list[events.Event]()
+            made._emit, made.is_playing = told.append, is_playing
+            self.assertEqual(made._stop(mock.Mock(file=Path("my.journal"))), 130)
+            warned, finished = told
+            self.assertIn("there is no log", getattr(warned, "text"))
+            self.assertEqual("my.journal > " in getattr(warned, "text"), due)
+            self.assertEqual((getattr(finished, "status"), getattr(finished, "log")), (130, None))
+
+    def test_its_port_has_to_be_free(self) -> None:
+        with socket.create_server(("", 0)) as other, \
+                self.assertRaisesRegex(LobbyError, "port .*in use"):
+            self.lobby(other.getsockname()[1])
+
+    def test_the_game_goes_on_without_it(self) -> None:
+        made, told = self.lobby(None), list[events.Event]()
+        made._emit = told.append
+        made._look_at_page()
+        made._page = mock.Mock(poll=mock.Mock(return_value=None))
+        made._look_at_page()
+        self.assertEqual(told, [])
+        made._page = mock.Mock(poll=mock.Mock(return_value=1), returncode=1)
+        for _ in range(2):
+            made._look_at_page()
+        self.assertEqual(len(told), 1)
+        self.assertRegex(getattr(told[0], "text"), "page has ended, exit status 1; the game goes")
+
+    def test_without_a_journal_of_the_hosts_it_has_one_that_goes_away(self) -> None:
+        for page, given, due in ((None, None, None), (None, "my.journal", "my.journal"),
+                                 (8000, None, "journal"), (8000, "other", "other")):
+            made = self.lobby(None, journal=given and self.folder / given)
+            made.settings.page = page
+            journal = made._open_journal(self.folder)
+            self.assertEqual(journal and journal.file.name, due)
+            if journal:
+                journal.close()
+                first = re.match(r'\{"journal":1,"at":\d+,"pace":5,"form":"words","game":"',
+                                 journal.file.read_text())
+                self.assertTrue(first)
+                self.assertEqual(journal.file.stat().st_mode & 0o777, 0o600)  # it has the words
+
+    def test_a_journal_that_cannot_be_made(self) -> None:
+        made = self.lobby(None, journal=self.folder / "none" / "my.journal")
+        with self.assertRaisesRegex(LobbyError, "no journal can be made: .*No such file"):
+            made._open_journal(self.folder)
+
+
+if __name__ == "__main__":
+    unittest.main()

@@ -1,0 +1,151 @@
+"""The host's commands: which lines come, and when the lobby may read them."""
+
+import io
+import os
+import tempfile
+import unittest
+from collections import deque
+from pathlib import Path
+from typing import Any, Callable, Deque, Dict, Optional
+from unittest import mock
+
+from geesefuton.orders import Orders
+
+
+class Selecting:
+    """Stands for the relay: it keeps what is to be called if a file can be read."""
+
+    def __init__(self) -> None:
+        self.calls: Dict[int, Callable[[], None]] = {}
+
+    def attend(self, number: int, call: Callable[[], None]) -> None:
+        assert number not in self.calls, "it is attended already"
+        self.calls[number] = call
+
+    def forget(self, number: int) -> None:
+        del self.calls[number]
+
+
+class Waiting(unittest.TestCase):
+    """Commands from a pipe, as from a terminal."""
+
+    def setUp(self) -> None:
+        self.number, self.other = os.pipe()
+        self.source = os.fdopen(self.number, "r")
+        self.addCleanup(self.source.close)
+        self.addCleanup(self.close)
+        self.relay: Any = Selecting()
+        self.got: Deque[str] = deque()
+        self.orders = Orders(self.source, self.got)
+
+    def close(self) -> None:
+        if self.other >= 0:
+            os.close(self.other)
+            self.other = -1
+
+    def say(self, data: bytes) -> None:
+        """What comes is read at once, if it is attended."""
+        os.write(self.other, data)
+        self.relay.calls[self.number]()
+
+    def test_lines_come_whole_and_in_order(self) -> None:
+        self.orders.look(self.relay)
+        self.orders.look(self.relay)
+        self.assertEqual(list(self.relay.calls), [self.number])
+        for data, due in ((b"wit", []), (b"hout seat3\n", ["without seat3"]),
+                          (b" without seat4 \r\n\nwith", ["without seat4", ""]),
+                          (b"out seat5\n", ["without seat5"]), (b"\xff\n", ["\ufffd"])):
+            self.say(data)
+            self.assertEqual(list(self.got), due)
+            self.got.clear()
+
+    def test_the_end_of_what_is_read(self) -> None:
+        self.orders.look(self.relay)
+        self.say(b"\n")
+        self.close()
+        self.relay.calls[self.number]()
+        self.assertEqual((list(self.got), self.relay.calls), ([""], {}))
+        self.orders.look(self.relay)
+        self.assertEqual(self.relay.calls, {})
+
+    def test_nothing_there_and_a_fault(self) -> None:
+        self.orders.look(self.relay)
+        with mock.patch("os.read", side_effect=BlockingIOError):
+            self.relay.calls[self.number]()
+        self.say(b"\n")
+        self.assertEqual(list(self.got), [""])
+        with mock.patch("os.read", side_effect=OSError):
+            self.relay.calls[self.number]()
+        self.orders.look(self.relay)
+        self.assertEqual(self.relay.calls, {})
+
+    def test_a_terminal_is_read_in_the_foreground_alone(self) -> None:
+        with mock.patch("os.isatty", return_value=True) as isatty, \
+                mock.patch("os.tcgetpgrp") as group:
+            group.return_value = os.getpgrp() + 1
+            self.orders.look(self.relay)
+            self.assertEqual(self.relay.calls, {})
+            group.side_effect = OSError
+            self.orders.look(self.relay)
+            self.assertEqual(self.relay.calls, {})
+
+            group.side_effect, group.return_value = None, os.getpgrp()
+            self.orders.look(self.relay)
+            self.say(b"one\n")
+            group.return_value = os.getpgrp() + 1  # the host has put it into the background
+            self.say(b"two\n")
+            self.assertEqual((list(self.got), self.relay.calls), (["one"], {}))
+
+            group.return_value = os.getpgrp()
+            self.orders.look(self.relay)
+            self.relay.calls[self.number]()
+            self.assertEqual(list(self.got), ["one", "two"])
+            isatty.assert_called_with(self.number)
+
+    def test_a_pipe_is_read_in_the_background_too(self) -> None:
+        with mock.patch("os.tcgetpgrp", return_value=os.getpgrp() + 1):
+            self.orders.look(self.relay)
+            self.say(b"one\n")
+        self.assertEqual(list(self.got), ["one"])
+
+
+class AtOnce(unittest.TestCase):
+    """Sources that need no waiting."""
+
+    def orders(self, source: Optional[Any], relay: Any) -> "list[str]":
+        got: Deque[str] = deque()
+        orders = Orders(source, got)
+        for _ in range(2):
+            orders.look(relay)
+        return list(got)
+
+    def test_none(self) -> None:
+        relay = mock.Mock()
+        self.assertEqual(self.orders(None, relay), [])
+        closed = io.StringIO("one\n")
+        closed.close()
+        self.assertEqual(self.orders(closed, relay), [])
+        with open(os.devnull, encoding="ascii") as file:
+            pass  # a standard input that was closed
+        self.assertEqual(self.orders(file, relay), [])
+        self.assertEqual(relay.method_calls, [])
+
+    def test_a_text_in_memory(self) -> None:
+        relay = mock.Mock()
+        source = io.StringIO("without seat3\n\n  one \n")
+        self.assertEqual(self.orders(source, relay), ["without seat3", "", "one"])
+        self.assertEqual(relay.method_calls, [])
+
+    def test_a_file_is_read_to_its_end(self) -> None:
+        with tempfile.TemporaryDirectory() as folder:
+            file = Path(folder, "orders")
+            lines = [f"without seat{number}" for number in range(500)]  # more than are read at once
+            file.write_text("".join(f"{line}\n" for line in lines))
+            for fault in (PermissionError, ValueError):
+                relay = mock.Mock(attend=mock.Mock(side_effect=fault))
+                with file.open() as source:
+                    self.assertEqual(self.orders(source, relay), lines)
+
+
+if __name__ == "__main__":
+    unittest.main()

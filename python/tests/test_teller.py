@@ -1,0 +1,144 @@
+"""What the host is told."""
+
+import re
+import threading
+import unittest
+from datetime import datetime
+from typing import List, Sequence
+from unittest import mock
+
+from geesefuton import events, program
+from geesefuton.events import End, Event
+from geesefuton.teller import Teller
+
+WORDS = [f"seat{number}" for number in range(8)]
+PART = re.compile(r"(! )?(\d\d:\d\d:\d\d) (.*)")
+
+
+def parts_of(*happened: Event) -> List[Sequence[str]]:
+    """Of each line whether it is marked, its time, and its text."""
+    told: List[str] = []
+    with mock.patch("geesefuton.teller.tell", told.append):
+        teller = Teller(WORDS)
+        for event in happened:
+            teller.tell(event)
+        teller.close()
+    parts = [PART.fullmatch(line) for line in told]
+    assert all(parts), told
+    return [part.groups("") for part in parts if part]
+
+
+def texts_of(*happened: Event) -> List[str]:
+    return [text for _, _, text in parts_of(*happened)]
+
+
+class Texts(unittest.TestCase):
+    def test_a_game(self) -> None:
+        self.assertEqual(texts_of(
+            events.Arrived(0.0, 1, "seat1", "10.0.0.7"), events.Departed(0.0, 1, "seat1"),
+            events.Arrived(0.0, 3, "seat3", "10.0.0.6"),
+            events.Rejoined(0.0, 1, "seat1", "10.0.0.8"),
+            events.Arrived(0.0, 4, "seat4", "10.0.0.5"), events.Waived(0.0, "seat2"),
+            events.Began(0.0, (1,)), events.Ticked(0.0, 5, (1,) * 8),
+            events.Ticked(0.0, 6, tuple(range(8))), events.Warned(0.0, "mind the gap"),
+            events.Ended(0.0, 1, "seat1", End.HUNG, 17), events.Finished(0.0, 130, None),
+            events.Finished(0.0, 6, "my.log")), [
+            "seat1 is here from 10.0.0.7; missing: seat0 seat2 seat3 seat4 seat5 seat6 seat7",
+            "seat1 went away, and may come again",
+            "seat3 is here from 10.0.0.6; missing: seat0 seat1 seat2 seat4 seat5 seat6 seat7",
+            "seat1 is here again, from 10.0.0.8",
+            "seat4 is here from 10.0.0.5; missing: seat0 seat2 seat5 seat6 seat7",
+            "seat2 is not waited for",
+            "the game begins without seat0 seat2 seat3 seat4 seat5 seat6 seat7",
+            "tick 6 of 54; lines: seat0 0 seat1 1 seat2 2 seat3 3 seat4 4 seat5 5 seat6 6 seat7 7",
+            "mind the gap", "seat1 still had its link long after the last tick, 17 lines",
+            "the game is over, exit status 6: a tick lapsed; the scores stand; the log is in my.log"
+        ])
+
+    def test_a_game_with_all(self) -> None:
+        here = [events.Arrived(0.0, seat, word, "h") for seat, word in enumerate(WORDS)]
+        told = texts_of(*here, events.Began(0.0, tuple(range(8))), events.Finished(0.0, 0, None))
+        self.assertEqual(told[-4:], ["seat6 is here from h; missing: seat7",
+                                     "seat7 is here from h; missing: nobody", "the game begins",
+                                     "the game is over, exit status 0"])
+
+    def test_why_seats_are_over(self) -> None:
+        told = texts_of(*(events.Ended(0.0, 2, "seat2", reason, 3) for reason in End))
+        self.assertEqual(dict(zip(End, told)), {
+            End.LEFT: "seat2 has left, 3 lines",
+            End.GONE: "seat2 went away and did not come again, 3 lines",
+            End.HUNG: "seat2 still had its link long after the last tick, 3 lines",
+            End.ABSENT: "seat2 never came, 3 lines",
+            End.REFUSED: "seat2 sent only lines that were refused, 3 lines"})
+
+    def test_ticks_are_told_every_six(self) -> None:
+        told = texts_of(*(events.Ticked(0.0, tick, (0,) * 8) for tick in range(1, 55)))
+        self.assertEqual([text.split(" of 54; ")[0] for text in told],
+                         [f"tick {tick}" for tick in range(6, 55, 6)])
+
+    def test_what_an_exit_status_means(self) -> None:
+        for status in (1, 2, 3, 4, 5, 6, 7):
+            self.assertEqual(texts_of(events.Finished(0.0, status, None)),
+                             [f"the game is over, exit status {status}: "
+                              f"{program.MEANINGS[status]}"])
+        self.assertEqual(texts_of(events.Finished(0.0, 137, "l")),
+                         ["the game is over, exit status 137; the log is in l"])
+
+    def test_the_same_refusal_is_told_once_in_ten_seconds(self) -> None:
+        def refused(at: float, source: str = "h", answer: str = "taken") -> events.Refused:
+            return events.Refused(at, source, answer, "hello seat1")
+
+        told = parts_of(refused(20), refused(25), refused(26, "i"), refused(27, "h", "syntax"),
+                        refused(29.9), refused(30), refused(31, "k"), refused(39))
+        self.assertEqual([text for _, _, text in told], [
+            "refused taken to h, which said 'hello seat1'",
+            "refused taken to i, which said 'hello seat1'",
+            "refused syntax to h, which said 'hello seat1'",
+            "refused taken to h, which said 'hello seat1'",
+            "refused taken to k, which said 'hello seat1'"])
+
+    def test_only_faults_are_marked_and_each_line_has_its_time(self) -> None:
+        at = 1_700_000_000.0
+        faults = [events.Departed(at, 1, "seat1"), events.Refused(at, "h", "taken", "x"),
+                  events.Warned(at, "mind")]
+        others = [events.Arrived(at, 1, "seat1", "h"), events.Rejoined(at, 1, "seat1", "h"),
+                  events.Waived(at, "seat1"), events.Began(at, ()), events.Ticked(at, 6, (0,) * 8),
+                  events.Ended(at, 1, "seat1", End.LEFT, 0), events.Finished(at, 0, None)]
+        self.assertEqual([mark for mark, _, _ in parts_of(*faults, *others)],
+                         ["! "] * len(faults) + [""] * len(others))
+        clock = datetime.fromtimestamp(at).strftime("%H:%M:%S")
+        self.assertEqual({told for _, told, _ in parts_of(*faults, *others)}, {clock})
+
+
+class Threads(unittest.TestCase):
+    def test_a_terminal_that_is_held_holds_nobody(self) -> None:
+        told, held = list[str](), threading.Event()
+        with mock.patch("geesefuton.teller.tell",
+                        lambda line: (held.wait(3.0), told.append(line))):
+            teller = Teller(WORDS)
+            teller.tell(events.Warned(0.0, "mind"))
+            before = datetime.now().strftime("%H:%M:%S")
+            teller.say("the gap")
+            clocks = (before, datetime.now().strftime("%H:%M:%S"))
+            self.assertEqual(told, [])
+            held.set()
+            teller.close()
+        self.assertEqual(len(told), 2)
+        self.assertIn(told[1], [f"{clock} the gap" for clock in clocks])
+        self.assertFalse(teller._thread.is_alive())
+
+    def test_nor_is_the_end_held(self) -> None:
+        came, held = threading.Event(), threading.Event()
+        self.addCleanup(held.set)
+        with mock.patch("geesefuton.teller.tell", lambda line: (came.set(), held.wait(60.0))):
+            teller = Teller(WORDS)
+            teller.say("mind")
+            self.assertTrue(came.wait(60.0))
+            with mock.patch.object(teller._thread, "join", return_value=None) as join:
+                teller.close()
+        self.assertLessEqual(join.call_args[0][0], 5.0)  # seconds
+        self.assertTrue(teller._thread.daemon)
+
+
+if __name__ == "__main__":
+    unittest.main()
