@@ -58,7 +58,7 @@ class Numbers(unittest.TestCase):
 
 class Statements(unittest.TestCase):
     def test_proof_is_left_out(self) -> None:
-        said = Lemmas().statement("worked_rows/Cash:posts_match_in_any_order")
+        said = Lemmas().statement("worked_rows/Logs:posts_match_in_any_order")
         self.assertEqual(len(said), 1)
         self.assertIn(": Matched", said[0])
 

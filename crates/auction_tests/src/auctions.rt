@@ -1,5 +1,3 @@
-ghost use Rattle.auction_core.specs.Calls.{IsFit};
-
 use auction_core::{Auction, Struck};
 use game_text::Game;
 use std::process::Abort;
@@ -7,18 +5,8 @@ use std::test::Fail;
 use tac_base::{Call, Caller, Good, Party, Point, Points, Reply};
 use turn_lock::Kept;
 
-/// One call of a short history.
+/// An agent's bid of one point, in a short history.
 #[tactic(auto, using(auction_core::proofs::Counting::room_below))]
-fn strike(rt: &impl Abort, auction: &mut Auction, caller: u8, call: &Call) -> Result<Struck, Fail>
-    requires { IsFit call.now }
-{
-    let caller = Caller::new(caller)?;
-    let count = auction.len();
-    assert!(rt; count < 64);
-    Ok(auction.act(caller, call))
-}
-
-/// An agent's bid of one point.
 fn bid(
     rt: &impl Abort,
     auction: &mut Auction,
@@ -27,7 +15,10 @@ fn bid(
     price: u16,
 ) -> Result<Struck, Fail> {
     let points = Points::new(&[Point { units, price }])?;
-    strike(rt, auction, agent, &Call::Bid(points))
+    let caller = Caller::new(agent)?;
+    let count = auction.len();
+    assert!(rt; count < 64);
+    Ok(auction.act(caller, &Call::Bid(points)))
 }
 
 /// Agent 0 sells a ticket that it does not have to agent 1, who would buy one more.
@@ -53,41 +44,5 @@ fn history_is_shown(rt: HostRuntime) -> Result<(), Fail> {
     );
     assert!(rt; museum.entry(1).is_some() && museum.entry(2).is_none());
     assert_eq!(rt; museum.board().bid, 70);
-    Ok(())
-}
-
-/// A night of one room with live quotes: the second bid has to beat the first, and each shows its ask.
-#[test]
-fn night_has_the_rooms_and_quotes_of_its_game(rt: HostRuntime) -> Result<(), Fail> {
-    let game = Game {
-        version: 2,
-        rooms: [1, 16, 16, 16, 16, 16, 16, 16],
-        live: true,
-        ..Game::default()
-    };
-    let mut night = Auction::begin(rt.alloc(), Good::new(8)?, &game)?;
-    assert!(rt; matches!(bid(&rt, &mut night, 0, 1, 50)?.reply, Reply::Taken { .. }));
-    assert_eq!(rt; night.board().ask, 50);
-    assert!(rt;
-        matches!(
-            bid(&rt, &mut night, 1, 1, 50)?.reply,
-            Reply::BelowQuote {
-                need: 1,
-                at: 51,
-                offered: 0
-            }
-        )
-    );
-    assert!(rt; matches!(bid(&rt, &mut night, 1, 1, 51)?.reply, Reply::Taken { .. }));
-    let closing = strike(&rt, &mut night, 8, &Call::Close)?;
-    assert!(rt;
-        matches!(
-            closing.reply,
-            Reply::Sold {
-                units: 1,
-                price: 51
-            }
-        )
-    );
     Ok(())
 }

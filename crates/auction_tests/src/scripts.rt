@@ -3,34 +3,17 @@ use script_run::{PlayCount, play};
 use std::test::Fail;
 use tac_io::MemSink;
 
-/// Scripts and what is written of their lines, in the quiet game. In the last row seats, a night and tickets are traded, and the cash of the
-/// agent is what its trades cost.
-const ROWS: [(&str, &str, (u32, u32)); 6] = [
+/// Scripts and what is written of their lines, in the quiet game.
+const ROWS: [(&str, &str, (u32, u32)); 2] = [
     (
         "0 bid 24 ((1 80) (-1 70))\n0 bid 0 ((-1 300))\n0 withdraw 8\n0 withdraw 24\n",
         "0 @0 no selfcross\n0 @0 no sell\n0 @0 no wrongcall\n0 @1 no nobid\n",
         (484, 0),
     ),
     (
-        "0 bid 24 ((-1 60))\n0 bid 24 ((1 70))\n0 quote 24\n0 own 24\n",
-        "0 @0 taken 0 0\n0 @1 taken 0 0\n0 @2 quote 70 0 open\n0 @2 own 0 ((1 70))\n",
-        (483, 0),
-    ),
-    (
-        "0 bid 0 ((17 1))\n0 bid 28 ((1 1))\n0 buy 0\n0 \n0 quit\n",
-        "0 no bid 3\n0 no auction\n0 no syntax\n0 no syntax\n0 bye\n",
-        (480, 0),
-    ),
-    (
         "tick\ntick\ntick\ntick\ntick\ntick\n0 quote 8\n7 own 8\n7 bid 8 ((1 5))\n7 quote 0\n",
         "0 @1 quote 0 0 closed\n7 @1 own 0 ()\n7 @2 no closed\n7 @6 quote 0 300 open\n",
         (482, 0),
-    ),
-    ("", "", (480, 0)),
-    (
-        "0 bid 0 ((1 300))\n0 bid 4 ((1 300))\n0 bid 8 ((1 50))\n1 bid 24 ((-2 60))\n0 bid 24 ((1 70))\n2 bid 24 ((1 70))\n1 own 24\n0 cash\n0 quote 8\n",
-        "0 @0 taken 1 0\n0 @0 taken 1 0\n0 @0 taken 0 0\n1 @0 taken 0 0\n0 @1 taken 1 0\n2 @2 taken 1 0\n1 @3 own -2 ()\n0 @4 cash -660\n0 @1 quote 0 0 open\n",
-        (487, 5),
     ),
 ];
 

@@ -8,4 +8,3 @@ pub mod CallLists
 pub mod FreshPasses
 pub mod BornOut
 pub mod ReturnedRows
-pub mod FirstDesks

@@ -6,11 +6,9 @@ use clock_events::run_clock;
 use floor::{Desk, Floor};
 use game_text::Game;
 use std::alloc::Global;
-use std::rt::Clock;
-use std::sync::Wait;
 use std::test::Fail;
 use tac_base::{Good, Tick};
-use tac_io::{Look, LookingTicker, MemTicker, Ticker};
+use tac_io::{Look, LookingTicker, Ticker};
 
 /// A floor of a game, with the desks of an agent and of the clock.
 fn begin_two(alloc: Global, game: &Game) -> Result<(Floor, Desk, Desk), Fail>
@@ -22,33 +20,6 @@ fn begin_two(alloc: Global, game: &Game) -> Result<(Floor, Desk, Desk), Fail>
     let clock = desks.pop().ok_or("there are nine desks")?;
     let agent = desks.pop().ok_or("there are nine desks")?;
     Ok((floor, agent, clock))
-}
-
-/// How many entries the agent sees at the goods 0, 8, 15 and 16.
-fn seen_counts(floor: &Floor, agent: &mut Desk) -> Result<[u32; 4], Fail>
-    requires { desk_ids agent.old ≡ floor_ids floor.now }
-{
-    let first_flight = agent.quote(floor, Good::new(0)?).count;
-    let first_hotel = agent.quote(floor, Good::new(8)?).count;
-    let last_hotel = agent.quote(floor, Good::new(15)?).count;
-    let first_tickets = agent.quote(floor, Good::new(16)?).count;
-    Ok([first_flight, first_hotel, last_hotel, first_tickets])
-}
-
-/// The ticks that a clock missed in the quiet game, and the entries that an agent sees after it, where these waits lapse.
-fn played<R: Wait + Clock>(rt: &R, alloc: Global, lapsing: &[u64]) -> Result<(u8, [u32; 4]), Fail> {
-    let game = Game::default();
-    let (floor, mut agent, clock) = begin_two(alloc, &game)?;
-    let mut ticker = MemTicker::new(alloc, Vec::from_slice(alloc, lapsing)?)?;
-    let end = run_clock(rt, &floor, clock, &game, &mut ticker);
-    Ok((end.missed, seen_counts(&floor, &mut agent)?))
-}
-
-#[test]
-fn clock_makes_the_calls_of_lapsed_ticks_too(rt: HostRuntime) -> Result<(), Fail> {
-    assert_eq!(rt; played(&rt, rt.alloc(), &[])?, (0, [54, 1, 8, 1]));
-    assert_eq!(rt; played(&rt, rt.alloc(), &[20])?, (1, [54, 1, 8, 1]));
-    Ok(())
 }
 
 /// Looks on: a tick is due where the first flight has an entry for each tick before it.

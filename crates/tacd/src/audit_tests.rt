@@ -1,5 +1,5 @@
 // The audit of a log by its game.
-use crate::tests::{NO_FAULT, TRADES, changed, check, log_of};
+use crate::tests::{NO_FAULT, SERVED, TRADES, changed, check, log_of};
 use std::test::Fail;
 
 // A part of a log that is left as it is.
@@ -8,6 +8,7 @@ const KEPT: (&str, &str) = ("\nend\n", "\nend\n");
 // What is changed in the log, twice where one change is not enough, and what is written of it then.
 const JUDGED: &[((&str, &str), (&str, &str), u8, &str)] = &[
     (KEPT, KEPT, 0, "sound\n"),
+    (("\nplay\n", SERVED), KEPT, 0, "sound\n"),
     (
         ("trade 0 1 1 60\n", "trade 0 1 1 61\n"),
         KEPT,

@@ -96,21 +96,23 @@ fn games_are_made_played_and_scored(rt: HostRuntime) -> Result<(), Fail> {
     check_all(&rt, rt.alloc(), GAMES)
 }
 
-// A line, a line of its script and how many of these there are, and what is due.
-const SPENT: &[(&str, &str, usize, u8, &[&str])] = &[
+// A line, lines of its script and how many times they come, the last lines, and what is due.
+const LONG: &[(&str, &str, usize, &str, u8, &[&str])] = &[
+    // An agent has 1024 calls of an auction, and its clock 64.
     (
         "hotel script",
         "0 bid ((1 1))\n",
-        1025,
+        1_025,
+        "",
         8,
         &["text 1025 5\n"],
     ),
-    ("hotel script", "0 own\n", 1025, 8, &["text 1025 5\n"]),
-    ("hotel script", "publish\n", 65, 8, &["text 65 5\n"]),
+    ("hotel script", "publish\n", 65, "", 8, &["text 65 5\n"]),
     (
         "play game script",
         "0 own 24\n",
-        1025,
+        1_025,
+        "",
         0,
         &[
             "0 @0 own 0 ()\n",
@@ -119,25 +121,13 @@ const SPENT: &[(&str, &str, usize, u8, &[&str])] = &[
             "\n0 own = own 0 ()\n8 close = done\n",
         ],
     ),
-];
-
-#[test]
-fn an_agent_has_1024_calls_and_a_clock_64(rt: HostRuntime) -> Result<(), Fail> {
-    let alloc = rt.alloc();
-    for (line, one, count, code, parts) in SPENT {
-        let script = one.repeat(alloc, *count)?;
-        check(&rt, alloc, line, script.as_str(), NO_FAULT, *code, parts)?;
-    }
-    Ok(())
-}
-
-// Lines of a script, how many times they come, the last line, and what is due.
-const LARGE: &[(&str, usize, &str, &[&str])] = &[
     // A seat costs 300, so 1023 bids of 16 cost 4800 each; they make no trip.
     (
+        "play game script",
         "0 bid 0 ((16 300))\n",
         1_023,
         "0 own 0\n0 cash\n",
+        0,
         &[
             "0 @0 taken 16 0\n0 @1 taken 16 0\n",
             "\n0 @1022 taken 16 0\n0 @1023 own 16368 ()\n0 @1023 cash -4910400\ntaclog 1\n",
@@ -146,9 +136,11 @@ const LARGE: &[(&str, usize, &str, &[&str])] = &[
     ),
     // Agent 1 sells 16 tickets for a dollar each 512 times: it has 8192 dollars, and 8192 tickets short cost it 1638400.
     (
+        "play game script",
         "1 bid 24 ((-16 1))\n0 bid 24 ((16 1))\n",
         512,
         "1 own 24\n",
+        0,
         &[
             "1 @0 taken 0 0\n0 @1 taken 16 0\n1 @2 taken 0 0\n",
             "\n0 @1023 taken 16 0\n1 @1024 own -8192 ()\ntaclog 1\n",
@@ -158,9 +150,11 @@ const LARGE: &[(&str, usize, &str, &[&str])] = &[
     ),
     // The script has 66000 bytes.
     (
+        "play game script",
         "0 cash\n1 own 27\n2 bid 0 ((17 1))\n",
         2_000,
         "",
+        0,
         &[
             "0 @0 cash 0\n1 @0 own 0 ()\n2 no bid 3\n0 @1 cash 0\n",
             "\n0 @1023 cash 0\n1 @1023 own 0 ()\n2 no bid 3\n0 no spent\n1 no spent\n2 no bid 3\n",
@@ -172,20 +166,12 @@ const LARGE: &[(&str, usize, &str, &[&str])] = &[
 ];
 
 #[test]
-fn large_scripts_and_scores_are_played(rt: HostRuntime) -> Result<(), Fail> {
+fn long_scripts_and_large_scores_are_played(rt: HostRuntime) -> Result<(), Fail> {
     let alloc = rt.alloc();
-    for (lines, count, last, parts) in LARGE {
+    for (line, lines, count, last, code, parts) in LONG {
         let mut script = lines.repeat(alloc, *count)?;
         script.push_str(last)?;
-        check(
-            &rt,
-            alloc,
-            "play game script",
-            script.as_str(),
-            NO_FAULT,
-            0,
-            parts,
-        )?;
+        check(&rt, alloc, line, script.as_str(), NO_FAULT, *code, parts)?;
     }
     Ok(())
 }

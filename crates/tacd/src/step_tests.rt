@@ -1,5 +1,7 @@
 // Games that are played line by line, as their scripts come.
-use crate::tests::{BIDS, FIRST_CLIENT, Faults, NO_FAULT, TRADES, check, plain_game, run};
+use crate::tests::{
+    BIDS, Case, FIRST_CLIENT, Faults, NO_FAULT, TRADES, check, check_all, plain_game, run,
+};
 use std::test::Fail;
 
 // How many bytes of a file come at once.
@@ -66,60 +68,23 @@ fn the_lines_before_a_bad_one_are_answered(rt: HostRuntime) -> Result<(), Fail> 
     Ok(())
 }
 
-#[test]
-fn a_line_too_long_is_bad_once_its_end_comes(rt: HostRuntime) -> Result<(), Fail> {
-    let alloc = rt.alloc();
-    let long = "0 ".repeat(alloc, 600)?;
-    for (end, text) in &[
-        ("", "0 @0 cash 0\ntext 2 3\n"),
-        ("\n", "0 @0 cash 0\ntext 2 1\n"),
-    ] {
-        let script = format!(in alloc; "0 cash\n{long}{end}")?;
-        check(
-            &rt,
-            alloc,
-            "step game script",
-            script.as_str(),
-            NO_FAULT,
-            8,
-            &[text],
-        )?;
-    }
-    Ok(())
-}
-
-// A line, its script, the call of the files that fails, and what is due. A game is selected, read, and read at its end, and then its script.
-const UNREAD: &[(&str, &str, u64, u8, &str)] = &[
-    ("step game other", "", 0, 3, "fault read\n"),
-    ("step bad script", "0 cash\n", 4, 2, "game 20 4\n"),
-    ("step game script", "0 cash\n", 4, 3, "fault read\n"),
-    ("step game script", "0 cash\n", 5, 3, "fault read\n"),
-    (
-        "step game script",
-        "0 cash\n",
-        6,
-        3,
-        "0 @0 cash 0\nfault read\n",
-    ),
+// A game is selected, read, and read at its end, and then its script.
+const UNREAD: &[Case<'static>] = &[
+    ("step game other", "", 0, 3, &["fault read\n"]),
+    ("step bad script", "0 cash\n", 4, 2, &["game 20 4\n"]),
+    ("step game script", "0 cash\n", 4, 3, &["fault read\n"]),
+    ("step game script", "0 cash\n", 5, 3, &["fault read\n"]),
     (
         "step game script",
         "0 cash\n1 ca",
         6,
         3,
-        "0 @0 cash 0\nfault read\n",
+        &["0 @0 cash 0\nfault read\n"],
     ),
-    ("step game script", "x\n0 cash\n", 6, 8, "text 1 1\n"),
+    ("step game script", "x\n0 cash\n", 6, 8, &["text 1 1\n"]),
 ];
 
 #[test]
 fn a_failed_read_comes_after_the_replies(rt: HostRuntime) -> Result<(), Fail> {
-    let alloc = rt.alloc();
-    for (line, script, read, code, text) in UNREAD {
-        let faults = Faults {
-            read: *read,
-            ..NO_FAULT
-        };
-        check(&rt, alloc, line, script, faults, *code, &[text])?;
-    }
-    Ok(())
+    check_all(&rt, rt.alloc(), UNREAD)
 }

@@ -1,6 +1,8 @@
 // The table of the standings over several games.
 
-use crate::tests::{BAD_CLIENT, FIRST_CLIENT, NO_FAULT, TRADES, changed, log_of, plain_game, run};
+use crate::tests::{
+    BAD_CLIENT, FIRST_CLIENT, NO_FAULT, SERVED, TRADES, changed, log_of, plain_game, run,
+};
 use std::alloc::Global;
 use std::rt::Clock;
 use std::sync::Wait;
@@ -20,10 +22,15 @@ const TWICE: &str =
 const ONCE: &str =
     "table 3\nteam seat0 3 440 440/3 1\nteam seat1 3 -280 -280/3 8\nteam seat2 3 -60 -20/1 7\nteam seat3 3 0 0/1 2\nteam seat4 3 0 0/1 2\nteam seat5 3 0 0/1 2\nteam seat6 3 0 0/1 2\nteam seat7 3 0 0/1 2\nend\n";
 
+// Who has no seat does not count, so five teams play once.
+const SEATED: &str =
+    "table 2\nteam seat0 2 440 220/1 1\nteam seat1 2 -280 -140/1 8\nteam seat2 2 -60 -30/1 7\nteam seat3 1 0 0/1 2\nteam seat4 1 0 0/1 2\nteam seat5 1 0 0/1 2\nteam seat6 1 0 0/1 2\nteam seat7 1 0 0/1 2\nend\n";
+
 // A line, its code, and the text that is due.
 const TABLES: &[(&str, u8, &str)] = &[
     ("table game traded game traded", 0, TWICE),
     ("table game traded game idle game idle", 0, ONCE),
+    ("table game served game idle", 0, SEATED),
     ("table game idle game unsound", 9, "unsound 1\n"),
     ("table game", 1, "usage\n"),
     ("table", 1, "usage\n"),
@@ -64,6 +71,7 @@ fn standings_are_of_games_whose_logs_are_sound(rt: HostRuntime) -> Result<(), Fa
     let bad = plain_game(alloc, BAD_CLIENT)?;
     let idle = log_of(&rt, alloc, "")?;
     let traded = log_of(&rt, alloc, TRADES)?;
+    let served = changed(alloc, traded.as_str(), &("\nplay\n", SERVED))?;
     let unsound = changed(
         alloc,
         traded.as_str(),
@@ -74,6 +82,7 @@ fn standings_are_of_games_whose_logs_are_sound(rt: HostRuntime) -> Result<(), Fa
         ("bad", bad.as_bytes()),
         ("idle", idle.as_bytes()),
         ("traded", traded.as_bytes()),
+        ("served", served.as_bytes()),
         ("unsound", unsound.as_bytes()),
         ("bad_log", b"taclog 2\n".as_slice()),
     ];

@@ -223,6 +223,10 @@ const LIVE: &str = "rooms 1 16 16 16 16 16 16 16\nquotes live\n";
 pub(crate) const TRADES: &str =
     "0 bid 0 ((1 300))\n0 bid 4 ((1 300))\n0 bid 8 ((1 50))\n1 bid 24 ((-2 60))\n0 bid 24 ((1 70))\n2 bid 24 ((1 70))\n1 own 24\n0 cash\n0 quote 8\n";
 
+// The head of a log of those trades over links, where the other agents have no seats.
+pub(crate) const SERVED: &str =
+    "\nserve\nlink 0 seated 2\nlink 1 seated 0\nlink 2 lost\nlink 3 seated 1\nend 0 quit\nend 1 end\nend 2 quit\nmissed 54\n";
+
 // Bids of every fault.
 pub(crate) const BIDS: &str =
     "0 bid 0 ((16 10000))\n0 bid 0 ((17 1))\n0 bid 0 ((1 0))\n0 bid 0 ((1 10001))\n0 bid 0 ((0 100))\n0 bid 0 ((1 1)\n0 bid 0 ((1 1) (1 1) (1 1) (1 1) (1 1) (1 1) (1 1) (1 1) (1 1) (1 1) (1 1) (1 1) (1 1) (1 1) (1 1) (1 1) (1 1))\n0 bid 28 ((1 1))\n0 buy 0\n";
