@@ -1,8 +1,8 @@
 """The deals of a tournament, and which agent has which seat.
 
 A deal is what is fixed before a game: clients, tickets, flights, and the order of the hotels. Where
-seats are swapped, each deal is played as often as there are agents, and each time every agent has
-the next seat. So each agent plays each client of the deal once.
+seats are swapped, each deal is played as often as there are agents, and each time every seat has
+the next agent. So each agent plays each client of the deal once.
 """
 
 import hashlib

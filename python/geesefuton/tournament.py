@@ -30,7 +30,7 @@ import shutil
 import subprocess
 import sys
 import time
-from dataclasses import dataclass, field
+from dataclasses import dataclass, field, replace
 from multiprocessing.connection import Connection, Pipe, wait
 from pathlib import Path
 from typing import Dict, Iterator, List, Optional, Sequence, Tuple
@@ -433,7 +433,7 @@ def _main() -> int:
     summary = summarize(report.all_rows(), report.lost)
     for text in _write_summary(summary, plan.summaries):
         report.lose(text)
-    tell("\n" + as_text(summary))
+    tell("\n" + as_text(replace(summary, lost=report.lost)))
     return status or (1 if report.lost else 0)
 
 

@@ -7,7 +7,7 @@ from unittest import mock
 from geesefuton import deals, luck
 from geesefuton.deals import Deal, DealError, Rule, Table, read_rooms, seated, tables
 from geesefuton.games import PACKAGES, Client
-from tests.helpers import SERVED_GAME, served_game
+from tests.helpers import SERVED_GAME, TOP, served_game
 
 MADE = SERVED_GAME.read_text()
 
@@ -45,6 +45,10 @@ class Tables(unittest.TestCase):
         self.assertEqual(seated("abc", first), list("bcabcabc"))
         self.assertEqual(seated("abc", second), list("cabcabca"))
 
+    def test_with_swapped_seats_each_seat_has_the_next_agent(self) -> None:
+        self.assertEqual(["".join(seated("abc", table)) for table in tables(Rule(seed=4), 4, 3)],
+                         ["bcabcabc", "cabcabca", "abcabcab", "cabcabca"])
+
     def test_seeds_begin_at_one_and_are_of_64_bits(self) -> None:
         self.assertEqual((Rule().seed, deals.MOST_SEED), (1, 2 ** 64 - 1))
 
@@ -61,6 +65,13 @@ class Tables(unittest.TestCase):
         self.assertEqual(other.rooms, served_game().rooms)
         quiet = deals.made_deal(Rule(seed=3, rooms=(4, 4)), 0).game
         self.assertEqual((quiet.rooms, quiet.live), ((4,) * 8, False))
+
+    def test_quotes_alone_change_a_made_game(self) -> None:
+        text = (TOP / "examples" / "first.game").read_text()
+        with mock.patch("geesefuton.program.make", lambda seed: text):
+            games = [deals.made_deal(Rule(seed=3, live=live), 0).game for live in (True, False)]
+        self.assertEqual([(game.version, game.live, game.rooms) for game in games],
+                         [(2, True, (16,) * 8), (1, False, (16,) * 8)])
 
     def test_a_game_file(self) -> None:
         rule = Rule(file=SERVED_GAME)

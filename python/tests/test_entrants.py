@@ -4,6 +4,7 @@ import sys
 import tempfile
 import unittest
 from pathlib import Path
+from unittest import mock
 
 from geesefuton.entrants import EntrantError, environment, read_entrant, read_entrants, seat_words
 from tests.helpers import PACKAGE
@@ -60,6 +61,22 @@ class Entrants(unittest.TestCase):
         self.assertEqual([entrant.root for entrant in entrants],
                          ["mine1", "other", "mine2", "mine1"])
 
+    def test_agents_are_numbered_as_they_are_given(self) -> None:
+        files = [self.file("one/mine.py"), self.file("two/mine.py")]
+        for commands in (files, files[::-1]):
+            entrants = read_entrants(commands)
+            self.assertEqual([entrant.command for entrant in entrants], commands)
+            self.assertEqual([entrant.root for entrant in entrants], ["mine1", "mine2"])
+        # Names that are different stay, also where the seat words have one beginning.
+        alike = read_entrants([self.file("My-Agent.py"), self.file("myagent.py")])
+        self.assertEqual([(entrant.name, entrant.root) for entrant in alike],
+                         [("My-Agent", "myagent1"), ("myagent", "myagent2")])
+
+    def test_no_seat_word_is_the_root_of_another_agent(self) -> None:
+        one, other = read_entrants([self.file("a.py"), self.file("ab.py")])
+        self.assertEqual(seat_words([one, one, other, one]), ["a", "ac", "ab", "ad"])
+        self.assertEqual(seat_words([other, one, one]), ["ab", "a", "ac"])
+
     def test_seat_words_are_eight_different_ones(self) -> None:
         entrants = read_entrants([self.file("a.py"), self.file("b.py")])
         self.assertEqual(seat_words(entrants * 4),
@@ -73,10 +90,12 @@ class Entrants(unittest.TestCase):
         self.assertTrue(all(len(word) <= 16 for word in words))
 
     def test_an_agent_finds_the_package_and_the_program(self) -> None:
-        variables = environment("/some/tac", Path("/some/folder"))
+        mine = {"PYTHONUNBUFFERED": "", "PYTHONPATH": "/mine"}
+        with mock.patch.dict(os.environ, mine):
+            variables = environment("/some/tac", Path("/some/folder"))
         self.assertEqual(variables["TMPDIR"], "/some/folder")
         self.assertEqual(variables["TAC"], "/some/tac")
-        self.assertEqual(variables["PYTHONPATH"].split(os.pathsep)[0], str(PACKAGE))
+        self.assertEqual(variables["PYTHONPATH"].split(os.pathsep), [str(PACKAGE), "/mine"])
         self.assertEqual(variables["PYTHONUNBUFFERED"], "1")
         self.assertEqual(variables["PATH"], os.environ["PATH"])
 

@@ -51,11 +51,16 @@ class Arguments(unittest.TestCase):
     def test_bad_arguments_are_told(self) -> None:
         bad: List[Dict[str, Any]] = [
             {"render_mode": "human"}, {"rooms": (0, 3)}, {"rooms": (4, 3)}, {"rooms": (3, 65)},
-            {"rooms": "3..6"}, {"rooms": 3}, {"game": FEW_ROOMS, "live": True},
+            {"rooms": "3..6"}, {"rooms": 3}, {"rooms": (1.5, 3)}, {"rooms": (1, 2, 3)},
+            {"game": FEW_ROOMS, "live": True},
             {"game": FIRST, "rooms": (3, 6)}]
         for more in bad:
             with self.subTest(more=more):
                 self.assertRaises(ValueError, Environment, **more)
+        for mode in (None, "ansi"):
+            self.assertEqual(Environment(render_mode=mode).render_mode, mode)
+        for rooms in ((1, 64), [4, 4]):
+            Environment(rooms=rooms, live=True)
         self.assertRaises(FileNotFoundError, Environment, "there/is/none")
         self.assertRaises(GameError, Environment, TOP / "README.md")
 
@@ -68,6 +73,9 @@ class Arguments(unittest.TestCase):
         self.assertEqual((environment.log, environment.script, environment.game), (None, "", ""))
         self.assertEqual(environment.render(), "tick 0 of 54\n")
         self.assertEqual(environment.state(), {"tick": 0, "quotes": [], "deals": {}})
+        self.assertIs(environment.unwrapped, environment)
+        self.assertEqual(environment.metadata, {
+            "name": "geesefuton_v2", "render_modes": ["ansi"], "is_parallelizable": True})
         environment.close()
 
     def test_a_bad_reset_is_told_before_anything_changes(self) -> None:
@@ -104,7 +112,8 @@ class Arguments(unittest.TestCase):
     def test_a_program_that_fails_ends_the_game(self) -> None:
         with tempfile.TemporaryDirectory() as folder:
             told = 'read -r line; for good in 0 1; do echo "$good @0 quote 0 0 open"; done\n'
-            for body in ("echo memory; exit 7\n", told, "exit 0\n"):
+            other = 'read -r line; for good in $(seq 28); do echo "0 @0 done"; done\nread -r line\n'
+            for body in ("echo memory; exit 7\n", told, "exit 0\n", other):
                 tac = fake_program(Path(folder), body)
                 with mock.patch.dict(os.environ, {"TAC": tac}), Environment(FIRST) as environment:
                     self.assertRaises(ProgramError, environment.reset)
@@ -231,6 +240,8 @@ class Steps(unittest.TestCase):
         self.environment.step({self.agents[0]: ["bid 16 ((-1 60))"],
                                self.agents[1]: ["bid 16 ((1 50))"]})
         self.assertIn("night 1 50/60", self.environment.render())
+        self.assertEqual(self.environment.state()["tick"], 1)
+        self.assertEqual(self.environment.state()["quotes"][16], (50, 60, False))
         rest(self.environment)
         self.assertEqual(self.environment.render().count(" x"), 28)
 

@@ -5,6 +5,7 @@ import os
 import re
 import signal
 import socket
+import subprocess
 import sys
 import tempfile
 import unittest
@@ -16,7 +17,7 @@ from unittest import mock
 from geesefuton import events, lobby
 from geesefuton.lobby import Lobby, LobbyError, LobbySettings
 from geesefuton.teller import STOPPED
-from tests.helpers import TOP
+from tests.helpers import TOP, python, variables
 
 GAME = TOP / "examples" / "first.game"
 
@@ -217,6 +218,15 @@ class Journals(Case):
         finally:
             os.dup2(kept, 1)
             os.close(kept)
+
+    def test_standard_files_that_are_closed(self) -> None:
+        code = ("import os; from geesefuton.lobby import _open_standard_files; "
+                "has_output = _open_standard_files(); "
+                "[os.fstat(number) for number in range(3)]; os._exit(10 + has_output)")
+        for close, due in (("", 11), ("<&-", 11), ("2>&-", 11), (">&-", 10), ("<&- >&- 2>&-", 10)):
+            done = subprocess.run(["sh", "-c", f'exec "$@" {close}', "sh", *python(code)],
+                                  env=variables(), check=False, timeout=200)
+            self.assertEqual(done.returncode, due, close)
 
     @unittest.skipUnless(Path("/proc/self").exists(), "the system does not tell")
     def test_the_folder_of_the_output(self) -> None:

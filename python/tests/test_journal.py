@@ -331,6 +331,12 @@ class Meaning(unittest.TestCase):
         self.assertEqual((first.asked, first.answered, first.refused, first.last), (3, 3, 0, 3))
         self.assertEqual((second.asked, second.answered, second.refused, second.last), (1, 1, 1, 3))
 
+    def test_what_an_auction_refuses_was_asked(self) -> None:
+        self.read({"a": 3, "q": "withdraw 9"}, {"a": 3, "r": "@4 no wrongcall", "t": 5},
+                  {"a": 3, "q": "bid 9 ((1 0))"}, {"a": 3, "r": "no bid 4", "t": 6})
+        agent = self.reader.agents[3]
+        self.assertEqual((agent.asked, agent.answered, agent.refused), (2, 2, 1))
+
     def test_requests_without_a_reply(self) -> None:
         reader = self.read({"tick": 2, "t": 200}, *(
             {"a": 5, "q": line} for line in ("cash", "quote 3", "bid 3 ((1 0))", "hm", "quit",

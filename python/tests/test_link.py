@@ -120,6 +120,13 @@ class Greeting(unittest.TestCase):
                 self.assertIs(link._connect("there", port), connect.return_value)
                 connect.assert_called_with(("there", port))
 
+    def test_between_two_tries_it_waits(self) -> None:
+        with mock.patch("time.sleep") as sleep, \
+                mock.patch("socket.create_connection",
+                           side_effect=[ConnectionRefusedError, ConnectionRefusedError, "it"]):
+            self.assertEqual(link._connect("there", 7000), "it")
+        self.assertEqual(sleep.call_count, 2)
+
     def test_a_server_that_still_starts_is_waited_for(self) -> None:
         with socket.socket() as probe:
             probe.bind(("127.0.0.1", 0))
@@ -241,6 +248,7 @@ class Solving(unittest.TestCase):
             tac = fake_program(Path(folder), f'cat "$2" > "{copy}"; echo total 1234; echo end')
             with mock.patch.dict(os.environ, {"TAC": tac}):
                 self.assertEqual(link.solve(range(28), self.CLIENTS), 1234)
+                self.assertEqual(link.program(), tac)
             lines = copy.read_text().splitlines()
         self.assertEqual(lines[0:2], ["account", "hold " + " ".join(map(str, range(28)))])
         self.assertEqual(lines[2], "client 0 1 3 50 1 2 3")

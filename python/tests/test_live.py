@@ -376,7 +376,9 @@ class Serving(unittest.TestCase):
         reads = [viewer.makefile("rb") for viewer in viewers]
         states = [self.states(read, 1)[0] for read in reads]
         self.assertEqual({state["phase"] for state in states}, {"running"})
-        self.assertEqual({state["tick"] for state in states}, {9})
+        self.assertEqual({(state["tick"], state["late"]) for state in states}, {(9, 6)})
+        self.assertEqual([agent["name"] for agent in states[0]["agents"]],
+                         ["red", "orange", "yellow", "green", "blue", "violet", "brown", "grey"])
         self.assertEqual(len(states[0]["flights"][0]), 10)
         self.assertEqual([agent["here"] for agent in states[0]["agents"]][-3:], ["missing"] * 3)
         self.assertNotIn("score", states[0]["agents"][0])
@@ -400,11 +402,13 @@ class Serving(unittest.TestCase):
 
     def test_it_stays_until_it_is_stopped(self) -> None:
         self.journal.write_text("\n".join(LINES) + "\n")
-        live = self.start()
+        live = self.start("--names", "--late", "0")
         deadline = time.monotonic() + MOST
         while b'"phase":"over"' not in self.get("/state")[0] and time.monotonic() < deadline:
             time.sleep(0.05)
-        self.assertIn(b'"phase":"over"', self.get("/state")[0])
+        state = json.loads(self.get("/state")[0])
+        self.assertEqual((state["phase"], state["late"]), ("over", 0))
+        self.assertEqual([agent["name"] for agent in state["agents"]][:2], ["red7k", "orange3x"])
         viewer = self.events()
         self.addCleanup(viewer.close)
         viewer.recv(100)

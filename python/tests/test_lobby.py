@@ -292,6 +292,10 @@ class InTheGame(Case):
         agent.quit()
         host.hurry()
         self.assertEqual(host.end()["seat0"], End.HUNG)
+        lines = (self.folder / "my.log").read_text().split("\n")
+        self.assertEqual((lines[0], lines[-2:]), ("taclog 1", ["end", ""]))
+        self.assertEqual((lines.count("0 own 1"), lines.count("1 own 1")), (len(lines) - 44, 1))
+        self.assertGreater(len(lines), 1 << 13)  # the log comes in pieces
 
     def test_ticks_come_by_the_pace_and_links_are_ended_later(self) -> None:
         host = Host(self.folder, pace=10, linger=0.25, start=0.3)
@@ -323,7 +327,7 @@ class InTheGame(Case):
         reading, writing = os.pipe()
         with open(reading, "r", encoding="ascii") as orders, open(writing, "wb") as keys:
             host = Host(self.folder, start=None, pace=1000, linger=0, orders=orders)
-            keys.write(b"without seat3\n\n")
+            keys.write(b"with seat5\nwithout seat3\n\n")
             keys.flush()
             host.wait(events.Began)
             late = Agent(host.port, "seat2")
@@ -333,7 +337,7 @@ class InTheGame(Case):
                 keys.write(order)
                 keys.flush()
             host.wait(events.Waived, 3)
-            host.wait(events.Warned)
+            host.wait(events.Warned, 2)
             given_up = Agent(host.port, "seat1")
             self.addCleanup(given_up.close)
             self.assertEqual(given_up.line(), "refused taken")
@@ -477,6 +481,9 @@ class TheEnd(Case):
     def test_interrupt_before_the_game(self) -> None:
         host = Host(self.folder, start=None)
         self.agents(host, "seat0")
+        with socket.create_connection(("127.0.0.1", host.port)) as link:
+            link.sendall(b"hello seat1\n")
+            self.assertEqual(host.wait(events.Arrived, 2)[1].source, "127.0.0.1")
         self.assertFalse(host.lobby.is_playing)
         host.lobby.interrupt()
         host.end()

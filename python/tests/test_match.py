@@ -4,6 +4,7 @@ import sys
 import tempfile
 import time
 import unittest
+from multiprocessing.connection import Pipe
 from pathlib import Path
 from typing import Any, Callable, List, Sequence
 from unittest import mock
@@ -60,9 +61,10 @@ class Lobby:
     orders: List[str] = []
     passed: List[int] = [0] * 8
     turns: Sequence[float] = ()
+    last: Any = None  # the settings of the last one
 
     def __init__(self, settings, *turns) -> None:  # type: ignore[no-untyped-def]
-        self.settings = settings
+        self.settings = Lobby.last = settings
         Lobby.turns = turns
 
     def run(self, on_event: Callable[[events.Event], None]) -> int:
@@ -131,12 +133,55 @@ class Matches(unittest.TestCase):
         self.assertEqual((self.place / "7.0.events").read_text().count("Ended("), 8)
         self.assertEqual(sum(isinstance(message, events.Ended) for message in self.sent), 8)
 
+    def test_the_lobby_gets_what_the_job_says(self) -> None:
+        self.play(form="json", start=40.0, linger=1.5)
+        told = Lobby.last
+        self.assertEqual((told.game, told.log), (self.place / "7.0.game", self.place / "7.0.log"))
+        self.assertEqual((told.port, told.pace, told.form, told.start, told.linger, told.patience),
+                         (0, 20, "json", 40.0, 1.5, 40.0))
+        self.play(start=3.0)
+        self.assertEqual((Lobby.last.form, Lobby.last.start, Lobby.last.patience),
+                         ("words", 3.0, 30.0))
+
+    def test_a_job_that_cannot_be_played_is_lost(self) -> None:
+        job = Job("7.0", self.place / "none", "", (), ())
+        ours, theirs = Pipe()
+        with ours, mock.patch("sys.argv", ["match", str(os.dup(theirs.fileno()))]):
+            theirs.close()
+            ours.send(job)
+            self.assertEqual(match._main(), 0)
+            self.assertEqual(ours.recv(), Result(
+                fault=f"{self.place / 'none' / '7.0.events'}: No such file or directory"))
+
+    def test_agents_draw_otherwise_in_each_game_and_the_same_again(self) -> None:
+        names = ["7.0 0", "7.0 1", "7.1 0", "8.0 0"]
+        seeds = [repeated(name)["AGENT_SEED"] for name in names]
+        self.assertEqual(len(set(seeds)), 4)
+        self.assertEqual(seeds, [repeated(name)["AGENT_SEED"] for name in names])
+        self.assertTrue(all(0 <= int(seed) < 1 << 32 for seed in seeds))
+
     def test_agents_get_their_words_and_variables(self) -> None:
-        self.play('echo "$@" $PYTHONPATH', "echo oops >&2")
+        self.play('echo "$@" $PYTHONPATH', "echo oops >&2", "cat; echo $AGENT_SEED.$TAC; pwd",
+                  'echo > "$TMPDIR/x"; ls "$TMPDIR"')
+        self.assertEqual((self.place / "7.0.red2").read_text().split(),
+                         ["." + os.environ["TAC"], os.getcwd()])
+        self.assertEqual((self.place / "7.0.red3").read_text(), "x\n")
         printed = (self.place / "7.0.red0").read_text().split()
         self.assertEqual(printed[:4], ["4321", "red0", "--pause", "0.02"])
         self.assertIn(str(Path(match.__file__).parents[1]), printed[4].split(":"))
         self.assertEqual((self.place / "7.0.red1").read_text(), "oops\n")
+
+    def test_agents_read_nothing_of_what_the_tournament_is_given(self) -> None:
+        (self.place / "typed").write_text("typed\n")
+        before = os.dup(0)
+        with open(self.place / "typed", "rb") as typed:
+            os.dup2(typed.fileno(), 0)
+        try:
+            self.play("cat; echo end")
+        finally:
+            os.dup2(before, 0)
+            os.close(before)
+        self.assertEqual((self.place / "7.0.red0").read_text(), "end\n")
 
     def test_the_lobby_is_told_of_agents_that_have_ended(self) -> None:
         self.play("sleep 5")
@@ -204,6 +249,9 @@ class Matches(unittest.TestCase):
         result = self.play()
         self.assertEqual([outcome is Outcome.PLAYED for outcome in result.outcomes],
                          [False, True, False, True, False, True, False, False])
+        self.assertEqual([told for told in self.sent if isinstance(told, events.Ticked)],
+                         self.lobby.lines)
+        self.assertEqual((self.place / "7.0.events").read_text().count("Ticked("), 3)
         self.assertIn("agent1 at seat 1 (red1) did not quit in time, and its link was ended",
                       self.notes())
 

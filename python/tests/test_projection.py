@@ -8,7 +8,7 @@ from unittest import mock
 
 from geesefuton.games import Game, read_game
 from geesefuton.journal import JournalReader
-from geesefuton.logs import Log, read_log
+from geesefuton.logs import read_log
 from geesefuton.projection import Night, Projection, View, nights_of, project, without_future
 from geesefuton.recovery import RecoveryError
 from tests.helpers import CountingPlayer

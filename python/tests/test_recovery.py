@@ -423,6 +423,13 @@ class Telling(unittest.TestCase):
         status, text = self.run_it([*self.HEAD, asks(4, "own 22")])
         self.assertTrue(text[-1].endswith("with them (--pending) no score changes"), text)
 
+    def test_changes_have_their_signs(self) -> None:
+        with mock.patch("geesefuton.recovery._scores_of",
+                        side_effect=[[5] * 8, [5, 5, 5, 20, 5, 5, 5, -12]]):
+            _, text = self.run_it([*self.HEAD, asks(4, "own 22")])
+        self.assertTrue(text[-1].endswith(f"change: {GAME.words[3]} +15, {GAME.words[7]} -17"),
+                        text)
+
     def test_a_difference_is_told_and_the_log_is_written(self) -> None:
         lines = [*self.HEAD, asks(1, "own 21"), told(1, "@0 own 4 ()")]
         status, text = self.run_it(lines)

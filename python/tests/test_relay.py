@@ -182,6 +182,12 @@ class Passing(Case):
         self.turn_until(self.agents[0], b"@1 own 0 ()\n")
         self.assertTrue(self.is_sent_nothing(self.agents[1]))
 
+    def test_a_line_that_is_not_answered_is_written_soon(self) -> None:
+        self.agents[0].sendall(b"own 5\n")
+        self.turn_until(self.servers[0], b"own 5\n")
+        self.relay.pass_time(time.monotonic())
+        self.assertEqual(self.lines()[-1], {"a": 0, "q": "own 5"})
+
     def test_nothing_is_asked_for_one_that_does_not_read(self) -> None:
         agent, server = self.agents[0], self.servers[0]
         link = self.relay._links[0]

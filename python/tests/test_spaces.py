@@ -5,7 +5,7 @@ from typing import Any, List
 from unittest import mock
 
 from geesefuton import spaces
-from geesefuton.spaces import Dict, Discrete, Sequence, Text, Tuple
+from geesefuton.spaces import Dict, Discrete, Sequence, Space, Text, Tuple
 
 OBSERVATION = {"tick": 54, "quotes": [(0, 10_001, True)] * 28, "replies": ["@0 taken 1 0"]}
 
@@ -46,6 +46,35 @@ class Ours(unittest.TestCase):
             self.assertGreater(len(set(map(repr, samples))), 1)
             for sample in samples:
                 self.assertIn(sample, first)
+
+    def test_bounds_of_each_space(self) -> None:
+        self.assertEqual((spaces.LETTERS[0], spaces.LETTERS[-1], len(spaces.LETTERS)),
+                         (" ", "~", 95))
+        self.assertIn({**OBSERVATION, "quotes": [(10_001, 0, False)] * 28},
+                      spaces.observation_space())
+        self.assertEqual([number in Discrete(3, 2) for number in range(1, 6)],
+                         [False, True, True, True, False])
+        self.assertEqual([text in Text(3) for text in ("", "a", "abc", "abcd", "\x7f")],
+                         [False, True, True, False, False])
+        pair = Tuple([Discrete(2), Discrete(5)])
+        self.assertEqual([value in pair for value in ((1, 4), [0, 0], (4, 1), (2, 0), (0, 5), (0,),
+                                                      (0, 0, 0))], [True] * 2 + [False] * 5)
+        both = Dict({"a": Discrete(2), "b": Discrete(5)})
+        self.assertEqual([value in both for value in (
+            {"a": 1, "b": 4}, {"a": 2, "b": 4}, {"a": 1, "b": 5}, {"a": 1})],
+            [True, False, False, False])
+        for ask in (Space().sample, lambda: Space().contains(1)):
+            self.assertRaises(NotImplementedError, ask)
+
+    def test_samples_reach_every_value(self) -> None:
+        number, text, several = Discrete(3, 2), Text(4, min_length=2), Sequence(Discrete(2))
+        for space in (number, text, several):
+            space.seed(1)
+        self.assertEqual({number.sample() for _ in range(200)}, {2, 3, 4})
+        self.assertEqual({len(text.sample()) for _ in range(200)}, {2, 3, 4})
+        drawn = [several.sample() for _ in range(200)]
+        self.assertGreater(len({len(values) for values in drawn}), 2)
+        self.assertEqual({value for values in drawn for value in values}, {0, 1})
 
     def test_spaces_are_compared_by_what_they_say(self) -> None:
         self.assertEqual(spaces.observation_space(), spaces.observation_space())

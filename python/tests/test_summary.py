@@ -80,6 +80,13 @@ class Differences(unittest.TestCase):
         self.assertFalse(summary.swapped)
         self.assertEqual(summary.differences[0].score, estimate([150.0, 70.0]))
 
+    def test_a_deal_without_clients_that_both_played_tells_nothing_of_a_pair(self) -> None:
+        crashed = [row("1", 1, seat, agent, 0, Outcome.CRASHED) for seat, agent in enumerate("ba")]
+        self.assertIsNone(summarize([*SWAPPED[:2], *crashed]).differences[0].score)
+        rows = [*SWAPPED[:2], *crashed, *SWAPPED[4:]]
+        pair = summarize(rows).differences[0]  # over all deals b has 185 and a has 170
+        self.assertEqual((pair.first, pair.second, pair.score), ("b", "a", estimate([-60.0])))
+
     def test_every_pair_is_there_once_the_better_first(self) -> None:
         rows = [row("1", 0, seat, agent, score)
                 for seat, (agent, score) in enumerate([("b", 5), ("c", 1), ("a", 9)])]
@@ -136,6 +143,48 @@ class Texts(unittest.TestCase):
         self.assertIn("110 +- ?", as_text(summarize(SWAPPED[:1])))
         self.assertIn("difference, by games", as_text(summarize(SWAPPED[:2])))
 
+    def test_why_seats_did_not_play_is_told_in_one_order(self) -> None:
+        ends = [Outcome.REFUSED, Outcome.HUNG, Outcome.CRASHED, Outcome.PLAYED, Outcome.HUNG]
+        rows = [row("1", 0, seat, "a", 7, end) for seat, end in enumerate(ends)]
+        self.assertTrue(as_text(summarize(rows)).endswith(
+            "4 of 5: 1 crashed, 2 hung, 1 refused\n"))
+        self.assertEqual(json.loads(as_json(summarize(rows)))["agents"][0]["ends"],
+                         {"played": 1, "absent": 0, "crashed": 1, "hung": 2, "refused": 1})
+        line = next(csv.DictReader(io.StringIO(as_csv(summarize(rows)))))
+        self.assertEqual([line[end] for end in ("played", "absent", "crashed", "hung", "refused")],
+                         ["1", "0", "1", "2", "1"])
+
+    def test_all_columns(self) -> None:
+        # Points on a line: at the mean luck of 8, a has 16 and b has 7.
+        rows = [row(str(deal), 0, seat, agent, score, luck=luck)
+                for deal, both in enumerate((((6, 2), (1, 0)), ((12, 6), (5, 4)),
+                                             ((40, 24), (13, 12))))
+                for seat, (agent, (score, luck)) in enumerate(zip("ab", both))]
+        lines = [" ".join(line.split()) for line in as_text(summarize(rows)).splitlines()]
+        self.assertEqual(lines[2], "agent mean luck mean adjusted for luck did not play")
+        self.assertRegex(lines[3], r"^a 19 \+- \d+ 11 \S+ \+- \S+ 0 of 3$")
+        self.assertRegex(lines[4], r"^b 6 \+- \d+ 5 9 \+- 0 0 of 3$")
+        self.assertEqual(lines[6], "difference, by games mean adjusted for luck deals")
+        self.assertRegex(lines[7], r"^a less b 13 \+- \d+ \S+ \+- \S+ 3$")
+        first, second, pair = csv.DictReader(io.StringIO(as_csv(summarize(rows))))
+        self.assertEqual(list(first), ["what", "agent", "other", "mean", "half", "adjusted",
+                                       "adjusted_half", "deals", "seats", "played", "absent",
+                                       "crashed", "hung", "refused", "luck"])
+        self.assertEqual([first["luck"], second["luck"], second["mean"], second["adjusted"],
+                          second["adjusted_half"]], ["10.67", "5.33", "6.33", "9.0", "0.0"])
+        self.assertEqual((pair["seats"], pair["luck"], pair["mean"]), ("", "", "13.0"))
+        value = json.loads(as_json(summarize(rows)))
+        self.assertEqual((value["level"], value["lost"]), (0.95, []))
+        self.assertEqual([agent["agent"] for agent in value["agents"]], ["a", "b"])
+        self.assertAlmostEqual(value["agents"][1]["luck"], 16 / 3)
+        self.assertAlmostEqual(value["agents"][1]["adjusted"]["mean"], 9.0)
+        self.assertAlmostEqual(value["agents"][1]["adjusted"]["half"], 0.0)
+        self.assertEqual((value["agents"][1]["seats"], value["agents"][1]["score"]["deals"]),
+                         (3, 3))
+        told = value["differences"][0]
+        self.assertEqual((told["first"], told["second"], told["score"]["mean"]), ("a", "b", 13.0))
+        self.assertEqual(told["adjusted"]["deals"], 3)
+
     def test_games_in_turns_are_counted(self) -> None:
         rows = [row(deal, 0, seat, "a", 5, kind=kind) for deal, kind in
                 (("1", Kind.TURNS), ("2", Kind.TURNS), ("3", Kind.UNREPEATABLE), ("4", Kind.SERVED))
@@ -147,6 +196,7 @@ class Texts(unittest.TestCase):
                          "and 1 in which an agent was passed over")
         self.assertEqual(as_text(summarize(rows[:8])).split("\n")[1],
                          "in turns: 1 game that can be repeated")
+        self.assertIn("1 game that can be repeated, and 1 in which", as_text(summarize(rows[8:])))
         self.assertNotIn("in turns", as_text(self.summary))
         self.assertEqual(json.loads(as_json(summary))["kinds"],
                          {"turns": 2, "unrepeatable": 1, "served": 1})
@@ -190,8 +240,16 @@ class Rows(unittest.TestCase):
         self.assertEqual(read_rows(text, "x"), rows)
         self.assertEqual(read_rows(text + text, "x"), rows + rows)
 
+    def test_each_end_and_each_kind_has_its_word(self) -> None:
+        self.assertEqual([end.value for end in Outcome],
+                         ["played", "absent", "crashed", "hung", "refused"])
+        self.assertEqual([kind.value for kind in Kind], ["served", "turns", "unrepeatable"])
+        self.assertIs(Row("1", 0, 0, "a", 5, Outcome.PLAYED, 0).kind, Kind.SERVED)
+
     def test_other_texts_are_refused(self) -> None:
         head = csv_of([HEAD])
+        with self.assertRaisesRegex(ResultsError, "is not the head"):
+            read_rows(text_of(SWAPPED), "my.csv")
         for text, line in (("", 1), ("seed,seat,agent,score\n1,0,a,5\n", 1),
                            (head + "1,0,0,a,5,played,100\n", 2),
                            (head + "1,0,0,a,x,played,100,served\n", 2),

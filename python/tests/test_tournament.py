@@ -17,7 +17,7 @@ from geesefuton.deals import Deal, Rule, Table
 from geesefuton.entrants import Entrant
 from geesefuton.luck import worths_of
 from geesefuton.match import Result
-from geesefuton.processes import Children, Output
+from geesefuton.processes import Children, Output, Stopped
 from geesefuton.program import ProgramError
 from geesefuton.results import HEAD, Kind, Outcome, Row, csv_of, read_rows, text_of
 from geesefuton.summary import summarize
@@ -71,7 +71,7 @@ class Playing(unittest.TestCase):
         self.patch("geesefuton.tournament.PROGRAM", WORKER)
         self.patch("geesefuton.tournament.tell", self.told.append)
         self.patch("geesefuton.program.make", lambda seed: SERVED_GAME.read_text())
-        self.folders = 0
+        self.folders = self.left = 0
 
     def patch(self, name: str, value: object) -> None:
         patch = mock.patch(name, value)
@@ -88,6 +88,7 @@ class Playing(unittest.TestCase):
         with mock.patch.dict(os.environ, {"FAULT": fault, "GAME": game}), Children() as children:
             made.play(children)
             self.folders = len(list(children.folder("x").parent.glob("game*")))
+            self.left = len(list(children._groups.iterdir()))
         made.rescue()
         return made
 
@@ -142,7 +143,7 @@ class Playing(unittest.TestCase):
 
     def test_folders_of_games_are_removed_or_kept(self) -> None:
         self.play(games=1, rotations=1)
-        self.assertEqual(self.folders, 0)
+        self.assertEqual((self.folders, self.left), (0, 0))  # nor is a process
         self.play(keep=True)
         names = sorted(file.name for file in self.place.glob("*.game"))
         self.assertEqual(names, ["1.0.game", "1.1.game"])
@@ -210,6 +211,72 @@ class Playing(unittest.TestCase):
         os.close(writing)
         self.assertEqual(len(made.report.all_rows()), 8)
         self.assertIn("a pipe: its reader has gone; 8 lines", made.report.lost[0])
+
+    def test_lines_that_were_not_taken_are_kept_here_without_a_folder(self) -> None:
+        self.addCleanup(os.chdir, os.getcwd())
+        os.chdir(self.place)
+        for name in ("scores.rest.csv", "scores.rest.2.csv"):
+            made = self.play(1, 1, out=Output("/dev/full"))
+            self.assertEqual(read_rows((self.place / name).read_text(), name),
+                             made.report.all_rows())
+            self.assertTrue(made.report.lost[0].endswith(f"8 lines were not written, and are in "
+                                                         f"{name}"))
+
+    def test_as_many_games_at_once_as_asked(self) -> None:
+        for at_once in (1, 3):
+            most = []
+            hear = Tournament._hear
+
+            def counted(made: Tournament, running: List[Running]) -> None:
+                most.append(len(running))
+                hear(made, running)
+
+            with mock.patch.object(Tournament, "_hear", counted):
+                self.play(games=3, rotations=1, at_once=at_once)
+            self.assertEqual(max(most), at_once)
+            self.assertEqual(len(self.rows()), 24)
+
+    def command(self, *words: str, fault: str = "", out: str = "") -> int:
+        """The exit status of the command, whose standard output is a file."""
+        file = Path(out or self.place / "scores.csv")
+        variables = {"FAULT": fault, "GAME": "1.1", "TAC": fake_program(self.place, "exit 1")}
+        with mock.patch("sys.argv", ["tournament", *words, "sh", "cat"]), \
+                mock.patch.dict(os.environ, variables), \
+                mock.patch("geesefuton.processes.stop_on_signals"), \
+                mock.patch("geesefuton.tournament.Output",
+                           lambda target: Output(file if target == 1 else target)):
+            return tournament.main()
+
+    def test_the_exit_status_tells_whether_all_was_scored_and_written(self) -> None:
+        place = self.place / "s.json"
+        words = ["--games", "2", "--summary", str(place)]
+        self.assertEqual(self.command(*words), 0)
+        self.assertEqual((len(self.rows()), json.loads(place.read_text())["lost"]), (16, []))
+        self.assertEqual(self.told[-1], "\n" + tournament.as_text(summarize(self.rows())))
+        self.assertEqual(self.command(*words, fault="lose"), 1)
+        lost = json.loads(place.read_text())["lost"]
+        self.assertEqual((len(self.rows()), lost), (8, ["game 1.1 is lost: why"]))
+        self.assertIn("game 1.1 is lost: why", self.told[-1])
+        self.assertEqual(self.command("--games", "2", "--summary", "/nowhere/s.txt"), 1)
+        self.assertEqual(len(self.rows()), 16)
+        self.assertIn("not written to /nowhere/s.txt: No such file", self.told[-1])
+        kept = self.place / "kept"
+        self.assertEqual(self.command("--games", "2", "--keep", str(kept), out="/dev/full"), 1)
+        self.assertEqual(len(read_rows((kept / "scores.rest.csv").read_text(), "rest")), 16)
+        self.assertIn("16 lines were not written", self.told[-1])
+
+    def test_a_signal_gives_its_status_and_the_summary_stands(self) -> None:
+        place = self.place / "s.json"
+        finish = Tournament._finish
+
+        def stop(made: Tournament, game: Running) -> None:
+            finish(made, game)
+            raise Stopped(15)
+
+        with mock.patch.object(Tournament, "_finish", stop):
+            self.assertEqual(self.command("--games", "4", "--summary", str(place)), 143)
+        self.assertEqual((len(self.rows()), json.loads(place.read_text())["games"]), (8, 1))
+        self.assertIn("tournament: stopped", self.told)
 
     def test_a_stop_keeps_what_was_played(self) -> None:
         file = self.place / "scores.csv"
@@ -286,9 +353,16 @@ class Commands(unittest.TestCase):
             self.refused("there is no program /nowhere/tac", "sh")
 
     def test_a_folder_with_earlier_games_is_never_written_over(self) -> None:
-        (self.place / "3.0.log").write_text("kept")
-        self.refused("it has files of earlier games, such as 3.0.log", "--keep", self.place, "sh")
-        self.assertEqual((self.place / "3.0.log").read_text(), "kept")
+        for name in ("3.0.log", "3.0.game", "2.1.events"):
+            folder = self.place / name
+            folder.mkdir()
+            (folder / "notes.txt").write_text("mine")
+            tournament._open_folder(tournament._parser(), folder)  # other files are no games
+            (folder / name).write_text("kept")
+            self.refused(f"it has files of earlier games, such as {name}", "--keep", folder, "sh")
+            self.assertEqual((folder / name).read_text(), "kept")
+        tournament._open_folder(tournament._parser(), self.place / "a" / "b")
+        self.assertEqual(list((self.place / "a" / "b").iterdir()), [])
 
     def test_a_folder_that_cannot_be_made(self) -> None:
         self.refused("Not a directory", "--keep", SERVED_GAME / "x", "sh")
@@ -318,6 +392,14 @@ class Commands(unittest.TestCase):
         self.assertEqual(plan.turns, 0)
         plan = tournament._plan(parser, parser.parse_args(["sh", "--seed", "18446744073709551612"]))
         self.assertEqual((plan.rule.seed, plan.games), (2 ** 64 - 4, 4))
+        plan = tournament._plan(parser, parser.parse_args(
+            ["sh", "--game", str(SERVED_GAME), "--keep", "x", "--summary", "a.csv", "--summary",
+             "b.txt", "--start", "0", "--games", "1"]))
+        self.assertEqual((plan.rule, plan.keep, plan.summaries, plan.start, plan.games),
+                         (Rule(1, SERVED_GAME), Path("x"), [Path("a.csv"), Path("b.txt")], 0.0, 1))
+        plan = tournament._plan(parser, parser.parse_args(
+            ["sh", "cat", "--seed", str(2 ** 64 - 2), "--games", "4"]))  # two deals
+        self.assertEqual((plan.rule.seed, plan.games), (2 ** 64 - 2, 4))
         plan = tournament._plan(parser, parser.parse_args(["sh", "--turns", "20"]))
         self.assertEqual((plan.turns, plan.patience, plan.linger), (20, 30.0, 30.0))
         plan = tournament._plan(parser, parser.parse_args(
@@ -325,6 +407,10 @@ class Commands(unittest.TestCase):
         self.assertEqual((plan.patience, plan.linger), (3.0, 0.0))
         plan = tournament._plan(parser, parser.parse_args([]))
         self.assertEqual((plan.pace, plan.linger), (100, 5.0))
+        self.assertEqual((plan.games, plan.rotations, plan.at_once, plan.turns, plan.form,
+                          plan.start, plan.keep, plan.summaries),
+                         (4, 1, 2, 0, "words", 20.0, None, []))
+        self.assertEqual(plan.rule, Rule(1, None, None, False))
         self.assertEqual([entrant.name for entrant in plan.entrants],
                          ["planner", "trader", "watcher"])
 

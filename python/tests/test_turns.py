@@ -259,6 +259,7 @@ class Ends(Case):
         self.assertTrue(all(passed for seat, passed in enumerate(host.lobby.passed) if seat != 4))
 
     def test_an_agent_that_never_quits(self) -> None:
+        self.assertEqual((turns.MOST_TURNS, turns.LAST_TURNS), (1000, 1024))
         self.patch(mock.patch.object(turns, "LAST_TURNS", 20))
         host = Host(self.folder)
         self.agents(host, ["own 1"] * 90, *[["quit"]] * 7)

@@ -6,8 +6,8 @@ ghost use Rattle.agent_gate.specs.Gates as gates;
 use game_text::{Game, SeatWord};
 use line_protocol::Verdict;
 use std::marker::Model;
-use tac_base::limits::AGENTS;
 use tac_base::Agent;
+use tac_base::limits::AGENTS;
 use text_forms::Words;
 
 /// The seats of a game, each with its word, and which of them are taken.

@@ -14,8 +14,8 @@ use floor::{Desk, Floor};
 use line_protocol::{Cause, Said};
 use std::sync::Wait;
 use std::time::Clock;
-use tac_base::limits::AGENTS;
 use tac_base::Text;
+use tac_base::limits::AGENTS;
 use tac_io::{Failed, LineGot, Lines, Link};
 
 /// Reads the next line and has it answered, or says why the session ends without one.

@@ -8,8 +8,8 @@ ghost use Rattle.packages.specs.Stocks.{stock_of};
 
 use game_text::Account;
 use packages::{Package, stock, uses, utility};
-use tac_base::limits::GOODS;
 use tac_base::Good;
+use tac_base::limits::GOODS;
 
 /// The good of a number, 0..27.
 fn good(number: u8) -> Good

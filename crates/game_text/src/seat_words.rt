@@ -11,8 +11,8 @@ ghost use Rattle.game_text.specs.SeatWords as seats;
 use std::alloc::AllocError;
 use std::hash::{Hash, Hasher};
 use std::marker::Model;
-use tac_base::limits::AGENTS;
 use tac_base::OutOfRange;
+use tac_base::limits::AGENTS;
 use text_forms::{Reason, Words};
 
 /// The word by which an agent takes its seat: 1 to 16 bytes of `a`..`z` and `0`..`9`. The rule is our own.

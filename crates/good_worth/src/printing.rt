@@ -7,8 +7,8 @@ ghost use Rattle.good_worth.specs.WorthTexts as texts;
 use crate::worths::Worths;
 use allocator::append_solved;
 use std::alloc::{AllocError, Global};
-use tac_base::limits::GOODS;
 use tac_base::Memory;
+use tac_base::limits::GOODS;
 use text_forms::print_row;
 
 /// Appends the line of a good, 0..27. After an error the text may end within it.

@@ -9,8 +9,8 @@ use crate::changes::{less, more};
 use allocator::{Solved, solve};
 use game_text::Account;
 use std::alloc::Global;
-use tac_base::limits::GOODS;
 use tac_base::Memory;
+use tac_base::limits::GOODS;
 
 /// The best allocation of an account, and those with one unit more and one unit less of each good, in the goods' order.
 #[derive(Debug, Drop)]

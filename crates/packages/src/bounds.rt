@@ -12,8 +12,8 @@ use crate::prices::Prices;
 use crate::travel_packages::Package;
 use crate::utilities::utility;
 use game_text::Account;
-use tac_base::limits::GOODS;
 use tac_base::Client;
+use tac_base::limits::GOODS;
 
 /// Which packages each client has left.
 pub trait Narrowing {

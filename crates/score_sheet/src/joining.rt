@@ -7,8 +7,8 @@ use crate::settling::Accounts;
 use game_text::Game;
 use std::alloc::{AllocError, Global};
 use std::thread::{Threads, map_indices};
-use tac_base::limits::AGENTS;
 use tac_base::Memory;
+use tac_base::limits::AGENTS;
 
 /// Scores the eight agents, each in a thread of its own if threads can be made.
 fn score_all<R: Threads + Sync>(

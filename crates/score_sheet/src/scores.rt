@@ -13,8 +13,8 @@ use allocator::{Solved, solve};
 use game_text::{Account, Game};
 use std::alloc::Global;
 use std::marker::Model;
-use tac_base::limits::AGENTS;
 use tac_base::Memory;
+use tac_base::limits::AGENTS;
 
 /// The score of an agent with its parts.
 #[derive(Debug, Drop)]

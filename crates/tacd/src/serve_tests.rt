@@ -360,8 +360,7 @@ fn agents_may_speak_json(rt: HostRuntime) -> Result<(), Fail> {
     let alloc = rt.alloc();
     let sent = Arc::new(alloc, AtomicU64::new(0))?;
     let mut links = Vec::new(alloc);
-    let asking = link(alloc, JSON_ASKED, 10_000, 10_000, 0, 0)?;
-    links.push(HeldLink::new(asking, Arc::try_clone(&sent)?, None))?;
+    links.push(held(alloc, JSON_ASKED, &sent, None)?)?;
     // The clock's first tick comes after the ten lines of the welcome and the six answers.
     let mut ticker = LookingTicker::new(PacedLook { sent, lines: 16 });
     let line = "serve game 7411 5 json";
