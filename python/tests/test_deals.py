@@ -66,6 +66,13 @@ class Tables(unittest.TestCase):
         quiet = deals.made_deal(Rule(seed=3, rooms=(4, 4)), 0).game
         self.assertEqual((quiet.rooms, quiet.live), ((4,) * 8, False))
 
+    def test_each_deal_has_the_rooms_of_its_own_seed(self) -> None:
+        drawn = [deals.made_deal(Rule(seed=5, rooms=(3, 6)), number).game.rooms
+                 for number in range(3)]
+        self.assertEqual([list(rooms) for rooms in drawn],
+                         [deals.drawn_rooms(seed, 3, 6) for seed in (5, 6, 7)])
+        self.assertEqual(drawn[2], deals.made_deal(Rule(seed=7, rooms=(3, 6)), 0).game.rooms)
+
     def test_quotes_alone_change_a_made_game(self) -> None:
         text = (TOP / "examples" / "first.game").read_text()
         with mock.patch("geesefuton.program.make", lambda seed: text):

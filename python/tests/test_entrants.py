@@ -61,6 +61,12 @@ class Entrants(unittest.TestCase):
         self.assertEqual([entrant.root for entrant in entrants],
                          ["mine1", "other", "mine2", "mine1"])
 
+    def test_an_agent_that_is_given_twice_keeps_its_name(self) -> None:
+        mine = self.file("mine.py")
+        entrants = read_entrants([mine, mine, self.file("other.py")])
+        self.assertEqual([entrant.name for entrant in entrants], ["mine", "mine", "other"])
+        self.assertEqual([entrant.root for entrant in entrants], ["mine", "mine", "other"])
+
     def test_agents_are_numbered_as_they_are_given(self) -> None:
         files = [self.file("one/mine.py"), self.file("two/mine.py")]
         for commands in (files, files[::-1]):
