@@ -53,7 +53,7 @@ ComesTo got session = (has_left session.turns ≡ false) × (length session.turn
 abbrev pub IsUsedUp : Session → Type 0
 IsUsedUp session = (has_left session.turns ≡ false) × (length session.turns ≡ SESSION_LINES)
 
--- the causes of a session's end: `quit` was answered; the link's bytes came to an end; a read failed, which reads as an end with any bytes left;
+-- the causes of a session's end: `quit` was answered; the link's bytes came to an end; a read failed, whatever bytes were left;
 -- a text was cut off by a failed write; or the lines, or the bytes, of a session were used up
 abbrev pub EndsBy : Cause → (Said → List ℕ) → Session → Type 0
 EndsBy causes.Quit text session = (has_left session.turns ≡ true) × SendsAll text session

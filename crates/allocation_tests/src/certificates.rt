@@ -1,3 +1,4 @@
+// Certificates, as texts and as bounds.
 use crate::accounts::{ONE_SEAT, WRESTLING_FANS, account};
 use bound_cert::{check, print_cert, read_cert};
 use std::alloc::{AllocError, Global};

@@ -1,3 +1,4 @@
+// The history of an auction of a game.
 use auction_core::{Auction, Struck};
 use game_text::Game;
 use std::process::Abort;

@@ -1,3 +1,4 @@
+// The cash book under a lock: callers in turn, and callers at once.
 ghost use Rattle.std.specs.Prelude.{◌≡◌, ℕ, ◌+◌, ◌<◌, ◌≤◌, [], length, All, IfOk, slice_index};
 ghost use Rattle.std.specs.Thread.{IsSync};
 ghost use Rattle.turn_lock.specs.Passes.{lock_of, lock_id, caller_of, turns_left, passes_of, returned_to};

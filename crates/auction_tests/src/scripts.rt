@@ -1,3 +1,4 @@
+// Games from scripts.
 use game_text::Game;
 use script_run::{PlayCount, play};
 use std::test::Fail;

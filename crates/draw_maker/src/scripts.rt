@@ -8,7 +8,7 @@ use crate::drawing::draw_words;
 use bid_strings::print_points;
 use rand_pcg::Lcg64Xsh32;
 use std::alloc::{AllocError, Global};
-use tac_base::limits::{GOODS, TICKS};
+use tac_base::limits::{AGENTS, GOODS, TICKS};
 use tac_base::{Good, Kind, Memory, Point, Text, print_numeral};
 
 /// The stream of the generator from which scripts are made.
@@ -18,7 +18,7 @@ const SCRIPT_STREAM: u64 = 55;
 fn good_of(word: u32) -> Good
     ensures { result ≡ word % GOODS }
 {
-    Good::new((word % 28) as u8).unwrap()
+    Good::new((word % u32::from(GOODS)) as u8).unwrap()
 }
 
 /// The units of a bid for a ticket: one is bought or sold.
@@ -55,7 +55,7 @@ fn made_request(words: &[u32; 5]) -> Text
     let good = good_of(words[1]);
     let point = made_point(good.kind(), words[2], words[3], words[4]);
     let mut line = Text::new();
-    print_numeral(u64::from(words[0] % 8), &mut line);
+    print_numeral(u64::from(words[0] % u32::from(AGENTS)), &mut line);
     line.push_bytes(b" bid ");
     print_numeral(u64::from(good.get()), &mut line);
     line.push(b' ');

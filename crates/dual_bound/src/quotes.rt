@@ -10,7 +10,6 @@ ghost use Rattle.dual_bound.specs.Ceilings.{AreCosts, HasMore, IsCeiling};
 use game_text::Account;
 use packages::{Prices, cost, package, stock_value};
 use relaxation::WorthTable;
-use tac_base::limits::GOODS;
 
 /// Prices, what each package costs at them, and what all goods cost that there are.
 #[derive(Clone, Copy)]

@@ -93,7 +93,7 @@ fn reserve<L: Drop>(alloc: Global, game: &Game) -> Result<Reserved<L>, Memory>
 fn leave<L: Link + Drop>(arrivals: Arrivals<L>, open_floor: OpenFloor<L>, given: Vec<L>) -> Vec<L>
     requires filled { AreFilled arrivals.lines.items arrivals.holders.items }
     requires wide { vec_len arrivals.lines ≡ AGENTS }
-    requires agent_seats { (open_floor.session_ends.links.items ≡ []) × (vec_capacity open_floor.session_ends.links ≡ 8) }
+    requires agent_seats { (open_floor.session_ends.links.items ≡ []) × (vec_capacity open_floor.session_ends.links ≡ AGENTS) }
     requires room { (given.items ≡ []) × (vec_len arrivals.holders ≤ vec_capacity given) }
     ensures { AreLinksOf (map (option_map link_of) arrivals.lines.items) arrivals.holders.items result.items }
 {

@@ -27,9 +27,9 @@ fn print_good(worths: &Worths, good: u8, out: &mut Vec<u8>) -> Result<(), AllocE
 /// Appends the lines of all goods. After an error the text may end within them.
 #[tactic(auto, using(crate::proofs::Lines::no_text, crate::proofs::Lines::lines_more))]
 fn print_goods(worths: &Worths, out: &mut Vec<u8>) -> Result<(), AllocError>
-    ensures { OnOk result (out.new.items ≡ out.old.items ++ text_of (texts.lines_below (texts.good_lines (worths_of worths.now.base worths.now.more.items worths.now.less.items)) 28)) }
+    ensures { OnOk result (out.new.items ≡ out.old.items ++ text_of (texts.lines_below (texts.good_lines (worths_of worths.now.base worths.now.more.items worths.now.less.items)) GOODS)) }
 {
-    for good in 0..28 {
+    for good in 0..GOODS {
         print_good(worths, good, out)?;
     }
     Ok(())
@@ -65,9 +65,9 @@ fn print_changed(alloc: Global, worths: &Worths, good: u8, out: &mut Vec<u8>) ->
 /// Appends the texts of all goods. After `Memory` the text may end within them.
 #[tactic(auto, using(crate::proofs::Lines::no_text, crate::proofs::Lines::lines_more))]
 fn print_all_changed(alloc: Global, worths: &Worths, out: &mut Vec<u8>) -> Result<(), Memory>
-    ensures { OnOk result (out.new.items ≡ out.old.items ++ text_of (texts.lines_below (texts.changed_lines (worths_of worths.now.base worths.now.more.items worths.now.less.items)) 28)) }
+    ensures { OnOk result (out.new.items ≡ out.old.items ++ text_of (texts.lines_below (texts.changed_lines (worths_of worths.now.base worths.now.more.items worths.now.less.items)) GOODS)) }
 {
-    for good in 0..28 {
+    for good in 0..GOODS {
         print_changed(alloc, worths, good, out)?;
     }
     Ok(())

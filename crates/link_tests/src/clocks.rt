@@ -1,3 +1,4 @@
+// The clock over a ticker.
 ghost use Rattle.std.specs.Prelude.{◌≡◌, [], IfOk, replicate};
 ghost use Rattle.floor.specs.Desks.{desk_cash, desk_caller, desk_ids, desk_entries};
 ghost use Rattle.floor.specs.Floors.{floor_ids};

@@ -1,3 +1,4 @@
+// A game over links in memory.
 use agent_gate::LineDialect;
 use game_run::run_game;
 use game_text::Game;

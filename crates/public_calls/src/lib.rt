@@ -1,7 +1,8 @@
-//! The public calls with their types, as users of the crates write them, and the public fields and
-//! variants of what they take and give. A call is named by a pointer of its type: in a constant,
-//! which costs no proof, or, if it is a method, in a local. A call to which no pointer is had,
-//! as it is generic or lends its answer, is made in a closure. Nothing here is run.
+//! The public calls that users of the crates make, with their types, and the public fields and
+//! variants of what they take and give: if a type, the order of parameters, a field or a variant
+//! changes, this crate no longer compiles. A call is named by a pointer of its type: in a constant,
+//! which costs no proof, or, if it is a method, in a local. A call to which no pointer is had, as it
+//! is generic or lends its answer, is made in a closure. Nothing here is run.
 #![tactic(auto)]
 
 ghost use Rattle.std.specs.Prelude.{◌≡◌, [], IfSome};

@@ -71,7 +71,7 @@ impl Column {
 
 /// The row of a good.
 pub(crate) fn row_of_good(good: Good) -> usize
-    ensures { result < 28 }
+    ensures { result < GOODS }
 {
     usize::from(good.get())
 }

@@ -17,7 +17,7 @@ fn score_all<R: Threads + Sync>(
     game: &Game,
     accounts: &Accounts,
 ) -> Result<Vec<Result<AgentScore, Memory>>, AllocError>
-    ensures count { IfOk result (λ found. vec_len found ≡ 8) }
+    ensures count { IfOk result (λ found. vec_len found ≡ AGENTS) }
     ensures due { IfOk result (λ found. (agent : ℕ) (d : _) → agent < AGENTS → IfOk (slice_index_or found.items agent d) (IsDueScore game.now accounts.now agent)) }
 {
     map_indices(

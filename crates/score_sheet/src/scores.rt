@@ -14,7 +14,7 @@ use game_text::{Account, Game};
 use std::alloc::Global;
 use std::marker::Model;
 use tac_base::Memory;
-use tac_base::limits::AGENTS;
+use tac_base::limits::{AGENTS, GOODS};
 
 /// The score of an agent with its parts.
 #[derive(Debug, Drop)]
@@ -91,7 +91,7 @@ fn all_lacking(holdings: &[i32]) -> u32
     requires few { length holdings.now ≤ 28 }
     requires range { All IsHolding holdings.now }
     ensures value { result ≡ sum_by rules.lacking holdings.now }
-    ensures bound { result ≤ 28 * unsigned_abs HOLDING }
+    ensures bound { result ≤ GOODS * unsigned_abs HOLDING }
 {
     let mut units = 0;
     for holding in holdings {
@@ -104,7 +104,7 @@ fn all_lacking(holdings: &[i32]) -> u32
 pub fn short(holdings: &[i32]) -> u32
     requires { AreHoldings holdings.now }
     ensures value { result ≡ rules.short_of holdings.now }
-    ensures bound { result ≤ 28 * unsigned_abs HOLDING }
+    ensures bound { result ≤ GOODS * unsigned_abs HOLDING }
 {
     all_lacking(&holdings[16..])
 }
@@ -132,7 +132,7 @@ fn cash(accounts: &Accounts, agent: usize) -> i64
 /// The score of an agent with this best total and cash that is this many tickets short.
 fn score(best: u32, cash: i64, short: u32) -> i64
     requires cash { IsWithin 1000000000000000 cash }
-    requires short { short ≤ 28 * unsigned_abs HOLDING }
+    requires short { short ≤ GOODS * unsigned_abs HOLDING }
     ensures { result ≡ rules.score_of best cash short }
 {
     i64::from(best) + cash - 200 * i64::from(short)

@@ -2,14 +2,14 @@
 use Rattle.std.specs.List.{FoldsTo}
 use Rattle.std.specs.Prelude.{◌≡◌, ◌<◌, ◌≤◌, ℕ, List, All, length}
 
--- It looked so often as it may, and saw fewer lines each time.
+-- It looked as often as it may, and saw fewer lines each time.
 pub record SawFewer {C : Type 0} (shows : C → ℕ → C → Type 0) (before after : C) (lines turns : ℕ) : Type 0 where
   pub seen : List ℕ
   pub looks : FoldsTo shows before seen after
   pub all : length seen ≡ turns
   pub fewer : All (λ n. n < lines) seen
 
--- It saw so many lines at its last look, and fewer at each of those that it made before.
+-- It saw as many lines or more at its last look, and fewer at each of those that it made before.
 pub record SawEnough {C : Type 0} (shows : C → ℕ → C → Type 0) (before after : C) (lines turns : ℕ) : Type 0 where
   pub made : ℕ
   pub between : C

@@ -1,3 +1,4 @@
+// Made games and scripts.
 use draw_maker::{make_game, make_script};
 use game_text::print_game;
 use std::test::Fail;

@@ -16,6 +16,7 @@ use std::snapshot::Snapshot;
 use std::sync::Wait;
 use std::thread;
 use std::time::{Clock, Duration};
+use tac_base::limits::CALLERS;
 use tac_base::{Board, Caller, Memory};
 
 /// A caller that waits sleeps after polling the board this many times.
@@ -99,7 +100,7 @@ impl<S: Kept> TurnLock<S> {
 
     /// Makes the pass of the next caller.
     fn split_off(&mut self, caller: Caller, limit: u32) -> Pass<S>
-        requires next { (caller ≡ (own_view self.old.own.badge.views).passes) × (caller < 9) }
+        requires next { (caller ≡ (own_view self.old.own.badge.views).passes) × (caller < CALLERS) }
         requires limit { limit ≤ S.cap caller }
         ensures own { (self.new.table ≡ self.old.table) × (self.new.own.badge.views ≡ with_pass (own_view self.old.own.badge.views) ∷ []) }
         ensures pass { (result.seat.table_id ≡ self.old.table.shared.table_id) × (result.caller ≡ caller) × (result.left ≡ limit)
@@ -133,7 +134,7 @@ impl<S: Kept> TurnLock<S> {
         state: S,
         limits: &[u32],
     ) -> Result<(TurnLock<S>, Vec<Pass<S>>), Memory>
-        requires limits { (1 ≤ length limits.now) × (length limits.now ≤ 9) }
+        requires limits { (1 ≤ length limits.now) × (length limits.now ≤ CALLERS) }
         requires empty { S.history state ≡ [] }
         requires caps { (i : ℕ) → i < length limits.now → slice_index limits.now i ≤ S.cap i }
         ensures setup { IfOk result (λ r. start_of r.0 ≡ state) }

@@ -1,6 +1,7 @@
 // How the lines of the histories are read.
 ghost use Rattle.std.specs.Prelude.{◌≡◌, ◌≤◌, None, Some, IfSome, MatchOption, length, map, drop, IsTrue};
 ghost use Rattle.std.specs.List.{list_all};
+ghost use Rattle.tac_base.specs.Goods.{clock};
 ghost use Rattle.text_forms.specs.Rows as rows;
 ghost use Rattle.text_forms.specs.Words.{parts_of};
 ghost use Rattle.bid_strings.specs.BidForm.{points_of, judged};
@@ -132,7 +133,7 @@ fn call_of(text: &[u8]) -> Option<Call>
 /// A caller of one digit, before a space and a text.
 fn caller_of(line: &[u8]) -> Option<(u8, &[u8])>
     ensures value { MatchOption result (forms.read_caller 8 line.now ≡ None) (λ called. forms.read_caller 8 line.now ≡ Some (called.0, called.1.now)) }
-    ensures range { IfSome result (λ called. called.0 ≤ 8) }
+    ensures range { IfSome result (λ called. called.0 ≤ clock) }
 {
     match line {
         [digit, b' ', text @ ..] => {

@@ -73,6 +73,7 @@ pub trait LineCount {
         ensures { shows self.old result self.new };
 }
 
+// Of what an atomic shows, std says nothing, since any thread may change it.
 impl LineCount for LinesSent {
     ghost shows = { λ _ _ _. Unit {0} };
 
@@ -151,10 +152,11 @@ impl<C: LineCount> Link for HeldLink<C> {
 
     fn read(&mut self, into: &mut [u8]) -> Result<usize, Failed>
         requires { 0 < length into.old }
-        // It fails only where the link fails, or where it saw fewer lines at each of its looks.
+        // It fails only where the link fails, or where it saw fewer lines at each of its looks. A read that is held up looks first, also one that then fails.
         ensures fails { IsErr result → Waits C.shows self.old (held_hold self.new) false ⊎ IsNextToFail (link_reads (held_link self.old)) }
         ensures failing { IsNextToFail (link_reads (held_link self.old)) → IsErr result }
-        ensures waits { IsNextHeld self.old → IfOk result (λ _. Waits C.shows self.old (held_hold self.new) true) }
+        ensures waits { IsNextHeld self.old → Waits C.shows self.old (held_hold self.new) true ⊎ Waits C.shows self.old (held_hold self.new) false }
+        ensures answers { IsNextHeld self.old → IfOk result (λ _. Waits C.shows self.old (held_hold self.new) true) }
         ensures share { IfOk result (λ n. n ≡ held_share self.old (length into.new)) }
         ensures next { ReadsNext (held_link self.old) (held_link self.new) result into.new }
         ensures free { ¬ IsNextHeld self.old → held_hold self.new ≡ held_hold self.old }
