@@ -1,8 +1,8 @@
 #!/usr/bin/env python3
-"""Buys a fixed plan: for each client the trip that it prefers, in the hotel that its premium pays for.
+"""Buys a fixed plan: for each client its preferred trip, in the hotel that its premium pays for.
 
-It buys the flights at once, and bids for the rooms 50 dollars above the quote, at most 300, and again when the quote has reached its bid, until
-the game is over. It keeps its tickets.
+It buys the flights at once, and bids for the rooms 50 dollars above the quote, at most 300, and
+again when the quote has reached its bid, until the game is over. It keeps its tickets.
 """
 
 import time
@@ -36,12 +36,17 @@ def buy_seats(link, needs):
 
 
 def bid_for_rooms(link, needs, standing, most=MOST_FOR_A_ROOM):
-    """Bids for the rooms of the plan whose quote has reached the standing bid. `standing` has the dollars of the standing bids."""
+    """Bids for the rooms of the plan whose quote has reached the standing bid.
+
+    `standing` has the dollars of the standing bids.
+    """
     for good in HOTELS:
         quote = link.quote(good)
         price = min(quote.ask + 50, most)
-        # A bid replaces the earlier one, so it is worth a call only if the quote has reached that and a higher bid is allowed.
-        if needs[good] and not quote.closed and standing[good] <= quote.ask and standing[good] < price:
+        # A bid replaces the earlier one, so it is worth a call only if the quote has reached that
+        # and a higher bid is allowed.
+        is_reached = standing[good] <= quote.ask and standing[good] < price
+        if needs[good] and not quote.closed and is_reached:
             link.bid(good, (needs[good], price))
             standing[good] = price
 
@@ -56,7 +61,9 @@ def main():
         time.sleep(pause)
     holdings = [link.own(good) for good in range(28)]
     bought, worth = sum(holdings[good] for good in needs), solve(holdings, link.clients)
-    print(f"agent {link.agent} planned {sum(needs.values())} units, has {bought} of these, worth {'unknown' if worth is None else worth}, cash {link.cash()}")
+    told = "unknown" if worth is None else worth
+    print(f"agent {link.agent} planned {sum(needs.values())} units, has {bought} of these, "
+          f"worth {told}, cash {link.cash()}")
     link.quit()
 
 

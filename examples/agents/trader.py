@@ -1,9 +1,11 @@
 #!/usr/bin/env python3
 """Buys trips as planner.py does, with a little more for rooms, and trades tickets.
 
-For each ticket type it computes what one ticket more, or one less, would change for its clients: each uses one of a type, on a night of its stay.
-It bids for the night for which one more brings the most, a little below that value, and offers a ticket of the night for which one less costs the
-least, a little above that value. It repeats this at most 500 times, and then waits for the end of the game.
+For each ticket type it computes what one ticket more, or one less, would change for its clients:
+each uses one of a type, on a night of its stay. It bids for the night for which one more brings the
+most, a little below that value, and offers a ticket of the night for which one less costs the
+least, a little above that value. It repeats this at most 500 times, and then waits for the end of
+the game.
 """
 
 import time
@@ -17,12 +19,15 @@ from planner import bid_for_rooms, buy_seats, plan
 
 MOST_FOR_A_ROOM = 350  # dollars
 MARGIN = 10  # dollars that a trade has to gain
-MOST_ROUNDS = 500  # an agent has 1024 calls in each auction, and a round takes at most two of a ticket's
+MOST_ROUNDS = 500  # of an agent's 1024 calls in an auction, a round takes at most two of a ticket's
 NIGHTS = range(1, 5)
 
 
 def value(clients, kind, held):
-    """What the tickets of a type, `held` of each night, are worth to the clients: a matching in which clients with higher values come first."""
+    """What the tickets of a type, `held` of each night, are worth to the clients.
+
+    It is a matching in which clients with higher values come first.
+    """
     places = [night for night in NIGHTS for _ in range(held[night])]
     users = [None] * len(places)
 
@@ -35,15 +40,21 @@ def value(clients, kind, held):
                     return True
         return False
 
-    return sum(client.values[kind] for client in sorted(clients, key=lambda client: -client.values[kind]) if seat(client, set()))
+    first = sorted(clients, key=lambda client: -client.values[kind])
+    return sum(client.values[kind] for client in first if seat(client, set()))
 
 
 def trade(link, kind, standing):
-    """Bids for one ticket of the type, and offers one. `standing` has the points of each bid, and the holding when it was made."""
+    """Bids for one ticket of the type, and offers one.
+
+    `standing` has the points of each bid, and the holding when it was made.
+    """
     held = {night: max(0, link.own(ticket(kind, night))) for night in NIGHTS}
     now = value(link.clients, kind, held)
-    gain = {night: value(link.clients, kind, held | {night: held[night] + 1}) - now for night in NIGHTS}
-    loss = {night: now - value(link.clients, kind, held | {night: held[night] - 1}) for night in NIGHTS if held[night] > 0}
+    gain = {night: value(link.clients, kind, held | {night: held[night] + 1}) - now
+            for night in NIGHTS}
+    loss = {night: now - value(link.clients, kind, held | {night: held[night] - 1})
+            for night in NIGHTS if held[night] > 0}
     buys, sells = max(gain, key=gain.get), min(loss, key=loss.get, default=None)
     for night in NIGHTS:
         points = []
@@ -57,7 +68,8 @@ def trade(link, kind, standing):
         if points:
             link.bid(good, *points)
         else:
-            link.ask(f"withdraw {good}")  # if all of it was traded, this is refused and changes nothing
+            # If all of it was traded, this is refused and changes nothing.
+            link.ask(f"withdraw {good}")
         standing[good] = held[night], points
 
 
@@ -76,7 +88,8 @@ def main():
         time.sleep(pause)
     bought = sum(link.own(good) for good in needs)
     tickets = sum(link.own(ticket(kind, night)) for kind in range(3) for night in NIGHTS)
-    print(f"agent {link.agent} has {bought} of {sum(needs.values())} units, had {sum(link.endow)} tickets, has {tickets}, cash {link.cash()}")
+    print(f"agent {link.agent} has {bought} of {sum(needs.values())} units, had {sum(link.endow)} "
+          f"tickets, has {tickets}, cash {link.cash()}")
     link.quit()
 
 

@@ -1,5 +1,8 @@
 #!/usr/bin/env python3
-"""Only watches: it prints in which order the hotels close, and at which quotes. It makes no call of an auction, since a quote is none."""
+"""Only watches: it prints in which order the hotels close, and at which quotes.
+
+It makes no call of an auction, since a quote is none.
+"""
 
 import time
 
