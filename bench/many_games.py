@@ -26,7 +26,7 @@ from typing import List, Tuple
 
 from running import Parser, ProgramError, command, file_of, run, whole
 
-from geesefuton.games import TICKS
+from geesefuton.records.games import TICKS
 from geesefuton.processes import Children, free_port
 
 PAGE = os.sysconf("SC_PAGE_SIZE")

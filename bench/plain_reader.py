@@ -12,7 +12,7 @@ from pathlib import Path
 
 from running import Parser, command
 
-from geesefuton.logs import LogError, read_log, trades_of
+from geesefuton.records.logs import LogError, read_log, trades_of
 
 
 def main() -> int:

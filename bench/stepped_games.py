@@ -4,8 +4,8 @@
     bench/stepped_games.py crates/tacd/out/tacd --processor 3
 
 A game is `reset` with a seed of its own, 54 steps with the quotes of all 28 goods, which are read,
-and `close`; nobody asks anything more. Beside `geesefuton.environment`, where a game is one
-process, it plays games as `examples/step.py` did before: that started a process in each step, which
+and `close`; nobody asks anything more. Beside
+`geesefuton.learning.environment`, where a game is one process, it plays games as `examples/step.py` did before: that started a process in each step, which
 played the script so far again. A third way is the environment where each step tells what the
 scores would be, and somebody bids in each. They take turns, round by round, in this process, which
 keeps to one processor with all that it starts. The output has for each the games in a second of
@@ -25,8 +25,8 @@ from typing import Callable, Dict, List, NamedTuple, Tuple
 from running import Parser, command, file_of, whole
 
 from geesefuton import program
-from geesefuton.environment import Environment
-from geesefuton.games import GOODS, TICKS
+from geesefuton.learning.environment import Environment
+from geesefuton.records.games import GOODS, TICKS
 
 
 class Round(NamedTuple):

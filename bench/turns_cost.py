@@ -18,12 +18,13 @@ from typing import List
 TOP = Path(__file__).resolve().parent.parent
 sys.path.insert(0, str(TOP / "python"))
 
-from geesefuton import events, program  # noqa: E402
+from geesefuton import program  # noqa: E402
+from geesefuton.hosting import events  # noqa: E402
 from geesefuton.arguments import Parser, whole  # noqa: E402
-from geesefuton.games import SEATS, TICKS  # noqa: E402
-from geesefuton.lobby import LobbySettings  # noqa: E402
+from geesefuton.records.games import SEATS, TICKS  # noqa: E402
+from geesefuton.hosting.lobby import LobbySettings  # noqa: E402
 from geesefuton.processes import Children, command  # noqa: E402
-from geesefuton.turns import MOST_TURNS, TurnLobby  # noqa: E402
+from geesefuton.experiments.turns import MOST_TURNS, TurnLobby  # noqa: E402
 
 PATIENCE = 60.0  # seconds
 START = 60.0  # seconds until the game begins without agents that are missing

@@ -19,8 +19,8 @@ from typing import Iterator, List, Optional, Sequence, Tuple
 
 from running import Parser, ProgramError, command, file_of, need, read_account, run
 
-from geesefuton.games import PACKAGES as TRIPS
-from geesefuton.games import Client
+from geesefuton.records.games import PACKAGES as TRIPS
+from geesefuton.records.games import Client
 
 LIMIT = 200_000  # the greatest holding of a good in an account, in absolute value
 

@@ -22,7 +22,7 @@ from typing import Dict, Iterator, List
 from trying import TOP, Parser, ProgramError
 
 from geesefuton import program
-from geesefuton.games import TICKS
+from geesefuton.records.games import TICKS
 from geesefuton.processes import Children, command, free_port
 
 LAYER = TOP / "examples/java"

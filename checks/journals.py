@@ -30,7 +30,7 @@ sys.path.insert(0, str(TOP / "python"))
 
 from geesefuton import program
 from geesefuton.arguments import Parser, whole
-from geesefuton.dialects import asked_by, reply_of
+from geesefuton.records.dialects import asked_by, reply_of
 from geesefuton.processes import Children, command, free_port
 
 LOBBY, RECOVER = TOP / "tools/lobby", TOP / "tools/recover"

@@ -19,7 +19,7 @@ from collections import Counter
 from step import Environment  # first: it finds the package
 
 from geesefuton.arguments import whole
-from geesefuton.games import HOTELS, inbound, outbound, room
+from geesefuton.records.games import HOTELS, inbound, outbound, room
 from geesefuton.processes import command
 
 FIRST, SPREAD = (200, 50, 4, 100), (80, 60, 1, 15)  # dollars, dollars, nights, dollars

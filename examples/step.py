@@ -1,8 +1,8 @@
 #!/usr/bin/env python3
 """A small game in steps: one agent buys seats and bids for rooms, and sees what that is worth.
 
-An agent that learns is made of the same calls, which `geesefuton.environment` tells; `learner.py`
-is one. What stands here is for the first client of a made game.
+An agent that learns is made of the same calls, which
+`geesefuton.learning.environment` tells; `learner.py` is one. What stands here is for the first client of a made game.
 """
 
 import sys
@@ -10,8 +10,8 @@ from pathlib import Path
 
 sys.path.insert(0, str(Path(__file__).resolve().parent.parent / "python"))
 
-from geesefuton.environment import Environment  # noqa: E402
-from geesefuton.games import inbound, outbound, room  # noqa: E402
+from geesefuton.learning.environment import Environment  # noqa: E402
+from geesefuton.records.games import inbound, outbound, room  # noqa: E402
 from geesefuton.processes import command  # noqa: E402
 
 

@@ -19,11 +19,11 @@ from typing import BinaryIO, Callable, Dict, List, NamedTuple, Optional, Sequenc
 
 from geesefuton import program as tac
 from geesefuton.arguments import seconds
-from geesefuton.games import (FLIGHTS, HOTELS, INBOUND, OUTBOUND, TICKETS, Client, inbound,
-                              outbound, room, ticket)
-from geesefuton.replies import (Cash, No, Own, Quote, Reply, ReplyError, Request, read_json,
-                                read_request, read_words, request_json, request_words,
-                                text_of_points, words_of)
+from geesefuton.records.games import (FLIGHTS, HOTELS, INBOUND, OUTBOUND, TICKETS, Client, inbound,
+                                      outbound, room, ticket)
+from geesefuton.records.replies import (Cash, No, Own, Quote, Reply, ReplyError, Request, read_json,
+                                        read_request, read_words, request_json, request_words,
+                                        text_of_points, words_of)
 
 __all__ = [
     "FLIGHTS", "HOTELS", "INBOUND", "OUTBOUND", "TICKETS", "Client", "Link", "LinkError", "Quote",

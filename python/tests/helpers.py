@@ -12,11 +12,11 @@ from typing import Any, Dict, List, Optional, Tuple
 from unittest import mock
 
 from geesefuton import program
-from geesefuton.dialects import asked_by
-from geesefuton.games import CLOCK, GOODS, HOTELS, SEATS, Game, read_game
-from geesefuton.journal import Schedule
-from geesefuton.logs import Log, read_log
-from geesefuton.replies import read_points
+from geesefuton.hosting.journal import Schedule
+from geesefuton.records.dialects import asked_by
+from geesefuton.records.games import CLOCK, GOODS, HOTELS, SEATS, Game, read_game
+from geesefuton.records.logs import Log, read_log
+from geesefuton.records.replies import read_points
 
 DATA = Path(__file__).resolve().parent / "data"
 PACKAGE = DATA.parents[1]
@@ -73,7 +73,7 @@ def refusal(module: str, *words: object) -> Tuple[int, str]:
     command = importlib.import_module(f"geesefuton.{module}")
     with contextlib.ExitStack() as stack:
         patch = stack.enter_context
-        patch(mock.patch("sys.argv", [module, *map(str, words)]))
+        patch(mock.patch("sys.argv", [module.rpartition(".")[2], *map(str, words)]))
         patch(mock.patch("geesefuton.processes.stop_on_signals"))
         for place in (module, "processes", "arguments"):
             patch(mock.patch(f"geesefuton.{place}.tell", lambda text: told.append(text + "\n")))

@@ -7,8 +7,8 @@ import unittest
 from collections import Counter
 from typing import Callable, Dict, List, Optional, Tuple
 
-from geesefuton.games import HOTELS, TICKETS, Client, inbound, outbound
 from geesefuton.link import Quote
+from geesefuton.records.games import HOTELS, TICKETS, Client, inbound, outbound
 from tests.helpers import TOP
 from tests.test_link import Server
 

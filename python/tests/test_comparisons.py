@@ -1,8 +1,8 @@
 import math
 import unittest
 
-from geesefuton.comparisons import (Estimate, adjusted, estimate, incomplete_beta, mean_of,
-                                    student_quantile)
+from geesefuton.experiments.comparisons import (Estimate, adjusted, estimate, incomplete_beta,
+                                                mean_of, student_quantile)
 
 # Bounds of Student's t for 95 %, from printed tables.
 TABLE = [(1, 12.7062), (2, 4.3027), (3, 3.1824), (4, 2.7764), (5, 2.5706), (9, 2.2622),

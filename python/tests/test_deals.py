@@ -4,9 +4,10 @@ from pathlib import Path
 from typing import List
 from unittest import mock
 
-from geesefuton import deals, luck
-from geesefuton.deals import Deal, DealError, Rule, Table, read_rooms, seated, tables
-from geesefuton.games import PACKAGES, Client
+from geesefuton.experiments import deals, luck
+from geesefuton.experiments.deals import Deal, DealError, Rule, Table, read_rooms, seated, tables
+from geesefuton.records.drawing import MOST_SEED, drawn_rooms
+from geesefuton.records.games import PACKAGES, Client
 from tests.helpers import SERVED_GAME, TOP, served_game
 
 MADE = SERVED_GAME.read_text()
@@ -50,7 +51,7 @@ class Tables(unittest.TestCase):
                          ["bcabcabc", "cabcabca", "abcabcab", "cabcabca"])
 
     def test_seeds_begin_at_one_and_are_of_64_bits(self) -> None:
-        self.assertEqual((Rule().seed, deals.MOST_SEED), (1, 2 ** 64 - 1))
+        self.assertEqual((Rule().seed, MOST_SEED), (1, 2 ** 64 - 1))
 
     def test_a_tournament_in_parts_is_the_same_one(self) -> None:
         whole = list(tables(Rule(seed=5), 4, 1))
@@ -60,7 +61,7 @@ class Tables(unittest.TestCase):
     def test_rooms_and_quotes(self) -> None:
         game = deals.made_deal(Rule(seed=3, rooms=(3, 6), live=True), 0).game
         self.assertEqual((game.version, game.live), (2, True))
-        self.assertEqual(list(game.rooms), deals.drawn_rooms(3, 3, 6))
+        self.assertEqual(list(game.rooms), drawn_rooms(3, 3, 6))
         other = deals.made_deal(Rule(seed=3, live=True), 0).game
         self.assertEqual(other.rooms, served_game().rooms)
         quiet = deals.made_deal(Rule(seed=3, rooms=(4, 4)), 0).game
@@ -70,7 +71,7 @@ class Tables(unittest.TestCase):
         drawn = [deals.made_deal(Rule(seed=5, rooms=(3, 6)), number).game.rooms
                  for number in range(3)]
         self.assertEqual([list(rooms) for rooms in drawn],
-                         [deals.drawn_rooms(seed, 3, 6) for seed in (5, 6, 7)])
+                         [drawn_rooms(seed, 3, 6) for seed in (5, 6, 7)])
         self.assertEqual(drawn[2], deals.made_deal(Rule(seed=7, rooms=(3, 6)), 0).game.rooms)
 
     def test_quotes_alone_change_a_made_game(self) -> None:
@@ -107,12 +108,12 @@ class Rooms(unittest.TestCase):
                 read_rooms(text)
 
     def test_draws_are_fixed_in_range_and_reach_every_number(self) -> None:
-        self.assertEqual(deals.drawn_rooms(1, 3, 6), deals.drawn_rooms(1, 3, 6))
-        drawn = [rooms for seed in range(40) for rooms in deals.drawn_rooms(seed, 3, 6)]
+        self.assertEqual(drawn_rooms(1, 3, 6), drawn_rooms(1, 3, 6))
+        drawn = [rooms for seed in range(40) for rooms in drawn_rooms(seed, 3, 6)]
         self.assertEqual(set(drawn), {3, 4, 5, 6})
-        self.assertNotEqual(deals.drawn_rooms(1, 1, 64), deals.drawn_rooms(2, 1, 64))
+        self.assertNotEqual(drawn_rooms(1, 1, 64), drawn_rooms(2, 1, 64))
         # The draw of a seed is the same on every machine and in every version.
-        self.assertEqual(deals.drawn_rooms(1, 3, 6), [6, 3, 4, 3, 4, 5, 5, 6])
+        self.assertEqual(drawn_rooms(1, 3, 6), [6, 3, 4, 3, 4, 5, 5, 6])
 
 
 class Lucks(unittest.TestCase):

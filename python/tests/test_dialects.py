@@ -2,10 +2,10 @@ import json
 import unittest
 from typing import Optional
 
-from geesefuton.dialects import (CASH, Asked, asked_by, is_bye, is_refusal, position_of, reply_of,
-                                 said_in, words_for)
-from geesefuton.games import GOODS
-from geesefuton.replies import ReplyError
+from geesefuton.records.dialects import (CASH, Asked, asked_by, is_bye, is_refusal, position_of,
+                                         reply_of, said_in, words_for)
+from geesefuton.records.games import GOODS
+from geesefuton.records.replies import ReplyError
 
 
 class Asking(unittest.TestCase):

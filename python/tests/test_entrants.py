@@ -6,7 +6,8 @@ import unittest
 from pathlib import Path
 from unittest import mock
 
-from geesefuton.entrants import EntrantError, environment, read_entrant, read_entrants, seat_words
+from geesefuton.experiments.entrants import (EntrantError, environment, read_entrant, read_entrants,
+                                             seat_words)
 from tests.helpers import PACKAGE
 
 

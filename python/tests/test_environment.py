@@ -7,10 +7,10 @@ from typing import Any, Dict, List
 from unittest import mock
 
 from geesefuton import program
-from geesefuton.deals import drawn_rooms
-from geesefuton.environment import ActionError, Environment
-from geesefuton.games import FLIGHTS, HOTELS, TICKS, Game, GameError, read_game
+from geesefuton.learning.environment import ActionError, Environment
 from geesefuton.program import ProgramError
+from geesefuton.records.drawing import drawn_rooms
+from geesefuton.records.games import FLIGHTS, HOTELS, TICKS, Game, GameError, read_game
 from tests.helpers import SERVED_GAME, TOP, fake_program, needs_program
 
 FIRST = TOP / "examples" / "first.game"  # of version 1

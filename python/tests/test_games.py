@@ -1,8 +1,8 @@
 import unittest
 from typing import List
 
-from geesefuton import games
-from geesefuton.games import Client, Flight, Game, GameError, Package, read_game
+from geesefuton.records import games
+from geesefuton.records.games import Client, Flight, Game, GameError, Package, read_game
 from tests.helpers import TOP, served_game
 
 

@@ -14,9 +14,9 @@ from pathlib import Path
 from typing import Any, Iterator, List, Optional
 from unittest import mock
 
-from geesefuton import events, lobby
-from geesefuton.lobby import Lobby, LobbyError, LobbySettings
-from geesefuton.teller import STOPPED
+from geesefuton.hosting import events, lobby
+from geesefuton.hosting.lobby import Lobby, LobbyError, LobbySettings
+from geesefuton.hosting.teller import STOPPED
 from tests.helpers import TOP, python, variables
 
 GAME = TOP / "examples" / "first.game"
@@ -29,7 +29,7 @@ class Case(unittest.TestCase):
         self.folder = Path(place.name).resolve()
 
     def patch(self, name: str, *what: Any, **how: Any) -> Any:
-        change = mock.patch(f"geesefuton.lobby.{name}", *what, **how)
+        change = mock.patch(f"geesefuton.hosting.lobby.{name}", *what, **how)
         self.addCleanup(change.stop)
         return change.start()
 
@@ -220,7 +220,7 @@ class Journals(Case):
             os.close(kept)
 
     def test_standard_files_that_are_closed(self) -> None:
-        code = ("import os; from geesefuton.lobby import _open_standard_files; "
+        code = ("import os; from geesefuton.hosting.lobby import _open_standard_files; "
                 "has_output = _open_standard_files(); "
                 "[os.fstat(number) for number in range(3)]; os._exit(10 + has_output)")
         for close, due in (("", 11), ("<&-", 11), ("2>&-", 11), (">&-", 10), ("<&- >&- 2>&-", 10)):
@@ -265,7 +265,7 @@ class Pages(Case):
         how = children.start.call_args[1]
         self.assertIn(str(TOP / "python"), how["env"]["PYTHONPATH"].split(os.pathsep))
         words: List[str] = children.start.call_args[0][0]
-        self.assertEqual(words[:4], [sys.executable, "-m", "geesefuton.live", "my.journal"])
+        self.assertEqual(words[:4], [sys.executable, "-m", "geesefuton.hosting.live", "my.journal"])
         return words[5:]
 
     def test_its_words(self) -> None:

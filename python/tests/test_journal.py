@@ -9,9 +9,9 @@ from pathlib import Path
 from typing import Any, Dict, List
 from unittest import mock
 
-from geesefuton.dialects import CASH, Asked, asked_by, reply_of
-from geesefuton.journal import (SYNC, Call, Journal, JournalError, JournalReader, Schedule,
-                                read_journal)
+from geesefuton.hosting.journal import (SYNC, Call, Journal, JournalError, JournalReader, Schedule,
+                                        read_journal)
+from geesefuton.records.dialects import CASH, Asked, asked_by, reply_of
 
 DATA = Path(__file__).resolve().parent / "data"
 LINES = (DATA / "lobby.journal").read_text().split("\n")[:-1]
@@ -231,14 +231,14 @@ class Keeping(unittest.TestCase):
             self.assertEqual(os.fstat(number).st_ino, self.file.stat().st_ino)
             synced.set()
 
-        with mock.patch("geesefuton.journal.SYNC", 0.01), mock.patch("os.fsync", sync):
+        with mock.patch("geesefuton.hosting.journal.SYNC", 0.01), mock.patch("os.fsync", sync):
             journal = self.open()
             for tick in range(2):  # again and again, and not once alone
                 journal.tell(tick=tick, t=0)
                 self.assertTrue(synced.wait(20))
                 synced.clear()
             journal.close()
-        with mock.patch("geesefuton.journal.SYNC", 100.0), mock.patch("os.fsync") as fsync:
+        with mock.patch("geesefuton.hosting.journal.SYNC", 100.0), mock.patch("os.fsync") as fsync:
             self.file.unlink()
             journal = self.open()
             journal.tell(tick=0, t=0)

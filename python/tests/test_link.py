@@ -13,9 +13,9 @@ from typing import Iterator, List, Sequence, Tuple
 from unittest import mock
 
 from geesefuton import link
-from geesefuton.games import Client
 from geesefuton.link import Link, LinkError
-from geesefuton.replies import No, Own, Quote, Request, Taken
+from geesefuton.records.games import Client
+from geesefuton.records.replies import No, Own, Quote, Request, Taken
 from tests.helpers import TOP, fake_program, needs_program, variables
 
 WELCOME = ["welcome 3", "endow 3 0 1 1 2 2 0 2 2 2 0 1 1",

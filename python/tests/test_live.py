@@ -18,15 +18,15 @@ from pathlib import Path
 from typing import Any, Dict, List, Optional, Tuple
 from unittest import mock
 
-from geesefuton.live import MOST_VIEWERS, NICE, Live, Viewers, _arguments
+from geesefuton.hosting.live import MOST_VIEWERS, NICE, Live, Viewers, _arguments
+from geesefuton.hosting.projection import Projection, View
+from geesefuton.hosting.recovery import RecoveryError
 from geesefuton.processes import free_port
-from geesefuton.projection import Projection, View
-from geesefuton.recovery import RecoveryError
 
 HERE = Path(__file__).resolve().parent
 DATA, TOP = HERE / "data", HERE.parents[1]
 LINES = (DATA / "lobby.journal").read_text().split("\n")[:-1]
-PAGE = TOP / "python/geesefuton/live.html"
+PAGE = TOP / "python/geesefuton/hosting/live.html"
 TICK_9 = next(place for place, line in enumerate(LINES) if '"tick":9,' in line)
 MOST = 60.0  # seconds that anything may take, on a machine that is busy with other work
 
@@ -81,7 +81,7 @@ class Following(unittest.TestCase):
         pieces = [text[at:at + 1000] for at in range(0, len(text), 1000)]
         journal = mock.Mock(read=mock.Mock(side_effect=[*pieces, b""]))
         live = Live(journal, View(6, False), mock.Mock(), mock.Mock())
-        with mock.patch("geesefuton.live.LOOK", 0.0), \
+        with mock.patch("geesefuton.hosting.live.LOOK", 0.0), \
                 mock.patch.object(live, "show", mock.AsyncMock()):
             asyncio.run(live.follow())
         self.assertEqual((live._reader.lines, live._reader.status), (len(LINES), 0))
@@ -103,7 +103,7 @@ class Following(unittest.TestCase):
         head, begun, over = (text.encode("ascii") for text in texts)  # until 900 milliseconds
         made = self.live(6)
         made._journal = mock.Mock(read=mock.Mock(side_effect=[b"", head, begun, b"", over]))
-        with mock.patch("geesefuton.live.LOOK", 0.0):
+        with mock.patch("geesefuton.hosting.live.LOOK", 0.0):
             asyncio.run(made.follow())
         assert made._zero is not None
         since = time.monotonic() - made._zero
@@ -148,9 +148,9 @@ class Following(unittest.TestCase):
                 raise fault
             return projection(reader.tick)
 
-        with mock.patch("geesefuton.live.project", project), \
-                mock.patch("geesefuton.live.EACH", 0.01), \
-                mock.patch("geesefuton.live.tell", told.append):
+        with mock.patch("geesefuton.hosting.live.project", project), \
+                mock.patch("geesefuton.hosting.live.EACH", 0.01), \
+                mock.patch("geesefuton.hosting.live.tell", told.append):
             asyncio.run(asyncio.wait_for(made.project(), MOST))
         return asked, told
 
@@ -245,7 +245,7 @@ class Answering(unittest.TestCase):
         self.assertEqual(self.viewers.count, 200)
 
     def test_one_that_says_nothing_is_let_go(self) -> None:
-        with mock.patch("geesefuton.live.STALLED", 0.05):
+        with mock.patch("geesefuton.hosting.live.STALLED", 0.05):
             for request in (b"", b"GET / HTTP/1.1\r\n"):
                 self.assertEqual(self.run_it(lambda port: self.ask(port, request)), ("", {}, b""))
         self.assertEqual(self.run_it(lambda port: self.ask(port, b"x" * 99999))[0], "")
@@ -265,7 +265,7 @@ class Answering(unittest.TestCase):
             writer.close()
             return got
 
-        with mock.patch("geesefuton.live.STALLED", 0.1):
+        with mock.patch("geesefuton.hosting.live.STALLED", 0.1):
             self.assertLess(self.run_it(work), 32 << 20)
 
     def test_each_state_is_sent_until_the_last(self) -> None:

@@ -16,12 +16,12 @@ from pathlib import Path
 from typing import Any, Dict, List, Optional, Type
 from unittest import mock
 
-from geesefuton import events, log_files
-from geesefuton.events import End, Event
-from geesefuton.journal import Journal, read_journal
-from geesefuton.lobby import Lobby, LobbyError, LobbySettings
+from geesefuton.hosting import events, log_files
+from geesefuton.hosting.events import End, Event
+from geesefuton.hosting.journal import Journal, read_journal
+from geesefuton.hosting.lobby import Lobby, LobbyError, LobbySettings
+from geesefuton.hosting.relay import MOST_STRANGERS
 from geesefuton.processes import free_port
-from geesefuton.relay import MOST_STRANGERS
 
 HERE = Path(__file__).resolve().parent
 TOP = HERE.parents[1]
@@ -108,7 +108,7 @@ class Case(unittest.TestCase):
         change = mock.patch.dict(os.environ, {"TAC": str(HERE / "fake_tac.py")})
         change.start()
         self.addCleanup(change.stop)
-        ending = mock.patch("geesefuton.lobby.ENDING", 0.1)  # some agents here keep their links
+        ending = mock.patch("geesefuton.hosting.lobby.ENDING", 0.1)  # some keep their links
         ending.start()
         self.addCleanup(ending.stop)
 
@@ -406,7 +406,7 @@ class TheEnd(Case):
 
     def test_a_port_is_tried_three_times(self) -> None:
         with mock.patch.dict(os.environ, {"FAKE_EARLY": "5"}), \
-                mock.patch("geesefuton.lobby.free_port", side_effect=free_port) as ports:
+                mock.patch("geesefuton.hosting.lobby.free_port", side_effect=free_port) as ports:
             host = Host(self.folder, pace=5, start=0)
             host.end()
         self.assertEqual((host.status, ports.call_count), (5, 3))
@@ -530,7 +530,7 @@ class TheEnd(Case):
     def test_what_is_told_of_a_log_that_is_lost(self) -> None:
         for is_whole, due in ((True, "this makes it again: "),
                               (False, "this makes one of what the journal has: ")):
-            with mock.patch("geesefuton.log_files.keep",
+            with mock.patch("geesefuton.hosting.log_files.keep",
                             return_value=log_files.Kept("the disk is full", None)), \
                     mock.patch.object(Journal, "is_whole", is_whole):
                 journal = self.folder / f"{is_whole}.journal"

@@ -8,7 +8,7 @@ from pathlib import Path
 from typing import Any
 from unittest import mock
 
-from geesefuton.log_files import Kept, free_name, keep
+from geesefuton.hosting.log_files import Kept, free_name, keep
 
 LOG = b"taclog 1\nend\n"
 

@@ -2,10 +2,10 @@ import re
 import unittest
 from typing import List
 
-from geesefuton.games import Package
-from geesefuton.logs import (Call, Entry, Log, LogError, Post, Reading, Trade, Verdict, read_log,
-                             read_played, read_scores, trades_of)
-from geesefuton.replies import Below, Done, No, Own, Sold, Taken
+from geesefuton.records.games import Package
+from geesefuton.records.logs import (Call, Entry, Log, LogError, Post, Reading, Trade, Verdict,
+                                     read_log, read_played, read_scores, trades_of)
+from geesefuton.records.replies import Below, Done, No, Own, Sold, Taken
 from tests.helpers import PLAYED, SERVED_LOG, served_log
 
 

@@ -9,13 +9,15 @@ from pathlib import Path
 from typing import Any, Callable, List, Sequence
 from unittest import mock
 
-from geesefuton import events, match
-from geesefuton.entrants import Entrant
-from geesefuton.events import End
-from geesefuton.lobby import LobbyError
-from geesefuton.match import Exit, Job, Match, Message, Note, Result, outcome_of, repeated
+from geesefuton.experiments import match
+from geesefuton.experiments.entrants import Entrant
+from geesefuton.experiments.match import (Exit, Job, Match, Message, Note, Result, outcome_of,
+                                          repeated)
+from geesefuton.experiments.results import Kind, Outcome
+from geesefuton.hosting import events
+from geesefuton.hosting.events import End
+from geesefuton.hosting.lobby import LobbyError
 from geesefuton.processes import Children
-from geesefuton.results import Kind, Outcome
 from tests.helpers import SERVED_GAME, SERVED_LOG, fake_program
 
 QUIT, FAILED, KILLED, STOPPED = Exit(0), Exit(1), Exit(-9), Exit(-9, is_stopped=True)
@@ -95,9 +97,9 @@ class Matches(unittest.TestCase):
         self.audit("sound")
         self.lobby = type("Made", (Lobby,), {"ends": [End.LEFT] * 8,
                                              "log": SERVED_LOG.read_bytes(), "seconds": 0.3})
-        self.patch("geesefuton.match.Lobby", self.lobby)
-        self.patch("geesefuton.match.TurnLobby", self.lobby)
-        self.patch("geesefuton.match.LEAVE", 0.3)
+        self.patch("geesefuton.experiments.match.Lobby", self.lobby)
+        self.patch("geesefuton.experiments.match.TurnLobby", self.lobby)
+        self.patch("geesefuton.experiments.match.LEAVE", 0.3)
 
     def patch(self, name: str, value: object) -> None:
         patch = mock.patch(name, value)
@@ -168,7 +170,7 @@ class Matches(unittest.TestCase):
         self.assertEqual((self.place / "7.0.red3").read_text(), "x\n")
         printed = (self.place / "7.0.red0").read_text().split()
         self.assertEqual(printed[:4], ["4321", "red0", "--pause", "0.02"])
-        self.assertIn(str(Path(match.__file__).parents[1]), printed[4].split(":"))
+        self.assertIn(str(Path(match.__file__).parents[2]), printed[4].split(":"))
         self.assertEqual((self.place / "7.0.red1").read_text(), "oops\n")
 
     def test_agents_read_nothing_of_what_the_tournament_is_given(self) -> None:
@@ -195,8 +197,8 @@ class Matches(unittest.TestCase):
         self.assertEqual(Lobby.orders.count("without red2\n"), 0)
 
     def test_a_game_in_turns(self) -> None:
-        with mock.patch("geesefuton.match.TurnLobby", self.lobby), \
-                mock.patch("geesefuton.match.Lobby", Lobby):
+        with mock.patch("geesefuton.experiments.match.TurnLobby", self.lobby), \
+                mock.patch("geesefuton.experiments.match.Lobby", Lobby):
             result = self.play('echo "$@" $AGENT_SEED $PYTHONHASHSEED', "echo $AGENT_SEED",
                                turns=30, patience=2.5)
         self.assertEqual((result.kind, len(result.scores)), (Kind.TURNS, 8))
@@ -262,12 +264,12 @@ class Matches(unittest.TestCase):
         self.assertIn("was still running", self.notes())
 
     def test_much_that_is_printed_is_cut(self) -> None:
-        self.patch("geesefuton.match.MOST_KEPT", 1000)
+        self.patch("geesefuton.experiments.match.MOST_KEPT", 1000)
         self.play("seq 1 1000")
         text = (self.place / "7.0.red0").read_text()
         self.assertLess(len(text), 1100)
         self.assertTrue(text.startswith("[2893 bytes are left out]\n") and text.endswith("1000\n"))
-        self.patch("geesefuton.match.MOST_PRINTED", 8)
+        self.patch("geesefuton.experiments.match.MOST_PRINTED", 8)
         self.lobby.ends = [End.GONE] * 8
         self.assertIs(self.play("seq 1 100000; exit 1").outcomes[0], Outcome.CRASHED)
         self.assertLessEqual((self.place / "7.0.red0").stat().st_size, 4096)

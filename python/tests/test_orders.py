@@ -9,7 +9,7 @@ from pathlib import Path
 from typing import Any, Callable, Deque, Dict, Optional
 from unittest import mock
 
-from geesefuton.orders import Orders
+from geesefuton.hosting.orders import Orders
 
 
 class Selecting:

@@ -5,11 +5,11 @@ import unittest
 from dataclasses import replace
 from typing import Dict, List, Optional, Tuple
 
-from geesefuton import page
-from geesefuton.games import FLIGHTS, HOTELS, TICKS, Package
-from geesefuton.logs import Log, Score
-from geesefuton.page import Heading
-from geesefuton.prices import Event, all_events
+from geesefuton.records import page
+from geesefuton.records.games import FLIGHTS, HOTELS, TICKS, Package
+from geesefuton.records.logs import Log, Score
+from geesefuton.records.page import Heading
+from geesefuton.records.prices import Event, all_events
 from tests.helpers import cells_of, served_game, served_log
 
 GAME, LOG = served_game(), served_log()

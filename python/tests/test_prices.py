@@ -1,10 +1,10 @@
 import unittest
 from typing import List
 
-from geesefuton.games import HOTELS
-from geesefuton.logs import Call, Entry, Trade
-from geesefuton.prices import Event, all_events, ask_of, events_of
-from geesefuton.replies import Below, Done, No, Own, Sold, Taken
+from geesefuton.records.games import HOTELS
+from geesefuton.records.logs import Call, Entry, Trade
+from geesefuton.records.prices import Event, all_events, ask_of, events_of
+from geesefuton.records.replies import Below, Done, No, Own, Sold, Taken
 from tests.helpers import served_game, served_log
 
 

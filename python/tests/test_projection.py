@@ -6,11 +6,12 @@ from pathlib import Path
 from typing import Any, Dict, List, Optional, Tuple
 from unittest import mock
 
-from geesefuton.games import Game, read_game
-from geesefuton.journal import JournalReader
-from geesefuton.logs import read_log
-from geesefuton.projection import Night, Projection, View, nights_of, project, without_future
-from geesefuton.recovery import RecoveryError
+from geesefuton.hosting.journal import JournalReader
+from geesefuton.hosting.projection import (Night, Projection, View, nights_of, project,
+                                           without_future)
+from geesefuton.hosting.recovery import RecoveryError
+from geesefuton.records.games import Game, read_game
+from geesefuton.records.logs import read_log
 from tests.helpers import CountingPlayer
 
 DATA = Path(__file__).resolve().parent / "data"

@@ -13,14 +13,15 @@ from typing import Any, Dict, List, Sequence, Tuple
 from unittest import mock
 
 from geesefuton import program
-from geesefuton.dialects import Asked, position_of
-from geesefuton.games import DRAWS, Game, read_game
-from geesefuton.journal import Call, JournalReader, Schedule, read_journal
-from geesefuton.logs import read_log
-from geesefuton.projection import Projection, View, names_of, nights_of, project, without_future
+from geesefuton.hosting.journal import Call, JournalReader, Schedule, read_journal
+from geesefuton.hosting.projection import (Projection, View, names_of, nights_of, project,
+                                           without_future)
+from geesefuton.hosting.recovery import (Auction, Player, Recovery, RecoveryError, Script,
+                                         _tell_pending, differences, script_of)
 from geesefuton.processes import Output
-from geesefuton.recovery import (Auction, Player, Recovery, RecoveryError, Script, _tell_pending,
-                                 differences, script_of)
+from geesefuton.records.dialects import Asked, position_of
+from geesefuton.records.games import DRAWS, Game, read_game
+from geesefuton.records.logs import read_log
 from tests.helpers import CountingPlayer, fake_program, refusal
 
 HERE = Path(__file__).resolve().parent
@@ -378,10 +379,10 @@ class Telling(unittest.TestCase):
     def run_it(self, lines: Sequence[str], *words: object) -> Tuple[int, List[str]]:
         """Runs the command on a journal, and gives its exit status and the lines that it tells."""
         (self.folder / "journal").write_text("".join(line + "\n" for line in lines))
-        with mock.patch("geesefuton.recovery.Player", lambda folder: CountingPlayer()), \
-                mock.patch("geesefuton.recovery.Output",
+        with mock.patch("geesefuton.hosting.recovery.Player", lambda folder: CountingPlayer()), \
+                mock.patch("geesefuton.hosting.recovery.Output",
                            lambda target: Output(self.log if target == 1 else target)):
-            status, text = refusal("recovery", self.folder / "journal", *words)
+            status, text = refusal("hosting.recovery", self.folder / "journal", *words)
         return status, text.splitlines()
 
     HEAD = [LINES[0], '{"begin":[0,1,2,3,4,5,6,7]}', '{"tick":0,"t":0}', '{"tick":7,"t":700}',
@@ -424,7 +425,7 @@ class Telling(unittest.TestCase):
         self.assertTrue(text[-1].endswith("with them (--pending) no score changes"), text)
 
     def test_changes_have_their_signs(self) -> None:
-        with mock.patch("geesefuton.recovery._scores_of",
+        with mock.patch("geesefuton.hosting.recovery._scores_of",
                         side_effect=[[5] * 8, [5, 5, 5, 20, 5, 5, 5, -12]]):
             _, text = self.run_it([*self.HEAD, asks(4, "own 22")])
         self.assertTrue(text[-1].endswith(f"change: {GAME.words[3]} +15, {GAME.words[7]} -17"),
@@ -446,7 +447,7 @@ class Telling(unittest.TestCase):
         self.assertEqual((status, len(text), "line 1 is none of a journal" in text[0]),
                          (1, 1, True))
         none = self.folder / "none"
-        self.assertEqual(refusal("recovery", none),
+        self.assertEqual(refusal("hosting.recovery", none),
                          (1, f"recover: {none}: No such file or directory\n"))
         self.assertFalse(self.log.exists())
 
@@ -609,7 +610,7 @@ class WithTheProgram(unittest.TestCase):
                           '{"a":1,"q":"bid 0 ((1 10000))"}'])
         made = Recovery(reader, self.player)
         told: List[str] = []
-        with mock.patch("geesefuton.recovery.tell", told.append):
+        with mock.patch("geesefuton.hosting.recovery.tell", told.append):
             _tell_pending(reader, made, self.player, made.log()[0])
         self.assertIn(f"scores change: {GAME.words[1]} -{GAME.flights[0].first}", told[-1])
 

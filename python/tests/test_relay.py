@@ -10,12 +10,12 @@ from pathlib import Path
 from typing import Any, Dict, List, Type, Union
 from unittest import mock
 
-from geesefuton import events
-from geesefuton.dialects import MOST_LINE
-from geesefuton.events import End, Event
-from geesefuton.journal import Journal
-from geesefuton.relay import (ADMISSION, MOST_HELD, MOST_SAID, MOST_STRANGERS, PARTING, OuterLink,
-                              Relay, Session)
+from geesefuton.hosting import events
+from geesefuton.hosting.events import End, Event
+from geesefuton.hosting.journal import Journal
+from geesefuton.hosting.relay import (ADMISSION, MOST_HELD, MOST_SAID, MOST_STRANGERS, PARTING,
+                                      OuterLink, Relay, Session)
+from geesefuton.records.dialects import MOST_LINE
 
 WORDS = [f"seat{number}" for number in range(8)]
 MOST = 60.0  # seconds that anything may take, on a machine that is busy with other work
@@ -459,7 +459,7 @@ class Strangers(Case):
 
     def test_the_eldest_goes_if_there_are_too_many(self) -> None:
         self.assertEqual(MOST_STRANGERS, 200)
-        with mock.patch("geesefuton.relay.MOST_STRANGERS", 3):
+        with mock.patch("geesefuton.hosting.relay.MOST_STRANGERS", 3):
             links = []
             for _ in range(3):
                 links.append(self.connect(b""))

@@ -1,8 +1,8 @@
 import unittest
 
-from geesefuton import replies
-from geesefuton.replies import (Below, Bye, Cash, Done, No, Own, Quote, ReplyError, Request, Sold,
-                                Taken)
+from geesefuton.records import replies
+from geesefuton.records.replies import (Below, Bye, Cash, Done, No, Own, Quote, ReplyError, Request,
+                                        Sold, Taken)
 
 # A reply, its line of words, and its JSON.
 FORMS = [

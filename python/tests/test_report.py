@@ -10,10 +10,10 @@ from pathlib import Path
 from typing import Any
 from unittest import mock
 
-from geesefuton import page, report
-from geesefuton.logs import Log, read_played
-from geesefuton.page import Heading, ranks, why_nothing
-from geesefuton.prices import all_events
+from geesefuton.records import page, report
+from geesefuton.records.logs import Log, read_played
+from geesefuton.records.page import Heading, ranks, why_nothing
+from geesefuton.records.prices import all_events
 from tests.helpers import (PLAYED, SERVED_GAME, SERVED_LOG, TOP, cells_of, fake_program,
                            needs_program, refusal, run, served_game, served_log, variables)
 
@@ -200,12 +200,13 @@ class Command(unittest.TestCase):
         self.tac = fake_program(self.place, "echo sound")
 
     def ran(self, *words: object, **how: Any) -> "subprocess.CompletedProcess[str]":
-        return run("report", *words, env={"TAC": self.tac}, **how)
+        return run("records.report", *words, env={"TAC": self.tac}, **how)
 
     def refused(self, told: str, *words: object) -> None:
         with mock.patch.dict(os.environ, {"TAC": self.tac}), \
-                mock.patch("geesefuton.report.Output", side_effect=AssertionError("written")):
-            status, text = refusal("report", *words)
+                mock.patch("geesefuton.records.report.Output",
+                           side_effect=AssertionError("written")):
+            status, text = refusal("records.report", *words)
         self.assertEqual(status, 1)
         self.assertEqual(text.count("\n"), 1, text)
         self.assertIn(told, text)
@@ -277,7 +278,7 @@ class Command(unittest.TestCase):
                          (1, "report: standard output: its reader has gone\n"))
 
     def test_words_that_are_wrong(self) -> None:
-        status, text = refusal("report", "--cs", SERVED_GAME, SERVED_LOG)
+        status, text = refusal("records.report", "--cs", SERVED_GAME, SERVED_LOG)
         self.assertEqual(status, 2)
         self.assertEqual(text, "report: unrecognized arguments: --cs (--help tells more)\n")
 
@@ -291,22 +292,22 @@ class Command(unittest.TestCase):
 @needs_program
 class Real(unittest.TestCase):
     def test_the_page_of_a_sound_log(self) -> None:
-        self.assertEqual(run("report", SERVED_GAME, SERVED_LOG).returncode, 0)
+        self.assertEqual(run("records.report", SERVED_GAME, SERVED_LOG).returncode, 0)
 
     def test_another_game_and_another_score(self) -> None:
-        done = run("report", TOP / "examples" / "first.game", SERVED_LOG)
+        done = run("records.report", TOP / "examples" / "first.game", SERVED_LOG)
         self.assertEqual(done.returncode, 1)
         self.assertIn("is not sound by", done.stderr)
         with tempfile.NamedTemporaryFile("w", suffix=".log") as other:
             other.write(SERVED_LOG.read_text().replace("score 0 1302 -795 0 507",
                                                        "score 0 1302 -795 0 508"))
             other.flush()
-            done = run("report", SERVED_GAME, other.name)
+            done = run("records.report", SERVED_GAME, other.name)
             self.assertEqual(done.returncode, 1)
             self.assertIn("unsound score 0", done.stderr)
 
     def test_what_play_writes_is_shown_as_it_is(self) -> None:
-        done = run("report", TOP / "examples" / "first.game", PLAYED)
+        done = run("records.report", TOP / "examples" / "first.game", PLAYED)
         self.assertEqual((done.returncode, done.stderr), (0, ""))
 
 

@@ -3,8 +3,8 @@
 import unittest
 from typing import Callable, Dict, List, Tuple
 
-from geesefuton.events import End
-from geesefuton.seats import Action, Close, Give, Over, Refuse, Seat, Seats, State
+from geesefuton.hosting.events import End
+from geesefuton.hosting.seats import Action, Close, Give, Over, Refuse, Seat, Seats, State
 
 FREE, WAIVED, HELD, CLOSING = State.FREE, State.WAIVED, State.HELD, State.CLOSING
 CLAIMED, OVER = State.CLAIMED, State.OVER

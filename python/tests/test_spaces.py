@@ -4,8 +4,8 @@ import unittest
 from typing import Any, List
 from unittest import mock
 
-from geesefuton import spaces
-from geesefuton.spaces import Dict, Discrete, Sequence, Space, Text, Tuple
+from geesefuton.learning import spaces
+from geesefuton.learning.spaces import Dict, Discrete, Sequence, Space, Text, Tuple
 
 OBSERVATION = {"tick": 54, "quotes": [(0, 10_001, True)] * 28, "replies": ["@0 taken 1 0"]}
 

@@ -10,8 +10,8 @@ from typing import List
 from unittest import mock
 
 from geesefuton import program
+from geesefuton.learning.stepping import Stepped
 from geesefuton.program import ProgramError
-from geesefuton.stepping import Stepped
 from tests.helpers import TOP, fake_program, needs_program, python, variables
 
 FIRST = TOP / "examples" / "first.game"
@@ -130,7 +130,7 @@ class Pipes(unittest.TestCase):
 
     def test_standard_streams_may_be_closed(self) -> None:
         code = ("import os; os.close(0); os.close(1)\n"
-                "from geesefuton.stepping import Stepped\n"
+                "from geesefuton.learning.stepping import Stepped\n"
                 "game = Stepped('my.game'); replies = game.ask(['5 own 8']); log = game.finish()\n"
                 "os.write(2, repr((replies, log)).encode())")
         done = subprocess.run(python(code), stderr=subprocess.PIPE, env=variables(), check=True,
@@ -141,7 +141,7 @@ class Pipes(unittest.TestCase):
 @unittest.skipUnless(Path("/proc/self").exists(), "processes are looked for in /proc")
 class Ends(unittest.TestCase):
     def test_the_process_ends_with_a_script_that_is_killed(self) -> None:
-        code = ("import time\nfrom geesefuton.stepping import Stepped\n"
+        code = ("import time\nfrom geesefuton.learning.stepping import Stepped\n"
                 "game = Stepped('my.game'); game.ask(['0 own 8'])\n"
                 "print(game._process, flush=True); time.sleep(300)")
         with tempfile.TemporaryDirectory() as folder:

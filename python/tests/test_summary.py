@@ -4,10 +4,11 @@ import json
 import unittest
 from typing import List
 
-from geesefuton.comparisons import adjusted, estimate
-from geesefuton.results import (HEAD, Kind, Outcome, ResultsError, Row, csv_of, read_rows,
-                                text_of)
-from geesefuton.summary import FORMS, as_csv, as_json, as_text, summarize
+from geesefuton.experiments.comparisons import adjusted, estimate
+from geesefuton.experiments.results import (HEAD, Kind, Outcome, ResultsError, Row, read_rows,
+                                            text_of)
+from geesefuton.experiments.summary import FORMS, as_csv, as_json, as_text, summarize
+from geesefuton.records.tables import csv_of
 
 
 def row(deal: str, rotation: int, seat: int, agent: str, score: int,

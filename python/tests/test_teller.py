@@ -7,9 +7,10 @@ from datetime import datetime
 from typing import List, Sequence
 from unittest import mock
 
-from geesefuton import events, program
-from geesefuton.events import End, Event
-from geesefuton.teller import Teller
+from geesefuton import program
+from geesefuton.hosting import events
+from geesefuton.hosting.events import End, Event
+from geesefuton.hosting.teller import Teller
 
 WORDS = [f"seat{number}" for number in range(8)]
 PART = re.compile(r"(! )?(\d\d:\d\d:\d\d) (.*)")
@@ -18,7 +19,7 @@ PART = re.compile(r"(! )?(\d\d:\d\d:\d\d) (.*)")
 def parts_of(*happened: Event) -> List[Sequence[str]]:
     """Of each line whether it is marked, its time, and its text."""
     told: List[str] = []
-    with mock.patch("geesefuton.teller.tell", told.append):
+    with mock.patch("geesefuton.hosting.teller.tell", told.append):
         teller = Teller(WORDS)
         for event in happened:
             teller.tell(event)
@@ -113,7 +114,7 @@ class Texts(unittest.TestCase):
 class Threads(unittest.TestCase):
     def test_a_terminal_that_is_held_holds_nobody(self) -> None:
         told, held = list[str](), threading.Event()
-        with mock.patch("geesefuton.teller.tell",
+        with mock.patch("geesefuton.hosting.teller.tell",
                         lambda line: (held.wait(3.0), told.append(line))):
             teller = Teller(WORDS)
             teller.tell(events.Warned(0.0, "mind"))
@@ -130,7 +131,8 @@ class Threads(unittest.TestCase):
     def test_nor_is_the_end_held(self) -> None:
         came, held = threading.Event(), threading.Event()
         self.addCleanup(held.set)
-        with mock.patch("geesefuton.teller.tell", lambda line: (came.set(), held.wait(60.0))):
+        with mock.patch("geesefuton.hosting.teller.tell",
+                           lambda line: (came.set(), held.wait(60.0))):
             teller = Teller(WORDS)
             teller.say("mind")
             self.assertTrue(came.wait(60.0))

@@ -12,16 +12,18 @@ from pathlib import Path
 from typing import Any, List, Optional
 from unittest import mock
 
-from geesefuton import events, tournament
-from geesefuton.deals import Deal, Rule, Table
-from geesefuton.entrants import Entrant
-from geesefuton.luck import worths_of
-from geesefuton.match import Result
+from geesefuton.experiments import tournament
+from geesefuton.experiments.deals import Deal, Rule, Table
+from geesefuton.experiments.entrants import Entrant
+from geesefuton.experiments.luck import worths_of
+from geesefuton.experiments.match import Result
+from geesefuton.experiments.results import HEAD, Kind, Outcome, Row, read_rows, text_of
+from geesefuton.experiments.summary import summarize
+from geesefuton.experiments.tournament import MARGIN, Plan, Running, Tournament
+from geesefuton.hosting import events
 from geesefuton.processes import Children, Output, Stopped
 from geesefuton.program import ProgramError
-from geesefuton.results import HEAD, Kind, Outcome, Row, csv_of, read_rows, text_of
-from geesefuton.summary import summarize
-from geesefuton.tournament import MARGIN, Plan, Running, Tournament
+from geesefuton.records.tables import csv_of
 from tests.helpers import (PACKAGE, SERVED_GAME, TOP, fake_program, needs_program, refusal, run,
                            served_game)
 
@@ -30,9 +32,9 @@ from tests.helpers import (PACKAGE, SERVED_GAME, TOP, fake_program, needs_progra
 WORKER = """
 import os, sys, time
 from multiprocessing.connection import Connection
-from geesefuton import events
-from geesefuton.match import Note, Result
-from geesefuton.results import Kind, Outcome
+from geesefuton.hosting import events
+from geesefuton.experiments.match import Note, Result
+from geesefuton.experiments.results import Kind, Outcome
 parent = Connection(int(sys.argv[1]))
 job = parent.recv()
 deal, rotation = job.name.split(".")
@@ -68,8 +70,8 @@ class Playing(unittest.TestCase):
         self.addCleanup(folder.cleanup)
         self.place = Path(folder.name)
         self.told: List[str] = []
-        self.patch("geesefuton.tournament.PROGRAM", WORKER)
-        self.patch("geesefuton.tournament.tell", self.told.append)
+        self.patch("geesefuton.experiments.tournament.PROGRAM", WORKER)
+        self.patch("geesefuton.experiments.tournament.tell", self.told.append)
         self.patch("geesefuton.program.make", lambda seed: SERVED_GAME.read_text())
         self.folders = self.left = 0
 
@@ -161,13 +163,13 @@ class Playing(unittest.TestCase):
         for fault, told in ((ProgramError("tac make broke"), "tac make broke"),
                             (OSError(28, "the disk is full"), "the disk is full")):
             made = [Deal("1", 1, served_game()), fault]
-            with mock.patch("geesefuton.deals.made_deal", side_effect=made):
+            with mock.patch("geesefuton.experiments.deals.made_deal", side_effect=made):
                 played = self.play(games=3, rotations=1)
             self.assertEqual([row.seat for row in self.rows()], list(range(8)))
             self.assertEqual(played.report.lost, [f"no more games are played: {told}"])
 
     def test_a_game_that_takes_too_long_is_ended(self) -> None:
-        self.patch("geesefuton.tournament.MARGIN", -3.0)
+        self.patch("geesefuton.experiments.tournament.MARGIN", -3.0)
         began = time.monotonic()
         made = self.play(games=2, rotations=1, at_once=1, fault="hang", game="1.0")
         self.assertLess(time.monotonic() - began, 30)
@@ -243,7 +245,7 @@ class Playing(unittest.TestCase):
         with mock.patch("sys.argv", ["tournament", *words, "sh", "cat"]), \
                 mock.patch.dict(os.environ, variables), \
                 mock.patch("geesefuton.processes.stop_on_signals"), \
-                mock.patch("geesefuton.tournament.Output",
+                mock.patch("geesefuton.experiments.tournament.Output",
                            lambda target: Output(file if target == 1 else target)):
             return tournament.main()
 
@@ -310,7 +312,7 @@ class Commands(unittest.TestCase):
         self.addCleanup(patch.stop)
 
     def refused(self, told: str, *words: object, status: int = 2) -> None:
-        got, text = refusal("tournament", *words)
+        got, text = refusal("experiments.tournament", *words)
         self.assertEqual(got, status, text)
         self.assertEqual(text.count("\n"), 1, text)
         self.assertRegex(text, "^tournament: ")
@@ -373,7 +375,7 @@ class Commands(unittest.TestCase):
 
     def test_a_plan(self) -> None:
         parser = tournament._parser()
-        with mock.patch("geesefuton.tournament.tell") as tell:
+        with mock.patch("geesefuton.experiments.tournament.tell") as tell:
             plan = tournament._plan(parser, parser.parse_args(["sh", "cat", "--games", "3"]))
             self.assertEqual((plan.games, plan.rotations), (4, 2))
             self.assertIn("4 games are played", tell.call_args[0][0])
@@ -415,13 +417,13 @@ class Commands(unittest.TestCase):
                          ["planner", "trader", "watcher"])
 
     def test_the_help(self) -> None:
-        done = run("tournament", "--help")
+        done = run("experiments.tournament", "--help")
         self.assertEqual(done.returncode, 0)
         for option in ("--swap", "--rooms", "--live", "--game ", "--keep", "--summary", "--join",
                        "--turns", "--patience"):
             self.assertIn(option, done.stdout)
         with open("/dev/full", "wb") as full:
-            done = run("tournament", "--help", stdout=full)
+            done = run("experiments.tournament", "--help", stdout=full)
         self.assertEqual(done.stderr, "tournament: standard output: No space left on device\n")
 
 
@@ -439,7 +441,7 @@ class Joining(unittest.TestCase):
         return [self.place / "0.csv", self.place / "1.csv"]
 
     def test_several_tournaments_are_summarized_as_one(self) -> None:
-        done = run("tournament", "--summary", self.place / "s.json", "--summary",
+        done = run("experiments.tournament", "--summary", self.place / "s.json", "--summary",
                    self.place / "s.csv", "--summary", self.place / "s.txt", "--join", *self.files())
         self.assertEqual((done.returncode, done.stderr), (0, ""))
         summary = summarize(self.rows)
@@ -449,17 +451,17 @@ class Joining(unittest.TestCase):
         self.assertEqual(len(list(csv.reader(io.StringIO((self.place / "s.csv").read_text())))), 4)
 
     def test_what_fails_is_told(self) -> None:
-        self.assertEqual(refusal("tournament", "--join", self.place / "none.csv"),
+        self.assertEqual(refusal("experiments.tournament", "--join", self.place / "none.csv"),
                          (1, f"tournament: {self.place / 'none.csv'}: No such file or directory\n"))
-        status, text = refusal("tournament", "--join", TOP / "README.md")
+        status, text = refusal("experiments.tournament", "--join", TOP / "README.md")
         self.assertEqual(status, 1)
         self.assertIn("is not the head of a tournament's CSV", text)
-        done = run("tournament", "--summary", "/nowhere/s.txt", "--join", *self.files())
+        done = run("experiments.tournament", "--summary", "/nowhere/s.txt", "--join", *self.files())
         self.assertEqual((done.returncode, done.stderr),
                          (1, "tournament: the summary was not written to /nowhere/s.txt: No such "
                              "file or directory\n"))
         with open("/dev/full", "wb") as full:
-            done = run("tournament", "--join", *self.files(), stdout=full)
+            done = run("experiments.tournament", "--join", *self.files(), stdout=full)
         self.assertEqual(done.returncode, 1)
         self.assertIn("standard output: No space left on device", done.stderr)
 
@@ -508,7 +510,7 @@ class Real(unittest.TestCase):
             # The first five seats of seed 1 are those of the failing agent but one.
             agents = ["failing.py", "failing.py", "failing.py", "failing.py", "failing.py",
                       "buyer.py", "buyer.py", "buyer.py"]
-            done = run("tournament", *agents, "--games", "1", "--pace", "25", "--start", "4",
+            done = run("experiments.tournament", *agents, "--games", "1", "--pace", "25", "--start", "4",
                        "--after", "0.5", "--keep", "kept", "--summary", "s.json", cwd=folder)
             self.assertEqual(done.returncode, 0, done.stderr)
             rows = read_rows(done.stdout, "scores")

@@ -11,12 +11,14 @@ from pathlib import Path
 from typing import Any, List, Sequence, Type
 from unittest import mock
 
-from geesefuton import events, program, turns
-from geesefuton.events import End, Event
-from geesefuton.games import TICKS
+from geesefuton import program
+from geesefuton.experiments import turns
+from geesefuton.experiments.turns import Turner, TurnLobby
+from geesefuton.hosting import events
+from geesefuton.hosting.events import End, Event
+from geesefuton.hosting.lobby import LobbySettings
 from geesefuton.link import Link
-from geesefuton.lobby import LobbySettings
-from geesefuton.turns import TurnLobby, Turner
+from geesefuton.records.games import TICKS
 from tests.helpers import TOP, needs_step, run
 
 GAME = TOP / "examples" / "first.game"
@@ -94,7 +96,7 @@ class Case(unittest.TestCase):
         self.addCleanup(place.cleanup)
         self.folder = Path(place.name)
         self.patch(mock.patch.dict(os.environ, {"TAC": str(FAKE)}))
-        self.patch(mock.patch("geesefuton.lobby.ENDING", 0.05))  # agents here keep their links
+        self.patch(mock.patch("geesefuton.hosting.lobby.ENDING", 0.05))  # agents here keep their links
 
     def patch(self, patch: Any) -> None:
         patch.start()
@@ -355,7 +357,7 @@ class Real(unittest.TestCase):
         agents = [TOP / "examples" / "agents" / f"{name}.py"
                   for name in ("trader", "planner", "baseline")]
         words = ["--games", "1", "--turns", "2", *agents]
-        first, second = run("tournament", *words), run("tournament", "--patience", "99", *words)
+        first, second = run("experiments.tournament", *words), run("experiments.tournament", "--patience", "99", *words)
         self.assertEqual((first.returncode, second.stdout), (0, first.stdout), first.stderr)
         self.assertEqual([line.split(",")[-3:][::2] for line in first.stdout.splitlines()[1:]],
                          [["played", "turns"]] * 8)

@@ -11,7 +11,7 @@ from pathlib import Path
 from string import ascii_lowercase
 from typing import Dict, List, Sequence, Tuple
 
-PACKAGE = Path(__file__).resolve().parents[1]  # the folder that the package is imported from
+PACKAGE = Path(__file__).resolve().parents[2]  # the folder that the package is imported from
 
 
 class EntrantError(Exception):

@@ -7,9 +7,9 @@ sixth for a hotel. Ticket auctions have no such call before their end, so their 
 
 from typing import Dict, Iterator, List, NamedTuple, Optional, Sequence, Tuple
 
-from geesefuton.games import CLOCK, FLIGHTS, GOODS, HOTELS, HOUSE, Game
-from geesefuton.logs import Entry, Log
-from geesefuton.replies import No, Points
+from geesefuton.records.games import CLOCK, FLIGHTS, GOODS, HOTELS, HOUSE, Game
+from geesefuton.records.logs import Entry, Log
+from geesefuton.records.replies import No, Points
 
 
 class Event(NamedTuple):

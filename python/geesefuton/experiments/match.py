@@ -18,14 +18,15 @@ from multiprocessing.connection import Connection
 from pathlib import Path
 from typing import Callable, Dict, List, Optional, Tuple, Union
 
-from geesefuton import events, program
-from geesefuton.entrants import Entrant, environment
-from geesefuton.events import End
-from geesefuton.lobby import Lobby, LobbyError, LobbySettings
-from geesefuton.logs import LogError, read_scores
+from geesefuton import program
+from geesefuton.experiments.entrants import Entrant, environment
+from geesefuton.experiments.results import Kind, Outcome
+from geesefuton.experiments.turns import TurnLobby
+from geesefuton.hosting import events
+from geesefuton.hosting.events import End
+from geesefuton.hosting.lobby import Lobby, LobbyError, LobbySettings
 from geesefuton.processes import Children, command, why
-from geesefuton.results import Kind, Outcome
-from geesefuton.turns import TurnLobby
+from geesefuton.records.logs import LogError, read_scores
 
 LOOK = 0.02  # seconds between two looks at the agents' processes
 LEAVE = 2.0  # seconds that an agent has to end after its game
@@ -94,7 +95,7 @@ class Result:
 Message = Union[events.Event, Note, Result]
 
 # What runs it. As a module's main program its types would have other names here and there.
-PROGRAM = "import sys; from geesefuton.match import main; sys.exit(main())"
+PROGRAM = "import sys; from geesefuton.experiments.match import main; sys.exit(main())"
 
 
 @dataclass(frozen=True)

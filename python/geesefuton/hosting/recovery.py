@@ -28,11 +28,11 @@ from typing import Dict, Iterable, Iterator, List, NamedTuple, Sequence, Tuple
 
 from geesefuton import program
 from geesefuton.arguments import Parser
-from geesefuton.dialects import CASH, Asked
-from geesefuton.games import GOODS, SEATS, TICKS
-from geesefuton.journal import Call, JournalError, JournalReader, Schedule, read_journal
-from geesefuton.logs import read_scores
+from geesefuton.hosting.journal import Call, JournalError, JournalReader, Schedule, read_journal
 from geesefuton.processes import Children, Output, command, tell, why
+from geesefuton.records.dialects import CASH, Asked
+from geesefuton.records.games import GOODS, SEATS, TICKS
+from geesefuton.records.logs import read_scores
 
 MOST_TRIES = 300  # places of requests without a reply that are tried in an auction
 FEW = 3  # so many are tried at all places

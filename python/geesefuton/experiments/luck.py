@@ -6,7 +6,7 @@ how much of a mean is owed to the clients that an agent happened to get.
 
 from typing import Dict, List, Tuple
 
-from geesefuton.games import FLIGHTS, HOTELS, PACKAGES, TICKETS, Client, Game
+from geesefuton.records.games import FLIGHTS, HOTELS, PACKAGES, TICKETS, Client, Game
 
 # Dollars a unit: about what small agents pay in games of 16 rooms.
 SEAT, SHANTIES, TOWERS, TICKET = 350, 80, 120, 80

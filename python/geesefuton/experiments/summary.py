@@ -11,8 +11,9 @@ from dataclasses import dataclass
 from itertools import combinations
 from typing import Any, Callable, Dict, List, Optional, Sequence, Tuple
 
-from geesefuton.comparisons import Estimate, adjusted, estimate, mean_of
-from geesefuton.results import Kind, Outcome, Row, csv_of
+from geesefuton.experiments.comparisons import Estimate, adjusted, estimate, mean_of
+from geesefuton.experiments.results import Kind, Outcome, Row
+from geesefuton.records.tables import csv_of
 
 Cells = Dict[str, Dict[int, List[Row]]]  # of one agent: its rows that played, by deal and seat
 

@@ -17,11 +17,11 @@ import time
 from collections import deque
 from typing import Any, Callable, Deque, Dict, List, Optional, Sequence
 
-from geesefuton import events
-from geesefuton.dialects import MOST_LINE, is_bye, is_refusal
-from geesefuton.events import End, Event
-from geesefuton.journal import Journal
-from geesefuton.seats import Action, Close, Give, Over, Refuse, Seat, Seats, State
+from geesefuton.hosting import events
+from geesefuton.hosting.events import End, Event
+from geesefuton.hosting.journal import Journal
+from geesefuton.hosting.seats import Action, Close, Give, Over, Refuse, Seat, Seats, State
+from geesefuton.records.dialects import MOST_LINE, is_bye, is_refusal
 
 MOST_SAID = 65536  # bytes of an agent's lines that are kept; it is not read while there are more
 MOST_HELD = 65536  # bytes for an agent that does not read; nothing is asked for it beyond these

@@ -20,12 +20,12 @@ from typing import Tuple
 
 from geesefuton import program
 from geesefuton.arguments import Parser
-from geesefuton.games import Game, GameError, read_game
-from geesefuton.logs import Log, LogError, read_log
-from geesefuton.page import Heading, page
-from geesefuton.prices import Event, all_events
 from geesefuton.processes import Output, command, tell
-from geesefuton.results import csv_of
+from geesefuton.records.games import Game, GameError, read_game
+from geesefuton.records.logs import Log, LogError, read_log
+from geesefuton.records.page import Heading, page
+from geesefuton.records.prices import Event, all_events
+from geesefuton.records.tables import csv_of
 
 START = b"taclog 1\n"
 

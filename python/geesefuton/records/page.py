@@ -6,12 +6,12 @@ from dataclasses import dataclass
 from importlib.resources import files
 from typing import Dict, Iterable, Iterator, List, Optional, Sequence, Tuple, Union
 
-from geesefuton.games import (AUCTIONS, CLIENTS, FLIGHTS, GOODS, HOTELS, ROOMS, SEATS, TICKETS,
-                              TICKS, Game, Package, name_of)
-from geesefuton.logs import Log, Score, trades_of
-from geesefuton.prices import Event
+from geesefuton.records.games import (AUCTIONS, CLIENTS, FLIGHTS, GOODS, HOTELS, ROOMS, SEATS,
+                                      TICKETS, TICKS, Game, Package, name_of)
+from geesefuton.records.logs import Log, Score, trades_of
+from geesefuton.records.prices import Event
 
-STYLE = files("geesefuton").joinpath("report.css")
+STYLE = files("geesefuton.records").joinpath("report.css")
 Cell = Union[str, int]
 KINDS: Tuple[Tuple[str, range], ...] = (("flights", FLIGHTS), ("Shanties", range(8, 12)),
                                         ("Towers", range(12, 16)), ("tickets", TICKETS))

@@ -35,17 +35,21 @@ from multiprocessing.connection import Connection, Pipe, wait
 from pathlib import Path
 from typing import Dict, Iterator, List, Optional, Sequence, Tuple
 
-from geesefuton import events, program
+from geesefuton import program
 from geesefuton.arguments import Parser, seconds, whole
-from geesefuton.deals import (MOST_SEED, DealError, Rule, Table, read_rooms, seated, tables)
-from geesefuton.entrants import PACKAGE, Entrant, EntrantError, read_entrants, seat_words
-from geesefuton.games import SEATS, TICKS
-from geesefuton.luck import worths_of
-from geesefuton.match import PATIENCE, PROGRAM, Job, Note, Result
+from geesefuton.experiments.deals import DealError, Rule, Table, read_rooms, seated, tables
+from geesefuton.experiments.entrants import (PACKAGE, Entrant, EntrantError, read_entrants,
+                                             seat_words)
+from geesefuton.experiments.luck import worths_of
+from geesefuton.experiments.match import PATIENCE, PROGRAM, Job, Note, Result
+from geesefuton.experiments.results import HEAD, ResultsError, Row, read_rows, text_of
+from geesefuton.experiments.summary import FORMS, Summary, as_text, summarize
+from geesefuton.experiments.turns import MOST_TURNS
+from geesefuton.hosting import events
 from geesefuton.processes import Children, Output, Stopped, command, tell, why
-from geesefuton.results import HEAD, ResultsError, Row, csv_of, read_rows, text_of
-from geesefuton.summary import FORMS, Summary, as_text, summarize
-from geesefuton.turns import MOST_TURNS
+from geesefuton.records.drawing import MOST_SEED
+from geesefuton.records.games import SEATS, TICKS
+from geesefuton.records.tables import csv_of
 
 AGENTS = ("planner", "trader", "watcher")  # those of examples/agents that play by default
 SUFFIXES = (".game", ".log", ".events")

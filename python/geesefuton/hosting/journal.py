@@ -28,11 +28,11 @@ from dataclasses import dataclass, field
 from pathlib import Path
 from typing import Any, Callable, Deque, Dict, List, Optional, Tuple
 
-from geesefuton.dialects import CASH, MOST_LINE, Asked, asked_by, is_refusal, position_of
-from geesefuton.dialects import reply_of
-from geesefuton.games import GOODS, HOTELS, SEATS, TICKS, Game, GameError, read_game
 from geesefuton.processes import why
-from geesefuton.replies import ReplyError
+from geesefuton.records.dialects import (CASH, MOST_LINE, Asked, asked_by, is_refusal, position_of,
+                                         reply_of)
+from geesefuton.records.games import GOODS, HOTELS, SEATS, TICKS, Game, GameError, read_game
+from geesefuton.records.replies import ReplyError
 
 VERSION = 1
 SYNC = 1.0  # seconds between two requests to put what was written onto the disk

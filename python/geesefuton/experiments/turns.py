@@ -17,14 +17,15 @@ import time
 from pathlib import Path
 from typing import List, Optional
 
-from geesefuton import events, program
-from geesefuton.dialects import MOST_LINE, said_in, words_for
-from geesefuton.games import TICKS
-from geesefuton.lobby import TURN, Lobby, LobbySettings
-from geesefuton.orders import Orders
+from geesefuton import program
+from geesefuton.hosting import events
+from geesefuton.hosting.lobby import TURN, Lobby, LobbySettings
+from geesefuton.hosting.orders import Orders
+from geesefuton.hosting.relay import Relay, Session
+from geesefuton.learning.stepping import Stepped
 from geesefuton.processes import Children
-from geesefuton.relay import Relay, Session
-from geesefuton.stepping import Stepped
+from geesefuton.records.dialects import MOST_LINE, said_in, words_for
+from geesefuton.records.games import TICKS
 
 MOST_TURNS = 1000  # between two ticks, so that the 65,536 lines of a session last
 LAST_TURNS = 1024  # of each agent after the last tick

@@ -5,7 +5,7 @@ from __future__ import annotations
 import os
 from typing import Deque, Optional, TextIO
 
-from geesefuton.relay import Relay
+from geesefuton.hosting.relay import Relay
 
 
 class Orders:

@@ -11,8 +11,8 @@ import math
 import re
 from typing import Any, NamedTuple, Optional
 
-from geesefuton.replies import (Points, Request, read_json, read_request, read_words, reply_json,
-                                request_words, words_of)
+from geesefuton.records.replies import (Points, Request, read_json, read_request, read_words,
+                                        reply_json, request_words, words_of)
 
 MOST_LINE = 512  # bytes of a line before its end
 MOST_NESTED = 127  # levels of a JSON text

@@ -23,12 +23,13 @@ from pathlib import Path
 from types import TracebackType
 from typing import Any, Callable, Dict, List, Mapping, Optional, Tuple, Type, Union
 
-from geesefuton import program, spaces
-from geesefuton.deals import MOST_SEED, drawn_rooms
-from geesefuton.games import (AUCTIONS, CLIENTS, GOODS, HOTELS, MOST_ROOMS, ROOMS, SEATS, TICKETS,
-                              TICKS, Auction, read_game)
-from geesefuton.logs import MOST_BYTES
-from geesefuton.stepping import Stepped
+from geesefuton import program
+from geesefuton.learning import spaces
+from geesefuton.learning.stepping import Stepped
+from geesefuton.records.drawing import MOST_SEED, drawn_rooms
+from geesefuton.records.games import (AUCTIONS, CLIENTS, GOODS, HOTELS, MOST_ROOMS, ROOMS, SEATS,
+                                      TICKETS, TICKS, Auction, read_game)
+from geesefuton.records.logs import MOST_BYTES
 
 MOST_LINES = 65_536  # of an agent in a game
 Actions = Mapping[str, "list[str]"]
@@ -148,11 +149,11 @@ class Environment:
         return {agent: self.action_space(agent) for agent in self.possible_agents}
 
     def observation_space(self, agent: str) -> Any:
-        """The space of an agent's observations (`geesefuton.spaces`), the same at each call."""
+        """The space of an agent's observations, the same at each call."""
         return self._space("observation", agent, spaces.observation_space)
 
     def action_space(self, agent: str) -> Any:
-        """The space of an agent's actions (`geesefuton.spaces`), the same at each call."""
+        """The space of an agent's actions (`geesefuton.learning.spaces`), the same at each call."""
         return self._space("action", agent, spaces.action_space)
 
     def _space(self, kind: str, agent: str, make: Callable[[], Any]) -> Any:

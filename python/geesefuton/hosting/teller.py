@@ -7,10 +7,11 @@ import threading
 import time
 from typing import Dict, List, Optional, Sequence, Set
 
-from geesefuton import events, program
-from geesefuton.events import End, Event
-from geesefuton.games import TICKS
+from geesefuton import program
+from geesefuton.hosting import events
+from geesefuton.hosting.events import End, Event
 from geesefuton.processes import tell
+from geesefuton.records.games import TICKS
 
 AGAIN = 10.0  # seconds in which the same refusal is told once
 STOPPED = 130  # the exit status of a game that was ended before its time

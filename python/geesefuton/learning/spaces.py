@@ -10,7 +10,7 @@ import random
 from importlib import import_module
 from typing import Any, Iterator, Optional
 
-from geesefuton.games import GOODS, TICKS
+from geesefuton.records.games import GOODS, TICKS
 
 MOST_LENGTH = 512  # bytes of a request or a reply
 MOST_DOLLARS = 10_001  # of a quote

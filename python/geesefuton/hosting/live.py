@@ -30,12 +30,12 @@ from pathlib import Path
 from typing import BinaryIO, Deque, List, Optional
 
 from geesefuton.arguments import Parser, whole
-from geesefuton.games import TICKS
-from geesefuton.journal import JournalError, JournalReader
-from geesefuton.logs import LogError
+from geesefuton.hosting.journal import JournalError, JournalReader
+from geesefuton.hosting.projection import Night, Projection, View, nights_of, project
+from geesefuton.hosting.recovery import Player, RecoveryError
 from geesefuton.processes import Children, command, tell, why
-from geesefuton.projection import Night, Projection, View, nights_of, project
-from geesefuton.recovery import Player, RecoveryError
+from geesefuton.records.games import TICKS
+from geesefuton.records.logs import LogError
 
 LOOK = 0.2  # seconds between looks at the journal
 EACH = 1.0  # seconds between projections, at least

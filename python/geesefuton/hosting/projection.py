@@ -13,12 +13,12 @@ import re
 from dataclasses import dataclass, replace
 from typing import Any, Dict, List, Optional, Sequence, Tuple
 
-from geesefuton.games import DRAWS, HOTELS, SEATS, TICKETS, TICKS, Flight, Game
-from geesefuton.journal import Call, JournalReader
-from geesefuton.logs import Log, read_log
-from geesefuton.prices import ask_of
-from geesefuton.recovery import Player, Recovery
-from geesefuton.replies import Points, read_points
+from geesefuton.hosting.journal import Call, JournalReader
+from geesefuton.hosting.recovery import Player, Recovery
+from geesefuton.records.games import DRAWS, HOTELS, SEATS, TICKETS, TICKS, Flight, Game
+from geesefuton.records.logs import Log, read_log
+from geesefuton.records.prices import ask_of
+from geesefuton.records.replies import Points, read_points
 
 SILENT = 9  # ticks without a line after which an agent is shown as silent
 

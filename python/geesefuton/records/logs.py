@@ -8,9 +8,9 @@ import re
 from dataclasses import dataclass
 from typing import Dict, List, NoReturn, Optional, Pattern, Sequence, Tuple, Union
 
-from geesefuton.games import PACKAGES, Package
-from geesefuton.replies import (NUMBER, POINTS, SIGNED, Points, Reply, ReplyError, read_entry_reply,
-                                read_points, read_words)
+from geesefuton.records.games import PACKAGES, Package
+from geesefuton.records.replies import (NUMBER, POINTS, SIGNED, Points, Reply, ReplyError,
+                                        read_entry_reply, read_points, read_words)
 
 MOST_ENTRIES = 8256  # of an auction
 MOST_CASH_ENTRIES = 238_048

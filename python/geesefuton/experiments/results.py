@@ -2,9 +2,10 @@
 
 import csv
 import enum
-import io
 from dataclasses import astuple, dataclass, fields
-from typing import Iterable, List, Sequence
+from typing import Iterable, List
+
+from geesefuton.records.tables import csv_of
 
 
 class Kind(enum.Enum):
@@ -55,13 +56,6 @@ HEAD = [field.name for field in fields(Row)]
 
 class ResultsError(Exception):
     """A text that has no rows of a tournament."""
-
-
-def csv_of(lines: Iterable[Sequence[object]]) -> str:
-    """Lines of CSV, each ended by a line feed."""
-    text = io.StringIO()
-    csv.writer(text, lineterminator="\n").writerows(lines)
-    return text.getvalue()
 
 
 def text_of(rows: Iterable[Row]) -> str:

@@ -30,16 +30,17 @@ from pathlib import Path
 from types import FrameType
 from typing import Callable, Deque, List, Optional, Sequence, TextIO
 
-from geesefuton import events, log_files, program
+from geesefuton import program
 from geesefuton.arguments import Parser, seconds, whole
-from geesefuton.events import Event
-from geesefuton.games import TICKS
-from geesefuton.journal import Journal
-from geesefuton.orders import Orders
+from geesefuton.hosting import events, log_files
+from geesefuton.hosting.events import Event
+from geesefuton.hosting.journal import Journal
+from geesefuton.hosting.orders import Orders
+from geesefuton.hosting.relay import Relay, Session
+from geesefuton.hosting.seats import SILENCE
+from geesefuton.hosting.teller import STOPPED, Teller
 from geesefuton.processes import Children, command, free_port, tell, why
-from geesefuton.relay import Relay, Session
-from geesefuton.seats import SILENCE
-from geesefuton.teller import STOPPED, Teller
+from geesefuton.records.games import TICKS
 
 HINT = "an empty line begins the game, and `without WORD` waits for that agent no longer"
 FULL = 4  # the exit status if the output takes no more
@@ -192,9 +193,9 @@ class Lobby:
 
     def _start_page(self, children: Children, journal: Journal) -> "subprocess.Popen[bytes]":
         given = self.settings
-        path = [str(Path(__file__).resolve().parents[1]), os.environ.get("PYTHONPATH", "")]
-        words = [sys.executable, "-m", "geesefuton.live", str(journal.file), str(given.page),
-                 "--late", str(given.late), "--until-over"] + ["--names"] * given.names
+        path = [str(Path(__file__).resolve().parents[2]), os.environ.get("PYTHONPATH", "")]
+        words = [sys.executable, "-m", "geesefuton.hosting.live", str(journal.file),
+                 str(given.page), "--late", str(given.late), "--until-over"] + ["--names"] * given.names
         return children.start(words, stdin=subprocess.DEVNULL, stdout=subprocess.DEVNULL,
                               env={**os.environ, "PYTHONPATH": os.pathsep.join(filter(None, path))})
 

@@ -17,7 +17,7 @@ import re
 from dataclasses import dataclass, field
 from typing import List, Optional, Sequence, Tuple, Union
 
-from .events import End
+from geesefuton.hosting.events import End
 
 SILENCE = 10.0  # seconds without a word after which a link gives way to another with its word
 

@@ -5,15 +5,14 @@ seats are swapped, each deal is played as often as there are agents, and each ti
 the next agent. So each agent plays each client of the deal once.
 """
 
-import hashlib
 from dataclasses import dataclass
 from pathlib import Path
 from typing import Iterator, List, Optional, Sequence, Tuple, TypeVar
 
 from geesefuton import program
-from geesefuton.games import MOST_ROOMS, SEATS, Game, GameError, read_game
+from geesefuton.records.drawing import drawn_rooms
+from geesefuton.records.games import MOST_ROOMS, SEATS, Game, GameError, read_game
 
-MOST_SEED = 18446744073709551615
 Item = TypeVar("Item")
 
 
@@ -79,18 +78,6 @@ def read_rooms(text: str) -> Tuple[int, int]:
     if not 1 <= low <= high <= MOST_ROOMS:
         raise DealError(f"rooms are from 1 to {MOST_ROOMS}, the least first, not {text}")
     return low, high
-
-
-def drawn_rooms(seed: int, low: int, high: int) -> List[int]:
-    """How many rooms each of the eight nights has in the made game of a seed.
-
-    The numbers are those of SHA-256 of the text `rooms SEED NIGHT`, so they are the same anywhere.
-    """
-    def drawn(night: int) -> int:
-        digest = hashlib.sha256(f"rooms {seed} {night}".encode()).digest()
-        return low + int.from_bytes(digest[:8], "big") % (high - low + 1)
-
-    return [drawn(night) for night in range(8)]
 
 
 def made_deal(rule: Rule, number: int) -> Deal:

@@ -1,0 +1,1 @@
+"""Tournaments: deals, matches and the comparison of agents."""

@@ -1,0 +1,1 @@
+"""Games in steps, without a clock, for programs that learn."""
