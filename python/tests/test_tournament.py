@@ -15,6 +15,7 @@ from unittest import mock
 from geesefuton.experiments import tournament
 from geesefuton.experiments.deals import Deal, Rule, Table
 from geesefuton.experiments.entrants import Entrant
+from geesefuton.experiments.forms import as_text
 from geesefuton.experiments.luck import worths_of
 from geesefuton.experiments.match import Result
 from geesefuton.experiments.results import HEAD, Kind, Outcome, Row, read_rows, text_of
@@ -24,8 +25,8 @@ from geesefuton.hosting import events
 from geesefuton.processes import Children, Output, Stopped
 from geesefuton.program import ProgramError
 from geesefuton.records.tables import csv_of
-from tests.helpers import (PACKAGE, SERVED_GAME, TOP, fake_program, needs_program, refusal, run,
-                           served_game)
+from tests.helpers import (PACKAGE, SERVED_GAME, TOP, fake_program, needs_program, needs_step,
+                           refusal, run, served_game)
 
 # A stand-in for the process of a game: seat s of game D.R scores 1000 D + 100 R + s. What FAULT
 # says of the game GAME happens to it.
@@ -254,7 +255,7 @@ class Playing(unittest.TestCase):
         words = ["--games", "2", "--summary", str(place)]
         self.assertEqual(self.command(*words), 0)
         self.assertEqual((len(self.rows()), json.loads(place.read_text())["lost"]), (16, []))
-        self.assertEqual(self.told[-1], "\n" + tournament.as_text(summarize(self.rows())))
+        self.assertEqual(self.told[-1], "\n" + as_text(summarize(self.rows())))
         self.assertEqual(self.command(*words, fault="lose"), 1)
         lost = json.loads(place.read_text())["lost"]
         self.assertEqual((len(self.rows()), lost), (8, ["game 1.1 is lost: why"]))
@@ -445,7 +446,7 @@ class Joining(unittest.TestCase):
                    self.place / "s.csv", "--summary", self.place / "s.txt", "--join", *self.files())
         self.assertEqual((done.returncode, done.stderr), (0, ""))
         summary = summarize(self.rows)
-        self.assertEqual(done.stdout, tournament.as_text(summary))
+        self.assertEqual(done.stdout, as_text(summary))
         self.assertEqual((self.place / "s.txt").read_text(), done.stdout)
         self.assertEqual(json.loads((self.place / "s.json").read_text())["deals"], 4)
         self.assertEqual(len(list(csv.reader(io.StringIO((self.place / "s.csv").read_text())))), 4)
@@ -498,6 +499,36 @@ if word == "failingd":
     os.abort()
 time.sleep(60)
 """
+# An agent that buys a seat at once, and one that does the same but fails where the seat was dear.
+SEAT_BUYER = """
+import sys
+from geesefuton.link import Link, inbound
+link = Link.greet(sys.argv[1], int(sys.argv[2]), sys.argv[3])
+link.bid(inbound(link.clients[0].arrive), (1, 600))
+if sys.argv[0].endswith("quits.py") and link.cash() < -{dear}:
+    sys.exit(1)
+while not link.quote(0).closed:
+    pass
+link.quit()
+"""
+
+
+@needs_step
+class InTurns(unittest.TestCase):
+    def test_an_agent_gains_nothing_by_failing_where_it_does_badly(self) -> None:
+        with tempfile.TemporaryDirectory() as folder:
+            for name in ("plays.py", "quits.py"):
+                (Path(folder) / name).write_text(SEAT_BUYER.replace("{dear}", "325"))
+            done = run("experiments.tournament", "plays.py", "quits.py", "--games", "4", "--turns", "2",
+                       "--summary", "s.json", cwd=folder)
+            self.assertEqual(done.returncode, 0, done.stderr)
+            value = json.loads((Path(folder) / "s.json").read_text())
+        by_name = {agent["agent"]: agent for agent in value["agents"]}
+        self.assertGreater(by_name["quits"]["ends"]["crashed"], 0)
+        self.assertGreater(by_name["quits"]["ends"]["played"], 0)
+        self.assertEqual(by_name["quits"]["score"], by_name["plays"]["score"])
+        self.assertGreater(by_name["quits"]["played"]["mean"], by_name["plays"]["played"]["mean"])
+        self.assertEqual(value["differences"][0]["score"], {"mean": 0.0, "half": 0.0, "deals": 2})
 
 
 @needs_program

@@ -1,21 +1,21 @@
 """What a tournament says of its agents: means, differences of pairs, and what did not play.
 
-Means are over the seats that played. The seats that did not are counted beside them by their
-reason, and never as scores. The unit of every interval is a deal, since games of one deal are
-alike: an agent's value of a deal is the mean over its seats there that played.
+Means, their order and the pairs are over all seats of an agent, each with the score of its log. So
+an agent gains nothing by failing where it does badly. Beside them stand the mean of the seats that
+played to the end, and how many did not, by their reason. The unit of every interval is a deal,
+since games of one deal are alike: an agent's value of a deal is the mean over its seats there.
 """
 
-import json
 from collections import Counter, defaultdict
 from dataclasses import dataclass
 from itertools import combinations
-from typing import Any, Callable, Dict, List, Optional, Sequence, Tuple
+from typing import Callable, Dict, List, Optional, Sequence, Tuple
 
 from geesefuton.experiments.comparisons import Estimate, adjusted, estimate, mean_of
 from geesefuton.experiments.results import Kind, Outcome, Row
-from geesefuton.records.tables import csv_of
 
-Cells = Dict[str, Dict[int, List[Row]]]  # of one agent: its rows that played, by deal and seat
+Cells = Dict[str, Dict[int, List[Row]]]  # of one agent: its rows by deal and seat
+UNTAKEN = (Outcome.ABSENT, Outcome.REFUSED)  # seats that nobody took, or played
 
 
 @dataclass(frozen=True)
@@ -26,8 +26,9 @@ class Standing:
         agent: Its name.
         seats: How many seats it had.
         ends: How many of them went how.
-        score: The mean of its scores in dollars; None if no seat of it played.
-        luck: The mean of the luck of its draws in dollars; None if no seat of it played.
+        score: The mean of the scores of all its seats, in dollars.
+        played: The mean of the seats that played to the end; None if there is none.
+        luck: The mean of the luck of its draws in dollars.
         adjusted: The mean that it would have with the luck of all agents' draws; None where it
             cannot be told.
     """
@@ -35,8 +36,9 @@ class Standing:
     agent: str
     seats: int
     ends: Dict[Outcome, int]
-    score: Optional[Estimate]
-    luck: Optional[float]
+    score: Estimate
+    played: Optional[Estimate]
+    luck: float
     adjusted: Optional[Estimate]
 
     @property
@@ -44,15 +46,20 @@ class Standing:
         """How many of its seats did not play."""
         return self.seats - self.ends.get(Outcome.PLAYED, 0)
 
+    @property
+    def untaken(self) -> int:
+        """How many of its seats nobody took, or played."""
+        return sum(self.ends.get(end, 0) for end in UNTAKEN)
+
 
 @dataclass(frozen=True)
 class Difference:
-    """How much more one agent scored than another, in dollars, by deals that both played.
+    """How much more one agent scored than another, in dollars, by deals that both had.
 
     Attributes:
         first: The agent with the higher mean.
         second: The other.
-        score: The mean difference; None if there is no deal that both played.
+        score: The mean difference; None if there is no deal that both had.
         adjusted: The difference that there would be if their draws had been equally lucky; None
             where it cannot be told, as where both had the same clients.
     """
@@ -90,16 +97,13 @@ class Summary:
 def summarize(rows: Sequence[Row], lost: Sequence[str] = ()) -> Summary:
     """The summary of rows, of one tournament or of several with different deals."""
     swapped = any(row.rotation > 0 for row in rows)
-    cells: Dict[str, Cells] = {}
+    by_agent: Dict[str, List[Row]] = defaultdict(list)
     for row in rows:
-        deals = cells.setdefault(row.agent, defaultdict(lambda: defaultdict(list)))
-        if row.end is Outcome.PLAYED:
-            deals[row.deal][row.seat].append(row)
-    played = [row for row in rows if row.end is Outcome.PLAYED]
-    centre = mean_of([row.luck for row in played]) if played else 0.0
-    standings = [_standing(agent, [row for row in rows if row.agent == agent], deals, centre)
-                 for agent, deals in cells.items()]
-    standings.sort(key=lambda standing: (standing.score is None, -_mean(standing.score)))
+        by_agent[row.agent].append(row)
+    centre = mean_of([row.luck for row in rows]) if rows else 0.0
+    standings = [_standing(agent, own, centre) for agent, own in by_agent.items()]
+    standings.sort(key=lambda standing: (standing.untaken == standing.seats, -standing.score.mean))
+    cells = {agent: _cells_of(own) for agent, own in by_agent.items()}
     differences = [_difference(first.agent, second.agent, cells, swapped)
                    for first, second in combinations(standings, 2)]
     kinds = Counter({(row.deal, row.rotation): row.kind for row in rows}.values())
@@ -107,8 +111,19 @@ def summarize(rows: Sequence[Row], lost: Sequence[str] = ()) -> Summary:
                    dict(kinds), swapped, list(lost))
 
 
-def _mean(score: Optional[Estimate]) -> float:
-    return score.mean if score else 0.0
+def _cells_of(rows: Sequence[Row]) -> Cells:
+    deals: Cells = defaultdict(lambda: defaultdict(list))
+    for row in rows:
+        deals[row.deal][row.seat].append(row)
+    return deals
+
+
+def _by_deal(rows: Sequence[Row], value: Callable[[Row], float]) -> List[float]:
+    """The mean of a value over an agent's seats, for each deal."""
+    deals: Dict[str, List[float]] = defaultdict(list)
+    for row in rows:
+        deals[row.deal].append(value(row))
+    return [mean_of(values) for values in deals.values()]
 
 
 def _score(row: Row) -> float:
@@ -119,14 +134,12 @@ def _luck(row: Row) -> float:
     return float(row.luck)
 
 
-def _standing(agent: str, rows: Sequence[Row], deals: Cells, centre: float) -> Standing:
+def _standing(agent: str, rows: Sequence[Row], centre: float) -> Standing:
     ends = dict(Counter(row.end for row in rows))
-    if not deals:
-        return Standing(agent, len(rows), ends, None, None, None)
-    scores, lucks = ([mean_of([value(row) for seat in seats.values() for row in seat])
-                      for seats in deals.values()] for value in (_score, _luck))
-    return Standing(agent, len(rows), ends, estimate(scores), mean_of(lucks),
-                    adjusted(scores, lucks, centre))
+    scores, lucks = _by_deal(rows, _score), _by_deal(rows, _luck)
+    played = _by_deal([row for row in rows if row.end is Outcome.PLAYED], _score)
+    return Standing(agent, len(rows), ends, estimate(scores), estimate(played) if played else None,
+                    mean_of(lucks), adjusted(scores, lucks, centre))
 
 
 def _difference(first: str, second: str, cells: Dict[str, Cells], swapped: bool) -> Difference:
@@ -153,108 +166,9 @@ def _by_games(ours: Dict[int, List[Row]],
 
 def _by_clients(ours: Dict[int, List[Row]],
                 theirs: Dict[int, List[Row]]) -> List[Tuple[float, float]]:
-    """The difference in a deal over the seats whose clients both agents had and played."""
+    """The difference in a deal over the seats whose clients both agents had."""
     both = [seat for seat in ours if seat in theirs]
     if not both:
         return []
     return [(mean_of([mean_of([_score(row) for row in ours[seat]])
                       - mean_of([_score(row) for row in theirs[seat]]) for seat in both]), 0.0)]
-
-
-def _number(value: Optional[Estimate]) -> str:
-    if value is None:
-        return "-"
-    half = "?" if value.half is None else f"{value.half:.0f}"
-    return f"{value.mean:.0f} +- {half}"
-
-
-def _count(number: int, what: str) -> str:
-    return f"{number} {what}" if number == 1 else f"{number} {what}s"
-
-
-def _columns(rows: Sequence[Sequence[str]]) -> List[str]:
-    """Lines with the cells of each column one below the other, the first aligned left."""
-    widths = [max(map(len, column)) for column in zip(*rows)]
-    return ["  ".join(cell.ljust(width) if place == 0 else cell.rjust(width)
-                      for place, (cell, width) in enumerate(zip(row, widths))).rstrip()
-            for row in rows]
-
-
-def _reasons(standing: Standing) -> str:
-    told = [f"{standing.ends[end]} {end.value}" for end in Outcome
-            if end is not Outcome.PLAYED and end in standing.ends]
-    return f"{standing.failed} of {standing.seats}" + (f": {', '.join(told)}" if told else "")
-
-
-def _kinds(summary: Summary) -> List[str]:
-    """How the games were played, if some of them were in turns."""
-    turns, broken = (summary.kinds.get(kind, 0) for kind in (Kind.TURNS, Kind.UNREPEATABLE))
-    if not turns + broken:
-        return []
-    return [f"in turns: {_count(turns, 'game')} that can be repeated" +
-            (f", and {broken} in which an agent was passed over" if broken else "")]
-
-
-def as_text(summary: Summary) -> str:
-    """The summary in lines for a reader."""
-    lines = [f"{_count(summary.games, 'game')} of {_count(summary.deals, 'deal')}; dollars with "
-             "95 % intervals by deals (Student's t)", *_kinds(summary), ""]
-    rows = [["agent", "mean", "luck", "mean adjusted for luck", "did not play"]]
-    rows += [[standing.agent, _number(standing.score),
-              "-" if standing.luck is None else f"{standing.luck:.0f}",
-              _number(standing.adjusted), _reasons(standing)] for standing in summary.standings]
-    lines += _columns(rows)
-    pairs = [pair for pair in summary.differences if pair.score]
-    if pairs:
-        how = "by clients that both had" if summary.swapped else "by games"
-        rows = [[f"difference, {how}", "mean", "adjusted for luck", "deals"]]
-        rows += [[f"{pair.first} less {pair.second}", _number(pair.score), _number(pair.adjusted),
-                  str(pair.score.count)] for pair in pairs if pair.score]
-        lines += ["", *_columns(rows)]
-    lines += ["", *summary.lost] if summary.lost else []
-    return "\n".join(lines) + "\n"
-
-
-def _cells(value: Optional[Estimate]) -> List[Any]:
-    """The mean and half of an estimate, to a hundredth of a dollar, empty where there is none."""
-    if value is None:
-        return ["", ""]
-    return [round(value.mean, 2), "" if value.half is None else round(value.half, 2)]
-
-
-def as_csv(summary: Summary) -> str:
-    """The summary as CSV: a line for each agent, and one for each pair."""
-    head = ["what", "agent", "other", "mean", "half", "adjusted", "adjusted_half", "deals", "seats",
-            *(end.value for end in Outcome), "luck"]
-    lines: List[List[Any]] = [head]
-    for standing in summary.standings:
-        luck = "" if standing.luck is None else round(standing.luck, 2)
-        lines.append(["mean", standing.agent, "", *_cells(standing.score),
-                      *_cells(standing.adjusted), standing.score.count if standing.score else 0,
-                      standing.seats, *(standing.ends.get(end, 0) for end in Outcome), luck])
-    for pair in summary.differences:
-        lines.append(["difference", pair.first, pair.second, *_cells(pair.score),
-                      *_cells(pair.adjusted), pair.score.count if pair.score else 0])
-    return csv_of(line + [""] * (len(head) - len(line)) for line in lines)
-
-
-def as_json(summary: Summary) -> str:
-    """The summary as one JSON object."""
-    def of(value: Optional[Estimate]) -> Optional[Dict[str, Any]]:
-        return None if value is None else {"mean": value.mean, "half": value.half,
-                                           "deals": value.count}
-
-    agents = [{"agent": standing.agent, "seats": standing.seats,
-               "ends": {end.value: standing.ends.get(end, 0) for end in Outcome},
-               "score": of(standing.score), "luck": standing.luck,
-               "adjusted": of(standing.adjusted)} for standing in summary.standings]
-    pairs = [{"first": pair.first, "second": pair.second, "score": of(pair.score),
-              "adjusted": of(pair.adjusted)} for pair in summary.differences]
-    value = {"games": summary.games, "deals": summary.deals, "level": 0.95,
-             "kinds": {kind.value: count for kind, count in summary.kinds.items()},
-             "paired_by": "clients" if summary.swapped else "games", "agents": agents,
-             "differences": pairs, "lost": summary.lost}
-    return json.dumps(value, indent=1) + "\n"
-
-
-FORMS: Dict[str, Callable[[Summary], str]] = {".txt": as_text, ".csv": as_csv, ".json": as_json}

@@ -17,8 +17,9 @@ agents each deal is played twice, with swapped seats, so that both have the same
 --swap any number of agents play each deal once for each of them.
 
 The line of a seat tells how its game went: `played`, or `absent`, `crashed`, `hung`, `refused`. At
-the end the summary has each agent's mean over the seats that played with a 95 % interval, how many
-seats did not play, and the difference of each pair. Failures are told as they happen.
+the end the summary has each agent's mean over all its seats with a 95 % interval, that of the seats
+that played to the end, how many did not, and the difference of each pair. Failures are told as they
+happen.
 
 The exit status is 0 if every game was scored and everything was written, 1 if not, and 128 plus
 the signal's number if a signal stopped it.
@@ -40,10 +41,11 @@ from geesefuton.arguments import Parser, seconds, whole
 from geesefuton.experiments.deals import DealError, Rule, Table, read_rooms, seated, tables
 from geesefuton.experiments.entrants import (PACKAGE, Entrant, EntrantError, read_entrants,
                                              seat_words)
+from geesefuton.experiments.forms import FORMS, as_text
 from geesefuton.experiments.luck import worths_of
 from geesefuton.experiments.match import PATIENCE, PROGRAM, Job, Note, Result
 from geesefuton.experiments.results import HEAD, ResultsError, Row, read_rows, text_of
-from geesefuton.experiments.summary import FORMS, Summary, as_text, summarize
+from geesefuton.experiments.summary import Summary, summarize
 from geesefuton.experiments.turns import MOST_TURNS
 from geesefuton.hosting import events
 from geesefuton.processes import Children, Output, Stopped, command, tell, why

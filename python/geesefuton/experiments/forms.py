@@ -1,0 +1,117 @@
+"""A summary as text, as CSV and as JSON."""
+
+import json
+from typing import Any, Callable, Dict, List, Optional, Sequence
+
+from geesefuton.experiments.comparisons import Estimate
+from geesefuton.experiments.results import Kind, Outcome
+from geesefuton.experiments.summary import Standing, Summary
+from geesefuton.records.tables import csv_of
+
+MARK = "*"  # at a mean with seats that nobody took
+
+
+def _number(value: Optional[Estimate]) -> str:
+    if value is None:
+        return "-"
+    half = "?" if value.half is None else f"{value.half:.0f}"
+    return f"{value.mean:.0f} +- {half}"
+
+
+def _marked(standing: Standing) -> str:
+    return _number(standing.score) + (MARK if standing.untaken else "")
+
+
+def _count(number: int, what: str) -> str:
+    return f"{number} {what}" if number == 1 else f"{number} {what}s"
+
+
+def _columns(rows: Sequence[Sequence[str]]) -> List[str]:
+    """Lines with the cells of each column one below the other, the first aligned left."""
+    widths = [max(map(len, column)) for column in zip(*rows)]
+    return ["  ".join(cell.ljust(width) if place == 0 else cell.rjust(width)
+                      for place, (cell, width) in enumerate(zip(row, widths))).rstrip()
+            for row in rows]
+
+
+def _reasons(standing: Standing) -> str:
+    told = [f"{standing.ends[end]} {end.value}" for end in Outcome
+            if end is not Outcome.PLAYED and end in standing.ends]
+    return f"{standing.failed} of {standing.seats}" + (f": {', '.join(told)}" if told else "")
+
+
+def _kinds(summary: Summary) -> List[str]:
+    """How the games were played, if some of them were in turns."""
+    turns, broken = (summary.kinds.get(kind, 0) for kind in (Kind.TURNS, Kind.UNREPEATABLE))
+    if not turns + broken:
+        return []
+    return [f"in turns: {_count(turns, 'game')} that can be repeated" +
+            (f", and {broken} in which an agent was passed over" if broken else "")]
+
+
+def as_text(summary: Summary) -> str:
+    """The summary in lines for a reader."""
+    lines = [f"{_count(summary.games, 'game')} of {_count(summary.deals, 'deal')}; dollars with "
+             "95 % intervals by deals (Student's t)", *_kinds(summary), ""]
+    rows = [["agent", "mean", "of seats that played", "luck", "mean adjusted for luck",
+             "did not play"]]
+    rows += [[standing.agent, _marked(standing), _number(standing.played),
+              f"{standing.luck:.0f}", _number(standing.adjusted), _reasons(standing)]
+             for standing in summary.standings]
+    lines += _columns(rows)
+    if any(standing.untaken for standing in summary.standings):
+        lines.append(f"{MARK} with seats that nobody took, by the scores of their logs")
+    pairs = [pair for pair in summary.differences if pair.score]
+    if pairs:
+        how = "by clients that both had" if summary.swapped else "by games"
+        rows = [[f"difference, {how}", "mean", "adjusted for luck", "deals"]]
+        rows += [[f"{pair.first} less {pair.second}", _number(pair.score), _number(pair.adjusted),
+                  str(pair.score.count)] for pair in pairs if pair.score]
+        lines += ["", *_columns(rows)]
+    lines += ["", *summary.lost] if summary.lost else []
+    return "\n".join(lines) + "\n"
+
+
+def _cells(value: Optional[Estimate]) -> List[Any]:
+    """The mean and half of an estimate, to a hundredth of a dollar, empty where there is none."""
+    if value is None:
+        return ["", ""]
+    return [round(value.mean, 2), "" if value.half is None else round(value.half, 2)]
+
+
+def as_csv(summary: Summary) -> str:
+    """The summary as CSV: a line for each agent, and one for each pair."""
+    head = ["what", "agent", "other", "mean", "half", "adjusted", "adjusted_half", "deals", "seats",
+            *(end.value for end in Outcome), "luck", "played_mean", "played_half"]
+    lines: List[List[Any]] = [head]
+    for standing in summary.standings:
+        lines.append(["mean", standing.agent, "", *_cells(standing.score),
+                      *_cells(standing.adjusted), standing.score.count, standing.seats,
+                      *(standing.ends.get(end, 0) for end in Outcome), round(standing.luck, 2),
+                      *_cells(standing.played)])
+    for pair in summary.differences:
+        lines.append(["difference", pair.first, pair.second, *_cells(pair.score),
+                      *_cells(pair.adjusted), pair.score.count if pair.score else 0])
+    return csv_of(line + [""] * (len(head) - len(line)) for line in lines)
+
+
+def as_json(summary: Summary) -> str:
+    """The summary as one JSON object."""
+    def of(value: Optional[Estimate]) -> Optional[Dict[str, Any]]:
+        return None if value is None else {"mean": value.mean, "half": value.half,
+                                           "deals": value.count}
+
+    agents = [{"agent": standing.agent, "seats": standing.seats,
+               "ends": {end.value: standing.ends.get(end, 0) for end in Outcome},
+               "score": of(standing.score), "played": of(standing.played), "luck": standing.luck,
+               "adjusted": of(standing.adjusted)} for standing in summary.standings]
+    pairs = [{"first": pair.first, "second": pair.second, "score": of(pair.score),
+              "adjusted": of(pair.adjusted)} for pair in summary.differences]
+    value = {"games": summary.games, "deals": summary.deals, "level": 0.95,
+             "kinds": {kind.value: count for kind, count in summary.kinds.items()},
+             "paired_by": "clients" if summary.swapped else "games", "agents": agents,
+             "differences": pairs, "lost": summary.lost}
+    return json.dumps(value, indent=1) + "\n"
+
+
+FORMS: Dict[str, Callable[[Summary], str]] = {".txt": as_text, ".csv": as_csv, ".json": as_json}

@@ -1,0 +1,126 @@
+import csv
+import io
+import json
+import unittest
+
+from geesefuton.experiments.forms import FORMS, as_csv, as_json, as_text
+from geesefuton.experiments.results import Kind, Outcome
+from geesefuton.experiments.summary import summarize
+from tests.test_summary import SWAPPED, row
+
+
+class Texts(unittest.TestCase):
+    def setUp(self) -> None:
+        rows = [*SWAPPED, row("2", 1, 2, "c", 7, Outcome.ABSENT)]
+        self.summary = summarize(rows, ["game 7.0 is lost: why"])
+
+    def test_text(self) -> None:
+        text = as_text(self.summary)
+        self.assertIn("4 games of 2 deals", text)
+        lines = [" ".join(line.split()) for line in text.splitlines()]
+        self.assertIn("a 200 +- 381 200 +- 381 100 - 0 of 4", lines)
+        self.assertIn("c 7 +- ?* - 100 - 1 of 1: 1 absent", lines)
+        self.assertIn("* with seats that nobody took, by the scores of their logs", lines)
+        self.assertNotIn("*", as_text(summarize(SWAPPED)))
+        self.assertIn("a less b 40 +- 254 - 2", lines)
+        self.assertNotIn("a less c", text)
+        self.assertIn("by clients that both had", text)
+        self.assertEqual(lines[-1], "game 7.0 is lost: why")
+        self.assertIn("1 game of 1 deal;", as_text(summarize(SWAPPED[:1])))
+        self.assertIn("110 +- ?", as_text(summarize(SWAPPED[:1])))
+        self.assertIn("difference, by games", as_text(summarize(SWAPPED[:2])))
+
+    def test_why_seats_did_not_play_is_told_in_one_order(self) -> None:
+        ends = [Outcome.REFUSED, Outcome.HUNG, Outcome.CRASHED, Outcome.PLAYED, Outcome.HUNG]
+        rows = [row("1", 0, seat, "a", 7, end) for seat, end in enumerate(ends)]
+        self.assertIn(" 4 of 5: 1 crashed, 2 hung, 1 refused\n", as_text(summarize(rows)))
+        self.assertEqual(json.loads(as_json(summarize(rows)))["agents"][0]["ends"],
+                         {"played": 1, "absent": 0, "crashed": 1, "hung": 2, "refused": 1})
+        line = next(csv.DictReader(io.StringIO(as_csv(summarize(rows)))))
+        self.assertEqual([line[end] for end in ("played", "absent", "crashed", "hung", "refused")],
+                         ["1", "0", "1", "2", "1"])
+
+    def test_all_columns(self) -> None:
+        # Points on a line: at the mean luck of 8, a has 16 and b has 7.
+        rows = [row(str(deal), 0, seat, agent, score, luck=luck)
+                for deal, both in enumerate((((6, 2), (1, 0)), ((12, 6), (5, 4)),
+                                             ((40, 24), (13, 12))))
+                for seat, (agent, (score, luck)) in enumerate(zip("ab", both))]
+        lines = [" ".join(line.split()) for line in as_text(summarize(rows)).splitlines()]
+        self.assertEqual(lines[2], "agent mean of seats that played luck mean adjusted for luck "
+                                   "did not play")
+        self.assertRegex(lines[3], r"^a 19 \+- \d+ 19 \+- \d+ 11 \S+ \+- \S+ 0 of 3$")
+        self.assertRegex(lines[4], r"^b 6 \+- \d+ 6 \+- \d+ 5 9 \+- 0 0 of 3$")
+        self.assertEqual(lines[6], "difference, by games mean adjusted for luck deals")
+        self.assertRegex(lines[7], r"^a less b 13 \+- \d+ \S+ \+- \S+ 3$")
+        first, second, pair = csv.DictReader(io.StringIO(as_csv(summarize(rows))))
+        self.assertEqual(list(first), ["what", "agent", "other", "mean", "half", "adjusted",
+                                       "adjusted_half", "deals", "seats", "played", "absent",
+                                       "crashed", "hung", "refused", "luck", "played_mean",
+                                       "played_half"])
+        self.assertEqual([first["luck"], second["luck"], second["mean"], second["adjusted"],
+                          second["adjusted_half"]], ["10.67", "5.33", "6.33", "9.0", "0.0"])
+        self.assertEqual((pair["seats"], pair["luck"], pair["mean"]), ("", "", "13.0"))
+        value = json.loads(as_json(summarize(rows)))
+        self.assertEqual((value["level"], value["lost"]), (0.95, []))
+        self.assertEqual([agent["agent"] for agent in value["agents"]], ["a", "b"])
+        self.assertAlmostEqual(value["agents"][1]["luck"], 16 / 3)
+        self.assertAlmostEqual(value["agents"][1]["adjusted"]["mean"], 9.0)
+        self.assertAlmostEqual(value["agents"][1]["adjusted"]["half"], 0.0)
+        self.assertEqual((value["agents"][1]["seats"], value["agents"][1]["score"]["deals"]),
+                         (3, 3))
+        told = value["differences"][0]
+        self.assertEqual((told["first"], told["second"], told["score"]["mean"]), ("a", "b", 13.0))
+        self.assertEqual(told["adjusted"]["deals"], 3)
+
+    def test_games_in_turns_are_counted(self) -> None:
+        rows = [row(deal, 0, seat, "a", 5, kind=kind) for deal, kind in
+                (("1", Kind.TURNS), ("2", Kind.TURNS), ("3", Kind.UNREPEATABLE), ("4", Kind.SERVED))
+                for seat in range(8)]
+        summary = summarize(rows)
+        self.assertEqual(summary.kinds,
+                         {Kind.TURNS: 2, Kind.UNREPEATABLE: 1, Kind.SERVED: 1})
+        self.assertEqual(as_text(summary).split("\n")[1], "in turns: 2 games that can be repeated, "
+                         "and 1 in which an agent was passed over")
+        self.assertEqual(as_text(summarize(rows[:8])).split("\n")[1],
+                         "in turns: 1 game that can be repeated")
+        self.assertIn("1 game that can be repeated, and 1 in which", as_text(summarize(rows[8:])))
+        self.assertNotIn("in turns", as_text(self.summary))
+        self.assertEqual(json.loads(as_json(summary))["kinds"],
+                         {"turns": 2, "unrepeatable": 1, "served": 1})
+
+    def test_csv(self) -> None:
+        rows = list(csv.DictReader(io.StringIO(as_csv(self.summary))))
+        self.assertEqual([(line["what"], line["agent"], line["other"]) for line in rows],
+                         [("mean", "a", ""), ("mean", "b", ""), ("mean", "c", ""),
+                          ("difference", "a", "b"), ("difference", "a", "c"),
+                          ("difference", "b", "c")])
+        self.assertEqual((rows[0]["mean"], rows[0]["half"], rows[0]["deals"], rows[0]["seats"]),
+                         ("200.0", "381.19", "2", "4"))
+        self.assertEqual((rows[2]["mean"], rows[2]["absent"], rows[2]["played"], rows[2]["deals"]),
+                         ("7.0", "1", "0", "1"))
+        self.assertEqual([(line["played_mean"], line["played_half"]) for line in rows],
+                         [("200.0", "381.19"), ("160.0", "127.06"), *[("", "")] * 4])
+        self.assertEqual((rows[3]["mean"], rows[3]["half"], rows[3]["deals"]),
+                         ("40.0", "254.12", "2"))
+
+    def test_json(self) -> None:
+        value = json.loads(as_json(self.summary))
+        self.assertEqual((value["games"], value["deals"], value["paired_by"]), (4, 2, "clients"))
+        self.assertEqual(value["agents"][0]["score"]["mean"], 200.0)
+        self.assertEqual(value["agents"][2]["ends"]["absent"], 1)
+        self.assertEqual(value["agents"][0]["played"], value["agents"][0]["score"])
+        self.assertEqual((value["agents"][2]["score"]["mean"], value["agents"][2]["played"]),
+                         (7.0, None))
+        self.assertEqual(value["differences"][0]["score"]["deals"], 2)
+        self.assertEqual(value["lost"], ["game 7.0 is lost: why"])
+        self.assertEqual(json.loads(as_json(summarize(SWAPPED[:2])))["paired_by"], "games")
+
+    def test_nothing_played(self) -> None:
+        for form in FORMS.values():
+            form(summarize([], ["all is lost"]))
+        self.assertEqual(set(FORMS), {".txt", ".csv", ".json"})
+
+
+if __name__ == "__main__":
+    unittest.main()
