@@ -112,13 +112,14 @@ class Matches(unittest.TestCase):
         patch.start()
         self.addCleanup(patch.stop)
 
-    def play(self, *scripts: str, **more: Any) -> Result:
+    def play(self, *scripts: str, words: Sequence[str] = tuple(f"red{seat}" for seat in range(8)),
+             **more: Any) -> Result:
         """Plays with eight agents, the last ones `exit 0`."""
         all_scripts = [*scripts, *["exit 0"] * (8 - len(scripts))]
         entrants = tuple(Entrant("", ("sh", "-c", script), f"agent{seat}", "")
                          for seat, script in enumerate(all_scripts))
-        words = tuple(f"red{seat}" for seat in range(8))
-        job = Job("7.0", self.place, SERVED_GAME.read_text(), entrants, words, pace=20, **more)
+        job = Job("7.0", self.place, SERVED_GAME.read_text(), entrants, tuple(words), pace=20,
+                  **more)
         with Children() as children:
             return Match(job, children, self.sent.append).play()
 
@@ -165,13 +166,23 @@ class Matches(unittest.TestCase):
     def test_agents_get_their_words_and_variables(self) -> None:
         self.play('echo "$@" $PYTHONPATH', "echo oops >&2", "cat; echo $AGENT_SEED.$TAC; pwd",
                   'echo > "$TMPDIR/x"; ls "$TMPDIR"')
-        self.assertEqual((self.place / "7.0.red2").read_text().split(),
+        self.assertEqual((self.place / "7.0.out.red2").read_text().split(),
                          ["." + os.environ["TAC"], os.getcwd()])
-        self.assertEqual((self.place / "7.0.red3").read_text(), "x\n")
-        printed = (self.place / "7.0.red0").read_text().split()
+        self.assertEqual((self.place / "7.0.out.red3").read_text(), "x\n")
+        printed = (self.place / "7.0.out.red0").read_text().split()
         self.assertEqual(printed[:4], ["4321", "red0", "--pause", "0.02"])
         self.assertIn(str(Path(match.__file__).parents[2]), printed[4].split(":"))
-        self.assertEqual((self.place / "7.0.red1").read_text(), "oops\n")
+        self.assertEqual((self.place / "7.0.out.red1").read_text(), "oops\n")
+
+    def test_what_agents_print_never_stands_in_a_file_of_the_game(self) -> None:
+        names = ["game", "log", "events", "out", "red4", "red5", "red6", "red7"]
+        result = self.play(*[f"echo printed by {name}" for name in names], words=names)
+        self.assertEqual((result.fault, len(result.scores)), ("", 8))
+        self.assertEqual((self.place / "7.0.game").read_text(), SERVED_GAME.read_text())
+        self.assertEqual((self.place / "7.0.log").read_bytes(), SERVED_LOG.read_bytes())
+        self.assertEqual((self.place / "7.0.events").read_text().count("Ended("), 8)
+        for name in names:
+            self.assertEqual((self.place / f"7.0.out.{name}").read_text(), f"printed by {name}\n")
 
     def test_agents_read_nothing_of_what_the_tournament_is_given(self) -> None:
         (self.place / "typed").write_text("typed\n")
@@ -183,7 +194,7 @@ class Matches(unittest.TestCase):
         finally:
             os.dup2(before, 0)
             os.close(before)
-        self.assertEqual((self.place / "7.0.red0").read_text(), "end\n")
+        self.assertEqual((self.place / "7.0.out.red0").read_text(), "end\n")
 
     def test_the_lobby_is_told_of_agents_that_have_ended(self) -> None:
         self.play("sleep 5")
@@ -203,10 +214,10 @@ class Matches(unittest.TestCase):
                                turns=30, patience=2.5)
         self.assertEqual((result.kind, len(result.scores)), (Kind.TURNS, 8))
         self.assertEqual((tuple(Lobby.turns), self.notes()), ((30, 2.5), ""))
-        printed = (self.place / "7.0.red0").read_text().split()
+        printed = (self.place / "7.0.out.red0").read_text().split()
         self.assertEqual(printed[:4] + printed[5:], ["4321", "red0", "--pause", "0", "0"])
         self.assertTrue(printed[4].isdigit())
-        self.assertNotEqual((self.place / "7.0.red1").read_text(), printed[4] + "\n")
+        self.assertNotEqual((self.place / "7.0.out.red1").read_text(), printed[4] + "\n")
         self.assertEqual(repeated("7.0 0")["AGENT_SEED"], printed[4])
         self.assertIs(self.play().kind, Kind.SERVED)
 
@@ -266,13 +277,13 @@ class Matches(unittest.TestCase):
     def test_much_that_is_printed_is_cut(self) -> None:
         self.patch("geesefuton.experiments.match.MOST_KEPT", 1000)
         self.play("seq 1 1000")
-        text = (self.place / "7.0.red0").read_text()
+        text = (self.place / "7.0.out.red0").read_text()
         self.assertLess(len(text), 1100)
         self.assertTrue(text.startswith("[2893 bytes are left out]\n") and text.endswith("1000\n"))
         self.patch("geesefuton.experiments.match.MOST_PRINTED", 8)
         self.lobby.ends = [End.GONE] * 8
         self.assertIs(self.play("seq 1 100000; exit 1").outcomes[0], Outcome.CRASHED)
-        self.assertLessEqual((self.place / "7.0.red0").stat().st_size, 4096)
+        self.assertLessEqual((self.place / "7.0.out.red0").stat().st_size, 4096)
 
     def test_games_without_scores_are_lost(self) -> None:
         for status, log, told in ((5, b"fault links\n", "exit status 5 (its port is taken"),

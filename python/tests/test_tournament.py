@@ -17,7 +17,7 @@ from geesefuton.experiments.deals import Deal, Rule, Table
 from geesefuton.experiments.entrants import Entrant
 from geesefuton.experiments.forms import as_text
 from geesefuton.experiments.luck import worths_of
-from geesefuton.experiments.match import Result
+from geesefuton.experiments.match import Note, Result
 from geesefuton.experiments.results import HEAD, Kind, Outcome, Row, read_rows, text_of
 from geesefuton.experiments.summary import summarize
 from geesefuton.experiments.tournament import MARGIN, Plan, Running, Tournament
@@ -176,6 +176,22 @@ class Playing(unittest.TestCase):
         self.assertLess(time.monotonic() - began, 30)
         self.assertIn("game 1.0 is lost: it took longer than its ticks and all waiting",
                       made.report.lost)
+
+    def test_a_game_that_has_ended_is_not_late_because_nobody_looked(self) -> None:
+        """As after ctrl-Z: its messages came in time, and are read later than it may take."""
+        plan = Plan(entrants("a"), Rule(), 1, 1, 1, 7, 0, 0.1, "words", 1, 1, None, [])
+        made = Tournament(plan, Output(self.place / "scores.csv"))
+        ours, theirs = Pipe()
+        result = Result(tuple(range(8)), (Outcome.PLAYED,) * 8)
+        with ours, theirs:
+            game = Running(0, Table(Deal("1", 0, served_game()), 0), plan.entrants * 8, self.place,
+                           ours, mock.Mock(), deadline=time.monotonic() - 1.0)
+            for message in (events.Ticked(0.0, 54), Note("a note"), result):
+                theirs.send(message)
+            while not made._is_over(game):
+                made._hear([game])
+        self.assertEqual(game.result, result)
+        self.assertIn("game 1.0: a note", self.told)
 
     def test_games_in_turns_are_told_apart(self) -> None:
         made = self.play(turns=5)

@@ -42,8 +42,8 @@ class Job:
 
     Attributes:
         name: The name of its files.
-        folder: Where they are written: NAME.game, NAME.log, NAME.events, and NAME.WORD with what
-            an agent printed.
+        folder: Where they are written: NAME.game, NAME.log, NAME.events, and NAME.out.WORD with
+            what an agent printed.
         game: The text of the game file.
         entrants: The agents of the eight seats.
         words: Their seat words.
@@ -229,7 +229,7 @@ class Match:
                     env=variables)
 
     def _printed(self, seat: int) -> Path:
-        return self._job.folder / f"{self._job.name}.{self._job.words[seat]}"
+        return self._job.folder / f"{self._job.name}.out.{self._job.words[seat]}"
 
     def _watch(self, over: threading.Event) -> None:
         """Watches the agents' processes, and a little after the game ends those that are left."""

@@ -172,6 +172,9 @@ class Tournament:
                         shutil.rmtree(game.folder, ignore_errors=True)
         finally:
             self._write(plan.games)
+            for game in running:
+                children.end(game.process)
+                game.connection.close()
 
     def _begin_next(self, children: Children, number: int,
                     waiting: Iterator[Table]) -> Optional[Running]:
@@ -233,7 +236,9 @@ class Tournament:
         tell(f"game {game.table.name}: {text}")
 
     def _is_over(self, game: Running) -> bool:
-        if game.result is None and time.monotonic() > game.deadline:
+        # A game whose messages were not read yet, as after ctrl-Z, may have ended in time.
+        if (game.result is None and time.monotonic() > game.deadline
+                and not game.connection.poll()):
             game.result = Result(fault="it took longer than its ticks and all waiting")
         return game.result is not None
 
