@@ -1,0 +1,26 @@
+"""In which order the seats take their turns, so that no seat gains by its place.
+
+Equal bids go to the earlier one, so who asks first has an advantage. Each turn begins one seat
+later than the one before it, and so does the first turn after each tick. A hotel closes at each
+sixth tick, and six is even, so the first turn after such a tick begins one seat later again:
+otherwise only every other seat would ever be first before a closing. Whichever turn between two
+ticks an agent acts in, over the first 48 ticks each seat is first in it six times, and once among
+the turns before the eight closings.
+"""
+
+from typing import List
+
+from geesefuton.records.games import SEATS
+
+CLOSING = 6  # ticks from one closing of a hotel to the next
+
+
+def order_of_turn(tick: int, turn: int) -> List[int]:
+    """The eight seats in the order in which they are asked.
+
+    Args:
+        tick: How many ticks have come, 0 to 54.
+        turn: Which of the turns since then it is, from 0.
+    """
+    first = tick + tick // CLOSING + turn
+    return [(first + place) % SEATS for place in range(SEATS)]
