@@ -87,7 +87,11 @@ class Texts(unittest.TestCase):
         self.assertIn("1 game that can be repeated, and 1 in which", as_text(summarize(rows[8:])))
         self.assertNotIn("in turns", as_text(self.summary))
         self.assertEqual(json.loads(as_json(summary))["kinds"],
-                         {"turns": 2, "unrepeatable": 1, "served": 1})
+                         {"turns2": 2, "unrepeatable2": 1, "served": 1})
+        former = [row("1", 0, 0, "a", 5, kind=Kind.FORMER_TURNS)]
+        self.assertEqual(as_text(summarize(former)).split("\n")[1],
+                         "in turns by the former order, in which seat 0 was always first: 1 game "
+                         "that can be repeated")
 
     def test_csv(self) -> None:
         rows = list(csv.DictReader(io.StringIO(as_csv(self.summary))))

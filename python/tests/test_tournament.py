@@ -198,7 +198,7 @@ class Playing(unittest.TestCase):
         rows = self.rows()
         self.assertEqual([row.kind for row in rows], [Kind.TURNS] * 8 + [Kind.UNREPEATABLE] * 8)
         self.assertEqual(rows, made.report.all_rows())
-        self.assertTrue((self.place / "scores.csv").read_text().endswith(",unrepeatable\n"))
+        self.assertTrue((self.place / "scores.csv").read_text().endswith(",unrepeatable2\n"))
 
     def test_a_game_in_turns_may_take_its_time_as_long_as_ticks_come(self) -> None:
         for turns, is_later in ((5, True), (0, False)):

@@ -13,6 +13,7 @@ from unittest import mock
 
 from geesefuton import program
 from geesefuton.experiments import turns
+from geesefuton.experiments.order import order_of_turn
 from geesefuton.experiments.turns import Turner, TurnLobby
 from geesefuton.hosting import events
 from geesefuton.hosting.events import End, Event
@@ -110,19 +111,29 @@ class Case(unittest.TestCase):
 
 
 def due(count: int, *lines: Sequence[str]) -> List[str]:
-    """The script of agents that send these lines: in each round one of each, in the order of the
-    seats, `count` rounds before each tick."""
-    script, ticks = [], 0
+    """The script of agents that send these lines: in each turn one of each, `count` turns before
+    each tick."""
+    script, tick = [], 0
     longest = max(map(len, lines))
     for place in range(max(longest, count * TICKS)):
-        script += [f"{seat} {own[place]}" for seat, own in enumerate(lines) if place < len(own)]
-        if (place + 1) % count == 0 and ticks < TICKS:
-            script, ticks = [*script, "tick"], ticks + 1
+        turn = place - count * tick
+        script += [f"{seat} {lines[seat][place]}" for seat in order_of_turn(tick, turn)
+                   if place < len(lines[seat])]
+        if turn == count - 1 and tick < TICKS:
+            script, tick = [*script, "tick"], tick + 1
     return script
 
 
 class Turns(Case):
-    def test_one_request_of_each_in_the_order_of_the_seats(self) -> None:
+    def test_each_turn_begins_one_seat_later(self) -> None:
+        host = Host(self.folder, 2)
+        self.agents(host, *[["own 1"] * 4 + ["quit"]] * 8)
+        self.assertEqual(host.end(), [End.LEFT] * 8)
+        asked = " ".join(line.split(" ")[0] for line in host.asked()[:34])
+        self.assertEqual(asked, "0 1 2 3 4 5 6 7 1 2 3 4 5 6 7 0 tick "
+                                "1 2 3 4 5 6 7 0 2 3 4 5 6 7 0 1 tick")
+
+    def test_one_request_of_each_in_a_turn(self) -> None:
         for count in (1, 3):
             own = [[f"own {(seat + place) % 28}" for place in range(5 * seat)] + ["quit"]
                    for seat in range(8)]
@@ -360,7 +371,7 @@ class Real(unittest.TestCase):
         first, second = run("experiments.tournament", *words), run("experiments.tournament", "--patience", "99", *words)
         self.assertEqual((first.returncode, second.stdout), (0, first.stdout), first.stderr)
         self.assertEqual([line.split(",")[-3:][::2] for line in first.stdout.splitlines()[1:]],
-                         [["played", "turns"]] * 8)
+                         [["played", "turns2"]] * 8)
 
 
 if __name__ == "__main__":

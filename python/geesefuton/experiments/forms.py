@@ -42,11 +42,15 @@ def _reasons(standing: Standing) -> str:
 
 def _kinds(summary: Summary) -> List[str]:
     """How the games were played, if some of them were in turns."""
-    turns, broken = (summary.kinds.get(kind, 0) for kind in (Kind.TURNS, Kind.UNREPEATABLE))
-    if not turns + broken:
-        return []
-    return [f"in turns: {_count(turns, 'game')} that can be repeated" +
-            (f", and {broken} in which an agent was passed over" if broken else "")]
+    lines = []
+    for name, kinds in (("in turns", (Kind.TURNS, Kind.UNREPEATABLE)),
+                        ("in turns by the former order, in which seat 0 was always first",
+                         (Kind.FORMER_TURNS, Kind.FORMER_UNREPEATABLE))):
+        turns, broken = (summary.kinds.get(kind, 0) for kind in kinds)
+        if turns + broken:
+            lines.append(f"{name}: {_count(turns, 'game')} that can be repeated" +
+                         (f", and {broken} in which an agent was passed over" if broken else ""))
+    return lines
 
 
 def as_text(summary: Summary) -> str:

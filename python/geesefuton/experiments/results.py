@@ -9,11 +9,16 @@ from geesefuton.records.tables import csv_of
 
 
 class Kind(enum.Enum):
-    """How a game was played."""
+    """How a game was played.
+
+    In former games in turns seat 0 came first in each turn, so low seats had an advantage.
+    """
 
     SERVED = "served"  # by a clock
-    TURNS = "turns"  # in turns, without a clock
-    UNREPEATABLE = "unrepeatable"  # in turns, of which some were passed over
+    TURNS = "turns2"  # in turns, without a clock
+    UNREPEATABLE = "unrepeatable2"  # in turns, of which some were passed over
+    FORMER_TURNS = "turns"
+    FORMER_UNREPEATABLE = "unrepeatable"
 
 
 class Outcome(enum.Enum):

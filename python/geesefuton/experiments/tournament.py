@@ -10,7 +10,7 @@ With --turns R there is no clock: in each turn one request of an agent is asked,
 them between two ticks. So agents whose requests follow from what they were sent, such as those of
 examples/agents, play the same games for the same seed on any machine, busy or not. They are run
 with --pause 0, and draw from the variable AGENT_SEED. An agent that says nothing for --patience
-seconds is passed over, and its game is marked as `unrepeatable`.
+seconds is passed over, and its game is marked as `unrepeatable2`.
 
 A deal has the clients, the tickets, the flights and the order of the hotels of a game. Between two
 agents each deal is played twice, with swapped seats, so that both have the same clients; with

@@ -1,8 +1,8 @@
 """A game in turns: agents, unchanged ones over the same protocol, are answered one after another.
 
-There is no clock, and no server at a port. In a turn one request of an agent is asked, and all have
-their turns in the order of the seats; each has so many of them between two ticks. One process of
-`tac step` answers them all. An agent that takes its time is waited for: only if it says nothing for
+There is no clock, and no server at a port. In a turn one request of each agent is asked, one after
+the other, and each turn begins one seat later (`order`); there are so many of them between two
+ticks. One process of `tac step` answers them all. An agent that takes its time is waited for: only if it says nothing for
 very long, `patience`, is it passed over, and so at each turn until it speaks again.
 
 So agents whose requests follow from what they were sent play the same game on any machine, busy or
@@ -18,6 +18,7 @@ from pathlib import Path
 from typing import List, Optional
 
 from geesefuton import program
+from geesefuton.experiments.order import order_of_turn
 from geesefuton.hosting import events
 from geesefuton.hosting.lobby import TURN, Lobby, LobbySettings
 from geesefuton.hosting.orders import Orders
@@ -135,7 +136,7 @@ class TurnLobby(Lobby):
     def _play_ticks(self, game: Stepped, relay: Relay, reader: Orders) -> None:
         """Lets the ticks come, with the turns between them."""
         for tick in range(1, TICKS + 1):
-            self._take_turns(game, relay, reader, self._turns)
+            self._take_turns(game, relay, reader, tick - 1, range(self._turns))
             if self._is_stopped:
                 return
             game.ask(["tick"])
@@ -143,15 +144,17 @@ class TurnLobby(Lobby):
             self._emit(events.Ticked(time.time(), tick, lines))
         relay.release()
         self._until = time.monotonic() + self.settings.linger
-        for _ in range(LAST_TURNS):
-            self._take_turns(game, relay, reader, 1)
+        for turn in range(LAST_TURNS):
+            self._take_turns(game, relay, reader, TICKS, range(turn, turn + 1))
             if all(turner.is_over or turner.is_silent for turner in self._turners):
                 break
 
-    def _take_turns(self, game: Stepped, relay: Relay, reader: Orders, count: int) -> None:
-        """Gives each agent so many turns."""
-        for _ in range(count):
-            for turner in self._turners:
+    def _take_turns(self, game: Stepped, relay: Relay, reader: Orders, tick: int,
+                    turns: range) -> None:
+        """Gives each agent these turns after a tick."""
+        for turn in turns:
+            for seat in order_of_turn(tick, turn):
+                turner = self._turners[seat]
                 line = None if turner.is_over else self._wait(turner, relay, reader)
                 if self._is_stopped:
                     return
