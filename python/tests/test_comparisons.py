@@ -1,8 +1,10 @@
 import math
+import random
 import unittest
 
-from geesefuton.experiments.comparisons import (Estimate, adjusted, estimate, incomplete_beta,
-                                                mean_of, student_quantile)
+from geesefuton.experiments.comparisons import (Estimate, adjusted, estimate, half_at, holm_halves,
+                                                incomplete_beta, mean_of, student_p,
+                                                student_quantile)
 
 # Bounds of Student's t for 95 %, from printed tables.
 TABLE = [(1, 12.7062), (2, 4.3027), (3, 3.1824), (4, 2.7764), (5, 2.5706), (9, 2.2622),
@@ -42,6 +44,51 @@ class Means(unittest.TestCase):
 
     def test_a_mean(self) -> None:
         self.assertEqual(mean_of([1.0, 2.0, 6.0]), 3.0)
+
+
+class Several(unittest.TestCase):
+    def test_probabilities_belong_to_the_bounds(self) -> None:
+        for freedom, bound in TABLE[1:8]:  # a mean at exactly its bound
+            value = Estimate(bound, bound, freedom + 1)
+            self.assertAlmostEqual(student_p(value) or 0.0, 0.05, delta=1e-4)
+            below = student_p(Estimate(-bound, bound, freedom + 1))
+            self.assertAlmostEqual(below or 0.0, 0.05, delta=1e-4)
+        self.assertEqual(student_p(Estimate(0.0, 3.0, 5)), 1.0)
+        self.assertIsNone(student_p(Estimate(7.0, None, 1)))
+        self.assertEqual((student_p(estimate([3.0] * 4)), student_p(estimate([0.0] * 4))), (0.0, 1.0))
+
+    def test_an_interval_at_another_level(self) -> None:
+        self.assertAlmostEqual(half_at(Estimate(1.0, 2.7764, 5), 0.99) or 0.0, 4.6041, delta=1e-4)
+        self.assertIsNone(half_at(Estimate(7.0, None, 1), 0.99))
+
+    def test_holm_by_hand(self) -> None:
+        # Probabilities of 0.01, 0.02 and 0.04 by 4 degrees: the first is below 5 % / 3, the second
+        # below 5 % / 2, the third below 5 %. With 0.03 in place of 0.02 Holm stops there.
+        def value(chance: float) -> Estimate:
+            return Estimate(student_quantile(4, 1.0 - chance), student_quantile(4), 5)
+
+        halves = holm_halves([value(0.04), None, value(0.01), value(0.02), Estimate(5.0, None, 1)])
+        due = [student_quantile(4, 1.0 - share) for share in (0.05, 0.05 / 3, 0.05 / 2)]
+        for half, bound in zip([halves[0], halves[2], halves[3]], due):
+            self.assertAlmostEqual(half or 0.0, bound, places=9)
+        self.assertEqual((halves[1], halves[4]), (None, None))
+        halves = holm_halves([value(0.04), value(0.01), value(0.03)])
+        due = [student_quantile(4, 1.0 - share) for share in (0.05 / 2, 0.05 / 3, 0.05 / 2)]
+        for half, bound in zip(halves, due):
+            self.assertAlmostEqual(half or 0.0, bound, places=9)
+
+    def test_one_pair_keeps_its_interval(self) -> None:
+        value = estimate([2.0, 4.0, 6.0])
+        self.assertAlmostEqual(holm_halves([value])[0] or 0.0, value.half or -1.0, places=9)
+
+    def test_differences_by_chance_are_told_in_few_of_many_experiments(self) -> None:
+        """Ten comparisons without a difference, 400 times: at least one is told in 2 to 8 %."""
+        source, told = random.Random(3), 0
+        for _ in range(400):
+            values = [estimate([source.gauss(0.0, 1.0) for _ in range(8)]) for _ in range(10)]
+            told += any(half is not None and abs(value.mean) > half
+                        for value, half in zip(values, holm_halves(values)))
+        self.assertTrue(8 <= told <= 32, told)
 
 
 class Adjustment(unittest.TestCase):

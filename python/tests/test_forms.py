@@ -22,8 +22,9 @@ class Texts(unittest.TestCase):
         self.assertIn("c 7 +- ?* - 100 - 1 of 1: 1 absent", lines)
         self.assertIn("* with seats that nobody took, by the scores of their logs", lines)
         self.assertNotIn("*", as_text(summarize(SWAPPED)))
-        self.assertIn("a less b 40 +- 254 - 2", lines)
+        self.assertIn("a less b 40 +- 254 - 2 0.295 0.500", lines)
         self.assertNotIn("a less c", text)
+        self.assertNotIn("Holm", as_text(summarize(SWAPPED)))
         self.assertIn("by clients that both had", text)
         self.assertEqual(lines[-1], "game 7.0 is lost: why")
         self.assertIn("1 game of 1 deal;", as_text(summarize(SWAPPED[:1])))
@@ -51,13 +52,14 @@ class Texts(unittest.TestCase):
                                    "did not play")
         self.assertRegex(lines[3], r"^a 19 \+- \d+ 19 \+- \d+ 11 \S+ \+- \S+ 0 of 3$")
         self.assertRegex(lines[4], r"^b 6 \+- \d+ 6 \+- \d+ 5 9 \+- 0 0 of 3$")
-        self.assertEqual(lines[6], "difference, by games mean adjusted for luck deals")
-        self.assertRegex(lines[7], r"^a less b 13 \+- \d+ \S+ \+- \S+ 3$")
+        self.assertEqual(lines[6], "difference, by games mean adjusted for luck deals p "
+                                   "(Student) p (Wilcoxon)")
+        self.assertRegex(lines[7], r"^a less b 13 \+- \d+ \S+ \+- \S+ 3 0\.\d+ 0\.250$")
         first, second, pair = csv.DictReader(io.StringIO(as_csv(summarize(rows))))
         self.assertEqual(list(first), ["what", "agent", "other", "mean", "half", "adjusted",
                                        "adjusted_half", "deals", "seats", "played", "absent",
                                        "crashed", "hung", "refused", "luck", "played_mean",
-                                       "played_half"])
+                                       "played_half", "holm_half", "student_p", "wilcoxon_p"])
         self.assertEqual([first["luck"], second["luck"], second["mean"], second["adjusted"],
                           second["adjusted_half"]], ["10.67", "5.33", "6.33", "9.0", "0.0"])
         self.assertEqual((pair["seats"], pair["luck"], pair["mean"]), ("", "", "13.0"))
@@ -92,6 +94,22 @@ class Texts(unittest.TestCase):
         self.assertEqual(as_text(summarize(former)).split("\n")[1],
                          "in turns by the former order, in which seat 0 was always first: 1 game "
                          "that can be repeated")
+
+    def test_several_pairs_have_a_column_by_holm(self) -> None:
+        rows = [row(str(deal), 0, seat, agent, score + deal * (seat + 1) % 3)
+                for deal in range(4) for seat, (agent, score) in enumerate(zip("abc", (90, 50, 9)))]
+        summary = summarize(rows)
+        lines = [" ".join(line.split()) for line in as_text(summary).splitlines()]
+        self.assertEqual(lines[7], "difference, by games mean Holm adjusted for luck deals p "
+                                   "(Student) p (Wilcoxon)")
+        self.assertRegex(lines[8], r"^a less b 40 \+- \d+ \+- \d+ - 4 0\.000 0\.125$")
+        self.assertEqual(lines[11], "Holm: intervals that allow for the 3 comparisons; 0 lies "
+                                    "outside where they tell a difference")
+        pair, value = summary.differences[0], json.loads(as_json(summary))["differences"][0]
+        self.assertEqual((value["holm_half"], value["student_p"], value["wilcoxon_p"]),
+                         (pair.holm, pair.student, pair.wilcoxon))
+        line = list(csv.DictReader(io.StringIO(as_csv(summary))))[3]
+        self.assertEqual((line["holm_half"], line["wilcoxon_p"]), (str(round(pair.holm or 0.0, 2)), "0.125"))
 
     def test_csv(self) -> None:
         rows = list(csv.DictReader(io.StringIO(as_csv(self.summary))))

@@ -1,7 +1,8 @@
 import unittest
 from typing import List
 
-from geesefuton.experiments.comparisons import adjusted, estimate
+from geesefuton.experiments.comparisons import adjusted, estimate, holm_halves, student_p
+from geesefuton.experiments.ranks import signed_rank_p
 from geesefuton.experiments.results import (HEAD, Kind, Outcome, ResultsError, Row, read_rows,
                                             text_of)
 from geesefuton.experiments.summary import summarize
@@ -103,6 +104,20 @@ class Differences(unittest.TestCase):
                 for seat, (agent, score) in enumerate([("b", 5), ("c", 1), ("a", 9)])]
         pairs = [(pair.first, pair.second) for pair in summarize(rows).differences]
         self.assertEqual(pairs, [("a", "b"), ("a", "c"), ("b", "c")])
+
+    def test_several_pairs_have_intervals_by_holm_and_two_probabilities(self) -> None:
+        scores = {"a": (9, 8, 9, 7), "b": (5, 5, 6, 4), "c": (5, 1, 7, 6)}
+        rows = [row(str(deal), 0, seat, agent, scores[agent][deal])
+                for deal in range(4) for seat, agent in enumerate("abc")]
+        pairs = summarize(rows).differences
+        self.assertEqual([pair.holm for pair in pairs], holm_halves([pair.score for pair in pairs]))
+        self.assertEqual(pairs[0].student, student_p(estimate([4.0, 3.0, 3.0, 3.0])))
+        self.assertEqual(pairs[0].wilcoxon, signed_rank_p([4.0, 3.0, 3.0, 3.0]))
+        assert pairs[0].holm is not None and pairs[0].score and pairs[0].score.half
+        self.assertGreater(pairs[0].holm, pairs[0].score.half)
+        alone = summarize(SWAPPED).differences[0]
+        assert alone.score and alone.score.half
+        self.assertAlmostEqual(alone.holm or 0.0, alone.score.half)
 
 
 class Luck(unittest.TestCase):

@@ -1,12 +1,13 @@
-"""Means and differences with 95 % intervals, and their adjustment by regression.
+"""Means and differences with 95 % intervals, by Student and, for several at once, by Holm.
 
 Intervals are Student's: values are taken to be independent and about normal, which means of many
 seats are, and few values make a wide interval. Nothing is approximated by the normal distribution.
 """
 
+import functools
 import math
 from dataclasses import dataclass
-from typing import Optional, Sequence
+from typing import List, Optional, Sequence
 
 LEVEL = 0.95
 
@@ -58,6 +59,7 @@ def incomplete_beta(a: float, b: float, x: float) -> float:
     return 1.0 - front * _beta_fraction(b, a, 1.0 - x) / b
 
 
+@functools.lru_cache(maxsize=None)
 def student_quantile(freedom: int, level: float = LEVEL) -> float:
     """The bound that Student's t stays within on both sides, with the probability `level`.
 
@@ -71,7 +73,7 @@ def student_quantile(freedom: int, level: float = LEVEL) -> float:
     low, high = 0.0, 1.0
     while outside(high) > 1.0 - level:
         high *= 2.0
-    for _ in range(200):
+    while high - low > 1e-13 * high:
         middle = (low + high) / 2.0
         if outside(middle) > 1.0 - level:
             low = middle
@@ -93,6 +95,66 @@ def estimate(values: Sequence[float]) -> Estimate:
     variance = math.fsum((value - mean) ** 2 for value in values) / (count - 1)
     half = student_quantile(count - 1) * math.sqrt(variance / count)
     return Estimate(mean, half, count)
+
+
+def half_at(value: Estimate, level: float) -> Optional[float]:
+    """Half the width of the interval of a mean at another level; None where there is none.
+
+    Args:
+        value: What `estimate` gives.
+        level: Above 0 and below 1.
+    """
+    if value.half is None:
+        return None
+    freedom = value.count - 1
+    return value.half * student_quantile(freedom, level) / student_quantile(freedom)
+
+
+def student_p(value: Estimate) -> Optional[float]:
+    """The probability by Student's t of a mean at least as far from 0 if the true one is 0.
+
+    Args:
+        value: What `estimate` gives.
+
+    Returns:
+        The probability, of both sides; None where there is no interval.
+    """
+    if value.half is None:
+        return None
+    if value.half == 0.0:
+        return 1.0 if value.mean == 0.0 else 0.0
+    freedom = value.count - 1
+    bound = value.mean / value.half * student_quantile(freedom)
+    return incomplete_beta(freedom / 2.0, 0.5, freedom / (freedom + bound * bound))
+
+
+def holm_halves(values: Sequence[Optional[Estimate]]) -> List[Optional[float]]:
+    """Half the widths of intervals that all together miss a true difference of 0 in at most 5 % of
+    experiments, by Holm's procedure.
+
+    Of m values the one that is least likely by chance is tested at 5 % / m, the next at
+    5 % / (m - 1), and so on until one could be chance; that one and all after it keep its level.
+    Each interval is at the level of its test, so 0 lies outside exactly where Holm tells a
+    difference.
+
+    Args:
+        values: What `estimate` gives; None, or no interval, is left out of the count.
+    """
+    halves: List[Optional[float]] = [None] * len(values)
+    tests = []
+    for place, value in enumerate(values):
+        chance = None if value is None else student_p(value)
+        if chance is not None:
+            tests.append((chance, place))
+    share, is_chance = 1.0 - LEVEL, False
+    for rank, (chance, place) in enumerate(sorted(tests)):
+        if not is_chance:
+            share = (1.0 - LEVEL) / (len(tests) - rank)
+            is_chance = chance > share
+        value = values[place]
+        assert value is not None
+        halves[place] = half_at(value, 1.0 - share)
+    return halves
 
 
 def adjusted(values: Sequence[float], covariates: Sequence[float],

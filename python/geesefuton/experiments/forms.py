@@ -5,7 +5,7 @@ from typing import Any, Callable, Dict, List, Optional, Sequence
 
 from geesefuton.experiments.comparisons import Estimate
 from geesefuton.experiments.results import Kind, Outcome
-from geesefuton.experiments.summary import Standing, Summary
+from geesefuton.experiments.summary import Difference, Standing, Summary
 from geesefuton.records.tables import csv_of
 
 MARK = "*"  # at a mean with seats that nobody took
@@ -16,6 +16,10 @@ def _number(value: Optional[Estimate]) -> str:
         return "-"
     half = "?" if value.half is None else f"{value.half:.0f}"
     return f"{value.mean:.0f} +- {half}"
+
+
+def _chance(value: Optional[float]) -> str:
+    return "-" if value is None else f"{value:.3f}"
 
 
 def _marked(standing: Standing) -> str:
@@ -53,6 +57,21 @@ def _kinds(summary: Summary) -> List[str]:
     return lines
 
 
+def _of_pairs(pairs: Sequence[Difference], swapped: bool) -> List[List[str]]:
+    """The cells of the table of pairs, with its head."""
+    are_many = len(pairs) > 1
+    rows = [["difference, " + ("by clients that both had" if swapped else "by games"), "mean",
+             *(["Holm"] if are_many else []), "adjusted for luck", "deals", "p (Student)",
+             "p (Wilcoxon)"]]
+    for pair in pairs:
+        holm = "?" if pair.holm is None else f"+- {pair.holm:.0f}"
+        rows.append([f"{pair.first} less {pair.second}", _number(pair.score),
+                     *([holm] if are_many else []), _number(pair.adjusted),
+                     str(pair.score.count if pair.score else 0), _chance(pair.student),
+                     _chance(pair.wilcoxon)])
+    return rows
+
+
 def as_text(summary: Summary) -> str:
     """The summary in lines for a reader."""
     lines = [f"{_count(summary.games, 'game')} of {_count(summary.deals, 'deal')}; dollars with "
@@ -67,11 +86,10 @@ def as_text(summary: Summary) -> str:
         lines.append(f"{MARK} with seats that nobody took, by the scores of their logs")
     pairs = [pair for pair in summary.differences if pair.score]
     if pairs:
-        how = "by clients that both had" if summary.swapped else "by games"
-        rows = [[f"difference, {how}", "mean", "adjusted for luck", "deals"]]
-        rows += [[f"{pair.first} less {pair.second}", _number(pair.score), _number(pair.adjusted),
-                  str(pair.score.count)] for pair in pairs if pair.score]
-        lines += ["", *_columns(rows)]
+        lines += ["", *_columns(_of_pairs(pairs, summary.swapped))]
+    if len(pairs) > 1:
+        lines.append(f"Holm: intervals that allow for the {len(pairs)} comparisons; 0 lies outside "
+                     "where they tell a difference")
     lines += ["", *summary.lost] if summary.lost else []
     return "\n".join(lines) + "\n"
 
@@ -86,7 +104,8 @@ def _cells(value: Optional[Estimate]) -> List[Any]:
 def as_csv(summary: Summary) -> str:
     """The summary as CSV: a line for each agent, and one for each pair."""
     head = ["what", "agent", "other", "mean", "half", "adjusted", "adjusted_half", "deals", "seats",
-            *(end.value for end in Outcome), "luck", "played_mean", "played_half"]
+            *(end.value for end in Outcome), "luck", "played_mean", "played_half",
+            "holm_half", "student_p", "wilcoxon_p"]
     lines: List[List[Any]] = [head]
     for standing in summary.standings:
         lines.append(["mean", standing.agent, "", *_cells(standing.score),
@@ -95,7 +114,10 @@ def as_csv(summary: Summary) -> str:
                       *_cells(standing.played)])
     for pair in summary.differences:
         lines.append(["difference", pair.first, pair.second, *_cells(pair.score),
-                      *_cells(pair.adjusted), pair.score.count if pair.score else 0])
+                      *_cells(pair.adjusted), pair.score.count if pair.score else 0,
+                      *[""] * (len(Outcome) + 4), "" if pair.holm is None else round(pair.holm, 2),
+                      *("" if chance is None else f"{chance:.6g}"
+                        for chance in (pair.student, pair.wilcoxon))])
     return csv_of(line + [""] * (len(head) - len(line)) for line in lines)
 
 
@@ -110,7 +132,8 @@ def as_json(summary: Summary) -> str:
                "score": of(standing.score), "played": of(standing.played), "luck": standing.luck,
                "adjusted": of(standing.adjusted)} for standing in summary.standings]
     pairs = [{"first": pair.first, "second": pair.second, "score": of(pair.score),
-              "adjusted": of(pair.adjusted)} for pair in summary.differences]
+              "adjusted": of(pair.adjusted), "holm_half": pair.holm, "student_p": pair.student,
+              "wilcoxon_p": pair.wilcoxon} for pair in summary.differences]
     value = {"games": summary.games, "deals": summary.deals, "level": 0.95,
              "kinds": {kind.value: count for kind, count in summary.kinds.items()},
              "paired_by": "clients" if summary.swapped else "games", "agents": agents,

@@ -7,11 +7,13 @@ since games of one deal are alike: an agent's value of a deal is the mean over i
 """
 
 from collections import Counter, defaultdict
-from dataclasses import dataclass
+from dataclasses import dataclass, replace
 from itertools import combinations
 from typing import Callable, Dict, List, Optional, Sequence, Tuple
 
-from geesefuton.experiments.comparisons import Estimate, adjusted, estimate, mean_of
+from geesefuton.experiments.comparisons import (Estimate, adjusted, estimate, holm_halves, mean_of,
+                                                student_p)
+from geesefuton.experiments.ranks import signed_rank_p
 from geesefuton.experiments.results import Kind, Outcome, Row
 
 Cells = Dict[str, Dict[int, List[Row]]]  # of one agent: its rows by deal and seat
@@ -62,12 +64,18 @@ class Difference:
         score: The mean difference; None if there is no deal that both had.
         adjusted: The difference that there would be if their draws had been equally lucky; None
             where it cannot be told, as where both had the same clients.
+        student: The probability by Student's t of such a difference if there is none.
+        wilcoxon: The same by Wilcoxon's signed ranks.
+        holm: Half the width of an interval that allows for all pairs (`holm_halves`).
     """
 
     first: str
     second: str
     score: Optional[Estimate]
-    adjusted: Optional[Estimate]
+    adjusted: Optional[Estimate] = None
+    student: Optional[float] = None
+    wilcoxon: Optional[float] = None
+    holm: Optional[float] = None
 
 
 @dataclass(frozen=True)
@@ -104,8 +112,8 @@ def summarize(rows: Sequence[Row], lost: Sequence[str] = ()) -> Summary:
     standings = [_standing(agent, own, centre) for agent, own in by_agent.items()]
     standings.sort(key=lambda standing: (standing.untaken == standing.seats, -standing.score.mean))
     cells = {agent: _cells_of(own) for agent, own in by_agent.items()}
-    differences = [_difference(first.agent, second.agent, cells, swapped)
-                   for first, second in combinations(standings, 2)]
+    differences = _with_holm([_difference(first.agent, second.agent, cells, swapped)
+                              for first, second in combinations(standings, 2)])
     kinds = Counter({(row.deal, row.rotation): row.kind for row in rows}.values())
     return Summary(standings, differences, sum(kinds.values()), len({row.deal for row in rows}),
                    dict(kinds), swapped, list(lost))
@@ -150,9 +158,16 @@ def _difference(first: str, second: str, cells: Dict[str, Cells], swapped: bool)
             by_deal = _by_clients if swapped else _by_games
             pairs += by_deal(ours[deal], theirs[deal])
     if not pairs:
-        return Difference(first, second, None, None)
+        return Difference(first, second, None)
     scores, lucks = [pair[0] for pair in pairs], [pair[1] for pair in pairs]
-    return Difference(first, second, estimate(scores), adjusted(scores, lucks, 0.0))
+    score = estimate(scores)
+    return Difference(first, second, score, adjusted(scores, lucks, 0.0), student_p(score),
+                      signed_rank_p(scores))
+
+
+def _with_holm(differences: Sequence[Difference]) -> List[Difference]:
+    halves = holm_halves([difference.score for difference in differences])
+    return [replace(difference, holm=half) for difference, half in zip(differences, halves)]
 
 
 def _by_games(ours: Dict[int, List[Row]],
