@@ -1,13 +1,16 @@
 #!/bin/bash
-# A Slurm array of tournaments. From the top of the clone:
+# A Slurm array of tournaments in turns, whose games are the same on busy nodes. If tasks were
+# stopped or requeued, the same command plays the games that are missing. From the top of the clone:
 #
 #     sbatch examples/tournament.sbatch mine.py examples/agents/planner.py
+#     tools/tournament --join runs/*
 #
 #SBATCH --job-name=tournament
 #SBATCH --array=0-39
 #SBATCH --cpus-per-task=4
 #SBATCH --mem=2G
 #SBATCH --time=00:30:00
+#SBATCH --requeue
 games=26 # in each task, of 13 deals where seats are swapped
 seed=$((SLURM_ARRAY_TASK_ID * games + 1))
-exec tools/tournament --games "$games" --seed "$seed" --keep "games/$seed" "$@" > "scores.$seed.csv"
+exec tools/tournament --turns 40 --games "$games" --seed "$seed" --out "runs/$seed" --resume "$@"

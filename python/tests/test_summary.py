@@ -3,8 +3,8 @@ from typing import List
 
 from geesefuton.experiments.comparisons import adjusted, estimate, holm_halves, student_p
 from geesefuton.experiments.ranks import signed_rank_p
-from geesefuton.experiments.results import (HEAD, Kind, Outcome, ResultsError, Row, read_rows,
-                                            text_of)
+from geesefuton.experiments.results import (FORMER_HEAD, HEAD, Kind, Outcome, ResultsError, Row,
+                                            read_rows, text_of)
 from geesefuton.experiments.summary import summarize
 from geesefuton.records.tables import csv_of
 
@@ -149,12 +149,26 @@ class Luck(unittest.TestCase):
 class Rows(unittest.TestCase):
     def test_rows_are_written_and_read(self) -> None:
         rows: List[Row] = [*SWAPPED, row("x-1", 2, 7, 'a "b", c', -5, Outcome.HUNG, -3),
-                           row("3", 0, 0, "a", 5, kind=Kind.UNREPEATABLE)]
+                           row("3", 0, 0, "a", 5, kind=Kind.UNREPEATABLE),
+                           Row("3", 0, 1, "a", 5, Outcome.PLAYED, 9, Kind.TURNS, 2.625, 318.25, 4,
+                               "turns=40 rooms=16..16", "0123456789ab")]
         text = csv_of([HEAD]) + text_of(rows)
-        self.assertEqual(text.split("\n")[:2], ["deal,rotation,seat,agent,score,end,luck,kind",
-                                                "1,0,0,a,110,played,100,served"])
+        lines = text.split("\n")
+        self.assertEqual(lines[0], "deal,rotation,seat,agent,score,end,luck,kind,nights,first_price,"
+                                   "run,settings,files")
+        self.assertEqual(lines[1], "1,0,0,a,110,played,100,served,,,0,,")
+        self.assertEqual(lines[-2], "3,0,1,a,5,played,9,turns2,2.625,318.25,4,turns=40 "
+                                    "rooms=16..16,0123456789ab")
         self.assertEqual(read_rows(text, "x"), rows)
         self.assertEqual(read_rows(text + text, "x"), rows + rows)
+
+    def test_files_of_earlier_versions_are_read(self) -> None:
+        text = csv_of([FORMER_HEAD]) + "1,0,0,a,110,played,100,turns\n"
+        self.assertEqual(read_rows(text, "x"), [row("1", 0, 0, "a", 110, kind=Kind.FORMER_TURNS)])
+        both = text + csv_of([HEAD]) + text_of(SWAPPED[:1])
+        self.assertEqual(len(read_rows(both, "x")), 2)
+        with self.assertRaisesRegex(ResultsError, "line 4 is no row"):
+            read_rows(both.replace(",,,0,,", ""), "x")
 
     def test_each_end_and_each_kind_has_its_word(self) -> None:
         self.assertEqual([end.value for end in Outcome],
@@ -166,11 +180,14 @@ class Rows(unittest.TestCase):
         head = csv_of([HEAD])
         with self.assertRaisesRegex(ResultsError, "is not the head"):
             read_rows(text_of(SWAPPED), "my.csv")
+        self.assertEqual(len(HEAD), 13)
         for text, line in (("", 1), ("seed,seat,agent,score\n1,0,a,5\n", 1),
                            (head + "1,0,0,a,5,played,100\n", 2),
-                           (head + "1,0,0,a,x,played,100,served\n", 2),
-                           (head + "1,0,0,a,5,won,100,served\n", 2),
-                           (head + "1,0,0,a,5,played,100,x\n", 2)):
+                           (head + "1,0,0,a,x,played,100,served,,,0,,\n", 2),
+                           (head + "1,0,0,a,5,won,100,served,,,0,,\n", 2),
+                           (head + "1,0,0,a,5,played,100,x,,,0,,\n", 2),
+                           (head + "1,0,0,a,5,played,100,served,x,,0,,\n", 2),
+                           (head + "1,0,0,a,5,played,100,served\n", 2)):
             with self.assertRaises(ResultsError) as caught:
                 read_rows(text, "my.csv")
             self.assertIn(f"my.csv: line {line} ", str(caught.exception))

@@ -18,9 +18,11 @@ from geesefuton.experiments.entrants import Entrant
 from geesefuton.experiments.forms import as_text
 from geesefuton.experiments.luck import worths_of
 from geesefuton.experiments.match import Note, Result
+from geesefuton.experiments.plan import MARGIN, Plan, make_parser, read_plan
 from geesefuton.experiments.results import HEAD, Kind, Outcome, Row, read_rows, text_of
 from geesefuton.experiments.summary import summarize
-from geesefuton.experiments.tournament import MARGIN, Plan, Running, Tournament
+from geesefuton.experiments.tournament import Running, Tournament
+from geesefuton.experiments.writers import OrderedRows, free_name
 from geesefuton.hosting import events
 from geesefuton.processes import Children, Output, Stopped
 from geesefuton.program import ProgramError
@@ -87,12 +89,13 @@ class Playing(unittest.TestCase):
         file = self.place / "scores.csv"
         plan = Plan(entrants("a", "b"), Rule(seed=1), games, rotations, at_once, 7, turns, 0.1,
                     "json", 1.5, 2.5, self.place if keep else None, [])
-        made = Tournament(plan, out or Output(file))
+        writer = OrderedRows(out or Output(file), self.place if keep else Path())
+        made = Tournament(plan, writer)
         with mock.patch.dict(os.environ, {"FAULT": fault, "GAME": game}), Children() as children:
             made.play(children)
             self.folders = len(list(children.folder("x").parent.glob("game*")))
             self.left = len(list(children._groups.iterdir()))
-        made.rescue()
+        self.rescued = writer.rescue()
         return made
 
     def rows(self) -> List[Row]:
@@ -115,8 +118,8 @@ class Playing(unittest.TestCase):
 
     def test_lines_come_in_the_order_of_the_games_whichever_ends_first(self) -> None:
         plan = Plan(entrants("a", "b"), Rule(), 3, 1, 3, 7, 0, 1, "words", 1, 1, None, [])
-        made = Tournament(plan, Output(self.place / "scores.csv"))
-        made._out.write(csv_of([HEAD]))
+        made = Tournament(plan, OrderedRows(Output(self.place / "scores.csv")))
+        made._writer.begin()
         written = []
         for number in (2, 0, 1):
             table = Table(Deal(str(number), number, served_game()), 0)
@@ -130,7 +133,7 @@ class Playing(unittest.TestCase):
 
     def test_the_time_that_is_left_is_told_in_minutes_and_seconds(self) -> None:
         plan = Plan(entrants("a"), Rule(), 3, 1, 1, 7, 0, 1, "words", 1, 1, None, [])
-        made = Tournament(plan, Output(self.place / "scores.csv"))
+        made = Tournament(plan, OrderedRows(Output(self.place / "scores.csv")))
         table = Table(Deal("1", 1, served_game()), 0)
         game = Running(0, table, plan.entrants * 8, self.place, mock.Mock(), mock.Mock(), 0.0,
                        Result(fault="why"))
@@ -170,7 +173,7 @@ class Playing(unittest.TestCase):
             self.assertEqual(played.report.lost, [f"no more games are played: {told}"])
 
     def test_a_game_that_takes_too_long_is_ended(self) -> None:
-        self.patch("geesefuton.experiments.tournament.MARGIN", -3.0)
+        self.patch("geesefuton.experiments.plan.MARGIN", -3.0)
         began = time.monotonic()
         made = self.play(games=2, rotations=1, at_once=1, fault="hang", game="1.0")
         self.assertLess(time.monotonic() - began, 30)
@@ -180,7 +183,7 @@ class Playing(unittest.TestCase):
     def test_a_game_that_has_ended_is_not_late_because_nobody_looked(self) -> None:
         """As after ctrl-Z: its messages came in time, and are read later than it may take."""
         plan = Plan(entrants("a"), Rule(), 1, 1, 1, 7, 0, 0.1, "words", 1, 1, None, [])
-        made = Tournament(plan, Output(self.place / "scores.csv"))
+        made = Tournament(plan, OrderedRows(Output(self.place / "scores.csv")))
         ours, theirs = Pipe()
         result = Result(tuple(range(8)), (Outcome.PLAYED,) * 8)
         with ours, theirs:
@@ -198,7 +201,6 @@ class Playing(unittest.TestCase):
         rows = self.rows()
         self.assertEqual([row.kind for row in rows], [Kind.TURNS] * 8 + [Kind.UNREPEATABLE] * 8)
         self.assertEqual(rows, made.report.all_rows())
-        self.assertTrue((self.place / "scores.csv").read_text().endswith(",unrepeatable2\n"))
 
     def test_a_game_in_turns_may_take_its_time_as_long_as_ticks_come(self) -> None:
         for turns, is_later in ((5, True), (0, False)):
@@ -208,7 +210,7 @@ class Playing(unittest.TestCase):
                 theirs.send(events.Ticked(0.0, 1))
                 game = Running(0, Table(Deal("1", 0, served_game()), 0), plan.entrants * 8,
                                self.place, ours, mock.Mock(), deadline=0.0)
-                Tournament(plan, Output(self.place / "scores.csv"))._hear([game])
+                Tournament(plan, OrderedRows(Output(self.place / "scores.csv")))._hear([game])
             self.assertEqual(game.deadline > time.monotonic(), is_later)
             # The start, the turns of eight who are passed over in each, the end, and what is left.
             due = 1 + 5 * 8 * 2 + 1 + MARGIN if turns else 1 + 54 * 0.007 + 1 + MARGIN
@@ -219,9 +221,9 @@ class Playing(unittest.TestCase):
         self.assertEqual(len(made.report.all_rows()), 16)
         rest = self.place / "scores.rest.csv"
         self.assertEqual(read_rows(rest.read_text(), "rest"), made.report.all_rows())
-        self.assertEqual(made.report.lost, [
-            f"/dev/full: No space left on device; 16 lines were not written, and are in {rest}"])
-        self.assertEqual(tournament._free_name(rest), self.place / "scores.rest.2.csv")
+        self.assertEqual(self.rescued, "/dev/full: No space left on device; 16 lines were not "
+                                       f"written, and are in {rest}")
+        self.assertEqual(free_name(rest), self.place / "scores.rest.2.csv")
 
     def test_a_reader_that_goes_away_loses_no_game(self) -> None:
         reading, writing = os.pipe()
@@ -229,7 +231,7 @@ class Playing(unittest.TestCase):
         made = self.play(1, 1, out=Output(writing, "a pipe"), keep=True)
         os.close(writing)
         self.assertEqual(len(made.report.all_rows()), 8)
-        self.assertIn("a pipe: its reader has gone; 8 lines", made.report.lost[0])
+        self.assertIn("a pipe: its reader has gone; 8 lines", self.rescued)
 
     def test_lines_that_were_not_taken_are_kept_here_without_a_folder(self) -> None:
         self.addCleanup(os.chdir, os.getcwd())
@@ -238,7 +240,7 @@ class Playing(unittest.TestCase):
             made = self.play(1, 1, out=Output("/dev/full"))
             self.assertEqual(read_rows((self.place / name).read_text(), name),
                              made.report.all_rows())
-            self.assertTrue(made.report.lost[0].endswith(f"8 lines were not written, and are in "
+            self.assertTrue(self.rescued.endswith(f"8 lines were not written, and are in "
                                                          f"{name}"))
 
     def test_as_many_games_at_once_as_asked(self) -> None:
@@ -300,7 +302,7 @@ class Playing(unittest.TestCase):
     def test_a_stop_keeps_what_was_played(self) -> None:
         file = self.place / "scores.csv"
         plan = Plan(entrants("a", "b"), Rule(), 3, 1, 3, 7, 0, 1, "words", 1, 1, None, [])
-        made = Tournament(plan, Output(file))
+        made = Tournament(plan, OrderedRows(Output(file)))
         finish, seen = made._finish, []  # type: ignore[var-annotated]
 
         def stop_after_two(game: Any) -> None:
@@ -376,11 +378,11 @@ class Commands(unittest.TestCase):
             folder = self.place / name
             folder.mkdir()
             (folder / "notes.txt").write_text("mine")
-            tournament._open_folder(tournament._parser(), folder)  # other files are no games
+            tournament._open_folder(make_parser(""), folder)  # other files are no games
             (folder / name).write_text("kept")
             self.refused(f"it has files of earlier games, such as {name}", "--keep", folder, "sh")
             self.assertEqual((folder / name).read_text(), "kept")
-        tournament._open_folder(tournament._parser(), self.place / "a" / "b")
+        tournament._open_folder(make_parser(""), self.place / "a" / "b")
         self.assertEqual(list((self.place / "a" / "b").iterdir()), [])
 
     def test_a_folder_that_cannot_be_made(self) -> None:
@@ -391,40 +393,40 @@ class Commands(unittest.TestCase):
         self.refused("the name ends with", "--summary", "x.html", "sh")
 
     def test_a_plan(self) -> None:
-        parser = tournament._parser()
-        with mock.patch("geesefuton.experiments.tournament.tell") as tell:
-            plan = tournament._plan(parser, parser.parse_args(["sh", "cat", "--games", "3"]))
+        parser = make_parser("")
+        with mock.patch("geesefuton.experiments.plan.tell") as tell:
+            plan = read_plan(parser, parser.parse_args(["sh", "cat", "--games", "3"]))
             self.assertEqual((plan.games, plan.rotations), (4, 2))
             self.assertIn("4 games are played", tell.call_args[0][0])
             for words, games, rotations in ((["sh", "cat", "ls"], 4, 1),
                                             (["sh", "cat", "--no-swap"], 4, 1),
                                             (["sh", "cat", "ls", "--swap"], 6, 3),
                                             (["sh", "cat"], 4, 2), (["sh"], 4, 1)):
-                plan = tournament._plan(parser, parser.parse_args(words))
+                plan = read_plan(parser, parser.parse_args(words))
                 self.assertEqual((plan.games, plan.rotations), (games, rotations), words)
-        plan = tournament._plan(parser, parser.parse_args(
+        plan = read_plan(parser, parser.parse_args(
             ["sh", "--rooms", "3..6", "--live", "--json", "--seed", "9", "--start", "3",
              "--after", "4", "--pace", "60", "--at-once", "5"]))
         self.assertEqual(plan.rule, Rule(9, None, (3, 6), True))
         self.assertEqual((plan.form, plan.start, plan.linger, plan.pace, plan.at_once),
                          ("json", 3.0, 4.0, 60, 5))
         self.assertEqual(plan.turns, 0)
-        plan = tournament._plan(parser, parser.parse_args(["sh", "--seed", "18446744073709551612"]))
+        plan = read_plan(parser, parser.parse_args(["sh", "--seed", "18446744073709551612"]))
         self.assertEqual((plan.rule.seed, plan.games), (2 ** 64 - 4, 4))
-        plan = tournament._plan(parser, parser.parse_args(
+        plan = read_plan(parser, parser.parse_args(
             ["sh", "--game", str(SERVED_GAME), "--keep", "x", "--summary", "a.csv", "--summary",
              "b.txt", "--start", "0", "--games", "1"]))
         self.assertEqual((plan.rule, plan.keep, plan.summaries, plan.start, plan.games),
                          (Rule(1, SERVED_GAME), Path("x"), [Path("a.csv"), Path("b.txt")], 0.0, 1))
-        plan = tournament._plan(parser, parser.parse_args(
+        plan = read_plan(parser, parser.parse_args(
             ["sh", "cat", "--seed", str(2 ** 64 - 2), "--games", "4"]))  # two deals
         self.assertEqual((plan.rule.seed, plan.games), (2 ** 64 - 2, 4))
-        plan = tournament._plan(parser, parser.parse_args(["sh", "--turns", "20"]))
+        plan = read_plan(parser, parser.parse_args(["sh", "--turns", "20"]))
         self.assertEqual((plan.turns, plan.patience, plan.linger), (20, 30.0, 30.0))
-        plan = tournament._plan(parser, parser.parse_args(
+        plan = read_plan(parser, parser.parse_args(
             ["sh", "--turns", "20", "--patience", "3", "--after", "0"]))
         self.assertEqual((plan.patience, plan.linger), (3.0, 0.0))
-        plan = tournament._plan(parser, parser.parse_args([]))
+        plan = read_plan(parser, parser.parse_args([]))
         self.assertEqual((plan.pace, plan.linger), (100, 5.0))
         self.assertEqual((plan.games, plan.rotations, plan.at_once, plan.turns, plan.form,
                           plan.start, plan.keep, plan.summaries),

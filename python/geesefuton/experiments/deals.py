@@ -7,7 +7,7 @@ the next agent. So each agent plays each client of the deal once.
 
 from dataclasses import dataclass
 from pathlib import Path
-from typing import Iterator, List, Optional, Sequence, Tuple, TypeVar
+from typing import Container, Iterator, List, Optional, Sequence, Tuple, TypeVar
 
 from geesefuton import program
 from geesefuton.records.drawing import drawn_rooms
@@ -80,6 +80,11 @@ def read_rooms(text: str) -> Tuple[int, int]:
     return low, high
 
 
+def name_of_deal(rule: Rule, number: int) -> str:
+    """The name of the deal of a number, from 0."""
+    return str(rule.seed + number) if rule.file is None else f"{rule.file.stem}-{number + 1}"
+
+
 def made_deal(rule: Rule, number: int) -> Deal:
     """The deal of a number, from 0.
 
@@ -87,14 +92,15 @@ def made_deal(rule: Rule, number: int) -> Deal:
         DealError: The file cannot be read, or is no game file.
         ProgramError: `tac make` refused.
     """
+    name = name_of_deal(rule, number)
     if rule.file is not None:
-        return Deal(f"{rule.file.stem}-{number + 1}", number, _read(rule.file))
+        return Deal(name, number, _read(rule.file))
     seed = rule.seed + number
     game = read_game(program.make(seed))
     if rule.rooms is not None or rule.live:
         rooms = drawn_rooms(seed, *rule.rooms) if rule.rooms else game.rooms
         game = game.with_rooms(rooms, rule.live)
-    return Deal(str(seed), seed, game)
+    return Deal(name, seed, game)
 
 
 def _read(file: Path) -> Game:
@@ -106,19 +112,23 @@ def _read(file: Path) -> Game:
         raise DealError(f"{file}: {fault}") from None
 
 
-def tables(rule: Rule, games: int, rotations: int) -> Iterator[Table]:
+def tables(rule: Rule, games: int, rotations: int,
+           finished: Container[Tuple[str, int]] = ()) -> Iterator[Table]:
     """The games of a tournament in order, all games of a deal one after the other.
 
     Args:
         rule: How the deals are made.
         games: How many games there are in all.
         rotations: How many there are of each deal.
+        finished: Those that are left out, by the names of their deals and their rotations.
     """
     deal: Optional[Deal] = None
     for number in range(games):
-        if deal is None or number % rotations == 0:
-            deal = made_deal(rule, number // rotations)
-        yield Table(deal, number % rotations)
+        name, rotation = name_of_deal(rule, number // rotations), number % rotations
+        if (name, rotation) not in finished:
+            if deal is None or deal.name != name:
+                deal = made_deal(rule, number // rotations)
+            yield Table(deal, rotation)
 
 
 def seated(items: Sequence[Item], table: Table) -> List[Item]:

@@ -2,8 +2,8 @@
 
 import csv
 import enum
-from dataclasses import astuple, dataclass, fields
-from typing import Iterable, List
+from dataclasses import astuple, dataclass, fields, replace
+from typing import Iterable, List, Optional, Sequence, Tuple
 
 from geesefuton.records.tables import csv_of
 
@@ -44,6 +44,13 @@ class Row:
         end: How it went.
         luck: What the seat's clients are worth at fixed prices, in dollars (`luck.worth_of`).
         kind: How the game was played.
+        nights: How many nights the seat's clients want to stay, in the mean.
+        first_price: The mean of the flights' first prices, in dollars.
+        run: The number of the run that played it, in a folder that has several; else 1.
+        settings: What else decides what can be compared (`provenance.settings_text`).
+        files: The beginning of the SHA-256 of the agent's files.
+
+    Rows of earlier versions end with `kind`; the others are None, or "" and 0, there.
     """
 
     deal: str
@@ -54,9 +61,20 @@ class Row:
     end: Outcome
     luck: int
     kind: Kind = Kind.SERVED
+    nights: Optional[float] = None
+    first_price: Optional[float] = None
+    run: int = 0
+    settings: str = ""
+    files: str = ""
+
+    @property
+    def game(self) -> Tuple[str, int]:
+        """The deal and the rotation."""
+        return self.deal, self.rotation
 
 
 HEAD = [field.name for field in fields(Row)]
+FORMER_HEAD = HEAD[:HEAD.index("kind") + 1]
 
 
 class ResultsError(Exception):
@@ -65,7 +83,26 @@ class ResultsError(Exception):
 
 def text_of(rows: Iterable[Row]) -> str:
     """The rows as lines of CSV, without a head."""
-    return csv_of([*astuple(row)[:5], row.end.value, row.luck, row.kind.value] for row in rows)
+    return csv_of([*astuple(row)[:5], row.end.value, row.luck, row.kind.value,
+                   "" if row.nights is None else f"{row.nights:g}",
+                   "" if row.first_price is None else f"{row.first_price:g}",
+                   row.run, row.settings, row.files] for row in rows)
+
+
+def read_row(words: Sequence[str]) -> Row:
+    """Reads the cells of a row, of this version or of earlier ones.
+
+    Raises:
+        ValueError: They are no row.
+    """
+    deal, rotation, seat, agent, score, end, luck, kind, *more = words
+    row = Row(deal, int(rotation), int(seat), agent, int(score), Outcome(end), int(luck),
+              Kind(kind))
+    if not more:
+        return row
+    nights, first_price, run, settings, files = more
+    return replace(row, nights=float(nights) if nights else None, run=int(run), settings=settings,
+                   first_price=float(first_price) if first_price else None, files=files)
 
 
 def read_rows(text: str, name: str) -> List[Row]:
@@ -80,15 +117,17 @@ def read_rows(text: str, name: str) -> List[Row]:
     """
     rows: List[Row] = []
     lines = list(csv.reader(text.splitlines()))
-    if not lines or lines[0] != HEAD:
+    if not lines or lines[0] not in (HEAD, FORMER_HEAD):
         raise ResultsError(f"{name}: line 1 is not the head of a tournament's CSV")
+    head = lines[0]
     for number, words in enumerate(lines, 1):
-        if words == HEAD:
+        if words in (HEAD, FORMER_HEAD):
+            head = words
             continue
         try:
-            deal, rotation, seat, agent, score, end, luck, kind = words
-            rows.append(Row(deal, int(rotation), int(seat), agent, int(score), Outcome(end),
-                            int(luck), Kind(kind)))
+            if len(words) != len(head):
+                raise ValueError
+            rows.append(read_row(words))
         except ValueError:
             raise ResultsError(f"{name}: line {number} is no row: {','.join(words)[:60]!r}") \
                 from None

@@ -21,11 +21,15 @@ the end the summary has each agent's mean over all its seats with a 95 % interva
 that played to the end, how many did not, and the difference of each pair. Failures are told as they
 happen.
 
+With --out FOLDER the run stands in a folder: the rows of each game are added to its scores.csv as
+the game ends, and its run.json has what was played with. With --resume it goes on where it was
+stopped, however it was stopped, and plays the games that are missing. --join FOLDER .. summarizes
+several, if they were played in the same way by the same agents.
+
 The exit status is 0 if every game was scored and everything was written, 1 if not, and 128 plus
 the signal's number if a signal stopped it.
 """
 
-import argparse
 import os
 import shutil
 import subprocess
@@ -34,71 +38,26 @@ import time
 from dataclasses import dataclass, field, replace
 from multiprocessing.connection import Connection, Pipe, wait
 from pathlib import Path
-from typing import Dict, Iterator, List, Optional, Sequence, Tuple
+from typing import AbstractSet, Dict, Iterator, List, Optional, Sequence, Tuple
 
 from geesefuton import program
-from geesefuton.arguments import Parser, seconds, whole
-from geesefuton.experiments.deals import DealError, Rule, Table, read_rooms, seated, tables
-from geesefuton.experiments.entrants import (PACKAGE, Entrant, EntrantError, read_entrants,
-                                             seat_words)
+from geesefuton.arguments import Parser
+from geesefuton.experiments.covariates import covariates_of
+from geesefuton.experiments.deals import DealError, Table, name_of_deal, seated, tables
+from geesefuton.experiments.entrants import PACKAGE, Entrant, seat_words
 from geesefuton.experiments.forms import FORMS, as_text
-from geesefuton.experiments.luck import worths_of
-from geesefuton.experiments.match import PATIENCE, PROGRAM, Job, Note, Result
-from geesefuton.experiments.results import HEAD, ResultsError, Row, read_rows, text_of
+from geesefuton.experiments.joining import joined, pooled, read_source
+from geesefuton.experiments.match import PROGRAM, Job, Note, Result
+from geesefuton.experiments.plan import Plan, make_parser, read_plan
+from geesefuton.experiments.provenance import SHORT, settings_text
+from geesefuton.experiments.results import Row
+from geesefuton.experiments.runs import RunError, RunFolder
 from geesefuton.experiments.summary import Summary, summarize
-from geesefuton.experiments.turns import MOST_TURNS
+from geesefuton.experiments.writers import AppendedRows, OrderedRows
 from geesefuton.hosting import events
 from geesefuton.processes import Children, Output, Stopped, command, tell, why
-from geesefuton.records.drawing import MOST_SEED
-from geesefuton.records.games import SEATS, TICKS
-from geesefuton.records.tables import csv_of
 
-AGENTS = ("planner", "trader", "watcher")  # those of examples/agents that play by default
 SUFFIXES = (".game", ".log", ".events")
-MARGIN = 300.0  # seconds that a game may take beyond what it is given, on a machine that is full
-PACE = 100  # milliseconds
-LINGER, LINGER_IN_TURNS = 5.0, 30.0  # seconds
-
-
-@dataclass(frozen=True)
-class Plan:
-    """What a tournament is asked for.
-
-    Attributes:
-        entrants: The agents.
-        rule: How deals are made.
-        games: How many games are played.
-        rotations: How many of each deal.
-        at_once: How many at a time.
-        pace: The milliseconds from tick to tick, in games by the clock.
-        turns: How many turns each agent has between two ticks; 0 for games by the clock.
-        patience: In turns: the seconds without a word after which an agent is passed over.
-        form: What agents speak, `words` or `json`.
-        start: The seconds that a game waits for its agents.
-        linger: The seconds after the last tick until links are ended.
-        keep: Where files are kept; None if they are not.
-        summaries: The files that the summary is written to.
-    """
-
-    entrants: Sequence[Entrant]
-    rule: Rule
-    games: int
-    rotations: int
-    at_once: int
-    pace: int
-    turns: int
-    patience: float
-    form: str
-    start: float
-    linger: float
-    keep: Optional[Path]
-    summaries: Sequence[Path]
-
-    def seconds(self) -> float:
-        """The seconds that a game may take, and in turns those until it has its next tick."""
-        if self.turns:
-            return self.start + self.turns * SEATS * self.patience + self.linger + MARGIN
-        return self.start + TICKS * self.pace / 1000 + self.linger + MARGIN
 
 
 @dataclass
@@ -138,21 +97,34 @@ class Report:
 
 
 class Tournament:
-    """Plays the games of a plan. Lines of CSV come in the order of the games."""
+    """Plays the games of a plan.
 
-    def __init__(self, plan: Plan, out: Output) -> None:
-        self._plan, self._out = plan, out
+    Args:
+        plan: The plan.
+        writer: What takes the rows of each game.
+        finished: The games that are not played again, by the names of their deals and their
+            rotations.
+        run: The number of the run.
+        held: The numbers of open files that games' processes hold until they end.
+    """
+
+    def __init__(self, plan: Plan, writer: AppendedRows,
+                 finished: AbstractSet[Tuple[str, int]] = frozenset(), run: int = 1,
+                 held: Sequence[int] = ()) -> None:
+        self._plan, self._writer, self._finished, self._run = plan, writer, finished, run
+        self._held = held
         self.report = Report()
-        self._written = 0  # games whose lines were written, or were lost
-        self._unwritten: List[Row] = []
+        self._games = plan.games - sum(
+            (name_of_deal(plan.rule, number // plan.rotations), number % plan.rotations) in finished
+            for number in range(plan.games))
         self._done = 0
         self._began = time.monotonic()
 
     def play(self, children: Children) -> None:
         """Plays all games."""
         plan = self._plan
-        self._out.write(csv_of([HEAD]))
-        waiting = tables(plan.rule, plan.games, plan.rotations)
+        self._writer.begin()
+        waiting = tables(plan.rule, plan.games, plan.rotations, self._finished)
         running: List[Running] = []
         number, are_all_begun = 0, False
         try:
@@ -171,7 +143,7 @@ class Tournament:
                     if plan.keep is None:
                         shutil.rmtree(game.folder, ignore_errors=True)
         finally:
-            self._write(plan.games)
+            self._writer.end()
             for game in running:
                 children.end(game.process)
                 game.connection.close()
@@ -200,7 +172,7 @@ class Tournament:
         path = os.pathsep.join(filter(None, [str(PACKAGE), os.environ.get("PYTHONPATH")]))
         process = children.start(
             [sys.executable, "-c", PROGRAM, str(theirs.fileno())],
-            pass_fds=[theirs.fileno()], stdin=subprocess.DEVNULL, stdout=subprocess.DEVNULL,
+            pass_fds=[theirs.fileno(), *self._held], stdin=subprocess.DEVNULL, stdout=subprocess.DEVNULL,
             env={**os.environ, "PYTHONPATH": path})
         theirs.close()
         try:
@@ -251,47 +223,26 @@ class Tournament:
         if result.fault:
             self.report.lose(f"game {table.name} is lost: {result.fault}")
         else:
-            lucks = worths_of(table.deal.game)
-            for seat, entrant in enumerate(game.entrants):
-                rows.append(Row(table.deal.name, table.rotation, seat, entrant.name,
-                                result.scores[seat], result.outcomes[seat], lucks[seat],
-                                result.kind))
+            rows = self._rows(game, result)
         self.report.rows[game.number] = rows
         each = (time.monotonic() - self._began) / self._done
-        left = round(each * (self._plan.games - self._done))
-        tell(f"game {self._done} of {self._plan.games} ({table.name}): "
+        left = round(each * (self._games - self._done))
+        tell(f"game {self._done} of {self._games} ({table.name}): "
              f"{'scored' if rows else 'lost'}; {left // 60}:{left % 60:02} left")
-        while self._written in self.report.rows:
-            self._write(self._written + 1)
+        self._writer.put(game.number, rows)
 
-    def _write(self, end: int) -> None:
-        """Writes the lines of the games before a number that were not written yet."""
-        for number in range(self._written, end):
-            rows = self.report.rows.get(number, [])
-            if rows and not self._out.write(text_of(rows)):
-                self._unwritten += rows
-        self._written = max(self._written, end)
-
-    def rescue(self) -> None:
-        """Writes lines that the output did not take to a file, and tells it."""
-        if self._out.fault is None:
-            return
-        lines = len(self._unwritten)
-        text = f"{self._out.name}: {self._out.fault}; {lines} lines were not written"
-        if lines:
-            file = _free_name((self._plan.keep or Path()) / "scores.rest.csv")
-            rest = Output(file)
-            rest.write(csv_of([HEAD]) + text_of(self._unwritten))
-            rest.close()
-            text += (f", and are in {file}" if rest.fault is None
-                     else f", nor to {file}: {rest.fault}")
-        self.report.lose(text)
-
-
-def _free_name(file: Path) -> Path:
-    """The name, with a number if there is such a file."""
-    names = (file.with_suffix(f".{number}{file.suffix}") for number in range(2, 1 << 20))
-    return file if not file.exists() else next(name for name in names if not name.exists())
+    def _rows(self, game: Running, result: Result) -> List[Row]:
+        """The rows of a game that was scored."""
+        plan, deal = self._plan, game.table.deal
+        settings = settings_text(plan.settings)
+        rows = []
+        for seat, (entrant, drawn) in enumerate(zip(game.entrants, covariates_of(deal.game))):
+            agent = plan.agents.get(entrant.name)
+            rows.append(Row(deal.name, game.table.rotation, seat, entrant.name, result.scores[seat],
+                            result.outcomes[seat], drawn.luck, result.kind, drawn.nights,
+                            drawn.first_price, self._run, settings,
+                            agent.digest[:SHORT] if agent else ""))
+        return rows
 
 
 def _write_summary(summary: Summary, files: Sequence[Path]) -> List[str]:
@@ -306,109 +257,33 @@ def _write_summary(summary: Summary, files: Sequence[Path]) -> List[str]:
     return failed
 
 
-def _join(names: Sequence[Path], summaries: Sequence[Path]) -> int:
-    """Summarizes the CSV of earlier tournaments."""
-    rows: List[Row] = []
+def _join(names: Sequence[Path], are_pools: bool, summaries: Sequence[Path]) -> int:
+    """Summarizes what earlier tournaments wrote."""
+    sources, told = [], []
     for name in names:
-        try:
-            rows += read_rows(name.read_text(encoding="utf-8", errors="replace"), str(name))
-        except ResultsError as fault:
-            tell(f"tournament: {fault}")
-            return 1
-    summary = summarize(rows)
-    out = Output(1)
+        source, lines = read_source(name)
+        sources += [source] if source else []
+        told += lines
+    rows, refused = (pooled if are_pools else joined)(sources)
+    for text in told + refused:
+        tell(f"tournament: {text}")
+    if refused or not rows:
+        return 1
+    return 1 if _summarize_to(1, rows, summaries) or told else 0
+
+
+def _summarize_to(target: int, rows: Sequence[Row], summaries: Sequence[Path],
+                  lost: Sequence[str] = ()) -> bool:
+    """Writes the summary to an open file and to named ones, tells what failed, and returns whether
+    anything did."""
+    summary = summarize(rows, lost)
+    out = Output(target)
     out.write(as_text(summary))
     failed = _write_summary(summary, summaries)
     failed += [f"the summary was not written to {out.name}: {out.fault}"] if out.fault else []
     for text in failed:
         tell(f"tournament: {text}")
-    return 1 if failed else 0
-
-
-def _rooms(text: str) -> Tuple[int, int]:
-    try:
-        return read_rooms(text)
-    except DealError as fault:
-        raise argparse.ArgumentTypeError(str(fault)) from None
-
-
-def _summary_file(text: str) -> Path:
-    if Path(text).suffix not in FORMS:
-        raise argparse.ArgumentTypeError(f"the name ends with {', '.join(FORMS)}, not {text}")
-    return Path(text)
-
-
-def _parser() -> Parser:
-    parser = Parser("tournament", __doc__)
-    add = parser.add_argument
-    add("agents", nargs="*", metavar="AGENT",
-        help="default: planner, trader and watcher of examples/agents, in a clone")
-    add("--games", type=whole(1), default=4, metavar="N",
-        help="how many games; 4. With swapped seats a multiple of the number of agents")
-    add("--seed", type=whole(0, MOST_SEED), default=1, metavar="N",
-        help="the seed of the first deal; 1")
-    add("--swap", action=argparse.BooleanOptionalAction, default=None,
-        help="play each deal once for each agent, with other seats each time; on for two agents")
-    add("--rooms", type=_rooms, metavar="N..M",
-        help="the rooms of each hotel night, drawn by the seed, as 3..6; default: 16")
-    add("--live", action="store_true", help="hotel prices move with each bid")
-    add("--game", type=Path, metavar="FILE", help="play this game file in place of made games")
-    add("--at-once", type=whole(1), default=2, metavar="N", help="how many games at a time; 2")
-    add("--pace", type=whole(1, 60000), metavar="MILLISECONDS",
-        help=f"from tick to tick; {PACE}")
-    add("--turns", type=whole(1, MOST_TURNS), default=0, metavar="R",
-        help="no clock: each agent has R turns between two ticks, and asks one request in each")
-    add("--patience", type=seconds, metavar="SECONDS",
-        help="in turns: how long an agent says nothing before it is passed over; "
-             f"{PATIENCE:g}")
-    add("--json", action="store_true", help="agents speak JSON objects in place of words")
-    add("--start", type=seconds, default=20.0, metavar="SECONDS",
-        help="how long a game waits for its agents; 20")
-    add("--after", type=seconds, metavar="SECONDS",
-        help=f"how long after the last tick links are ended; {LINGER:g}, in turns "
-             f"{LINGER_IN_TURNS:g}")
-    add("--keep", type=Path, metavar="FOLDER",
-        help="where to keep game files, logs, events and what agents printed")
-    add("--summary", type=_summary_file, action="append", default=[], metavar="FILE",
-        help="a file for the summary: .txt, .csv or .json; may be given again")
-    add("--join", type=Path, nargs="+", metavar="CSV",
-        help="play nothing, and summarize what earlier tournaments wrote")
-    return parser
-
-
-def _default_agents(parser: Parser) -> List[str]:
-    clone = program.top()
-    if clone is None:
-        parser.error("which agents? Each is a Python file, a program, or a command in quotes")
-    return [f"'{clone / 'examples' / 'agents' / name}.py'" for name in AGENTS]
-
-
-def _plan(parser: Parser, given: argparse.Namespace) -> Plan:
-    if given.game and (given.rooms or given.live):
-        parser.error("--rooms and --live are for made games, not for a game file")
-    if given.turns and given.pace is not None:
-        parser.error("--pace is for games by the clock, and --turns for those without")
-    if given.patience is not None and not given.turns:
-        parser.error("--patience is for games in turns: see --turns")
-    try:
-        entrants = read_entrants(given.agents or _default_agents(parser))
-        rule = Rule(given.seed, given.game, given.rooms, given.live)
-        next(tables(rule, 1, 1))  # tells whether deals can be made
-        program.find()
-    except (EntrantError, DealError, program.ProgramError) as fault:
-        parser.error(str(fault))
-    swap = len(entrants) == 2 if given.swap is None else given.swap
-    rotations = len(entrants) if swap else 1
-    games = -(-given.games // rotations) * rotations
-    if games != given.games:
-        tell(f"{games} games are played, so that each deal is played {rotations} times")
-    if given.seed + games // rotations - 1 > MOST_SEED:
-        parser.error(f"seeds are at most {MOST_SEED}")
-    linger = LINGER_IN_TURNS if given.turns else LINGER
-    return Plan(entrants, rule, games, rotations, given.at_once, given.pace or PACE, given.turns,
-                PATIENCE if given.patience is None else given.patience,
-                "json" if given.json else "words", given.start,
-                linger if given.after is None else given.after, given.keep, given.summary)
+    return bool(failed)
 
 
 def _open_folder(parser: Parser, folder: Path) -> None:
@@ -424,14 +299,52 @@ def _open_folder(parser: Parser, folder: Path) -> None:
 
 
 def _main() -> int:
-    parser = _parser()
+    parser = make_parser(__doc__)
     given = parser.parse_args()
     if given.join:
-        return _join(given.join, given.summary)
-    plan = _plan(parser, given)
+        return _join(given.join, given.pool, given.summary)
+    plan = read_plan(parser, given)
+    return _play_in_folder(parser, plan) if plan.out else _play_to_output(parser, plan)
+
+
+def _play_to_output(parser: Parser, plan: Plan) -> int:
+    """Plays, with the rows on standard output and the summary on standard error."""
     if plan.keep:
         _open_folder(parser, plan.keep)
-    tournament = Tournament(plan, Output(1))
+    writer = OrderedRows(Output(1), plan.keep or Path())
+    tournament = Tournament(plan, writer)
+    status = _play(tournament, writer)
+    report = tournament.report
+    summary = summarize(report.all_rows(), report.lost)
+    for text in _write_summary(summary, plan.summaries):
+        report.lose(text)
+    tell("\n" + as_text(replace(summary, lost=report.lost)))
+    return status or (1 if report.lost else 0)
+
+
+def _play_in_folder(parser: Parser, plan: Plan) -> int:
+    """Plays what a folder lacks, with the rows there and the summary on standard output."""
+    try:
+        folder = RunFolder(plan, sys.argv[1:])
+    except RunError as fault:
+        parser.error(f"--out {plan.out}: {fault}")
+    for text in folder.told:
+        tell(f"tournament: {text}")
+    if folder.finished:
+        tell(f"{len(folder.finished)} games were finished by earlier runs")
+    writer = AppendedRows(folder.out)
+    tournament = Tournament(plan, writer, folder.finished, folder.number, [folder.lock])
+    status = _play(tournament, writer)
+    report = tournament.report
+    status = status or (1 if report.lost else 0)
+    scored = sum(bool(rows) for rows in report.rows.values())
+    folder.end(status, scored, report.lost)
+    failed = _summarize_to(1, folder.rows + report.all_rows(), plan.summaries, report.lost)
+    return status or (1 if failed else 0)
+
+
+def _play(tournament: Tournament, writer: AppendedRows) -> int:
+    """Plays, and returns the status of a signal that stopped it, or 0."""
     status = 0
     with Children() as children:
         try:
@@ -439,13 +352,10 @@ def _main() -> int:
         except Stopped as stopped:
             status = stopped.status
             tell("tournament: stopped")
-    tournament.rescue()
-    report = tournament.report
-    summary = summarize(report.all_rows(), report.lost)
-    for text in _write_summary(summary, plan.summaries):
-        report.lose(text)
-    tell("\n" + as_text(replace(summary, lost=report.lost)))
-    return status or (1 if report.lost else 0)
+    lost = writer.rescue()
+    if lost:
+        tournament.report.lose(lost)
+    return status
 
 
 def main() -> int:

@@ -1,0 +1,39 @@
+"""What a seat's draw has that tells of its score: its luck, its clients' nights, and flights' first
+prices.
+
+They are computed from the game file alone, so that no agent changes them.
+"""
+
+from dataclasses import dataclass
+from typing import List
+
+from geesefuton.experiments.comparisons import mean_of
+from geesefuton.experiments.luck import worths_of
+from geesefuton.records.games import Game
+
+# The means over all made games: of the ten trips that a client may want, of 250 to 350 dollars and
+# 50 more, and, with the premiums and values that it may have, of `luck.best_trip` for eight
+# clients.
+MEAN_NIGHTS, MEAN_FIRST_PRICE, MEAN_LUCK = 2.0, 325.0, 2153.43
+
+
+@dataclass(frozen=True)
+class Covariates:
+    """What is told of a seat's draw.
+
+    Attributes:
+        luck: What its clients are worth at fixed prices, in dollars.
+        nights: How many nights they want to stay, in the mean.
+        first_price: The mean of the eight flights' first prices, in dollars.
+    """
+
+    luck: int
+    nights: float
+    first_price: float
+
+
+def covariates_of(game: Game) -> List[Covariates]:
+    """Those of each of the eight seats."""
+    first_price = mean_of([flight.first for flight in game.flights])
+    return [Covariates(luck, mean_of([len(client.nights()) for client in clients]), first_price)
+            for luck, clients in zip(worths_of(game), game.clients)]

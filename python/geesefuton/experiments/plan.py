@@ -1,0 +1,205 @@
+"""What a tournament is asked for, read from its command line."""
+
+import argparse
+import hashlib
+from dataclasses import dataclass, field, replace
+from pathlib import Path
+from typing import Dict, List, Mapping, Optional, Sequence, Tuple
+
+from geesefuton import program
+from geesefuton.arguments import Parser, seconds, whole
+from geesefuton.experiments.deals import DealError, Rule, read_rooms, tables
+from geesefuton.experiments.entrants import Entrant, EntrantError, read_entrants
+from geesefuton.experiments.forms import FORMS
+from geesefuton.experiments.match import PATIENCE
+from geesefuton.experiments.provenance import (SHORT, Agent, agent_of, digest_of, names_text,
+                                               package_digest)
+from geesefuton.experiments.turns import MOST_TURNS
+from geesefuton.processes import tell
+from geesefuton.records.drawing import MOST_SEED
+from geesefuton.records.games import ROOMS, SEATS, TICKS, Game
+
+AGENTS = ("planner", "trader", "watcher")  # those of examples/agents that play by default
+SEAT_WORDS = [f"seat{seat}" for seat in range(SEATS)]
+MARGIN = 300.0  # seconds that a game may take beyond what it is given, on a machine that is full
+PACE = 100  # milliseconds
+LINGER, LINGER_IN_TURNS = 5.0, 30.0  # seconds
+
+
+@dataclass(frozen=True)
+class Plan:
+    """What a tournament is asked for.
+
+    Attributes:
+        entrants: The agents.
+        rule: How deals are made.
+        games: How many games are played.
+        rotations: How many of each deal.
+        at_once: How many at a time.
+        pace: The milliseconds from tick to tick, in games by the clock.
+        turns: How many turns each agent has between two ticks; 0 for games by the clock.
+        patience: In turns: the seconds without a word after which an agent is passed over.
+        form: What agents speak, `words` or `json`.
+        start: The seconds that a game waits for its agents.
+        linger: The seconds after the last tick until links are ended.
+        keep: Where files are kept; None if they are not.
+        summaries: The files that the summary is written to.
+        out: The folder that the run stands in; None if rows go to standard output.
+        is_resumed: Whether it goes on with what is there.
+        settings: What else decides what can be compared.
+        agents: What the agents are, by their names.
+    """
+
+    entrants: Sequence[Entrant]
+    rule: Rule
+    games: int
+    rotations: int
+    at_once: int
+    pace: int
+    turns: int
+    patience: float
+    form: str
+    start: float
+    linger: float
+    keep: Optional[Path]
+    summaries: Sequence[Path]
+    out: Optional[Path] = None
+    is_resumed: bool = False
+    settings: Mapping[str, object] = field(default_factory=dict)
+    agents: Mapping[str, Agent] = field(default_factory=dict)
+
+    def seconds(self) -> float:
+        """The seconds that a game may take, and in turns those until it has its next tick."""
+        if self.turns:
+            return self.start + self.turns * SEATS * self.patience + self.linger + MARGIN
+        return self.start + TICKS * self.pace / 1000 + self.linger + MARGIN
+
+
+def _rooms(text: str) -> Tuple[int, int]:
+    try:
+        return read_rooms(text)
+    except DealError as fault:
+        raise argparse.ArgumentTypeError(str(fault)) from None
+
+
+def _summary_file(text: str) -> Path:
+    if Path(text).suffix not in FORMS:
+        raise argparse.ArgumentTypeError(f"the name ends with {', '.join(FORMS)}, not {text}")
+    return Path(text)
+
+
+def make_parser(description: Optional[str]) -> Parser:
+    """The words of the command, which the description explains."""
+    parser = Parser("tournament", description or "")
+    add = parser.add_argument
+    add("agents", nargs="*", metavar="AGENT",
+        help="default: planner, trader and watcher of examples/agents, in a clone")
+    add("--games", type=whole(1), default=4, metavar="N",
+        help="how many games; 4. With swapped seats a multiple of the number of agents")
+    add("--seed", type=whole(0, MOST_SEED), default=1, metavar="N",
+        help="the seed of the first deal; 1")
+    add("--swap", action=argparse.BooleanOptionalAction, default=None,
+        help="play each deal once for each agent, with other seats each time; on for two agents")
+    add("--rooms", type=_rooms, metavar="N..M",
+        help="the rooms of each hotel night, drawn by the seed, as 3..6; default: 16")
+    add("--live", action="store_true", help="hotel prices move with each bid")
+    add("--game", type=Path, metavar="FILE", help="play this game file in place of made games")
+    add("--at-once", type=whole(1), default=2, metavar="N", help="how many games at a time; 2")
+    add("--pace", type=whole(1, 60000), metavar="MILLISECONDS",
+        help=f"from tick to tick; {PACE}")
+    add("--turns", type=whole(1, MOST_TURNS), default=0, metavar="R",
+        help="no clock: each agent has R turns between two ticks, and asks one request in each")
+    add("--patience", type=seconds, metavar="SECONDS",
+        help="in turns: how long an agent says nothing before it is passed over; "
+             f"{PATIENCE:g}")
+    add("--json", action="store_true", help="agents speak JSON objects in place of words")
+    add("--start", type=seconds, default=20.0, metavar="SECONDS",
+        help="how long a game waits for its agents; 20")
+    add("--after", type=seconds, metavar="SECONDS",
+        help=f"how long after the last tick links are ended; {LINGER:g}, in turns "
+             f"{LINGER_IN_TURNS:g}")
+    add("--keep", type=Path, metavar="FOLDER",
+        help="where to keep game files, logs, events and what agents printed")
+    add("--out", type=Path, metavar="FOLDER",
+        help="where the run stands: run.json with all that it was played with, scores.csv with the "
+             "lines of each game as it ends, and the files of games")
+    add("--resume", action="store_true",
+        help="with --out: play what FOLDER lacks, if it was begun with the same words and files")
+    add("--summary", type=_summary_file, action="append", default=[], metavar="FILE",
+        help="a file for the summary: .txt, .csv or .json; may be given again")
+    add("--join", type=Path, nargs="+", metavar="FOLDER",
+        help="play nothing, and summarize what earlier tournaments wrote, folders or CSV, if all "
+             "belongs together")
+    add("--pool", action="store_true",
+        help="with --join: compare what does not belong together, each pool by its own name")
+    return parser
+
+
+def _default_agents(parser: Parser) -> List[str]:
+    clone = program.top()
+    if clone is None:
+        parser.error("which agents? Each is a Python file, a program, or a command in quotes")
+    return [f"'{clone / 'examples' / 'agents' / name}.py'" for name in AGENTS]
+
+
+def read_plan(parser: Parser, given: argparse.Namespace) -> Plan:
+    """The plan of a command line. Ends with status 2 where there is none."""
+    _refuse(parser, given)
+    try:
+        entrants = read_entrants(given.agents or _default_agents(parser))
+        rule = Rule(given.seed, given.game, given.rooms, given.live)
+        first = next(tables(rule, 1, 1)).deal.game  # tells whether deals can be made
+        tac = digest_of(Path(program.find()))
+        agents = {entrant.name: agent_of(entrant) for entrant in entrants}
+    except (EntrantError, DealError, program.ProgramError) as fault:
+        parser.error(str(fault))
+    swap = len(entrants) == 2 if given.swap is None else given.swap
+    rotations = len(entrants) if swap else 1
+    games = -(-given.games // rotations) * rotations
+    if games != given.games:
+        tell(f"{games} games are played, so that each deal is played {rotations} times")
+    if given.seed + games // rotations - 1 > MOST_SEED:
+        parser.error(f"seeds are at most {MOST_SEED}")
+    linger = LINGER_IN_TURNS if given.turns else LINGER
+    plan = Plan(entrants, rule, games, rotations, given.at_once, given.pace or PACE, given.turns,
+                PATIENCE if given.patience is None else given.patience,
+                "json" if given.json else "words", given.start,
+                linger if given.after is None else given.after,
+                given.out / "games" if given.out else given.keep, given.summary, given.out,
+                given.resume, {}, agents)
+    return replace(plan, settings=_settings(plan, first, tac))
+
+
+def _settings(plan: Plan, first: Game, tac: str) -> Dict[str, object]:
+    """What decides, beside the seeds, what can be compared with the plan's results.
+
+    Args:
+        plan: The plan.
+        first: The game of its first deal.
+        tac: The digest of the program.
+    """
+    rule = plan.rule
+    pace = {"turns": plan.turns, "patience": f"{plan.patience:g}"} if plan.turns else {
+        "pace": plan.pace}
+    game = {"game": hashlib.sha256(first.named(SEAT_WORDS).text().encode()).hexdigest()[:SHORT]}
+    rooms = {"rooms": "{}..{}".format(*rule.rooms or (ROOMS, ROOMS)), "live": str(rule.live).lower()}
+    return {"agents": names_text([entrant.name for entrant in plan.entrants]),
+            "rotations": plan.rotations, **pace, **(game if rule.file else rooms),
+            "form": plan.form, "start": f"{plan.start:g}", "after": f"{plan.linger:g}",
+            "tac": tac[:SHORT], "package": package_digest()[:SHORT]}
+
+
+def _refuse(parser: Parser, given: argparse.Namespace) -> None:
+    """Refuses words that do not go together."""
+    if given.game and (given.rooms or given.live):
+        parser.error("--rooms and --live are for made games, not for a game file")
+    if given.turns and given.pace is not None:
+        parser.error("--pace is for games by the clock, and --turns for those without")
+    if given.patience is not None and not given.turns:
+        parser.error("--patience is for games in turns: see --turns")
+    if given.resume and not given.out:
+        parser.error("--resume goes on with the run of a folder: see --out")
+    if given.out and given.keep:
+        parser.error("--out keeps the games' files in its folder, so --keep is not for it")
+    if given.pool:
+        parser.error("--pool is for --join")

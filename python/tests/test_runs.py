@@ -1,0 +1,275 @@
+import json
+import os
+import random
+import signal
+import subprocess
+import tempfile
+import time
+import unittest
+from dataclasses import replace
+from pathlib import Path
+from typing import Any, Dict, List, Set, Tuple
+from unittest import mock
+
+from geesefuton.experiments.deals import Rule
+from geesefuton.experiments.plan import Plan
+from geesefuton.experiments.provenance import Agent
+from geesefuton.experiments.results import HEAD, Outcome, Row, text_of
+from geesefuton.experiments.runs import RunError, RunFolder, is_run, read_scores
+from geesefuton.records.tables import csv_of
+from tests.helpers import SERVED_GAME, fake_program, python, refusal, variables
+
+MINE = Agent("mine", "mine.py", ["mine.py"], {"mine.py": "00"})
+
+
+def rows_of(*games: Tuple[str, int]) -> List[Row]:
+    return [Row(deal, rotation, seat, "mine", 100 + seat, Outcome.PLAYED, 5, run=1, settings="x=1",
+                files="0123") for deal, rotation in games for seat in range(8)]
+
+
+class Folders(unittest.TestCase):
+    def setUp(self) -> None:
+        folder = tempfile.TemporaryDirectory()
+        self.addCleanup(folder.cleanup)
+        self.place = Path(folder.name)
+        self.out = self.place / "runs" / "1"
+        patch = mock.patch.dict(os.environ, {"TAC": fake_program(self.place, "exit 1")})
+        patch.start()
+        self.addCleanup(patch.stop)
+        self.patch("MOST_WAIT", 0.1)
+
+    def patch(self, name: str, value: object) -> None:
+        patch = mock.patch(f"geesefuton.experiments.runs.{name}", value)
+        patch.start()
+        self.addCleanup(patch.stop)
+
+    def plan(self, **more: Any) -> Plan:
+        plan = Plan([], Rule(), 4, 1, 1, 7, 0, 0.1, "words", 1.5, 2.5, None, [], self.out,
+                    settings={"turns": 40, "rooms": "16..16"}, agents={"mine": MINE})
+        return replace(plan, **more)
+
+    def begin(self, **more: Any) -> RunFolder:
+        return RunFolder(self.plan(**more), ["--games", "4"])
+
+    def value(self) -> Dict[str, Any]:
+        value: Dict[str, Any] = json.loads((self.out / "run.json").read_text())
+        return value
+
+    def refused(self, told: str, **more: Any) -> None:
+        before = {file: file.read_bytes() for file in self.place.rglob("*") if file.is_file()}
+        with self.assertRaises(RunError) as caught:
+            self.begin(**more)
+        self.assertIn(told, str(caught.exception))
+        self.assertEqual(before, {file: file.read_bytes() for file in self.place.rglob("*")
+                                  if file.is_file()})
+
+    def test_a_new_run(self) -> None:
+        run = self.begin()
+        self.assertEqual((run.number, run.rows, run.told, run.finished), (1, [], [], set()))
+        self.assertEqual(read_scores(self.out).rows, [])
+        run.out.write(text_of(rows_of(("1", 0))))
+        value = self.value()
+        self.assertEqual((value["tournament"], value["settings"]),
+                         (1, {"turns": 40, "rooms": "16..16"}))
+        self.assertEqual((len(value["tac"]), len(value["package"])), (64, 64))
+        self.assertEqual(value["agents"], [{"name": "mine", "command": "mine.py", "words":
+                         ["mine.py"], "files": {"mine.py": "00"}, "digest": MINE.digest}])
+        begun = value["runs"][0]
+        self.assertEqual((begun["run"], begun["arguments"], begun["ended"]),
+                         (1, ["--games", "4"], None))
+        self.assertTrue({"host", "python", "load", "commit", "began"} <= set(begun))
+        run.end(1, 1, ["game 2.0 is lost: why"])
+        ended = self.value()["runs"][0]
+        self.assertEqual((ended["status"], ended["games"], ended["lost"]),
+                         (1, 1, ["game 2.0 is lost: why"]))
+        self.assertIsNotNone(ended["ended"])
+        self.assertEqual(read_scores(self.out).rows, rows_of(("1", 0)))
+        self.assertTrue(is_run(self.out))
+        self.assertFalse(is_run(self.place))
+
+    def test_a_run_goes_on(self) -> None:
+        first = self.begin()
+        first.out.write(text_of(rows_of(("1", 0), ("2", 0))))
+        first.end(143, 2, [])
+        second = self.begin(is_resumed=True)
+        self.assertEqual((second.number, second.finished, second.told),
+                         (2, {("1", 0), ("2", 0)}, []))
+        second.out.write(text_of(rows_of(("3", 0))))
+        second.end(0, 1, [])
+        self.assertEqual(read_scores(self.out).rows, rows_of(("1", 0), ("2", 0), ("3", 0)))
+        self.assertEqual([run["run"] for run in self.value()["runs"]], [1, 2])
+
+    def test_what_is_half_written_is_told_and_taken_out(self) -> None:
+        self.begin().end(0, 0, [])
+        whole = csv_of([HEAD]) + text_of(rows_of(("1", 0), ("2", 0)))
+        cases: List[Tuple[str, List[str], List[Tuple[str, int]]]] = [
+                (whole[:-5], ["was half written", "game 2.0 has 7 rows"], [("1", 0)]),
+                (whole + "3,0,0,mi", ["was half written"], [("1", 0), ("2", 0)]),
+                (whole.replace("2,0,3,mine,103", "2,0,3,mine,?"), ["is no row", "2.0 has 7 rows"],
+                 [("1", 0)]),
+                (whole + text_of(rows_of(("2", 0))), ["2.0 has 16 rows"], [("1", 0)]),
+                ("deal,rota", [], []), ("", [], [])]
+        for text, told, left in cases:
+            (self.out / "scores.csv").write_text(text)
+            run = self.begin(is_resumed=True)
+            self.assertEqual(run.rows, rows_of(*left))
+            self.assertEqual(len(run.told), len(told), run.told)
+            for line, part in zip(run.told, told):
+                self.assertIn(part, line)
+            self.assertEqual((self.out / "scores.csv").read_text(),
+                             csv_of([HEAD]) + text_of(rows_of(*left)))
+            run.end(0, 0, [])
+
+    def test_files_of_games_that_were_not_finished_are_removed(self) -> None:
+        run = self.begin()
+        run.out.write(text_of(rows_of(("1", 0), ("my.v2-1", 1))))
+        run.end(0, 2, [])
+        kept = ["1.0.game", "1.0.out.red", "my.v2-1.1.log", "notes.txt"]
+        for name in [*kept, "1.1.game", "2.0.log", "2.0.out.game", "my.v2-1.0.events"]:
+            (self.out / "games" / name).write_text("x")
+        self.begin(is_resumed=True).end(0, 0, [])
+        self.assertEqual(sorted(os.listdir(self.out / "games")), kept)
+
+    def test_a_run_is_gone_on_with_only_if_that_is_said(self) -> None:
+        self.begin().end(0, 0, [])
+        self.refused("it has a run: --resume goes on with it")
+
+    def test_another_run_is_refused_with_its_difference(self) -> None:
+        self.begin(is_resumed=True).end(0, 0, [])  # there is nothing yet to go on with
+        self.refused("its run was begun otherwise: turns is 20 and not 40", is_resumed=True,
+                     settings={"turns": 20, "rooms": "16..16"})
+        other = replace(MINE, files={"mine.py": "01"})
+        self.refused("begun otherwise: the files or words of mine are others", is_resumed=True,
+                     agents={"mine": other})
+        self.refused("turns is 41 and not 40; the files or words of mine are others",
+                     is_resumed=True, agents={"mine": replace(MINE, words=["mine.py", "-x"])},
+                     settings={"turns": 41, "rooms": "16..16"})
+
+    def test_folders_that_are_not_ours(self) -> None:
+        self.out.mkdir(parents=True)
+        (self.out / "thesis.txt").write_text("mine")
+        for is_resumed in (False, True):
+            self.refused("it is no folder of a tournament: it has thesis.txt", is_resumed=is_resumed)
+        (self.out / "run.json").write_text("{}")
+        self.refused("its run.json is not that of a tournament", is_resumed=True)
+        (self.out / "run.json").write_text("no JSON")
+        self.refused("its run.json is not that of a tournament", is_resumed=True)
+        for file in self.out.iterdir():
+            file.unlink()
+        self.begin().end(0, 0, [])
+        (self.out / "scores.csv").write_text("a,b\n1,2\n")
+        self.refused("line 1 is not the head", is_resumed=True)
+
+    def test_two_at_once_are_refused(self) -> None:
+        run = self.begin()
+        self.refused("another tournament is writing to it", is_resumed=True)
+        run.end(0, 0, [])
+        self.begin(is_resumed=True).end(0, 0, [])
+
+    def test_a_folder_that_cannot_be_made(self) -> None:
+        self.out = SERVED_GAME / "x"
+        with self.assertRaises(OSError):
+            self.begin()
+
+
+# A stand-in for the process of a game: it writes that it has begun, and scores soon.
+WORKER = """
+import os, random, sys, time
+from multiprocessing.connection import Connection
+from geesefuton.experiments.match import Result
+from geesefuton.experiments.results import Outcome
+parent = Connection(int(sys.argv[1]))
+job = parent.recv()
+with open(os.environ["BEGUN"], "a") as begun:
+    begun.write(job.name + "\\n")
+time.sleep(random.random() * 0.1)
+parent.send(Result(tuple(range(8)), (Outcome.PLAYED,) * 8))
+time.sleep(60)
+"""
+COMMAND = """
+import sys
+from geesefuton.experiments import tournament
+tournament.PROGRAM = open(sys.argv.pop(1)).read()
+sys.exit(tournament.main())
+"""
+
+
+class Killed(unittest.TestCase):
+    """Runs of the command that are killed, with a stand-in for games and for the program."""
+
+    KILLS, GAMES = 20, 60
+
+    def setUp(self) -> None:
+        folder = tempfile.TemporaryDirectory()
+        self.addCleanup(folder.cleanup)
+        self.place = Path(folder.name)
+        (self.place / "worker").write_text(WORKER)
+        self.begun, self.out = self.place / "begun", self.place / "run"
+        self.begun.touch()
+        self.tac = fake_program(self.place, f"cat '{SERVED_GAME}'")
+
+    def start(self) -> "subprocess.Popen[bytes]":
+        words = ["--games", self.GAMES, "--at-once", "3", "--out", self.out, "--resume", "sh", "cat"]
+        return subprocess.Popen(
+            python(COMMAND, self.place / "worker", *map(str, words)), stdin=subprocess.DEVNULL,
+            stdout=subprocess.PIPE, stderr=subprocess.STDOUT, cwd=self.place,
+            env=variables({"TAC": self.tac, "BEGUN": str(self.begun)}))
+
+    def finished(self) -> Set[str]:
+        return {f"{row.deal}.{row.rotation}" for row in read_scores(self.out).rows}
+
+    def scores(self) -> str:
+        file = self.out / "scores.csv"
+        return file.read_text() if file.exists() else ""
+
+    def begun_games(self) -> List[str]:
+        return self.begun.read_text().split()
+
+    def test_kills_lose_no_finished_game_and_none_is_played_twice(self) -> None:
+        source = random.Random(6)
+        texts: List[str] = []
+        for kill in range(self.KILLS):
+            finished, begun = self.finished(), len(self.begun_games())
+            process = self.start()
+            deadline = time.monotonic() + 60
+            while (kill % 4 and len(self.begun_games()) == begun and process.poll() is None
+                   and time.monotonic() < deadline):
+                time.sleep(0.01)
+            time.sleep(source.random() * 0.4)
+            process.send_signal(signal.SIGKILL)
+            output = process.communicate()[0].decode()
+            self.assertFalse(finished & set(self.begun_games()[begun:]), output)
+            self.assertTrue(finished <= self.finished(), output)
+            texts.append(self.scores())
+        self.assertTrue(all(later.startswith(former)
+                            for former, later in zip(texts, texts[1:])))
+        finished, begun = self.finished(), len(self.begun_games())
+        self.assertTrue(0 < len(finished) < self.GAMES, finished)
+        process = self.start()
+        output = process.communicate()[0].decode()
+        self.assertEqual(process.returncode, 0, output)
+        self.assertIn(f"{len(finished)} games were finished by earlier runs", output)
+        self.assertFalse(finished & set(self.begun_games()[begun:]))
+        rows = read_scores(self.out)
+        self.assertEqual(rows.told, [])
+        self.assertEqual(sorted((int(row.deal), row.rotation, row.seat) for row in rows.rows),
+                         [(deal, rotation, seat) for deal in range(1, self.GAMES // 2 + 1)
+                          for rotation in range(2) for seat in range(8)])
+        runs = json.loads((self.out / "run.json").read_text())["runs"]
+        self.assertEqual([run["status"] for run in runs if run["ended"]], [0])
+        self.assertEqual(len({row.run for row in rows.rows} - {run["run"] for run in runs}), 0)
+        texts = sorted(file.name for file in (self.out / "games").iterdir())
+        self.assertEqual(texts, [])  # the stand-in writes none
+
+    def test_words_that_do_not_go_together(self) -> None:
+        with mock.patch.dict(os.environ, {"TAC": self.tac}):
+            for told, words in (("--resume goes on with the run of a folder", ["--resume"]),
+                                ("--keep is not for it", ["--out", str(self.out), "--keep", "x"]),
+                                ("--pool is for --join", ["--pool"])):
+                status, text = refusal("experiments.tournament", *words, "sh")
+                self.assertEqual((status, text.count("\n")), (2, 1))
+                self.assertIn(told, text)
+
+
+if __name__ == "__main__":
+    unittest.main()
