@@ -2,9 +2,9 @@ import math
 import random
 import unittest
 
-from geesefuton.experiments.comparisons import (Estimate, adjusted, estimate, half_at, holm_halves,
-                                                incomplete_beta, mean_of, student_p,
-                                                student_quantile)
+from geesefuton.experiments.comparisons import (Estimate, adjusted, deals_to_detect, estimate,
+                                                half_at, holm_halves, incomplete_beta, mean_of,
+                                                student_p, student_quantile)
 
 # Bounds of Student's t for 95 %, from printed tables.
 TABLE = [(1, 12.7062), (2, 4.3027), (3, 3.1824), (4, 2.7764), (5, 2.5706), (9, 2.2622),
@@ -93,7 +93,7 @@ class Several(unittest.TestCase):
 
 class Adjustment(unittest.TestCase):
     def test_points_on_a_line_are_adjusted_along_it(self) -> None:
-        got = adjusted([10.0, 12.0, 16.0], [0.0, 1.0, 3.0], 2.0)
+        got = adjusted([10.0, 12.0, 16.0], [[0.0, 1.0, 3.0]], [2.0])
         assert got is not None and got.half is not None
         self.assertAlmostEqual(got.mean, 14.0)
         self.assertAlmostEqual(got.half, 0.0, places=6)
@@ -102,19 +102,90 @@ class Adjustment(unittest.TestCase):
     def test_an_interval_by_hand(self) -> None:
         # y = 1, 3, 2, 6 at x = 0, 1, 2, 3: slope 1.4, mean 3; at 1.5 the line has 3, and the
         # residuals 0.1, 0.7, -1.7, 0.9 have the squares 4.2, so the error is sqrt(2.1 / 4).
-        got = adjusted([1.0, 3.0, 2.0, 6.0], [0.0, 1.0, 2.0, 3.0], 1.5)
+        got = adjusted([1.0, 3.0, 2.0, 6.0], [[0.0, 1.0, 2.0, 3.0]], [1.5])
         assert got is not None and got.half is not None
         self.assertAlmostEqual(got.mean, 3.0)
         self.assertAlmostEqual(got.half, 4.30265 * math.sqrt(2.1 / 4), places=4)
-        got = adjusted([1.0, 3.0, 2.0, 6.0], [0.0, 1.0, 2.0, 3.0], 3.0)
+        got = adjusted([1.0, 3.0, 2.0, 6.0], [[0.0, 1.0, 2.0, 3.0]], [3.0])
         assert got is not None and got.half is not None
         self.assertAlmostEqual(got.mean, 5.1)
         self.assertAlmostEqual(got.half, 4.30265 * math.sqrt(2.1 * (1 / 4 + 2.25 / 5)), places=4)
 
+    def test_points_on_a_plane_are_adjusted_along_it(self) -> None:
+        source = random.Random(4)
+        x, y = ([source.gauss(0.0, 1.0) for _ in range(12)] for _ in range(2))
+        z = [2.0 * a - 3.0 * b for a, b in zip(x, y)]
+        values = [5.0 + 2.0 * a - 3.0 * b for a, b in zip(x, y)]
+        for covariates, at in (([x, y], [1.0, 1.0]), ([y, x], [1.0, 1.0]), ([x, y, z], [1.0, 1.0, -1]),
+                               ([[7.0] * 12, x, y], [7.0, 1.0, 1.0]), ([z], [-1.0])):
+            got = adjusted(values, covariates, at)
+            assert got is not None and got.half is not None
+            self.assertAlmostEqual(got.mean, 4.0)
+            self.assertAlmostEqual(got.half, 0.0, places=6)
+
+    def test_two_covariates_by_hand(self) -> None:
+        # At right angles, so each slope is its own: y = 4 + 1 x - 2 z, with the rests +-1.
+        x, z = [1.0, 1.0, -1.0, -1.0] * 2, [1.0, -1.0] * 4
+        rest = [1.0, 1.0, 1.0, 1.0, -1.0, -1.0, -1.0, -1.0]
+        values = [4.0 + a - 2.0 * b + c for a, b, c in zip(x, z, rest)]
+        got = adjusted(values, [x, z], [1.0, 0.5])
+        assert got is not None and got.half is not None
+        self.assertAlmostEqual(got.mean, 4.0)
+        error = math.sqrt(8 / 5 * (1 / 8 + 1 / 8 + 0.25 / 8))
+        self.assertAlmostEqual(got.half, student_quantile(5) * error)
+
+    def test_few_units_use_few_covariates(self) -> None:
+        source = random.Random(5)
+        values, x, y = ([source.gauss(0.0, 1.0) for _ in range(8)] for _ in range(3))
+        for count, used in ((3, 1), (7, 1), (8, 2)):
+            got = adjusted(values[:count], [x[:count], y[:count], values[:count]], [0.1, 0.2, 9.0])
+            self.assertEqual(got, adjusted(values[:count], [x[:count], y[:count]][:used],
+                                           [0.1, 0.2][:used]))
+
     def test_nothing_is_told_of_two_values_or_equal_covariates(self) -> None:
-        self.assertIsNone(adjusted([1.0, 2.0], [0.0, 1.0], 0.5))
-        self.assertIsNone(adjusted([1.0, 2.0, 3.0], [5.0, 5.0, 5.0], 5.0))
-        self.assertIsNotNone(adjusted([1.0, 2.0, 4.0], [5.0, 5.0, 6.0], 5.0))
+        self.assertIsNone(adjusted([1.0, 2.0], [[0.0, 1.0]], [0.5]))
+        self.assertIsNone(adjusted([1.0, 2.0, 3.0], [[5.0, 5.0, 5.0]], [5.0]))
+        self.assertIsNone(adjusted([1.0, 2.0, 3.0], [], []))
+        self.assertIsNotNone(adjusted([1.0, 2.0, 4.0], [[5.0, 5.0, 6.0]], [5.0]))
+
+    def test_intervals_hold_their_level(self) -> None:
+        """1,000 experiments whose true mean is 100: 93 to 97 % of the intervals have it, and those
+        of the adjusted mean are narrower."""
+        source = random.Random(6)
+        hits, widths = [0, 0], [0.0, 0.0]
+        for _ in range(1000):
+            x, y = ([source.gauss(9.0, 1.0) for _ in range(16)] for _ in range(2))
+            values = [100.0 + 3.0 * (a - 9.0) - 2.0 * (b - 9.0) + source.gauss(0.0, 2.0)
+                      for a, b in zip(x, y)]
+            for place, got in enumerate((estimate(values), adjusted(values, [x, y], [9.0, 9.0]))):
+                assert got is not None and got.half is not None
+                hits[place] += abs(got.mean - 100.0) <= got.half
+                widths[place] += got.half
+        for count in hits:
+            self.assertTrue(930 <= count <= 970, hits)
+        self.assertLess(widths[1], 0.7 * widths[0])
+
+
+class Sizes(unittest.TestCase):
+    def test_how_many_values_tell_a_difference(self) -> None:
+        # From printed tables of the power of Student's test: a difference of one standard deviation
+        # needs 10 pairs, of half of one 34, of a fifth of one 199.
+        value = Estimate(0.0, student_quantile(24) / 5.0, 25)  # a standard deviation of 1
+        for difference, count in ((1.0, 10), (0.5, 34), (0.2, 199)):
+            found = deals_to_detect(value, difference)
+            assert found is not None
+            self.assertLessEqual(abs(found - count), 1)
+        self.assertIsNone(deals_to_detect(Estimate(7.0, None, 1), 1.0))
+        self.assertEqual(deals_to_detect(estimate([3.0] * 4), 1.0), 2)
+
+    def test_the_power_is_that_of_experiments(self) -> None:
+        source, told = random.Random(7), 0
+        count = deals_to_detect(Estimate(0.0, student_quantile(24) / 5.0, 25), 0.6)
+        assert count is not None
+        for _ in range(1000):
+            got = estimate([source.gauss(0.6, 1.0) for _ in range(count)])
+            told += got.half is not None and got.mean > got.half
+        self.assertTrue(760 <= told <= 850, told)
 
 
 if __name__ == "__main__":

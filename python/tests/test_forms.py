@@ -3,6 +3,7 @@ import io
 import json
 import unittest
 
+from geesefuton.experiments.comparisons import deals_to_detect
 from geesefuton.experiments.forms import FORMS, as_csv, as_json, as_text
 from geesefuton.experiments.results import Kind, Outcome
 from geesefuton.experiments.summary import summarize
@@ -48,18 +49,19 @@ class Texts(unittest.TestCase):
                                              ((40, 24), (13, 12))))
                 for seat, (agent, (score, luck)) in enumerate(zip("ab", both))]
         lines = [" ".join(line.split()) for line in as_text(summarize(rows)).splitlines()]
-        self.assertEqual(lines[2], "agent mean of seats that played luck mean adjusted for luck "
+        self.assertEqual(lines[2], "agent mean of seats that played luck mean adjusted for the draw "
                                    "did not play")
         self.assertRegex(lines[3], r"^a 19 \+- \d+ 19 \+- \d+ 11 \S+ \+- \S+ 0 of 3$")
         self.assertRegex(lines[4], r"^b 6 \+- \d+ 6 \+- \d+ 5 9 \+- 0 0 of 3$")
-        self.assertEqual(lines[6], "difference, by games mean adjusted for luck deals p "
+        self.assertEqual(lines[6], "difference, by games mean adjusted for the draw deals p "
                                    "(Student) p (Wilcoxon)")
         self.assertRegex(lines[7], r"^a less b 13 \+- \d+ \S+ \+- \S+ 3 0\.\d+ 0\.250$")
         first, second, pair = csv.DictReader(io.StringIO(as_csv(summarize(rows))))
         self.assertEqual(list(first), ["what", "agent", "other", "mean", "half", "adjusted",
                                        "adjusted_half", "deals", "seats", "played", "absent",
                                        "crashed", "hung", "refused", "luck", "played_mean",
-                                       "played_half", "holm_half", "student_p", "wilcoxon_p"])
+                                       "played_half", "holm_half", "student_p", "wilcoxon_p",
+                                       "deals_needed"])
         self.assertEqual([first["luck"], second["luck"], second["mean"], second["adjusted"],
                           second["adjusted_half"]], ["10.67", "5.33", "6.33", "9.0", "0.0"])
         self.assertEqual((pair["seats"], pair["luck"], pair["mean"]), ("", "", "13.0"))
@@ -100,7 +102,7 @@ class Texts(unittest.TestCase):
                 for deal in range(4) for seat, (agent, score) in enumerate(zip("abc", (90, 50, 9)))]
         summary = summarize(rows)
         lines = [" ".join(line.split()) for line in as_text(summary).splitlines()]
-        self.assertEqual(lines[7], "difference, by games mean Holm adjusted for luck deals p "
+        self.assertEqual(lines[7], "difference, by games mean Holm adjusted for the draw deals p "
                                    "(Student) p (Wilcoxon)")
         self.assertRegex(lines[8], r"^a less b 40 \+- \d+ \+- \d+ - 4 0\.000 0\.125$")
         self.assertEqual(lines[11], "Holm: intervals that allow for the 3 comparisons; 0 lies "
@@ -110,6 +112,22 @@ class Texts(unittest.TestCase):
                          (pair.holm, pair.student, pair.wilcoxon))
         line = list(csv.DictReader(io.StringIO(as_csv(summary))))[3]
         self.assertEqual((line["holm_half"], line["wilcoxon_p"]), (str(round(pair.holm or 0.0, 2)), "0.125"))
+
+    def test_how_many_games_tell_a_difference(self) -> None:
+        summary = summarize(SWAPPED, detect=100)
+        pair = summary.differences[0]
+        assert pair.score is not None and pair.needed is not None
+        self.assertEqual(pair.needed, deals_to_detect(pair.score, 100))
+        lines = [" ".join(line.split()) for line in as_text(summary).splitlines()]
+        self.assertTrue(lines[-3].endswith("p (Wilcoxon) games to tell 100"))
+        self.assertTrue(lines[-2].endswith(f" 0.500 {2 * pair.needed}"))
+        self.assertEqual(lines[-1], "a difference of 100 dollars is told in 80 % of experiments "
+                                    "with so many games, if they spread as these do")
+        self.assertEqual(json.loads(as_json(summary))["differences"][0]["deals_needed"],
+                         pair.needed)
+        self.assertEqual(list(csv.DictReader(io.StringIO(as_csv(summary))))[2]["deals_needed"],
+                         str(pair.needed))
+        self.assertTrue(as_text(summarize(SWAPPED[:2], detect=100)).splitlines()[-2].endswith("?"))
 
     def test_csv(self) -> None:
         rows = list(csv.DictReader(io.StringIO(as_csv(self.summary))))

@@ -1,4 +1,6 @@
+import random
 import unittest
+from dataclasses import replace
 from typing import List
 
 from geesefuton.experiments.comparisons import adjusted, estimate, holm_halves, student_p
@@ -130,10 +132,10 @@ class Luck(unittest.TestCase):
         summary = summarize(rows)
         for standing in summary.standings:
             self.assertEqual(standing.adjusted, adjusted(scores[standing.agent],
-                                                         lucks[standing.agent], centre))
+                                                         [lucks[standing.agent]], [centre]))
             self.assertEqual(standing.luck, sum(lucks[standing.agent]) / 3)
         pair = summary.differences[0]
-        self.assertEqual(pair.adjusted, adjusted([50, 50, 190], [100, 100, 500], 0.0))
+        self.assertEqual(pair.adjusted, adjusted([50, 50, 190], [[100, 100, 500]], [0.0]))
 
     def test_luck_of_all_seats_counts(self) -> None:
         # A score is its luck less 50, so at the mean luck of 100, 200, 600 and 1100 it is 450.
@@ -144,6 +146,59 @@ class Luck(unittest.TestCase):
         assert first.adjusted is not None
         self.assertAlmostEqual(first.adjusted.mean, 450.0)
         self.assertEqual((first.luck, second.luck), (300.0, 1100.0))
+
+
+class Draws(unittest.TestCase):
+    """Rows with all covariates."""
+
+    def drawn(self, deals: int, agents: str, name: str = "{}") -> List[Row]:
+        """An agent's score is 1000 (2000 for b), with what its draw is worth."""
+        source, rows = random.Random(8), []
+        for deal in range(deals):
+            first_price = 325.0 + source.randrange(-40, 40)
+            for seat, agent in enumerate(agents):
+                luck, nights = 2153 + source.randrange(-300, 300), 2.0 + source.randrange(-6, 7) / 8
+                score = {"a": 1000, "b": 2000}[agent] + luck - 2153 - 400 * (nights - 2.0) \
+                    - 3 * (first_price - 325.0)
+                rows.append(Row(name.format(deal), 0, seat, agent, round(score), Outcome.PLAYED,
+                                luck, Kind.TURNS, nights, first_price))
+        return rows
+
+    def test_means_are_adjusted_to_the_draws_of_all_made_games(self) -> None:
+        summary = summarize(self.drawn(16, "ab"))
+        for standing, due in zip(summary.standings, (2000.0, 1000.0)):
+            assert standing.adjusted is not None and standing.adjusted.half is not None
+            self.assertAlmostEqual(standing.adjusted.mean, due, delta=2.0)
+            self.assertLess(standing.adjusted.half, 2.0)
+            assert standing.score.half is not None
+            self.assertGreater(standing.score.half, 50.0)
+        pair = summary.differences[0].adjusted
+        assert pair is not None and pair.half is not None
+        self.assertAlmostEqual(pair.mean, 1000.0, delta=1.0)
+
+    def test_other_games_are_adjusted_to_their_own_draws(self) -> None:
+        rows = self.drawn(16, "a", "my-{}")
+        standing = summarize(rows).standings[0]
+        assert standing.adjusted is not None
+        self.assertAlmostEqual(standing.adjusted.mean, standing.score.mean)
+        pooled = summarize(self.drawn(16, "a", "few:{}")).standings[0].adjusted
+        assert pooled is not None
+        self.assertAlmostEqual(pooled.mean, 1000.0, delta=2.0)
+
+    def test_swapped_pairs_are_adjusted_by_the_draws_that_both_had(self) -> None:
+        rows = self.drawn(16, "ab")
+        rows += [replace(row, rotation=1, agent="ba"["ab".index(row.agent)],
+                         score=row.score + (1000 if row.agent == "a" else -1000)
+                         + round(row.first_price or 0.0)) for row in rows]
+        pair = summarize(rows).differences[0]
+        assert pair.score is not None and pair.adjusted is not None
+        self.assertAlmostEqual(pair.adjusted.mean, 1000.0, delta=2.0)
+
+    def test_rows_of_earlier_versions_are_adjusted_by_luck_alone(self) -> None:
+        rows = [replace(row, nights=None, first_price=None) for row in self.drawn(16, "a")]
+        standing = summarize(rows).standings[0]
+        scores, lucks = [float(row.score) for row in rows], [float(row.luck) for row in rows]
+        self.assertEqual(standing.adjusted, adjusted(scores, [lucks], [sum(lucks) / 16]))
 
 
 class Rows(unittest.TestCase):

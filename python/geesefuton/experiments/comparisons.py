@@ -1,4 +1,5 @@
-"""Means and differences with 95 % intervals, by Student and, for several at once, by Holm.
+"""Means and differences with 95 % intervals, by Student and, for several at once, by Holm; their
+adjustment by regression, and how many values tell a difference.
 
 Intervals are Student's: values are taken to be independent and about normal, which means of many
 seats are, and few values make a wide interval. Nothing is approximated by the normal distribution.
@@ -7,9 +8,11 @@ seats are, and few values make a wide interval. Nothing is approximated by the n
 import functools
 import math
 from dataclasses import dataclass
-from typing import List, Optional, Sequence
+from typing import List, Optional, Sequence, Tuple
 
 LEVEL = 0.95
+POWER = 0.8  # how often a difference is to be told that is there
+UNITS = 4  # that there have to be for each covariate but the first
 
 
 @dataclass(frozen=True)
@@ -157,27 +160,72 @@ def holm_halves(values: Sequence[Optional[Estimate]]) -> List[Optional[float]]:
     return halves
 
 
-def adjusted(values: Sequence[float], covariates: Sequence[float],
-             at: float) -> Optional[Estimate]:
-    """What the mean would be if the covariate were `at`, by a line of least squares.
+def deals_to_detect(value: Estimate, difference: float) -> Optional[int]:
+    """How many values it takes, at the spread of these, to tell a difference from 0.
 
     Args:
-        values: One value for each unit, such as a game.
-        covariates: Its covariate, such as the luck of the draw.
-        at: The covariate for which the mean is told.
+        value: What `estimate` gives.
+        difference: The true difference, above 0.
 
     Returns:
-        The estimate; None for fewer than three values, or where all covariates are the same.
+        The number with which 80 % of experiments find 0 outside the 95 % interval; None where
+        there is no interval.
+    """
+    if value.half is None:
+        return None
+    error = value.half / student_quantile(value.count - 1)
+    variance = error * error * value.count
+
+    def due(freedom: int) -> int:
+        bounds = student_quantile(freedom) + student_quantile(freedom, 2.0 * POWER - 1.0)
+        return math.ceil(bounds * bounds * variance / (difference * difference))
+
+    count = max(2, due(1 << 20))
+    while count < due(count - 1):
+        count += 1
+    return count
+
+
+def adjusted(values: Sequence[float], covariates: Sequence[Sequence[float]],
+             at: Sequence[float]) -> Optional[Estimate]:
+    """What the mean would be if covariates were as given, by a plane of least squares.
+
+    A covariate that is the same in all units, or a sum of multiples of those before it, is left
+    out, and so are the last ones where there are fewer than four units for each.
+
+    Args:
+        values: One value for each unit, such as a deal.
+        covariates: The covariates, each with its value of each unit, the most telling first.
+        at: The value of each covariate for which the mean is told.
+
+    Returns:
+        The estimate; None for fewer than three values, or where no covariate is left.
     """
     count = len(values)
     if count < 3:
         return None
-    middle, mean = mean_of(covariates), mean_of(values)
-    spread = math.fsum((x - middle) ** 2 for x in covariates)
-    if spread <= 1e-9 * count * max(1.0, middle * middle):
+    mean = mean_of(values)
+    rest = [value - mean for value in values]
+    there, room, used = mean, 1.0 / count, 0
+    earlier: List[Tuple[List[float], float, float]] = []  # their parts, sums of squares and places
+    for covariate, place in zip(covariates, at):
+        if used == max(1, count // UNITS):
+            break
+        middle = mean_of(covariate)
+        part, place = [value - middle for value in covariate], place - middle
+        for other, squares, other_place in earlier:
+            share = math.fsum(x * y for x, y in zip(part, other)) / squares
+            part = [x - share * y for x, y in zip(part, other)]
+            place -= share * other_place
+        squares = math.fsum(x * x for x in part)
+        if squares <= 1e-9 * math.fsum(max(1.0, value * value) for value in covariate):
+            continue
+        slope = math.fsum(x * y for x, y in zip(part, rest)) / squares
+        rest = [y - slope * x for x, y in zip(part, rest)]
+        there, room, used = there + slope * place, room + place * place / squares, used + 1
+        earlier.append((part, squares, place))
+    if not used:
         return None
-    slope = math.fsum((x - middle) * (y - mean) for x, y in zip(covariates, values)) / spread
-    there = mean + slope * (at - middle)
-    left = math.fsum((y - mean - slope * (x - middle)) ** 2 for x, y in zip(covariates, values))
-    error = math.sqrt(left / (count - 2) * (1.0 / count + (at - middle) ** 2 / spread))
-    return Estimate(there, student_quantile(count - 2) * error, count)
+    freedom = count - 1 - used
+    error = math.sqrt(math.fsum(y * y for y in rest) / freedom * room)
+    return Estimate(there, student_quantile(freedom) * error, count)

@@ -11,10 +11,9 @@ from geesefuton.experiments.comparisons import mean_of
 from geesefuton.experiments.luck import worths_of
 from geesefuton.records.games import Game
 
-# The means over all made games: of the ten trips that a client may want, of 250 to 350 dollars and
-# 50 more, and, with the premiums and values that it may have, of `luck.best_trip` for eight
-# clients.
-MEAN_NIGHTS, MEAN_FIRST_PRICE, MEAN_LUCK = 2.0, 325.0, 2153.43
+# Their means over all made games: of the ten trips that a client may want, of the first prices from
+# 250 to 400, and of `luck.best_trip` over all premiums and values, for eight clients.
+MEAN_LUCK, MEAN_NIGHTS, MEAN_FIRST_PRICE = 2153.43, 2.0, 325.0
 
 
 @dataclass(frozen=True)

@@ -1,14 +1,16 @@
 """A summary as text, as CSV and as JSON."""
 
 import json
+import math
 from typing import Any, Callable, Dict, List, Optional, Sequence
 
-from geesefuton.experiments.comparisons import Estimate
+from geesefuton.experiments.comparisons import POWER, Estimate
 from geesefuton.experiments.results import Kind, Outcome
 from geesefuton.experiments.summary import Difference, Standing, Summary
 from geesefuton.records.tables import csv_of
 
 MARK = "*"  # at a mean with seats that nobody took
+ADJUSTED = "adjusted for the draw"
 
 
 def _number(value: Optional[Estimate]) -> str:
@@ -57,26 +59,40 @@ def _kinds(summary: Summary) -> List[str]:
     return lines
 
 
-def _of_pairs(pairs: Sequence[Difference], swapped: bool) -> List[List[str]]:
+def _of_pairs(pairs: Sequence[Difference], summary: Summary) -> List[List[str]]:
     """The cells of the table of pairs, with its head."""
-    are_many = len(pairs) > 1
-    rows = [["difference, " + ("by clients that both had" if swapped else "by games"), "mean",
-             *(["Holm"] if are_many else []), "adjusted for luck", "deals", "p (Student)",
-             "p (Wilcoxon)"]]
+    are_many, detect = len(pairs) > 1, summary.detect
+    rows = [["difference, " + ("by clients that both had" if summary.swapped else "by games"),
+             "mean", *(["Holm"] if are_many else []), ADJUSTED, "deals", "p (Student)",
+             "p (Wilcoxon)", *([f"games to tell {detect:g}"] if detect else [])]]
     for pair in pairs:
         holm = "?" if pair.holm is None else f"+- {pair.holm:.0f}"
+        games = "?" if pair.needed is None else str(
+            math.ceil(pair.needed * summary.games / summary.deals))
         rows.append([f"{pair.first} less {pair.second}", _number(pair.score),
                      *([holm] if are_many else []), _number(pair.adjusted),
                      str(pair.score.count if pair.score else 0), _chance(pair.student),
-                     _chance(pair.wilcoxon)])
+                     _chance(pair.wilcoxon), *([games] if detect else [])])
     return rows
+
+
+def _below_pairs(pairs: Sequence[Difference], summary: Summary) -> List[str]:
+    """What is said below the table of pairs."""
+    lines = []
+    if len(pairs) > 1:
+        lines.append(f"Holm: intervals that allow for the {len(pairs)} comparisons; 0 lies outside "
+                     "where they tell a difference")
+    if summary.detect:
+        lines.append(f"a difference of {summary.detect:g} dollars is told in {POWER:.0%} of "
+                     "experiments with so many games, if they spread as these do".replace("%", " %"))
+    return lines
 
 
 def as_text(summary: Summary) -> str:
     """The summary in lines for a reader."""
     lines = [f"{_count(summary.games, 'game')} of {_count(summary.deals, 'deal')}; dollars with "
              "95 % intervals by deals (Student's t)", *_kinds(summary), ""]
-    rows = [["agent", "mean", "of seats that played", "luck", "mean adjusted for luck",
+    rows = [["agent", "mean", "of seats that played", "luck", f"mean {ADJUSTED}",
              "did not play"]]
     rows += [[standing.agent, _marked(standing), _number(standing.played),
               f"{standing.luck:.0f}", _number(standing.adjusted), _reasons(standing)]
@@ -86,10 +102,7 @@ def as_text(summary: Summary) -> str:
         lines.append(f"{MARK} with seats that nobody took, by the scores of their logs")
     pairs = [pair for pair in summary.differences if pair.score]
     if pairs:
-        lines += ["", *_columns(_of_pairs(pairs, summary.swapped))]
-    if len(pairs) > 1:
-        lines.append(f"Holm: intervals that allow for the {len(pairs)} comparisons; 0 lies outside "
-                     "where they tell a difference")
+        lines += ["", *_columns(_of_pairs(pairs, summary)), *_below_pairs(pairs, summary)]
     lines += ["", *summary.lost] if summary.lost else []
     return "\n".join(lines) + "\n"
 
@@ -105,7 +118,7 @@ def as_csv(summary: Summary) -> str:
     """The summary as CSV: a line for each agent, and one for each pair."""
     head = ["what", "agent", "other", "mean", "half", "adjusted", "adjusted_half", "deals", "seats",
             *(end.value for end in Outcome), "luck", "played_mean", "played_half",
-            "holm_half", "student_p", "wilcoxon_p"]
+            "holm_half", "student_p", "wilcoxon_p", "deals_needed"]
     lines: List[List[Any]] = [head]
     for standing in summary.standings:
         lines.append(["mean", standing.agent, "", *_cells(standing.score),
@@ -117,7 +130,8 @@ def as_csv(summary: Summary) -> str:
                       *_cells(pair.adjusted), pair.score.count if pair.score else 0,
                       *[""] * (len(Outcome) + 4), "" if pair.holm is None else round(pair.holm, 2),
                       *("" if chance is None else f"{chance:.6g}"
-                        for chance in (pair.student, pair.wilcoxon))])
+                        for chance in (pair.student, pair.wilcoxon)),
+                      "" if pair.needed is None else pair.needed])
     return csv_of(line + [""] * (len(head) - len(line)) for line in lines)
 
 
@@ -133,10 +147,10 @@ def as_json(summary: Summary) -> str:
                "adjusted": of(standing.adjusted)} for standing in summary.standings]
     pairs = [{"first": pair.first, "second": pair.second, "score": of(pair.score),
               "adjusted": of(pair.adjusted), "holm_half": pair.holm, "student_p": pair.student,
-              "wilcoxon_p": pair.wilcoxon} for pair in summary.differences]
+              "wilcoxon_p": pair.wilcoxon, "deals_needed": pair.needed} for pair in summary.differences]
     value = {"games": summary.games, "deals": summary.deals, "level": 0.95,
              "kinds": {kind.value: count for kind, count in summary.kinds.items()},
-             "paired_by": "clients" if summary.swapped else "games", "agents": agents,
+             "paired_by": "clients" if summary.swapped else "games", "detect": summary.detect, "agents": agents,
              "differences": pairs, "lost": summary.lost}
     return json.dumps(value, indent=1) + "\n"
 

@@ -48,6 +48,7 @@ class Plan:
         is_resumed: Whether it goes on with what is there.
         settings: What else decides what can be compared.
         agents: What the agents are, by their names.
+        detect: The difference of which the summary tells how many games tell it.
     """
 
     entrants: Sequence[Entrant]
@@ -67,6 +68,7 @@ class Plan:
     is_resumed: bool = False
     settings: Mapping[str, object] = field(default_factory=dict)
     agents: Mapping[str, Agent] = field(default_factory=dict)
+    detect: Optional[int] = None
 
     def seconds(self) -> float:
         """The seconds that a game may take, and in turns those until it has its next tick."""
@@ -127,6 +129,8 @@ def make_parser(description: Optional[str]) -> Parser:
         help="with --out: play what FOLDER lacks, if it was begun with the same words and files")
     add("--summary", type=_summary_file, action="append", default=[], metavar="FILE",
         help="a file for the summary: .txt, .csv or .json; may be given again")
+    add("--detect", type=whole(1), metavar="DOLLARS",
+        help="tell how many games it takes to tell such a difference of two agents")
     add("--join", type=Path, nargs="+", metavar="FOLDER",
         help="play nothing, and summarize what earlier tournaments wrote, folders or CSV, if all "
              "belongs together")
@@ -166,7 +170,7 @@ def read_plan(parser: Parser, given: argparse.Namespace) -> Plan:
                 "json" if given.json else "words", given.start,
                 linger if given.after is None else given.after,
                 given.out / "games" if given.out else given.keep, given.summary, given.out,
-                given.resume, {}, agents)
+                given.resume, {}, agents, given.detect)
     return replace(plan, settings=_settings(plan, first, tac))
 
 

@@ -9,13 +9,15 @@ since games of one deal are alike: an agent's value of a deal is the mean over i
 from collections import Counter, defaultdict
 from dataclasses import dataclass, replace
 from itertools import combinations
-from typing import Callable, Dict, List, Optional, Sequence, Tuple
+from typing import Callable, Dict, List, Mapping, Optional, Sequence, Tuple
 
-from geesefuton.experiments.comparisons import (Estimate, adjusted, estimate, holm_halves, mean_of,
-                                                student_p)
+from geesefuton.experiments.comparisons import (Estimate, adjusted, deals_to_detect, estimate,
+                                                holm_halves, mean_of, student_p)
+from geesefuton.experiments.covariates import MEAN_FIRST_PRICE, MEAN_LUCK, MEAN_NIGHTS
 from geesefuton.experiments.ranks import signed_rank_p
 from geesefuton.experiments.results import Kind, Outcome, Row
 
+Seats = Mapping[int, List[Row]]  # rows by seat
 Cells = Dict[str, Dict[int, List[Row]]]  # of one agent: its rows by deal and seat
 UNTAKEN = (Outcome.ABSENT, Outcome.REFUSED)  # seats that nobody took, or played
 
@@ -31,8 +33,8 @@ class Standing:
         score: The mean of the scores of all its seats, in dollars.
         played: The mean of the seats that played to the end; None if there is none.
         luck: The mean of the luck of its draws in dollars.
-        adjusted: The mean that it would have with the luck of all agents' draws; None where it
-            cannot be told.
+        adjusted: The mean that it would have with draws that are as those of all made games in the
+            mean, or of all agents for other games; None where it cannot be told.
     """
 
     agent: str
@@ -62,11 +64,13 @@ class Difference:
         first: The agent with the higher mean.
         second: The other.
         score: The mean difference; None if there is no deal that both had.
-        adjusted: The difference that there would be if their draws had been equally lucky; None
-            where it cannot be told, as where both had the same clients.
+        adjusted: The difference that there would be with equal draws that are as those of all made
+            games in the mean; None where it cannot be told.
         student: The probability by Student's t of such a difference if there is none.
         wilcoxon: The same by Wilcoxon's signed ranks.
         holm: Half the width of an interval that allows for all pairs (`holm_halves`).
+        needed: How many deals tell a difference of the size that was asked for; None if none was,
+            or it cannot be told.
     """
 
     first: str
@@ -76,6 +80,7 @@ class Difference:
     student: Optional[float] = None
     wilcoxon: Optional[float] = None
     holm: Optional[float] = None
+    needed: Optional[int] = None
 
 
 @dataclass(frozen=True)
@@ -91,6 +96,8 @@ class Summary:
         swapped: Whether deals were played with swapped seats: pairs are then compared by clients
             that both agents had, and otherwise by games.
         lost: What was lost or could not be written, each in a line.
+        detect: The size of a difference, in dollars, of which is told how many deals tell it; None
+            if that was not asked.
     """
 
     standings: List[Standing]
@@ -100,23 +107,32 @@ class Summary:
     kinds: Dict[Kind, int]
     swapped: bool
     lost: List[str]
+    detect: Optional[float] = None
 
 
-def summarize(rows: Sequence[Row], lost: Sequence[str] = ()) -> Summary:
-    """The summary of rows, of one tournament or of several with different deals."""
+def summarize(rows: Sequence[Row], lost: Sequence[str] = (),
+              detect: Optional[float] = None) -> Summary:
+    """The summary of rows, of one tournament or of several with different deals.
+
+    Args:
+        rows: The rows.
+        lost: What was lost, each in a line.
+        detect: A difference in dollars, of which is told how many deals tell it.
+    """
     swapped = any(row.rotation > 0 for row in rows)
     by_agent: Dict[str, List[Row]] = defaultdict(list)
     for row in rows:
         by_agent[row.agent].append(row)
-    centre = mean_of([row.luck for row in rows]) if rows else 0.0
+    centre = _centre(rows)
     standings = [_standing(agent, own, centre) for agent, own in by_agent.items()]
     standings.sort(key=lambda standing: (standing.untaken == standing.seats, -standing.score.mean))
     cells = {agent: _cells_of(own) for agent, own in by_agent.items()}
-    differences = _with_holm([_difference(first.agent, second.agent, cells, swapped)
-                              for first, second in combinations(standings, 2)])
+    differences = _with_holm([
+        _difference(first.agent, second.agent, cells, swapped, centre, detect)
+        for first, second in combinations(standings, 2)])
     kinds = Counter({(row.deal, row.rotation): row.kind for row in rows}.values())
     return Summary(standings, differences, sum(kinds.values()), len({row.deal for row in rows}),
-                   dict(kinds), swapped, list(lost))
+                   dict(kinds), swapped, list(lost), detect)
 
 
 def _cells_of(rows: Sequence[Row]) -> Cells:
@@ -142,48 +158,70 @@ def _luck(row: Row) -> float:
     return float(row.luck)
 
 
-def _standing(agent: str, rows: Sequence[Row], centre: float) -> Standing:
+def _nights(row: Row) -> float:
+    return 0.0 if row.nights is None else row.nights
+
+
+def _first_price(row: Row) -> float:
+    return 0.0 if row.first_price is None else row.first_price
+
+
+COVARIATES = (_luck, _nights, _first_price)  # rows of earlier versions have the first alone
+
+
+def _centre(rows: Sequence[Row]) -> List[float]:
+    """The covariates for which means are adjusted."""
+    if not rows:
+        return [0.0] * len(COVARIATES)
+    if all(row.deal.rpartition(":")[2].isdigit() and row.nights is not None for row in rows):
+        return [MEAN_LUCK, MEAN_NIGHTS, MEAN_FIRST_PRICE]
+    return [mean_of([value(row) for row in rows]) for value in COVARIATES]
+
+
+def _standing(agent: str, rows: Sequence[Row], centre: Sequence[float]) -> Standing:
     ends = dict(Counter(row.end for row in rows))
-    scores, lucks = _by_deal(rows, _score), _by_deal(rows, _luck)
+    scores = _by_deal(rows, _score)
+    drawn = [_by_deal(rows, value) for value in COVARIATES]
     played = _by_deal([row for row in rows if row.end is Outcome.PLAYED], _score)
     return Standing(agent, len(rows), ends, estimate(scores), estimate(played) if played else None,
-                    mean_of(lucks), adjusted(scores, lucks, centre))
+                    mean_of(drawn[0]), adjusted(scores, drawn, centre))
 
 
-def _difference(first: str, second: str, cells: Dict[str, Cells], swapped: bool) -> Difference:
-    ours, theirs = cells[first], cells[second]
-    pairs: List[Tuple[float, float]] = []  # by deal, the differences of score and luck
-    for deal in ours:
-        if deal in theirs:
-            by_deal = _by_clients if swapped else _by_games
-            pairs += by_deal(ours[deal], theirs[deal])
-    if not pairs:
+def _difference(first: str, second: str, cells: Dict[str, Cells], swapped: bool,
+                centre: Sequence[float], detect: Optional[float]) -> Difference:
+    sides = []  # of each deal, the rows of the two that are compared
+    for deal in cells[first]:
+        if deal in cells[second]:
+            sides += _sides(cells[first][deal], cells[second][deal], swapped)
+    if not sides:
         return Difference(first, second, None)
-    scores, lucks = [pair[0] for pair in pairs], [pair[1] for pair in pairs]
+    scores = [_mean_of_seats(ours, _score) - _mean_of_seats(theirs, _score)
+              for ours, theirs in sides]
+    luck, nights, first_price = (
+        [[_mean_of_seats(side, value) for side in both] for both in sides] for value in COVARIATES)
+    drawn = [[ours - theirs for ours, theirs in luck], [ours - theirs for ours, theirs in nights],
+             *[[(ours + theirs) / 2.0 for ours, theirs in value]
+               for value in (first_price, nights, luck)]]
     score = estimate(scores)
-    return Difference(first, second, score, adjusted(scores, lucks, 0.0), student_p(score),
-                      signed_rank_p(scores))
+    return Difference(first, second, score, adjusted(scores, drawn, [0.0, 0.0, *centre[::-1]]),
+                      student_p(score), signed_rank_p(scores),
+                      needed=deals_to_detect(score, detect) if detect else None)
+
+
+def _sides(ours: Seats, theirs: Seats, swapped: bool) -> List[Tuple[Seats, Seats]]:
+    """What is compared of a deal, if anything is: with swapped seats those that both had."""
+    if not swapped:
+        return [(ours, theirs)]
+    both = [seat for seat in ours if seat in theirs]
+    return [({seat: ours[seat] for seat in both}, {seat: theirs[seat] for seat in both})] \
+        if both else []
+
+
+def _mean_of_seats(seats: Seats, value: Callable[[Row], float]) -> float:
+    """The mean over seats of the mean over each one's rows."""
+    return mean_of([mean_of([value(row) for row in rows]) for rows in seats.values()])
 
 
 def _with_holm(differences: Sequence[Difference]) -> List[Difference]:
     halves = holm_halves([difference.score for difference in differences])
     return [replace(difference, holm=half) for difference, half in zip(differences, halves)]
-
-
-def _by_games(ours: Dict[int, List[Row]],
-              theirs: Dict[int, List[Row]]) -> List[Tuple[float, float]]:
-    """The difference in a deal of the means of two agents."""
-    def mean(cells: Dict[int, List[Row]], value: Callable[[Row], float]) -> float:
-        return mean_of([value(row) for seat in cells.values() for row in seat])
-
-    return [(mean(ours, _score) - mean(theirs, _score), mean(ours, _luck) - mean(theirs, _luck))]
-
-
-def _by_clients(ours: Dict[int, List[Row]],
-                theirs: Dict[int, List[Row]]) -> List[Tuple[float, float]]:
-    """The difference in a deal over the seats whose clients both agents had."""
-    both = [seat for seat in ours if seat in theirs]
-    if not both:
-        return []
-    return [(mean_of([mean_of([_score(row) for row in ours[seat]])
-                      - mean_of([_score(row) for row in theirs[seat]]) for seat in both]), 0.0)]

@@ -257,7 +257,8 @@ def _write_summary(summary: Summary, files: Sequence[Path]) -> List[str]:
     return failed
 
 
-def _join(names: Sequence[Path], are_pools: bool, summaries: Sequence[Path]) -> int:
+def _join(names: Sequence[Path], are_pools: bool, summaries: Sequence[Path],
+          detect: Optional[int]) -> int:
     """Summarizes what earlier tournaments wrote."""
     sources, told = [], []
     for name in names:
@@ -269,15 +270,13 @@ def _join(names: Sequence[Path], are_pools: bool, summaries: Sequence[Path]) -> 
         tell(f"tournament: {text}")
     if refused or not rows:
         return 1
-    return 1 if _summarize_to(1, rows, summaries) or told else 0
+    return 1 if _print_summary(summarize(rows, detect=detect), summaries) or told else 0
 
 
-def _summarize_to(target: int, rows: Sequence[Row], summaries: Sequence[Path],
-                  lost: Sequence[str] = ()) -> bool:
-    """Writes the summary to an open file and to named ones, tells what failed, and returns whether
+def _print_summary(summary: Summary, summaries: Sequence[Path]) -> bool:
+    """Writes the summary to standard output and to files, tells what failed, and returns whether
     anything did."""
-    summary = summarize(rows, lost)
-    out = Output(target)
+    out = Output(1)
     out.write(as_text(summary))
     failed = _write_summary(summary, summaries)
     failed += [f"the summary was not written to {out.name}: {out.fault}"] if out.fault else []
@@ -302,7 +301,7 @@ def _main() -> int:
     parser = make_parser(__doc__)
     given = parser.parse_args()
     if given.join:
-        return _join(given.join, given.pool, given.summary)
+        return _join(given.join, given.pool, given.summary, given.detect)
     plan = read_plan(parser, given)
     return _play_in_folder(parser, plan) if plan.out else _play_to_output(parser, plan)
 
@@ -315,7 +314,7 @@ def _play_to_output(parser: Parser, plan: Plan) -> int:
     tournament = Tournament(plan, writer)
     status = _play(tournament, writer)
     report = tournament.report
-    summary = summarize(report.all_rows(), report.lost)
+    summary = summarize(report.all_rows(), report.lost, plan.detect)
     for text in _write_summary(summary, plan.summaries):
         report.lose(text)
     tell("\n" + as_text(replace(summary, lost=report.lost)))
@@ -339,7 +338,8 @@ def _play_in_folder(parser: Parser, plan: Plan) -> int:
     status = status or (1 if report.lost else 0)
     scored = sum(bool(rows) for rows in report.rows.values())
     folder.end(status, scored, report.lost)
-    failed = _summarize_to(1, folder.rows + report.all_rows(), plan.summaries, report.lost)
+    rows = folder.rows + report.all_rows()
+    failed = _print_summary(summarize(rows, report.lost, plan.detect), plan.summaries)
     return status or (1 if failed else 0)
 
 

@@ -1,0 +1,53 @@
+import random
+import unittest
+from itertools import combinations
+from typing import List, Tuple
+
+from geesefuton import program
+from geesefuton.experiments.covariates import (MEAN_FIRST_PRICE, MEAN_LUCK, MEAN_NIGHTS, Covariates,
+                                               covariates_of)
+from geesefuton.experiments.luck import best_trip, worths_of
+from geesefuton.records.games import Client, read_game
+from tests.helpers import needs_program, served_game
+
+
+class Drawn(unittest.TestCase):
+    def test_those_of_a_game(self) -> None:
+        game = served_game()
+        found = covariates_of(game)
+        self.assertEqual([drawn.luck for drawn in found], worths_of(game))
+        first_price = sum(flight.first for flight in game.flights) / 8
+        for drawn, clients in zip(found, game.clients):
+            nights = sum(client.depart - client.arrive for client in clients) / 8
+            self.assertEqual(drawn, Covariates(drawn.luck, nights, first_price))
+
+    def test_means_are_those_of_what_is_drawn(self) -> None:
+        source = random.Random(1)
+        trips = list(combinations(range(1, 6), 2))
+        self.assertEqual(sum(depart - arrive for arrive, depart in trips) / len(trips), MEAN_NIGHTS)
+        self.assertEqual(sum(range(250, 401)) / 151, MEAN_FIRST_PRICE)
+        worths: List[int] = []
+        for _ in range(3000):
+            arrive, depart = source.choice(trips)
+            worths.append(best_trip(Client(arrive, depart, source.randint(50, 150),
+                                           (source.randint(0, 200), source.randint(0, 200),
+                                            source.randint(0, 200)))))
+        mean = sum(worths) / len(worths)
+        spread = (sum((worth - mean) ** 2 for worth in worths) / len(worths)) ** 0.5
+        self.assertLess(abs(8 * mean - MEAN_LUCK), 4 * 8 * spread / len(worths) ** 0.5)
+
+    @needs_program
+    def test_made_games_have_these_means(self) -> None:
+        drawn = [one for seed in range(1, 41)
+                 for one in covariates_of(read_game(program.make(seed)))]
+        cases: List[Tuple[List[float], float]] = [
+            ([one.luck for one in drawn], MEAN_LUCK), ([one.nights for one in drawn], MEAN_NIGHTS),
+            ([one.first_price for one in drawn[::8]], MEAN_FIRST_PRICE)]
+        for values, mean in cases:
+            found = sum(values) / len(values)
+            spread = (sum((value - found) ** 2 for value in values) / len(values)) ** 0.5
+            self.assertLess(abs(found - mean), 4 * spread / len(values) ** 0.5)
+
+
+if __name__ == "__main__":
+    unittest.main()
