@@ -55,7 +55,8 @@ class Several(unittest.TestCase):
             self.assertAlmostEqual(below or 0.0, 0.05, delta=1e-4)
         self.assertEqual(student_p(Estimate(0.0, 3.0, 5)), 1.0)
         self.assertIsNone(student_p(Estimate(7.0, None, 1)))
-        self.assertEqual((student_p(estimate([3.0] * 4)), student_p(estimate([0.0] * 4))), (0.0, 1.0))
+        self.assertEqual((student_p(estimate([3.0] * 4)), student_p(estimate([0.0] * 4))),
+                         (0.0, 1.0))
 
     def test_an_interval_at_another_level(self) -> None:
         self.assertAlmostEqual(half_at(Estimate(1.0, 2.7764, 5), 0.99) or 0.0, 4.6041, delta=1e-4)
@@ -116,8 +117,9 @@ class Adjustment(unittest.TestCase):
         x, y = ([source.gauss(0.0, 1.0) for _ in range(12)] for _ in range(2))
         z = [2.0 * a - 3.0 * b for a, b in zip(x, y)]
         values = [5.0 + 2.0 * a - 3.0 * b for a, b in zip(x, y)]
-        for covariates, at in (([x, y], [1.0, 1.0]), ([y, x], [1.0, 1.0]), ([x, y, z], [1.0, 1.0, -1]),
-                               ([[7.0] * 12, x, y], [7.0, 1.0, 1.0]), ([z], [-1.0])):
+        for covariates, at in (([x, y], [1.0, 1.0]), ([y, x], [1.0, 1.0]),
+                               ([x, y, z], [1.0, 1.0, -1.0]), ([z], [-1.0]),
+                               ([[7.0] * 12, x, y], [7.0, 1.0, 1.0])):
             got = adjusted(values, covariates, at)
             assert got is not None and got.half is not None
             self.assertAlmostEqual(got.mean, 4.0)

@@ -49,8 +49,8 @@ class Texts(unittest.TestCase):
                                              ((40, 24), (13, 12))))
                 for seat, (agent, (score, luck)) in enumerate(zip("ab", both))]
         lines = [" ".join(line.split()) for line in as_text(summarize(rows)).splitlines()]
-        self.assertEqual(lines[2], "agent mean of seats that played luck mean adjusted for the draw "
-                                   "did not play")
+        self.assertEqual(lines[2], "agent mean of seats that played luck mean adjusted for the "
+                                   "draw did not play")
         self.assertRegex(lines[3], r"^a 19 \+- \d+ 19 \+- \d+ 11 \S+ \+- \S+ 0 of 3$")
         self.assertRegex(lines[4], r"^b 6 \+- \d+ 6 \+- \d+ 5 9 \+- 0 0 of 3$")
         self.assertEqual(lines[6], "difference, by games mean adjusted for the draw deals p "
@@ -111,7 +111,8 @@ class Texts(unittest.TestCase):
         self.assertEqual((value["holm_half"], value["student_p"], value["wilcoxon_p"]),
                          (pair.holm, pair.student, pair.wilcoxon))
         line = list(csv.DictReader(io.StringIO(as_csv(summary))))[3]
-        self.assertEqual((line["holm_half"], line["wilcoxon_p"]), (str(round(pair.holm or 0.0, 2)), "0.125"))
+        self.assertEqual((line["holm_half"], line["wilcoxon_p"]),
+                         (str(round(pair.holm or 0.0, 2)), "0.125"))
 
     def test_how_many_games_tell_a_difference(self) -> None:
         summary = summarize(SWAPPED, detect=100)

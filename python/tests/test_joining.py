@@ -131,8 +131,8 @@ class Reading(unittest.TestCase):
 
     def joined(self, *words: object) -> List[str]:
         """What is told on standard error."""
-        status, text = refusal("experiments.tournament", "--summary", self.place / "s.txt", "--join",
-                               *words)
+        status, text = refusal("experiments.tournament", "--summary", self.place / "s.txt",
+                               "--join", *words)
         return [str(status), *text.splitlines()]
 
     def test_files_and_folders(self) -> None:
@@ -179,8 +179,8 @@ class Reading(unittest.TestCase):
         self.assertTrue(told[1].endswith(f"b.csv has, as {files[0]} has, game 2.0"))
         self.assertIn("its games are by the clock, and not in turns", told[2])
         self.assertFalse((self.place / "s.txt").exists())
-        status, text = refusal("experiments.tournament", "--pool", "--summary", self.place / "s.txt",
-                               "--join", *files)
+        status, text = refusal("experiments.tournament", "--pool", "--summary",
+                               self.place / "s.txt", "--join", *files)
         self.assertEqual((status, text), (0, ""))
         self.assertIn("mine in b", (self.place / "s.txt").read_text())
 

@@ -149,7 +149,8 @@ class Folders(unittest.TestCase):
         self.out.mkdir(parents=True)
         (self.out / "thesis.txt").write_text("mine")
         for is_resumed in (False, True):
-            self.refused("it is no folder of a tournament: it has thesis.txt", is_resumed=is_resumed)
+            self.refused("it is no folder of a tournament: it has thesis.txt",
+                         is_resumed=is_resumed)
         (self.out / "run.json").write_text("{}")
         self.refused("its run.json is not that of a tournament", is_resumed=True)
         (self.out / "run.json").write_text("no JSON")
@@ -209,7 +210,8 @@ class Killed(unittest.TestCase):
         self.tac = fake_program(self.place, f"cat '{SERVED_GAME}'")
 
     def start(self) -> "subprocess.Popen[bytes]":
-        words = ["--games", self.GAMES, "--at-once", "3", "--out", self.out, "--resume", "sh", "cat"]
+        words = ["--games", self.GAMES, "--at-once", "3", "--out", self.out, "--resume", "sh",
+                 "cat"]
         return subprocess.Popen(
             python(COMMAND, self.place / "worker", *map(str, words)), stdin=subprocess.DEVNULL,
             stdout=subprocess.PIPE, stderr=subprocess.STDOUT, cwd=self.place,

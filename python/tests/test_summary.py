@@ -209,8 +209,8 @@ class Rows(unittest.TestCase):
                                "turns=40 rooms=16..16", "0123456789ab")]
         text = csv_of([HEAD]) + text_of(rows)
         lines = text.split("\n")
-        self.assertEqual(lines[0], "deal,rotation,seat,agent,score,end,luck,kind,nights,first_price,"
-                                   "run,settings,files")
+        self.assertEqual(lines[0], "deal,rotation,seat,agent,score,end,luck,kind,nights,"
+                                   "first_price,run,settings,files")
         self.assertEqual(lines[1], "1,0,0,a,110,played,100,served,,,0,,")
         self.assertEqual(lines[-2], "3,0,1,a,5,played,9,turns2,2.625,318.25,4,turns=40 "
                                     "rooms=16..16,0123456789ab")
@@ -228,7 +228,8 @@ class Rows(unittest.TestCase):
     def test_each_end_and_each_kind_has_its_word(self) -> None:
         self.assertEqual([end.value for end in Outcome],
                          ["played", "absent", "crashed", "hung", "refused"])
-        self.assertEqual([kind.value for kind in Kind], ["served", "turns2", "unrepeatable2", "turns", "unrepeatable"])
+        self.assertEqual([kind.value for kind in Kind],
+                         ["served", "turns2", "unrepeatable2", "turns", "unrepeatable"])
         self.assertIs(Row("1", 0, 0, "a", 5, Outcome.PLAYED, 0).kind, Kind.SERVED)
 
     def test_other_texts_are_refused(self) -> None:

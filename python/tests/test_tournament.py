@@ -537,8 +537,8 @@ class InTurns(unittest.TestCase):
         with tempfile.TemporaryDirectory() as folder:
             for name in ("plays.py", "quits.py"):
                 (Path(folder) / name).write_text(SEAT_BUYER.replace("{dear}", "325"))
-            done = run("experiments.tournament", "plays.py", "quits.py", "--games", "4", "--turns", "2",
-                       "--summary", "s.json", cwd=folder)
+            done = run("experiments.tournament", "plays.py", "quits.py", "--games", "4", "--turns",
+                       "2", "--summary", "s.json", cwd=folder)
             self.assertEqual(done.returncode, 0, done.stderr)
             value = json.loads((Path(folder) / "s.json").read_text())
         by_name = {agent["agent"]: agent for agent in value["agents"]}
@@ -559,8 +559,8 @@ class Real(unittest.TestCase):
             # The first five seats of seed 1 are those of the failing agent but one.
             agents = ["failing.py", "failing.py", "failing.py", "failing.py", "failing.py",
                       "buyer.py", "buyer.py", "buyer.py"]
-            done = run("experiments.tournament", *agents, "--games", "1", "--pace", "25", "--start", "4",
-                       "--after", "0.5", "--keep", "kept", "--summary", "s.json", cwd=folder)
+            done = run("experiments.tournament", *agents, "--games", "1", "--pace", "25", "--start",
+                       "4", "--after", "0.5", "--keep", "kept", "--summary", "s.json", cwd=folder)
             self.assertEqual(done.returncode, 0, done.stderr)
             rows = read_rows(done.stdout, "scores")
             ends = sorted(row.end.value for row in rows if row.agent == "failing")

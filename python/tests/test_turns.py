@@ -97,7 +97,8 @@ class Case(unittest.TestCase):
         self.addCleanup(place.cleanup)
         self.folder = Path(place.name)
         self.patch(mock.patch.dict(os.environ, {"TAC": str(FAKE)}))
-        self.patch(mock.patch("geesefuton.hosting.lobby.ENDING", 0.05))  # agents here keep their links
+        # Agents here keep their links.
+        self.patch(mock.patch("geesefuton.hosting.lobby.ENDING", 0.05))
 
     def patch(self, patch: Any) -> None:
         patch.start()
@@ -368,7 +369,8 @@ class Real(unittest.TestCase):
         agents = [TOP / "examples" / "agents" / f"{name}.py"
                   for name in ("trader", "planner", "baseline")]
         words = ["--games", "1", "--turns", "2", *agents]
-        first, second = run("experiments.tournament", *words), run("experiments.tournament", "--patience", "99", *words)
+        first = run("experiments.tournament", *words)
+        second = run("experiments.tournament", "--patience", "99", *words)
         self.assertEqual((first.returncode, second.stdout), (0, first.stdout), first.stderr)
         self.assertEqual([line.split(",")[-3:][::2] for line in first.stdout.splitlines()[1:]],
                          [["played", "turns2"]] * 8)

@@ -83,8 +83,8 @@ def _below_pairs(pairs: Sequence[Difference], summary: Summary) -> List[str]:
         lines.append(f"Holm: intervals that allow for the {len(pairs)} comparisons; 0 lies outside "
                      "where they tell a difference")
     if summary.detect:
-        lines.append(f"a difference of {summary.detect:g} dollars is told in {POWER:.0%} of "
-                     "experiments with so many games, if they spread as these do".replace("%", " %"))
+        lines.append(f"a difference of {summary.detect:g} dollars is told in {100 * POWER:g} % of "
+                     "experiments with so many games, if they spread as these do")
     return lines
 
 
@@ -147,10 +147,12 @@ def as_json(summary: Summary) -> str:
                "adjusted": of(standing.adjusted)} for standing in summary.standings]
     pairs = [{"first": pair.first, "second": pair.second, "score": of(pair.score),
               "adjusted": of(pair.adjusted), "holm_half": pair.holm, "student_p": pair.student,
-              "wilcoxon_p": pair.wilcoxon, "deals_needed": pair.needed} for pair in summary.differences]
+              "wilcoxon_p": pair.wilcoxon, "deals_needed": pair.needed}
+             for pair in summary.differences]
     value = {"games": summary.games, "deals": summary.deals, "level": 0.95,
              "kinds": {kind.value: count for kind, count in summary.kinds.items()},
-             "paired_by": "clients" if summary.swapped else "games", "detect": summary.detect, "agents": agents,
+             "paired_by": "clients" if summary.swapped else "games", "detect": summary.detect,
+             "agents": agents,
              "differences": pairs, "lost": summary.lost}
     return json.dumps(value, indent=1) + "\n"
 

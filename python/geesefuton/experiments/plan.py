@@ -186,7 +186,8 @@ def _settings(plan: Plan, first: Game, tac: str) -> Dict[str, object]:
     pace = {"turns": plan.turns, "patience": f"{plan.patience:g}"} if plan.turns else {
         "pace": plan.pace}
     game = {"game": hashlib.sha256(first.named(SEAT_WORDS).text().encode()).hexdigest()[:SHORT]}
-    rooms = {"rooms": "{}..{}".format(*rule.rooms or (ROOMS, ROOMS)), "live": str(rule.live).lower()}
+    low, high = rule.rooms or (ROOMS, ROOMS)
+    rooms = {"rooms": f"{low}..{high}", "live": str(rule.live).lower()}
     return {"agents": names_text([entrant.name for entrant in plan.entrants]),
             "rotations": plan.rotations, **pace, **(game if rule.file else rooms),
             "form": plan.form, "start": f"{plan.start:g}", "after": f"{plan.linger:g}",

@@ -138,8 +138,8 @@ def unlike(ours: Mapping[str, object], theirs: Mapping[str, object]) -> List[str
 
 
 def commit() -> str:
-    """The commit of the clone that the package stands in, with `-dirty` if files were changed since;
-    "" if there is none."""
+    """The commit of the clone that the package stands in, with `-dirty` if its files are others by
+    now; "" if there is none."""
     try:
         done = subprocess.run(
             ["git", "-C", str(PACKAGE), "describe", "--always", "--dirty", "--abbrev=40",

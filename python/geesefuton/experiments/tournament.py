@@ -57,6 +57,7 @@ from geesefuton.experiments.writers import AppendedRows, OrderedRows
 from geesefuton.hosting import events
 from geesefuton.processes import Children, Output, Stopped, command, tell, why
 
+LEAVE = 5.0  # seconds that a game has to end its agents
 SUFFIXES = (".game", ".log", ".events")
 
 
@@ -144,9 +145,7 @@ class Tournament:
                         shutil.rmtree(game.folder, ignore_errors=True)
         finally:
             self._writer.end()
-            for game in running:
-                children.end(game.process)
-                game.connection.close()
+            _end_all(running, children)
 
     def _begin_next(self, children: Children, number: int,
                     waiting: Iterator[Table]) -> Optional[Running]:
@@ -172,8 +171,8 @@ class Tournament:
         path = os.pathsep.join(filter(None, [str(PACKAGE), os.environ.get("PYTHONPATH")]))
         process = children.start(
             [sys.executable, "-c", PROGRAM, str(theirs.fileno())],
-            pass_fds=[theirs.fileno(), *self._held], stdin=subprocess.DEVNULL, stdout=subprocess.DEVNULL,
-            env={**os.environ, "PYTHONPATH": path})
+            pass_fds=[theirs.fileno(), *self._held], stdin=subprocess.DEVNULL,
+            stdout=subprocess.DEVNULL, env={**os.environ, "PYTHONPATH": path})
         theirs.close()
         try:
             ours.send(job)
@@ -243,6 +242,19 @@ class Tournament:
                             drawn.first_price, self._run, settings,
                             agent.digest[:SHORT] if agent else ""))
         return rows
+
+
+def _end_all(games: Sequence[Running], children: Children) -> None:
+    """Ends games that are not over, so that they end what they started."""
+    for game in games:
+        game.process.terminate()
+    for game in games:
+        try:
+            game.process.wait(LEAVE)
+        except subprocess.TimeoutExpired:
+            pass  # it is killed
+        children.end(game.process)
+        game.connection.close()
 
 
 def _write_summary(summary: Summary, files: Sequence[Path]) -> List[str]:
@@ -337,7 +349,11 @@ def _play_in_folder(parser: Parser, plan: Plan) -> int:
     report = tournament.report
     status = status or (1 if report.lost else 0)
     scored = sum(bool(rows) for rows in report.rows.values())
-    folder.end(status, scored, report.lost)
+    try:
+        folder.end(status, scored, report.lost)
+    except OSError as fault:
+        report.lose(f"{plan.out}: how the run ended was not written: {why(fault)}")
+        status = status or 1
     rows = folder.rows + report.all_rows()
     failed = _print_summary(summarize(rows, report.lost, plan.detect), plan.summaries)
     return status or (1 if failed else 0)
