@@ -111,13 +111,11 @@ class RunFolder:
     def __init__(self, plan: Plan, arguments: Sequence[str]) -> None:
         assert plan.out is not None
         self._folder = plan.out
-        is_new = self._is_new()
-        if not is_new and not plan.is_resumed:
-            raise RunError("it has a run: --resume goes on with it; or name another folder")
+        self._is_begun(plan.is_resumed)
         self._folder.mkdir(parents=True, exist_ok=True)
         self.lock = self._locked()
-        try:
-            self._value = _record(plan) if is_new else self._read()
+        try:  # another may have begun it meanwhile
+            self._value = self._read() if self._is_begun(plan.is_resumed) else _record(plan)
             self._compare(plan)
             self._begin(arguments)
         except BaseException:
@@ -161,15 +159,17 @@ class RunFolder:
             os.close(self._scores)
             os.close(self.lock)
 
-    def _is_new(self) -> bool:
-        """Whether there is no folder yet, or nothing in it."""
+    def _is_begun(self, is_resumed: bool) -> bool:
+        """Whether the folder has a run, which is refused unless it is to be gone on with."""
         try:
             names = [name for name in sorted(os.listdir(self._folder)) if name[0] != "."]
         except FileNotFoundError:
-            return True
+            return False
         if names and RUN not in names:
             raise RunError(f"it is no folder of a tournament: it has {names[0]}, and no {RUN}")
-        return not names
+        if names and not is_resumed:
+            raise RunError("it has a run: --resume goes on with it; or name another folder")
+        return bool(names)
 
     def _read(self) -> Dict[str, Any]:
         try:
