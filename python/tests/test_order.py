@@ -1,8 +1,8 @@
 import unittest
 from collections import Counter
 
-from geesefuton.experiments.order import order_of_turn
 from geesefuton.records.games import SEATS, TICKS
+from geesefuton.records.order import order_of_turn
 
 
 class Order(unittest.TestCase):

@@ -13,13 +13,13 @@ from unittest import mock
 
 from geesefuton import program
 from geesefuton.experiments import turns
-from geesefuton.experiments.order import order_of_turn
 from geesefuton.experiments.turns import Turner, TurnLobby
 from geesefuton.hosting import events
 from geesefuton.hosting.events import End, Event
 from geesefuton.hosting.lobby import LobbySettings
 from geesefuton.link import Link
 from geesefuton.records.games import TICKS
+from geesefuton.records.order import order_of_turn
 from tests.helpers import TOP, needs_step, run
 
 GAME = TOP / "examples" / "first.game"

@@ -19,7 +19,6 @@ from pathlib import Path
 from typing import List, Optional
 
 from geesefuton import program
-from geesefuton.experiments.order import order_of_turn
 from geesefuton.hosting import events
 from geesefuton.hosting.lobby import TURN, Lobby, LobbySettings
 from geesefuton.hosting.orders import Orders
@@ -28,6 +27,7 @@ from geesefuton.learning.stepping import Stepped
 from geesefuton.processes import Children
 from geesefuton.records.dialects import MOST_LINE, said_in, words_for
 from geesefuton.records.games import TICKS
+from geesefuton.records.order import order_of_turn
 
 MOST_TURNS = 1000  # between two ticks, so that the 65,536 lines of a session last
 LAST_TURNS = 1024  # of each agent after the last tick
