@@ -22,9 +22,10 @@ from geesefuton import program  # noqa: E402
 from geesefuton.hosting import events  # noqa: E402
 from geesefuton.arguments import Parser, whole  # noqa: E402
 from geesefuton.records.games import SEATS, TICKS  # noqa: E402
-from geesefuton.hosting.lobby import LobbySettings  # noqa: E402
+from geesefuton.hosting.lobby import Lobby  # noqa: E402
+from geesefuton.hosting.settings import LobbySettings  # noqa: E402
 from geesefuton.processes import Children, command  # noqa: E402
-from geesefuton.experiments.turns import MOST_TURNS, TurnLobby  # noqa: E402
+from geesefuton.experiments.turns import MOST_TURNS, TurnServer  # noqa: E402
 
 PATIENCE = 60.0  # seconds
 START = 60.0  # seconds until the game begins without agents that are missing
@@ -55,8 +56,8 @@ def main() -> int:
     with Children() as children:
         game = children.folder() / "game"
         game.write_text(program.make(42))
-        lobby = TurnLobby(LobbySettings(game, 0, 1, Path(os.devnull), start=START), given.turns,
-                          PATIENCE)
+        turns = TurnServer(given.turns, PATIENCE)
+        lobby = Lobby(LobbySettings(game, 0, 1, Path(os.devnull), start=START), turns)
         agents = [children.start([sys.executable, given.agent, "localhost", str(lobby.port), word,
                                   "--pause", "0"], stdout=subprocess.DEVNULL)
                   for word in lobby.words]
@@ -66,8 +67,8 @@ def main() -> int:
         for agent in agents:
             agent.wait()
         others = spent(resource.RUSAGE_CHILDREN) - others - served
-    if status != program.OK or len(times) != TICKS + 1 or any(lobby.passed):
-        print(f"turns_cost: exit status {status}, turns passed over: {lobby.passed}")
+    if status != program.OK or len(times) != TICKS + 1 or any(turns.passed):
+        print(f"turns_cost: exit status {status}, turns passed over: {turns.passed}")
         return 1
     count = lines[-1]
     print(f"{count} requests of {SEATS} agents, {given.turns} turns between two ticks")

@@ -77,9 +77,14 @@ class Children:
     """
 
     def __init__(self) -> None:
-        self._guard = subprocess.Popen(
-            ["sh", "-c", GUARD, tempfile.gettempdir()], stdin=subprocess.PIPE,
-            stdout=subprocess.PIPE, stderr=subprocess.DEVNULL, start_new_session=True)
+        # Until the guard has a session of its own a ctrl-C of the terminal is meant for it too.
+        mask = signal.pthread_sigmask(signal.SIG_BLOCK, {signal.SIGINT})
+        try:
+            self._guard = subprocess.Popen(
+                ["sh", "-c", GUARD, tempfile.gettempdir()], stdin=subprocess.PIPE,
+                stdout=subprocess.PIPE, stderr=subprocess.DEVNULL, start_new_session=True)
+        finally:
+            signal.pthread_sigmask(signal.SIG_SETMASK, mask)
         assert self._guard.stdout is not None
         with self._guard.stdout as told:
             place = told.readline().decode().rstrip("\n")

@@ -4,7 +4,10 @@
 `own N` is answered `@N own 0 ()`, `bid N ..` after a while by `@N taken 0 0`, and any other line is
 refused. The log has a line for each line that was asked, and for each tick of a script. FAKE_STATUS
 is the exit status of `serve` and `step`, below 0 for a signal that ends `serve`, the file
-FAKE_TAKEN makes it end as if its port were taken, once, and FAKE_EARLY at once.
+FAKE_TAKEN makes it end as if its port were taken, once, and FAKE_EARLY at once. FAKE_LATE is how
+many seconds `serve` takes until it listens, and FAKE_HEAD stands at the head of its log. While
+there is a file FAKE_STRANGER, the first link is a stranger's, which says what is in the file; the
+file is removed then, if its name does not end with `stays`.
 """
 
 import os
@@ -12,8 +15,9 @@ import socket
 import sys
 import threading
 import time
-from typing import List
+from typing import Dict, List
 
+REFUSED: List[socket.socket] = []  # links that stay open
 SLOW = 0.25  # seconds until a bid is answered
 
 
@@ -66,13 +70,15 @@ def serve(game: str, port: int) -> int:
         return int(os.environ["FAKE_EARLY"])
     lines = [line.split() for line in open(game, encoding="ascii")]
     words = lines[1][1:]
-    listener = socket.create_server(("127.0.0.1", port))
-    links, threads, asked = [], [], []
-    for agent, word in enumerate(words):
-        link, _ = listener.accept()
-        assert link.makefile("rb").readline() == f"hello {word}\n".encode()
-        links.append(link)
-    for agent, link in enumerate(links):
+    time.sleep(float(os.environ.get("FAKE_LATE", "0")))
+    try:
+        listener = socket.create_server(("127.0.0.1", port))
+    except OSError:
+        return 5
+    kept = stranger(port)
+    links, threads, asked = admit(listener, words), [], []
+    kept.close()
+    for agent, link in links.items():
         own = [" ".join(line) for line in lines if line[0] in ("endow", "client")
                and line[1] == str(agent)]
         welcome = "\n".join([f"welcome {agent}", *own, ""]).encode()
@@ -83,8 +89,36 @@ def serve(game: str, port: int) -> int:
     status = int(os.environ.get("FAKE_STATUS", "0"))
     if status < 0:
         os.kill(os.getpid(), -status)
-    print("taclog 1", *asked, "end", sep="\n", flush=True)
+    head = os.environ.get("FAKE_HEAD", "").split(",") if "FAKE_HEAD" in os.environ else []
+    print("taclog 1", *head, *asked, "end", sep="\n", flush=True)
     return status
+
+
+def stranger(port: int) -> socket.socket:
+    """A link that comes before all others, if there is a file FAKE_STRANGER."""
+    file = os.environ.get("FAKE_STRANGER", "")
+    link = socket.socket()
+    if os.path.exists(file):
+        link.connect(("127.0.0.1", port))
+        with open(file, "rb") as said:
+            link.sendall(said.read())
+        if not file.endswith("stays"):
+            os.remove(file)
+    return link
+
+
+def admit(listener: socket.socket, words: List[str]) -> Dict[int, socket.socket]:
+    """Takes links, one after the other, until each word has one."""
+    seats: Dict[int, socket.socket] = {}
+    while len(seats) < len(words):
+        link, _ = listener.accept()
+        word = link.makefile("rb").readline().decode().partition(" ")[2].rstrip()
+        if word in words and words.index(word) not in seats:
+            seats[words.index(word)] = link
+        else:
+            link.sendall(b"refused taken\n")
+            REFUSED.append(link)
+    return dict(sorted(seats.items()))
 
 
 if __name__ == "__main__":

@@ -8,15 +8,21 @@ import socket
 import subprocess
 import sys
 import tempfile
+import threading
+import time
 import unittest
 from argparse import Namespace
 from pathlib import Path
-from typing import Any, Iterator, List, Optional
+from typing import Any, Iterator, Optional
 from unittest import mock
 
-from geesefuton.hosting import events, lobby
-from geesefuton.hosting.lobby import Lobby, LobbyError, LobbySettings
+from geesefuton.hosting import lobby, lobby_command
+from geesefuton.hosting.control import Control, Phase
+from geesefuton.hosting.lobby import Lobby, LobbyError
+from geesefuton.hosting.page_process import PageProcess, page_words
+from geesefuton.hosting.settings import LobbySettings
 from geesefuton.hosting.teller import STOPPED
+from geesefuton.processes import free_port
 from tests.helpers import TOP, python, variables
 
 GAME = TOP / "examples" / "first.game"
@@ -29,7 +35,7 @@ class Case(unittest.TestCase):
         self.folder = Path(place.name).resolve()
 
     def patch(self, name: str, *what: Any, **how: Any) -> Any:
-        change = mock.patch(f"geesefuton.hosting.lobby.{name}", *what, **how)
+        change = mock.patch(f"geesefuton.hosting.lobby_command.{name}", *what, **how)
         self.addCleanup(change.stop)
         return change.start()
 
@@ -37,7 +43,7 @@ class Case(unittest.TestCase):
 class Words(Case):
     def given(self, *words: str) -> Namespace:
         with mock.patch("sys.argv", ["lobby", *words]):
-            return lobby._arguments()
+            return lobby_command._arguments()
 
     def test_what_holds_if_nothing_is_said(self) -> None:
         self.assertEqual(vars(self.given("my.game", "7000", "500")), {
@@ -83,7 +89,7 @@ class Main(Case):
         self.made.return_value.run.return_value = status
         self.signals.number = number
         with mock.patch("sys.argv", ["lobby", "my.game", "7000", "500", *words]):
-            return lobby._main()
+            return lobby_command._main()
 
     def settings(self) -> LobbySettings:
         settings: LobbySettings = self.made.call_args[0][0]
@@ -145,7 +151,7 @@ class Signals(Case):
         self.handlers = {}
         self.patch("signal.signal", self.handlers.__setitem__)
         self.clock = self.patch("time.monotonic", return_value=0.5)
-        self.lobby, self.teller = mock.Mock(is_playing=True), mock.Mock()
+        self.lobby, self.teller = mock.Mock(phase=Phase.PLAYING), mock.Mock()
 
     def take(self, number: int, at: float) -> bool:
         """Whether the game is ended by a signal."""
@@ -155,7 +161,7 @@ class Signals(Case):
         return bool(self.lobby.interrupt.called)
 
     def test_in_the_game(self) -> None:
-        taken = lobby._Signals(self.lobby, self.teller)
+        taken = lobby_command._Signals(self.lobby, self.teller)
         self.assertEqual(set(self.handlers), {signal.SIGINT, signal.SIGTERM, signal.SIGHUP})
         self.assertFalse(self.take(signal.SIGHUP, 0.5) or self.teller.say.called)
         self.assertFalse(self.take(signal.SIGINT, 1.0))
@@ -166,18 +172,46 @@ class Signals(Case):
         self.assertEqual(taken.number, signal.SIGINT)
         self.assertTrue(self.take(signal.SIGTERM, 20.0))
         self.assertEqual(taken.number, signal.SIGTERM)
+        self.lobby.end_links.assert_not_called()
 
     def test_before_the_game(self) -> None:
-        self.lobby.is_playing = False
+        for phase in (Phase.GATHERING, Phase.STARTING):
+            self.lobby.phase = phase
+            for number in (signal.SIGINT, signal.SIGHUP, signal.SIGTERM):
+                taken = lobby_command._Signals(self.lobby, self.teller)
+                self.assertTrue(self.take(number, 1.0))
+                self.assertEqual(taken.number, number)
+
+    def test_after_the_last_tick_ctrl_c_says_what_is_waited_for_and_a_second_one_ends_it(
+            self) -> None:
+        self.lobby.phase = Phase.ENDING
+        self.lobby.waits_for.return_value = (29.7, ["seat0", "seat4"])
+        lobby_command._Signals(self.lobby, self.teller)
+        self.assertFalse(self.take(signal.SIGHUP, 1.0) or self.teller.say.called)
+        self.assertFalse(self.take(signal.SIGINT, 1.0))
+        self.assertIn("waiting 30 s for seat0 seat4; Enter", self.teller.say.call_args[0][0])
+        self.lobby.end_links.assert_not_called()
+        self.assertFalse(self.take(signal.SIGINT, 2.0))
+        self.lobby.end_links.assert_called_once_with()
+        self.assertTrue(self.take(signal.SIGINT, 3.0))  # the server does not end
+
+    def test_after_the_last_tick_a_request_to_stop_leaves_the_log(self) -> None:
+        self.lobby.phase = Phase.ENDING
+        lobby_command._Signals(self.lobby, self.teller)
+        self.assertFalse(self.take(signal.SIGTERM, 1.0))
+        self.lobby.end_links.assert_called_once_with()
+        self.assertTrue(self.take(signal.SIGTERM, 2.0))
+
+    def test_once_the_log_is_written_the_page_is_ended(self) -> None:
+        self.lobby.phase = Phase.SHOWING
         for number in (signal.SIGINT, signal.SIGHUP, signal.SIGTERM):
-            taken = lobby._Signals(self.lobby, self.teller)
+            lobby_command._Signals(self.lobby, self.teller)
             self.assertTrue(self.take(number, 1.0))
-            self.assertEqual(taken.number, number)
 
     def test_what_is_ignored_stays_so(self) -> None:
         self.patch("signal.getsignal", lambda number: (
             signal.SIG_IGN if number == signal.SIGHUP else signal.SIG_DFL))
-        lobby._Signals(self.lobby, self.teller)
+        lobby_command._Signals(self.lobby, self.teller)
         self.assertEqual(set(self.handlers), {signal.SIGINT, signal.SIGTERM})
 
 
@@ -185,13 +219,13 @@ class Journals(Case):
     def test_the_default_is_beside_the_log_with_the_game_and_the_date(self) -> None:
         teller = mock.Mock()
         self.patch("_output_folder", return_value=self.folder)
-        file = lobby._default_journal(Path("some/my.game"), teller)
+        file = lobby_command._default_journal(Path("some/my.game"), teller)
         assert file is not None
         self.assertEqual((file.parent, file.exists()), (self.folder, False))
         self.assertRegex(file.name, r"^my-20\d{6}-\d{6}\.journal$")
         with mock.patch("time.strftime", return_value="DATE"):
             (self.folder / "my-DATE.journal").touch()
-            self.assertEqual(lobby._default_journal(Path("my.game"), teller),
+            self.assertEqual(lobby_command._default_journal(Path("my.game"), teller),
                              self.folder / "my-DATE-2.journal")
         teller.say.assert_not_called()
 
@@ -201,12 +235,12 @@ class Journals(Case):
         before = os.getcwd()
         os.chdir(self.folder)
         self.addCleanup(os.chdir, before)
-        file = lobby._default_journal(Path("my.game"), teller)
+        file = lobby_command._default_journal(Path("my.game"), teller)
         assert file is not None
         self.assertEqual(file.resolve().parent, self.folder)
         self.assertIn("no journal can be made", teller.say.call_args[0][0])
         with mock.patch("os.open", side_effect=OSError(30, "Read-only file system")):
-            self.assertIsNone(lobby._default_journal(Path("my.game"), teller))
+            self.assertIsNone(lobby_command._default_journal(Path("my.game"), teller))
 
     @contextlib.contextmanager
     def output(self, number: int) -> Iterator[None]:
@@ -220,7 +254,7 @@ class Journals(Case):
             os.close(kept)
 
     def test_standard_files_that_are_closed(self) -> None:
-        code = ("import os; from geesefuton.hosting.lobby import _open_standard_files; "
+        code = ("import os; from geesefuton.hosting.lobby_command import _open_standard_files; "
                 "has_output = _open_standard_files(); "
                 "[os.fstat(number) for number in range(3)]; os._exit(10 + has_output)")
         for close, due in (("", 11), ("<&-", 11), ("2>&-", 11), (">&-", 10), ("<&- >&- 2>&-", 10)):
@@ -231,15 +265,17 @@ class Journals(Case):
     @unittest.skipUnless(Path("/proc/self").exists(), "the system does not tell")
     def test_the_folder_of_the_output(self) -> None:
         with open(self.folder / "my.log", "wb") as file, self.output(file.fileno()):
-            self.assertEqual(lobby._output_folder(), self.folder)
+            self.assertEqual(lobby_command._output_folder(), self.folder)
         with open(os.devnull, "wb") as file, self.output(file.fileno()):
-            self.assertEqual(lobby._output_folder(), Path())
+            self.assertEqual(lobby_command._output_folder(), Path())
 
     def test_how_a_log_is_made_of_one(self) -> None:
         tool = os.path.relpath(TOP / "tools" / "recover")
         self.assertEqual(lobby.recovery_line(Path("a/my-1.journal")),
                          f"{tool} a/my-1.journal > my-1.recovered.log")
-        self.patch("program.top", return_value=None)
+        change = mock.patch("geesefuton.program.top", return_value=None)
+        self.addCleanup(change.stop)
+        change.start()
         self.assertEqual(lobby.recovery_line(Path("my.journal")),
                          "tac-recover my.journal > my.recovered.log")
 
@@ -255,23 +291,47 @@ class Pages(Case):
 
     def lobby(self, page: Optional[int], **more: Any) -> Lobby:
         made = Lobby(LobbySettings(GAME, 0, 5, None, page=page, **more))
-        for link in (made._listener, made._wake, made._waker):
-            self.addCleanup(link.close)
+        self.addCleanup(made._listener.close)
+        self.addCleanup(made._control.close)
         return made
 
-    def started(self, **more: Any) -> List[str]:
-        children = mock.Mock()
-        self.lobby(None, **more)._start_page(children, mock.Mock(file=Path("my.journal")))
-        how = children.start.call_args[1]
-        self.assertIn(str(TOP / "python"), how["env"]["PYTHONPATH"].split(os.pathsep))
-        words: List[str] = children.start.call_args[0][0]
-        self.assertEqual(words[:4], [sys.executable, "-m", "geesefuton.hosting.live", "my.journal"])
-        return words[5:]
+    def settings(self, **more: Any) -> LobbySettings:
+        return LobbySettings(GAME, 0, 5, None, page=8000, **more)
+
+    def page(self, poll: Optional[int] = None) -> PageProcess:
+        """A page whose process has ended with a status, or runs."""
+        self.children = mock.Mock()
+        self.children.start.return_value = mock.Mock(
+            poll=mock.Mock(return_value=poll), returncode=poll)
+        return PageProcess(self.children, self.settings(), Path("my.journal"))
 
     def test_its_words(self) -> None:
-        self.assertEqual(self.started(), ["--late", "6", "--until-over"])
-        self.assertEqual(self.started(late=0, names=True),
+        self.assertEqual(page_words(self.settings(), Path("my.journal")), [
+            sys.executable, "-m", "geesefuton.hosting.live", "my.journal", "8000", "--late", "6",
+            "--until-over"])
+        self.assertEqual(page_words(self.settings(late=0, names=True), Path("j"))[5:],
                          ["--late", "0", "--until-over", "--names"])
+
+    def test_it_finds_the_package_and_knows_when_the_game_is_over(self) -> None:
+        page = self.page()
+        words, how = self.children.start.call_args
+        self.assertEqual(words[0][3], "my.journal")
+        self.assertIn(str(TOP / "python"), how["env"]["PYTHONPATH"].split(os.pathsep))
+        self.assertEqual(how["stdin"], subprocess.PIPE)
+        page.close()
+        self.children.start.return_value.stdin.close.assert_called_once_with()
+
+    def test_it_is_waited_for_until_it_ends_or_the_host_stops_it(self) -> None:
+        control = Control()
+        self.addCleanup(control.close)
+        began = time.monotonic()
+        self.page(0).wait(60.0, control)
+        page = self.page()
+        page.wait(0.05, control)
+        self.children.start.return_value.stdin.close.assert_called_once_with()
+        threading.Timer(0.1, control.stop).start()
+        page.wait(60.0, control)
+        self.assertLess(time.monotonic() - began, 30.0)
 
     def test_links_come_in_at_every_address(self) -> None:
         made = self.lobby(None)
@@ -281,15 +341,22 @@ class Pages(Case):
             socket.create_connection((host, made.port)).close()
 
     def test_what_is_told_of_a_game_that_is_stopped(self) -> None:
-        for is_playing, given, due in ((True, "my.journal", True), (True, None, False),
-                                       (False, "my.journal", False)):
-            made, told = self.lobby(None, journal=given and Path(given)), list[events.Event]()
-            made._emit, made.is_playing = told.append, is_playing
-            self.assertEqual(made._stop(mock.Mock(file=Path("my.journal"))), 130)
-            warned, finished = told
-            self.assertIn("there is no log", getattr(warned, "text"))
-            self.assertEqual("my.journal > " in getattr(warned, "text"), due)
-            self.assertEqual((getattr(finished, "status"), getattr(finished, "log")), (130, None))
+        for phase, given, due in ((Phase.PLAYING, "my.journal", True),
+                                  (Phase.ENDING, "my.journal", True),
+                                  (Phase.PLAYING, None, False),
+                                  (Phase.STARTING, "my.journal", False)):
+            made, told = self.lobby(None, journal=given and Path(given)), mock.Mock()
+            made._control.phase = phase
+            self.assertEqual(made._stop(told), 130)
+            self.assertIn("there is no log", told.warn.call_args[0][0])
+            self.assertEqual("my.journal > " in told.warn.call_args[0][0], due)
+            finished = told.emit.call_args[0][0]
+            self.assertEqual((finished.status, finished.log), (130, None))
+
+    def test_the_page_needs_a_port_of_its_own(self) -> None:
+        port = free_port()
+        with self.assertRaisesRegex(LobbyError, f"port {port}: the page needs another port"):
+            Lobby(LobbySettings(GAME, port, 5, None, page=port))
 
     def test_its_port_has_to_be_free(self) -> None:
         with socket.create_server(("", 0)) as other, \
@@ -297,24 +364,17 @@ class Pages(Case):
             self.lobby(other.getsockname()[1])
 
     def test_the_game_goes_on_without_it(self) -> None:
-        made, told = self.lobby(None), list[events.Event]()
-        made._emit = told.append
-        made._look_at_page()
-        made._page = mock.Mock(poll=mock.Mock(return_value=None))
-        made._look_at_page()
-        self.assertEqual(told, [])
-        made._page = mock.Mock(poll=mock.Mock(return_value=1), returncode=1)
-        for _ in range(2):
-            made._look_at_page()
-        self.assertEqual(len(told), 1)
-        self.assertRegex(getattr(told[0], "text"), "page has ended, exit status 1; the game goes")
+        self.assertEqual(self.page().fault(), "")
+        page = self.page(1)
+        self.assertRegex(page.fault(), "page has ended, exit status 1; the game goes")
+        self.assertEqual(page.fault(), "")  # it is told once
 
     def test_without_a_journal_of_the_hosts_it_has_one_that_goes_away(self) -> None:
         for page, given, due in ((None, None, None), (None, "my.journal", "my.journal"),
                                  (8000, None, "journal"), (8000, "other", "other")):
             made = self.lobby(None, journal=given and self.folder / given)
             made.settings.page = page
-            journal = made._open_journal(self.folder)
+            journal = made._open_journal(self.folder, self.fail)
             self.assertEqual(journal and journal.file.name, due)
             if journal:
                 journal.close()
@@ -326,7 +386,7 @@ class Pages(Case):
     def test_a_journal_that_cannot_be_made(self) -> None:
         made = self.lobby(None, journal=self.folder / "none" / "my.journal")
         with self.assertRaisesRegex(LobbyError, "no journal can be made: .*No such file"):
-            made._open_journal(self.folder)
+            made._open_journal(self.folder, self.fail)
 
 
 if __name__ == "__main__":

@@ -19,8 +19,10 @@ from unittest import mock
 from geesefuton.hosting import events, log_files
 from geesefuton.hosting.events import End, Event
 from geesefuton.hosting.journal import Journal, read_journal
-from geesefuton.hosting.lobby import Lobby, LobbyError, LobbySettings
+from geesefuton.hosting.lobby import Lobby, LobbyError
 from geesefuton.hosting.relay import MOST_STRANGERS
+from geesefuton.hosting.server import TRIES
+from geesefuton.hosting.settings import LobbySettings
 from geesefuton.processes import free_port
 
 HERE = Path(__file__).resolve().parent
@@ -404,12 +406,13 @@ class TheEnd(Case):
             host.end()
         self.assertEqual((host.status, taken.exists()), (6, False))
 
-    def test_a_port_is_tried_three_times(self) -> None:
+    def test_a_port_that_is_taken_is_tried_five_times(self) -> None:
         with mock.patch.dict(os.environ, {"FAKE_EARLY": "5"}), \
-                mock.patch("geesefuton.hosting.lobby.free_port", side_effect=free_port) as ports:
+                mock.patch("geesefuton.hosting.server.free_port", side_effect=free_port) as ports:
             host = Host(self.folder, pace=5, start=0)
             host.end()
-        self.assertEqual((host.status, ports.call_count), (5, 3))
+        self.assertEqual((host.status, ports.call_count), (5, TRIES))
+        self.assertEqual(TRIES, 5)
         self.assertEqual(host.of(events.Began), [])
         self.assertEqual(host.of(events.Finished)[0].status, 5)
         self.assertEqual(host.of(events.Warned), [])  # no game has begun that could be recovered
@@ -467,10 +470,9 @@ class TheEnd(Case):
 
     def test_the_page_has_a_while_to_show_the_last_scores(self) -> None:
         for is_stopped in (False, True):
-            page = mock.Mock(poll=mock.Mock(return_value=None), wait=mock.Mock(
-                side_effect=subprocess.TimeoutExpired("page", 1)))
+            page = mock.Mock(fault=mock.Mock(return_value=""))
             journal = self.folder / f"{is_stopped}.journal"
-            with mock.patch.object(Lobby, "_start_page", return_value=page) as started:
+            with mock.patch("geesefuton.hosting.lobby.PageProcess", return_value=page) as started:
                 host = Host(self.folder, pace=2, start=None if is_stopped else 0, linger=0,
                             page=free_port(), journal=journal)
                 if is_stopped:

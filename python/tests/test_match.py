@@ -61,13 +61,10 @@ class Lobby:
     seconds = 0.0
     lines: Sequence[events.Ticked] = ()
     orders: List[str] = []
-    passed: List[int] = [0] * 8
-    turns: Sequence[float] = ()
     last: Any = None  # the settings of the last one
 
-    def __init__(self, settings, *turns) -> None:  # type: ignore[no-untyped-def]
+    def __init__(self, settings, serving) -> None:  # type: ignore[no-untyped-def]
         self.settings = Lobby.last = settings
-        Lobby.turns = turns
 
     def run(self, on_event: Callable[[events.Event], None]) -> int:
         time.sleep(self.seconds)
@@ -85,6 +82,20 @@ class Lobby:
         return self.status
 
 
+class Turns:
+    """A stand-in for a server of a game in turns.
+
+    Attributes:
+        given: What it was told.
+    """
+
+    passed: List[int] = [0] * 8
+    given: Sequence[float] = ()
+
+    def __init__(self, *given: float) -> None:
+        Turns.given = given
+
+
 class Matches(unittest.TestCase):
     """A game with a stand-in for the lobby, and shell commands as agents."""
 
@@ -98,7 +109,8 @@ class Matches(unittest.TestCase):
         self.lobby = type("Made", (Lobby,), {"ends": [End.LEFT] * 8,
                                              "log": SERVED_LOG.read_bytes(), "seconds": 0.3})
         self.patch("geesefuton.experiments.match.Lobby", self.lobby)
-        self.patch("geesefuton.experiments.match.TurnLobby", self.lobby)
+        self.turns = type("Made", (Turns,), {})
+        self.patch("geesefuton.experiments.match.TurnServer", self.turns)
         self.patch("geesefuton.experiments.match.LEAVE", 0.3)
 
     def patch(self, name: str, value: object) -> None:
@@ -208,10 +220,8 @@ class Matches(unittest.TestCase):
         self.assertEqual(Lobby.orders.count("without red2\n"), 0)
 
     def test_a_game_in_turns(self) -> None:
-        with mock.patch("geesefuton.experiments.match.TurnLobby", self.lobby), \
-                mock.patch("geesefuton.experiments.match.Lobby", Lobby):
-            result = self.play('echo "$@" $AGENT_SEED $PYTHONHASHSEED', "echo $AGENT_SEED",
-                               turns=30, patience=2.5)
+        result = self.play('echo "$@" $AGENT_SEED $PYTHONHASHSEED', "echo $AGENT_SEED",
+                           turns=30, patience=2.5)
         self.assertEqual((result.kind, len(result.scores)), (Kind.TURNS, 8))
         self.assertEqual((tuple(Lobby.turns), self.notes()), ((30, 2.5), ""))
         printed = (self.place / "7.0.out.red0").read_text().split()
@@ -222,7 +232,7 @@ class Matches(unittest.TestCase):
         self.assertIs(self.play().kind, Kind.SERVED)
 
     def test_an_agent_that_was_passed_over_marks_its_game(self) -> None:
-        self.lobby.passed = [0, 0, 17, 0, 0, 0, 1, 0]
+        self.turns.passed = [0, 0, 17, 0, 0, 0, 1, 0]
         self.assertIs(self.play(turns=1).kind, Kind.UNREPEATABLE)
         self.assertEqual(self.notes().split("\n"), [
             f"agent{seat} at seat {seat} (red{seat}) was passed over in {count} turns, so the game "

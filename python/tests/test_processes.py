@@ -135,6 +135,18 @@ class Groups(unittest.TestCase):
             (first / "sub").mkdir()
         self.assertFalse(first.exists() or second.exists() or first.parent.parent.exists())
 
+    def test_ctrl_c_does_not_end_the_guard_before_it_has_a_session_of_its_own(self) -> None:
+        real, masks = subprocess.Popen, list["set[signal.Signals]"]()
+
+        def started(*words: object, **how: object) -> object:
+            masks.append(set(signal.pthread_sigmask(signal.SIG_BLOCK, set())))
+            return real(*words, **how)  # type: ignore[call-overload]
+
+        before = signal.pthread_sigmask(signal.SIG_BLOCK, set())
+        with mock.patch("subprocess.Popen", started), Children():
+            self.assertEqual(signal.pthread_sigmask(signal.SIG_BLOCK, set()), before)
+        self.assertIn(signal.SIGINT, masks[0])
+
     def test_a_folder_that_cannot_be_made_is_told(self) -> None:
         with tempfile.TemporaryDirectory() as place:
             missing = os.path.join(place, "none")

@@ -13,8 +13,9 @@ from unittest import mock
 from geesefuton.hosting import events
 from geesefuton.hosting.events import End, Event
 from geesefuton.hosting.journal import Journal
-from geesefuton.hosting.relay import (ADMISSION, MOST_HELD, MOST_SAID, MOST_STRANGERS, PARTING,
-                                      OuterLink, Relay, Session)
+from geesefuton.hosting.links import OuterLink
+from geesefuton.hosting.relay import MOST_HELD, MOST_SAID, MOST_STRANGERS, PARTING, Relay
+from geesefuton.hosting.sessions import ADMISSION, Session
 from geesefuton.records.dialects import MOST_LINE
 
 WORDS = [f"seat{number}" for number in range(8)]

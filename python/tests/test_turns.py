@@ -13,10 +13,11 @@ from unittest import mock
 
 from geesefuton import program
 from geesefuton.experiments import turns
-from geesefuton.experiments.turns import Turner, TurnLobby
+from geesefuton.experiments.turns import Turner, TurnServer
 from geesefuton.hosting import events
 from geesefuton.hosting.events import End, Event
-from geesefuton.hosting.lobby import LobbySettings
+from geesefuton.hosting.lobby import Lobby
+from geesefuton.hosting.settings import LobbySettings
 from geesefuton.link import Link
 from geesefuton.records.games import TICKS
 from geesefuton.records.order import order_of_turn
@@ -58,7 +59,8 @@ class Host:
     def __init__(self, folder: Path, count: int = 1, patience: float = MOST, **more: Any) -> None:
         self.log = folder / "my.log"
         settings = {"port": 0, "pace": 1, "log": self.log, "linger": MOST, "start": MOST, **more}
-        self.lobby = TurnLobby(LobbySettings(game=GAME, **settings), count, patience)
+        self.server = TurnServer(count, patience)
+        self.lobby = Lobby(LobbySettings(game=GAME, **settings), self.server)
         self.port, self.told = self.lobby.port, list[Event]()
         self.status, self.fault = -1, ""
         self.thread = threading.Thread(target=self.run, daemon=True)
@@ -142,7 +144,7 @@ class Turns(Case):
             agents = self.agents(host, *own)
             self.assertEqual(host.end(), [End.LEFT] * 8)
             self.assertEqual(host.asked(), due(count, *own))
-            self.assertEqual((host.status, host.lobby.passed), (0, [0] * 8))
+            self.assertEqual((host.status, host.server.passed), (0, [0] * 8))
             for seat, agent in enumerate(agents):
                 told = agent.rest()
                 self.assertEqual((told[0], len(told[:10])), (f"welcome {seat}", 10))
@@ -167,7 +169,7 @@ class Turns(Case):
                 time.sleep(0.02)
                 agents[seat].send(line)
         self.assertEqual(host.end(), [End.LEFT] * 8)
-        self.assertEqual((host.asked(), host.lobby.passed), (due(2, *lines), [0] * 8))
+        self.assertEqual((host.asked(), host.server.passed), (due(2, *lines), [0] * 8))
 
     def test_ticks_tell_how_many_lines_each_has_sent(self) -> None:
         host = Host(self.folder, 2)
@@ -183,7 +185,7 @@ class Turns(Case):
         agents = self.agents(host, ["own 1"] * 60 + ["quit"], [], *[["quit"]] * 6)
         for _ in range(10):
             agents[1].line()  # the welcome
-        while not host.lobby.passed[1]:
+        while not host.server.passed[1]:
             time.sleep(0.001)
         agents[1].send("own 2")
         self.assertEqual(agents[1].line(), "@2 own 0 ()")
@@ -191,15 +193,15 @@ class Turns(Case):
         asked = host.asked()
         self.assertEqual([line for line in asked if line != "1 own 2"],
                          due(1, ["own 1"] * 60 + ["quit"], [], *[["quit"]] * 6))
-        self.assertGreater(host.lobby.passed[1], 0)
-        self.assertEqual(host.lobby.passed[:1] + host.lobby.passed[2:], [0] * 7)
+        self.assertGreater(host.server.passed[1], 0)
+        self.assertEqual(host.server.passed[:1] + host.server.passed[2:], [0] * 7)
 
     def test_a_silent_agent_costs_its_patience_once(self) -> None:
         began = time.monotonic()
         host = Host(self.folder, 5, patience=0.3)
         self.agents(host, *[[]] * 8)
         self.assertEqual(host.end(), [End.HUNG] * 8)
-        self.assertEqual(host.lobby.passed, [5 * TICKS + 1] * 8)
+        self.assertEqual(host.server.passed, [5 * TICKS + 1] * 8)
         self.assertLess(time.monotonic() - began, MOST / 4)
         self.assertEqual(host.asked(), ["tick"] * TICKS)
 
@@ -259,7 +261,7 @@ class Ends(Case):
             orders_file.write(b"without seat1\n")
             self.assertEqual(host.end(), [End.LEFT, End.GONE] + [End.LEFT] * 6)
         self.assertEqual(again.rest()[10:], ["@4 own 0 ()", "bye"])
-        self.assertEqual(host.lobby.passed, [0] * 8)
+        self.assertEqual(host.server.passed, [0] * 8)
         self.assertEqual(host.asked(), due(1, ["own 1", "own 4", "quit"], ["own 2"],
                                            *[["own 0", "quit"]] * 6))
 
@@ -270,7 +272,7 @@ class Ends(Case):
         reasons = host.end()
         self.assertEqual(reasons, [End.ABSENT] * 4 + [End.LEFT] + [End.ABSENT] * 3)
         self.assertEqual(host.asked()[:2], ["4 own 1", "tick"])
-        self.assertTrue(all(passed for seat, passed in enumerate(host.lobby.passed) if seat != 4))
+        self.assertTrue(all(passed for seat, passed in enumerate(host.server.passed) if seat != 4))
 
     def test_an_agent_that_never_quits(self) -> None:
         self.assertEqual((turns.MOST_TURNS, turns.LAST_TURNS), (1000, 1024))
@@ -279,13 +281,13 @@ class Ends(Case):
         self.agents(host, ["own 1"] * 90, *[["quit"]] * 7)
         self.assertEqual(host.end(), [End.HUNG] + [End.LEFT] * 7)
         self.assertEqual(host.asked().count("0 own 1"), TICKS + 20)
-        self.assertEqual(host.lobby.passed, [0] * 8)
+        self.assertEqual(host.server.passed, [0] * 8)
 
     def test_after_the_last_tick_nobody_is_waited_for_longer_than_asked(self) -> None:
         host = Host(self.folder, linger=0.1)
         agents = self.agents(host, ["own 1"] * TICKS, *[["quit"]] * 7)
         self.assertEqual(host.end(), [End.HUNG] + [End.LEFT] * 7)
-        self.assertEqual(host.lobby.passed, [1] + [0] * 7)
+        self.assertEqual(host.server.passed, [1] + [0] * 7)
         self.assertEqual(len(agents[0].rest()), 10 + TICKS)
 
     def test_one_that_goes_after_the_last_tick_has_left(self) -> None:
@@ -351,7 +353,7 @@ class Real(unittest.TestCase):
         """The log of a game with eight wanderers."""
         host = Host(self.folder, form=form)
         agents = [Wanderer(host, seat, form, random.Random(hurry + seat)) for seat in range(8)]
-        self.assertEqual((host.end(), host.lobby.passed), ([End.LEFT] * 8, [0] * 8), host.fault)
+        self.assertEqual((host.end(), host.server.passed), ([End.LEFT] * 8, [0] * 8), host.fault)
         for agent in agents:
             agent.join()
             self.assertEqual(len(agent.told), 60)

@@ -1,8 +1,8 @@
 """One game of a tournament, in a process of its own.
 
 The process is started with the number of a connection's file: it is sent a `Job` there, and sends
-back events of the lobby, notes, and in the end a `Result`. It hosts the game with a `Lobby`, or a
-`TurnLobby`, and starts the agents, each in a process group of its own that ends with it.
+back events of the lobby, notes, and in the end a `Result`. It hosts the game with a `Lobby`, in
+turns by a `TurnServer`, and starts the agents, each in a process group of its own that ends with it.
 """
 
 import hashlib
@@ -21,10 +21,11 @@ from typing import Callable, Dict, List, Optional, Tuple, Union
 from geesefuton import program
 from geesefuton.experiments.entrants import Entrant, environment
 from geesefuton.experiments.results import Kind, Outcome
-from geesefuton.experiments.turns import TurnLobby
+from geesefuton.experiments.turns import TurnServer
 from geesefuton.hosting import events
 from geesefuton.hosting.events import End
-from geesefuton.hosting.lobby import Lobby, LobbyError, LobbySettings
+from geesefuton.hosting.lobby import Lobby, LobbyError
+from geesefuton.hosting.settings import LobbySettings
 from geesefuton.processes import Children, command, why
 from geesefuton.records.logs import LogError, read_scores
 
@@ -185,8 +186,8 @@ class Match:
                     game=self._game, port=0, pace=job.pace, log=self._log, form=job.form,
                     start=job.start, linger=job.linger, patience=max(job.start, PATIENCE),
                     orders=orders)
-                lobby = (TurnLobby(settings, job.turns, job.patience) if job.turns
-                         else Lobby(settings))
+                turns = TurnServer(job.turns, job.patience) if job.turns else None
+                lobby = Lobby(settings, turns)
                 self._start_agents(lobby.port)
                 over = threading.Event()
                 watcher = threading.Thread(target=self._watch, args=(over,), daemon=True)
@@ -198,8 +199,7 @@ class Match:
                     watcher.join()
             except (LobbyError, program.ProgramError) as fault:
                 return Result(fault=str(fault))
-        passed = lobby.passed if job.turns and isinstance(lobby, TurnLobby) else None
-        return self._result(status, passed)
+        return self._result(status, turns.passed if turns else None)
 
     def _take(self, event: events.Event) -> None:
         """Takes an event of the lobby."""

@@ -15,16 +15,13 @@ from __future__ import annotations
 import contextlib
 import socket
 import time
-from pathlib import Path
 from typing import List, Optional
 
 from geesefuton import program
-from geesefuton.hosting import events
-from geesefuton.hosting.lobby import TURN, Lobby, LobbySettings
-from geesefuton.hosting.orders import Orders
-from geesefuton.hosting.relay import Relay, Session
+from geesefuton.hosting.control import Phase
+from geesefuton.hosting.hosted_game import HostedGame
+from geesefuton.hosting.sessions import Session
 from geesefuton.learning.stepping import Stepped
-from geesefuton.processes import Children
 from geesefuton.records.dialects import MOST_LINE, said_in, words_for
 from geesefuton.records.games import TICKS
 from geesefuton.records.order import order_of_turn
@@ -77,28 +74,19 @@ class Turner:
         self.passed, self.is_silent = self.passed + 1, True
 
 
-class TurnLobby(Lobby):
-    """Hosts one game in turns.
+class TurnServer:
+    """Serves a game in turns, as a `Serving` of a lobby. The settings' `pace` has no meaning here,
+    and `linger` is how many seconds after the last tick everybody is passed over who has not ended.
 
     Args:
-        settings: What a lobby is told; `pace` has no meaning here, and `linger` is how many seconds
-            after the last tick everybody is passed over who has not ended.
         turns: How many turns each agent has between two ticks, 1 to `MOST_TURNS`, and before the
             first. After the last it has `LAST_TURNS`.
         patience: The seconds without a word after which an agent is passed over.
-
-    Raises:
-        LobbyError: A port is taken.
-        program.ProgramError: There is no program, or it refuses the game file; `run` raises it if
-            the program ends before the game is over.
     """
 
-    def __init__(self, settings: LobbySettings, turns: int, patience: float) -> None:
-        super().__init__(settings)
+    def __init__(self, turns: int, patience: float) -> None:
         self._turns, self._patience = turns, patience
         self._turners: List[Turner] = []
-        self._until: Optional[float] = None  # when everybody is passed over
-        self._looked = 0.0
 
     @property
     def passed(self) -> List[int]:
@@ -106,88 +94,86 @@ class TurnLobby(Lobby):
         can be repeated."""
         return [turner.passed for turner in self._turners]
 
-    def _serve(self, children: Children, folder: Path, relay: Relay, reader: Orders) -> int:
-        """Plays the game, and gives the exit status of its process."""
+    def play(self, game: HostedGame) -> int:
+        """Plays the game, and gives the exit status of its process.
+
+        Raises:
+            program.ProgramError: The program ends before the game is over.
+        """
         with contextlib.ExitStack() as stack:
-            game = stack.enter_context(Stepped(self._text.encode("ascii")))
+            table = stack.enter_context(Stepped(game.text.encode("ascii")))
             sessions = []
-            for seat in relay.seats.seats:
+            for seat in game.relay.seats.seats:
                 ours, theirs = socket.socketpair()
                 stack.callback(theirs.close)
                 sessions.append(Session(seat, ours))
                 self._turners.append(Turner(seat.number, theirs))
-            relay.begin(sessions)
-            self.is_playing = True
+            game.relay.begin(sessions)
+            game.control.phase = Phase.PLAYING
             for turner in self._turners:
-                turner.say(self._welcome(turner.seat))
-            self._play_ticks(game, relay, reader)
-            if not self._is_stopped:
-                relay.turn(0)  # what was answered last
-                relay.finish()
-                self._log.append(game.finish())
+                turner.say(welcome(game.text, turner.seat))
+            self._play_ticks(game, table)
+            if not game.is_stopped:
+                game.relay.turn(0)  # what was answered last
+                game.relay.finish()
+                game.log.append(table.finish())
         return program.OK
 
-    def _welcome(self, agent: int) -> bytes:
-        """The ten lines that an agent is sent first."""
-        # The canonical text of a game file has the tickets of all agents before the clients.
-        own = [line for line in self._text.split("\n")
-               if line.startswith((f"endow {agent} ", f"client {agent} "))]
-        return "\n".join([f"welcome {agent}", *own, ""]).encode("ascii")
-
-    def _play_ticks(self, game: Stepped, relay: Relay, reader: Orders) -> None:
+    def _play_ticks(self, game: HostedGame, table: Stepped) -> None:
         """Lets the ticks come, with the turns between them."""
         for tick in range(1, TICKS + 1):
-            self._take_turns(game, relay, reader, tick - 1, range(self._turns))
-            if self._is_stopped:
+            self._take_turns(game, table, tick - 1, range(self._turns))
+            if game.is_stopped:
                 return
-            game.ask(["tick"])
-            lines = tuple(turner.asked for turner in self._turners)
-            self._emit(events.Ticked(time.time(), tick, lines))
-        relay.release()
-        self._until = time.monotonic() + self.settings.linger
+            table.ask(["tick"])
+            lines = [turner.asked for turner in self._turners]
+            if tick == TICKS:
+                game.last_tick()
+            game.tick(tick, lines)
         for turn in range(LAST_TURNS):
-            self._take_turns(game, relay, reader, TICKS, range(turn, turn + 1))
+            self._take_turns(game, table, TICKS, range(turn, turn + 1))
             if all(turner.is_over or turner.is_silent for turner in self._turners):
                 break
 
-    def _take_turns(self, game: Stepped, relay: Relay, reader: Orders, tick: int,
-                    turns: range) -> None:
+    def _take_turns(self, game: HostedGame, table: Stepped, tick: int, turns: range) -> None:
         """Gives each agent these turns after a tick."""
         for turn in turns:
             for seat in order_of_turn(tick, turn):
                 turner = self._turners[seat]
-                line = None if turner.is_over else self._wait(turner, relay, reader)
-                if self._is_stopped:
+                line = None if turner.is_over else self._wait(game, turner)
+                if game.is_stopped:
                     return
                 if line is not None:
-                    self._answer(game, turner, line)
+                    _answer(table, turner, line, game.settings.form)
 
-    def _wait(self, turner: Turner, relay: Relay, reader: Orders) -> Optional[bytes]:
+    def _wait(self, game: HostedGame, turner: Turner) -> Optional[bytes]:
         """The line of an agent whose turn it is; None if it is over or passed over."""
         line = turner.take()
-        while line is None and not turner.is_over and not self._is_stopped:
-            now = time.monotonic()
-            left = turner.heard + self._patience - now
-            if self._until is not None:
-                left = min(left, self._until - now)
-            relay.turn(max(0.0, min(TURN, left)))
-            if now - self._looked >= TURN:
-                self._looked = now
-                relay.pass_time(now)
-                reader.look(relay)
-            self._obey(relay)
+        while line is None and not turner.is_over and not game.is_stopped:
+            left = turner.heard + self._patience - time.monotonic()
+            if game.control.phase is Phase.ENDING:
+                left = min(left, game.seconds_left())
+            game.turn(max(0.0, left))
             line = turner.take()
             if line is None and left <= 0 and not turner.is_over:
                 turner.pass_over()
                 break
         return line
 
-    def _answer(self, game: Stepped, turner: Turner, line: bytes) -> None:
-        """Asks a line, and tells its agent the reply."""
-        form = self.settings.form
-        reply = b"no toolong"
-        if len(line) <= MOST_LINE:
-            asked = b"%d %b\n" % (turner.seat, words_for(line, form))
-            reply = game.exchange(asked, 1).split(b" ", 1)[1][:-1]
-        turner.say(said_in(reply, form) + b"\n")
-        turner.is_over = reply == b"bye"
+
+def welcome(text: str, agent: int) -> bytes:
+    """The ten lines that an agent is sent first, by the canonical text of the game file."""
+    # It has the tickets of all agents before the clients.
+    own = [line for line in text.split("\n")
+           if line.startswith((f"endow {agent} ", f"client {agent} "))]
+    return "\n".join([f"welcome {agent}", *own, ""]).encode("ascii")
+
+
+def _answer(table: Stepped, turner: Turner, line: bytes, form: str) -> None:
+    """Asks a line, and tells its agent the reply."""
+    reply = b"no toolong"
+    if len(line) <= MOST_LINE:
+        asked = b"%d %b\n" % (turner.seat, words_for(line, form))
+        reply = table.exchange(asked, 1).split(b" ", 1)[1][:-1]
+    turner.say(said_in(reply, form) + b"\n")
+    turner.is_over = reply == b"bye"

@@ -14,100 +14,20 @@ import itertools
 import selectors
 import socket
 import time
-from collections import deque
-from typing import Any, Callable, Deque, Dict, List, Optional, Sequence
+from typing import Any, Callable, Dict, Optional, Sequence
 
 from geesefuton.hosting import events
 from geesefuton.hosting.events import End, Event
 from geesefuton.hosting.journal import Journal
+from geesefuton.hosting.links import OuterLink
 from geesefuton.hosting.seats import Action, Close, Give, Over, Refuse, Seat, Seats, State
+from geesefuton.hosting.sessions import ADMISSION, Session
 from geesefuton.records.dialects import MOST_LINE, is_bye, is_refusal
 
 MOST_SAID = 65536  # bytes of an agent's lines that are kept; it is not read while there are more
 MOST_HELD = 65536  # bytes for an agent that does not read; nothing is asked for it beyond these
 MOST_STRANGERS = 200  # links that have not sent a first line
-ADMISSION = 10  # lines of a welcome
 PARTING = 1.0  # seconds that a link has to end its side after it was sent its last line
-KEEPALIVE = {"TCP_KEEPIDLE": 5, "TCP_KEEPINTVL": 3, "TCP_KEEPCNT": 3}  # seconds, seconds, probes
-
-
-class OuterLink:
-    """A link from outside: a stranger until its first line, and then the link of a seat.
-
-    Attributes:
-        number: By which `Seats` knows it.
-        seat: The seat that it has, or waits for.
-        said: What it sent and was not passed on.
-        held: What is still to be sent to it.
-        owed: How many of its lines were passed on and are not answered.
-        has_ended: Whether it sends nothing more.
-        parting: When it is closed at the latest; None while it is in use.
-    """
-
-    def __init__(self, number: int, link: socket.socket, source: str) -> None:
-        self.number, self.socket, self.source = number, link, source
-        self.since = time.monotonic()
-        self.seat: Optional[Seat] = None
-        self.said, self.held = bytearray(), bytearray()
-        self.owed = 0
-        self.has_ended, self.is_open, self.wants = False, True, 0
-        self.parting: Optional[float] = None
-        self._is_skipping = False  # whether the rest of a line that is too long is coming
-        tune(link)
-
-    def feed(self, data: bytes) -> None:
-        """Keeps what came, of a line that is too long only the beginning."""
-        if self._is_skipping:
-            cut = data.find(b"\n")
-            if cut < 0:
-                return
-            data, self._is_skipping = data[cut:], False
-        self.said += data
-        length = len(self.said) - self.said.rfind(b"\n") - 1
-        if length > MOST_LINE + 1:
-            del self.said[MOST_LINE + 1 - length:]
-            self._is_skipping = True
-
-    def has_line(self) -> bool:
-        """Whether a whole line is there."""
-        return b"\n" in self.said
-
-    def take(self) -> bytes:
-        """Takes the first line away, without its end."""
-        cut = self.said.find(b"\n")
-        line = bytes(self.said[:cut])
-        del self.said[:cut + 1]
-        return line
-
-
-class Session:
-    """The link to the server that is kept for a seat.
-
-    Attributes:
-        welcome: The lines of the welcome that have come.
-        asked: The links whose lines were passed on and are not answered.
-        lines: How many lines agents have sent for it.
-        answered: How many replies came, and `refused` how many of them refuse a line.
-    """
-
-    def __init__(self, seat: Seat, link: socket.socket) -> None:
-        self.seat, self.socket = seat, link
-        self.welcome: List[bytes] = []
-        self.asked: Deque[OuterLink] = deque()
-        self.held = bytearray()
-        self.lines = self.answered = self.refused = 0
-        self.has_ended, self.wants = False, 0
-        self._tail = b""
-        link.setblocking(False)
-
-    def feed(self, data: bytes) -> List[bytes]:
-        """The lines that are whole now, without their ends."""
-        *lines, self._tail = (self._tail + data).split(b"\n")
-        return lines
-
-    def reason(self, reason: End) -> End:
-        """The reason of its end, in view of what was answered."""
-        return End.REFUSED if self.refused and self.refused == self.answered else reason
 
 
 class Relay:
@@ -547,14 +467,3 @@ class Relay:
 
     def _warn(self, text: str) -> None:
         self._emit(events.Warned(time.time(), text))
-
-
-def tune(link: socket.socket) -> None:
-    """Sets up a link: nothing waits for it, small pieces are sent at once, and one whose machine
-    has gone is noticed after some ten seconds, where the system can do so."""
-    link.setblocking(False)
-    link.setsockopt(socket.IPPROTO_TCP, socket.TCP_NODELAY, 1)
-    link.setsockopt(socket.SOL_SOCKET, socket.SO_KEEPALIVE, 1)
-    for name, value in KEEPALIVE.items():
-        if hasattr(socket, name):
-            link.setsockopt(socket.IPPROTO_TCP, getattr(socket, name), value)

@@ -1,0 +1,78 @@
+"""How far a hosted game is, and what is asked of it from outside."""
+
+from __future__ import annotations
+
+import contextlib
+import enum
+import socket
+from typing import Callable, Protocol
+
+
+class Phase(enum.Enum):
+    """How far a game is."""
+
+    GATHERING = "agents are waited for"
+    STARTING = "the server is being started"
+    PLAYING = "the ticks pass"
+    ENDING = "the last tick has passed, and agents that have not left are waited for"
+    SHOWING = "the log is written, and the page shows the last scores"
+
+
+class Attending(Protocol):
+    """What calls a handler whenever a file can be read."""
+
+    def attend(self, file: socket.socket, handler: Callable[[], None]) -> None:
+        """Calls the handler from now on."""
+
+
+class Control:
+    """How far a game is, and what is asked of it. `stop` and `end` may be called by a signal
+    handler or by another thread: they wake the game, which looks at what is asked.
+
+    Attributes:
+        phase: How far the game is.
+        is_stopped: Whether the game is to stop, without a log.
+        is_begin_asked: Whether it is to begin without those who are missing.
+        is_end_asked: Whether the links that are left after the last tick are to be ended now.
+    """
+
+    def __init__(self) -> None:
+        self.phase = Phase.GATHERING
+        self.is_stopped = self.is_begin_asked = self.is_end_asked = False
+        self._wake, self._waker = socket.socketpair()
+        self._wake.setblocking(False)
+        self._waker.setblocking(False)
+
+    def stop(self) -> None:
+        """Stops the game, or once its log is written the showing of its scores."""
+        self.is_stopped = True
+        self._signal()
+
+    def end(self) -> None:
+        """Ends the links that are left after the last tick: then the log is written."""
+        self.is_end_asked = True
+        self._signal()
+
+    def go_on(self) -> None:
+        """The host has pressed Enter: begins the game, or ends it after its last tick."""
+        if self.phase is Phase.GATHERING:
+            self.is_begin_asked = True
+        if self.phase is Phase.ENDING:
+            self.is_end_asked = True
+
+    def wake_by(self, relay: Attending) -> None:
+        """Lets whatever waits for links wait no longer once something is asked."""
+        relay.attend(self._wake, self._woken)
+
+    def close(self) -> None:
+        """Closes what it has open. What is asked later changes nothing."""
+        self._wake.close()
+        self._waker.close()
+
+    def _signal(self) -> None:
+        with contextlib.suppress(OSError):  # the game is over, or has been told often enough
+            self._waker.send(b".")
+
+    def _woken(self) -> None:
+        with contextlib.suppress(BlockingIOError):
+            self._wake.recv(4096)

@@ -1,0 +1,109 @@
+"""A game that is being hosted, as a way of serving it sees it.
+
+A lobby gathers the agents, and then lets a `Serving` play the game: it answers the sessions that
+it gives the relay, and lets time pass by `HostedGame.turn`. `ClockServer` is the one with a clock.
+"""
+
+from __future__ import annotations
+
+import time
+from collections import deque
+from pathlib import Path
+from typing import Callable, Deque, List, Optional, Protocol
+
+from geesefuton.hosting import events
+from geesefuton.hosting.control import Control, Phase
+from geesefuton.hosting.events import Event
+from geesefuton.hosting.orders import Orders
+from geesefuton.hosting.page_process import PageProcess
+from geesefuton.hosting.relay import Relay
+from geesefuton.hosting.settings import LobbySettings
+from geesefuton.processes import Children
+
+HINT = "an empty line begins the game, and `without WORD` waits for that agent no longer"
+LOOK = 0.2  # seconds between two looks at what has waited too long
+
+
+class HostedGame:
+    """A game that is being hosted.
+
+    Attributes:
+        settings: What the lobby was told.
+        text: The canonical text of the game file.
+        control: How far the game is, and what is asked of it.
+        children: By which processes are started that end with the game.
+        folder: A folder that is removed with the game.
+        relay: The links of the agents.
+        emit: Is told each event.
+        log: The pieces of the log so far.
+        page: The live page, if there is one.
+    """
+
+    def __init__(self, settings: LobbySettings, text: str, control: Control, children: Children,
+                 folder: Path, relay: Relay, emit: Callable[[Event], None]) -> None:
+        self.settings, self.text, self.control = settings, text, control
+        self.children, self.folder, self.relay, self.emit = children, folder, relay, emit
+        self.log: List[bytes] = []
+        self.page: Optional[PageProcess] = None
+        self._lines: Deque[str] = deque()
+        self._orders = Orders(settings.orders, self._lines)
+        self._orders.look(relay)
+        self._looked = self._last = 0.0
+        control.wake_by(relay)
+
+    @property
+    def is_stopped(self) -> bool:
+        """Whether the host has stopped the game."""
+        return self.control.is_stopped
+
+    def warn(self, text: str) -> None:
+        """Tells the host what it should know."""
+        self.emit(events.Warned(time.time(), text))
+
+    def turn(self, timeout: float) -> None:
+        """Passes on what has come, for which it waits some seconds at most, and now and then looks
+        at what has waited too long, at the host's commands and at the page."""
+        self.relay.turn(min(timeout, LOOK))
+        now = time.monotonic()
+        if now - self._looked >= LOOK:
+            self._looked = now
+            self.relay.pass_time(now)
+            self._orders.look(self.relay)
+            fault = self.page.fault() if self.page else ""
+            if fault:
+                self.warn(fault)
+        self._obey()
+
+    def tick(self, number: int, lines: List[int]) -> None:
+        """A tick has come, before which each agent has sent so many lines."""
+        self.emit(events.Ticked(time.time(), number, tuple(lines)))
+
+    def last_tick(self) -> None:
+        """The last tick has passed: agents that have not left have a while to do so."""
+        self._last = time.monotonic()
+        self.relay.release()
+        self.control.phase = Phase.ENDING
+
+    def seconds_left(self) -> float:
+        """How long agents that have not left after the last tick are still waited for."""
+        return 0.0 if self.control.is_end_asked else max(
+            0.0, self._last + self.settings.linger - time.monotonic())
+
+    def _obey(self) -> None:
+        """Does what the host asks for."""
+        while self._lines:
+            order = self._lines.popleft().split()
+            if not order:
+                self.control.go_on()
+            elif order[0] != "without" or len(order) != 2 or not self.relay.waive(order[1]):
+                self.warn(HINT)
+
+
+class Serving(Protocol):
+    """A way of serving a game."""
+
+    def play(self, game: HostedGame) -> int:
+        """Plays a game whose agents are gathered, and gives the exit status of what answered them.
+
+        It leaves early if the game is stopped. The log is added to `game.log`.
+        """

@@ -1,0 +1,72 @@
+"""The links from outside: to agents, and to strangers that have no seat."""
+
+from __future__ import annotations
+
+import socket
+import time
+from typing import Optional
+
+from geesefuton.hosting.seats import Seat
+from geesefuton.records.dialects import MOST_LINE
+
+KEEPALIVE = {"TCP_KEEPIDLE": 5, "TCP_KEEPINTVL": 3, "TCP_KEEPCNT": 3}  # seconds, seconds, probes
+
+
+class OuterLink:
+    """A link from outside: a stranger until its first line, and then the link of a seat.
+
+    Attributes:
+        number: By which `Seats` knows it.
+        seat: The seat that it has, or waits for.
+        said: What it sent and was not passed on.
+        held: What is still to be sent to it.
+        owed: How many of its lines were passed on and are not answered.
+        has_ended: Whether it sends nothing more.
+        parting: When it is closed at the latest; None while it is in use.
+    """
+
+    def __init__(self, number: int, link: socket.socket, source: str) -> None:
+        self.number, self.socket, self.source = number, link, source
+        self.since = time.monotonic()
+        self.seat: Optional[Seat] = None
+        self.said, self.held = bytearray(), bytearray()
+        self.owed = 0
+        self.has_ended, self.is_open, self.wants = False, True, 0
+        self.parting: Optional[float] = None
+        self._is_skipping = False  # whether the rest of a line that is too long is coming
+        tune(link)
+
+    def feed(self, data: bytes) -> None:
+        """Keeps what came, of a line that is too long only the beginning."""
+        if self._is_skipping:
+            cut = data.find(b"\n")
+            if cut < 0:
+                return
+            data, self._is_skipping = data[cut:], False
+        self.said += data
+        length = len(self.said) - self.said.rfind(b"\n") - 1
+        if length > MOST_LINE + 1:
+            del self.said[MOST_LINE + 1 - length:]
+            self._is_skipping = True
+
+    def has_line(self) -> bool:
+        """Whether a whole line is there."""
+        return b"\n" in self.said
+
+    def take(self) -> bytes:
+        """Takes the first line away, without its end."""
+        cut = self.said.find(b"\n")
+        line = bytes(self.said[:cut])
+        del self.said[:cut + 1]
+        return line
+
+
+def tune(link: socket.socket) -> None:
+    """Sets up a link: nothing waits for it, small pieces are sent at once, and one whose machine
+    has gone is noticed after some ten seconds, where the system can do so."""
+    link.setblocking(False)
+    link.setsockopt(socket.IPPROTO_TCP, socket.TCP_NODELAY, 1)
+    link.setsockopt(socket.SOL_SOCKET, socket.SO_KEEPALIVE, 1)
+    for name, value in KEEPALIVE.items():
+        if hasattr(socket, name):
+            link.setsockopt(socket.IPPROTO_TCP, getattr(socket, name), value)

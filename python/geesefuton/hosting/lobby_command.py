@@ -1,0 +1,187 @@
+"""The command `lobby`: hosts a game for agents on other machines.
+
+Agents connect to the port as to the server. The lobby shows who is there and who is missing. Once
+all are there it starts the server on a port of its own, and passes lines on. An agent whose link
+ends may reconnect with its word, before the game and in it, and gets the welcome again; one that
+is missing when the game begins may come late. A while after the last tick the links that are left
+are ended, so that the log is written whatever an agent does.
+
+All that happens is written into a journal while it happens: however the game ends, `recover` makes
+a log of it. The log is written to standard output, and to a file beside the journal.
+
+The lobby reads commands from standard input: an empty line begins the game without those who are
+missing, and after the last tick ends it without those who have not left; `without WORD` does not
+wait for that one any longer. Errors are told in lines that begin with `!`. The exit status is that
+of the server, and 4 if standard output took no more.
+"""
+
+from __future__ import annotations
+
+import argparse
+import os
+import signal
+import sys
+import time
+from pathlib import Path
+from types import FrameType
+from typing import Optional
+
+from geesefuton.arguments import Parser, seconds, whole
+from geesefuton.hosting import log_files
+from geesefuton.hosting.control import Phase
+from geesefuton.hosting.lobby import Lobby, LobbyError
+from geesefuton.hosting.seats import SILENCE
+from geesefuton.hosting.settings import LobbySettings
+from geesefuton.hosting.teller import STOPPED, Teller
+from geesefuton.processes import command, tell, why
+from geesefuton.records.games import TICKS
+
+AGAIN = 5.0  # seconds within which a second ctrl-C stops the game
+
+
+def _arguments() -> argparse.Namespace:
+    parser = Parser("lobby", __doc__)
+    add = parser.add_argument
+    add("game", type=Path)
+    add("port", type=whole(1, 65535), help="the port for agents, 1 to 65535")
+    add("pace", type=whole(1, 60000), help="milliseconds from tick to tick, 1 to 60000")
+    add("form", nargs="?", choices=["json"], help="agents speak JSON objects in place of words")
+    add("--start", type=seconds, metavar="SECONDS",
+        help="begin after this time without those who are missing; they may come late; default: "
+             "wait for all")
+    add("--after", type=seconds, default=30.0, metavar="SECONDS",
+        help="how long after the last tick links are ended; 30")
+    add("--patience", type=seconds, default=30.0, metavar="SECONDS",
+        help="how long to wait for the first line of a link; 30")
+    add("--silence", type=seconds, default=SILENCE, metavar="SECONDS",
+        help="how long an agent's link says nothing before it gives way to another one with its "
+             f"word, if two ticks are no longer; {SILENCE:g}")
+    add("--journal", type=Path, metavar="FILE",
+        help="the journal, a new file; by default GAME-DATE.journal beside the log")
+    add("--page", type=whole(1, 65535), metavar="PORT",
+        help="show the game on a page at this port, for a projector")
+    add("--late", type=whole(0, TICKS), default=6, metavar="TICKS",
+        help="how many ticks later the page shows what agents cannot ask: scores, trades, standing "
+             "bids; 6, and 54 is after the game, 0 at once")
+    add("--names", action="store_true",
+        help="the page calls agents by their seat words, which are passwords")
+    return parser.parse_intermixed_args()  # `json` may stand after an option too
+
+
+def _open_standard_files() -> bool:
+    """Lets no other file get the numbers of the standard ones; whether there is an output."""
+    is_open = True
+    for number in range(3):
+        try:
+            os.fstat(number)
+        except OSError:
+            os.open(os.devnull, os.O_RDWR)
+            is_open = is_open and number != 1
+    return is_open
+
+
+def _output_folder() -> Path:
+    """The folder of the file that standard output goes to, if it is one and the system tells."""
+    try:
+        file = Path(os.readlink("/proc/self/fd/1"))
+        if file.is_file() and os.path.samestat(os.stat(file), os.fstat(1)):
+            return file.parent
+    except OSError:
+        pass
+    return Path()
+
+
+def _default_journal(game: Path, teller: Teller) -> Optional[Path]:
+    """A name for a journal, beside the log if that is a file, and else in this folder."""
+    name = f"{game.stem}-{time.strftime('%Y%m%d-%H%M%S')}.journal"
+    for folder in dict.fromkeys((_output_folder(), Path())):
+        file = log_files.free_name(folder / name)
+        try:
+            os.close(os.open(file, os.O_WRONLY | os.O_CREAT | os.O_EXCL, 0o600))
+            os.remove(file)
+            return file
+        except OSError as fault:
+            teller.say(f"no journal can be made: {file}: {why(fault)}")
+    return None
+
+
+class _Signals:
+    """What signals do. Before the game they end the lobby. In the game a first ctrl-C only warns,
+    and a terminal that closes does not end it. After the last tick ctrl-C says what is waited for,
+    and a second one ends that, with the log; and once the log is there it ends the page."""
+
+    def __init__(self, lobby: Lobby, teller: Teller) -> None:
+        self._lobby, self._teller = lobby, teller
+        self._asked = float("-inf")  # when ctrl-C was pressed in the game
+        self._is_ending = False  # whether the wait after the last tick was spoken of
+        self._is_ended = False  # whether it was to be ended
+        self.number = 0
+        for number in (signal.SIGINT, signal.SIGTERM, signal.SIGHUP):
+            if signal.getsignal(number) is not signal.SIG_IGN:
+                signal.signal(number, self._take)
+
+    def _take(self, number: int, _: Optional[FrameType]) -> None:
+        phase = self._lobby.phase
+        if phase in (Phase.PLAYING, Phase.ENDING) and number == signal.SIGHUP:
+            return
+        if phase is Phase.PLAYING and number == signal.SIGINT and self._is_first():
+            self._teller.say("ctrl-C: the game goes on; once more within five seconds, and it is "
+                             "stopped")
+        elif phase is Phase.ENDING and not self._is_ended:
+            self._end(number)
+        else:
+            self.number = number
+            self._lobby.interrupt()
+
+    def _is_first(self) -> bool:
+        """Whether no other ctrl-C came just before."""
+        if time.monotonic() - self._asked <= AGAIN:
+            return False
+        self._asked = time.monotonic()
+        return True
+
+    def _end(self, number: int) -> None:
+        """A signal after the last tick: the log is written whatever comes."""
+        if number == signal.SIGINT and not self._is_ending:
+            self._is_ending = True
+            left, words = self._lobby.waits_for()
+            self._teller.say(f"ctrl-C: waiting {left:.0f} s for {' '.join(words) or 'the server'}; "
+                             "Enter or ctrl-C ends now, with the log")
+            return
+        self._is_ended = True
+        self._lobby.end_links()
+
+
+def main() -> int:
+    """The command `lobby`."""
+    return command("lobby", _main)
+
+
+def _main() -> int:
+    has_output = _open_standard_files()
+    given = _arguments()
+    settings = LobbySettings(
+        game=given.game, port=given.port, pace=given.pace, form=given.form or "words",
+        log=sys.stdout.buffer if has_output and sys.stdout else None, start=given.start,
+        linger=given.after, patience=given.patience, silence=given.silence,
+        journal=given.journal, page=given.page, late=given.late, names=given.names,
+        orders=sys.stdin)
+    try:
+        lobby = Lobby(settings)
+        teller = Teller(lobby.words)
+        settings.journal = settings.journal or _default_journal(given.game, teller)
+        signals = _Signals(lobby, teller)
+        where = f"the journal is {settings.journal}" if settings.journal else "there is no journal"
+        teller.say(f"waiting at port {lobby.port} for {' '.join(lobby.words)}; {where}")
+        try:
+            status = lobby.run(teller.tell)
+        finally:
+            teller.close()
+    except LobbyError as fault:
+        tell(f"lobby: {fault}")
+        return 1
+    return 128 + signals.number if status == STOPPED and signals.number else status
+
+
+if __name__ == "__main__":
+    sys.exit(main())

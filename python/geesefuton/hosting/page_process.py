@@ -1,0 +1,72 @@
+"""The process of the live page that the lobby starts.
+
+It has a pipe for its standard input, and knows by the end of that pipe that the game is over, also
+if its journal has no end, as on a full disk.
+"""
+
+from __future__ import annotations
+
+import os
+import subprocess
+import sys
+import time
+from pathlib import Path
+from typing import List
+
+from geesefuton.hosting.control import Control
+from geesefuton.hosting.settings import LobbySettings
+from geesefuton.processes import Children
+
+LOOK = 0.1  # seconds between two looks at whether the page has ended
+
+
+class PageProcess:
+    """The live page of a game, a process of its own.
+
+    Args:
+        children: By which it is started.
+        settings: What the lobby was told.
+        journal: The file that it shows.
+    """
+
+    def __init__(self, children: Children, settings: LobbySettings, journal: Path) -> None:
+        path = [str(Path(__file__).resolve().parents[2]), os.environ.get("PYTHONPATH", "")]
+        self._process = children.start(
+            page_words(settings, journal), stdin=subprocess.PIPE, stdout=subprocess.DEVNULL,
+            env={**os.environ, "PYTHONPATH": os.pathsep.join(filter(None, path))})
+        self._children, self._is_told = children, False
+
+    def fault(self) -> str:
+        """What the host is to be told of a page that has ended, once; else ""."""
+        if self._is_told or self._process.poll() is None:
+            return ""
+        self._is_told = True
+        return (f"the page has ended, exit status {self._process.returncode}; "
+                "the game goes on without it")
+
+    def is_running(self) -> bool:
+        """Whether the process has not ended."""
+        return self._process.poll() is None
+
+    def close(self) -> None:
+        """The game is over: its standard input ends, by which it knows that no more will come."""
+        if self._process.stdin is not None:
+            self._process.stdin.close()
+
+    def end(self) -> None:
+        """Ends it, if it has not ended."""
+        self.close()
+        self._children.end(self._process)
+
+    def wait(self, limit: float, control: Control) -> None:
+        """Waits until it has ended, for some seconds at most, unless the host stops it."""
+        self.close()
+        deadline = time.monotonic() + limit
+        while self.is_running() and not control.is_stopped and time.monotonic() < deadline:
+            time.sleep(LOOK)
+
+
+def page_words(settings: LobbySettings, journal: Path) -> List[str]:
+    """The words that start the page."""
+    return [sys.executable, "-m", "geesefuton.hosting.live", str(journal), str(settings.page),
+            "--late", str(settings.late), "--until-over"] + ["--names"] * settings.names

@@ -1,0 +1,53 @@
+"""What a lobby is told of its game."""
+
+from __future__ import annotations
+
+from dataclasses import dataclass
+from pathlib import Path
+from typing import Optional, TextIO
+
+from geesefuton.hosting import log_files
+from geesefuton.hosting.seats import SILENCE
+
+
+@dataclass
+class LobbySettings:
+    """What a lobby is told of its game.
+
+    Attributes:
+        game: The game file.
+        port: The port for agents; 0 takes a free one, which `Lobby.port` says.
+        pace: The milliseconds from tick to tick, 1 to 60000.
+        log: Where the log goes; None if there is nowhere, which counts as an output that fails.
+        form: What agents speak, `words` or `json`.
+        start: The seconds until the game begins without those who are missing; None waits.
+        linger: The seconds after the last tick until the links that are left are ended.
+        patience: The seconds that a link has for its first line.
+        silence: The seconds without a word after which an agent's link gives way to another one
+            with its word, if two ticks are no longer.
+        journal: The journal, a new file. A copy of the log is written beside it.
+        page: The port of the live page; None for no page.
+        late: By how many ticks the page shows later what agents cannot ask.
+        names: Whether the page calls agents by their seat words, which are passwords.
+        orders: The host's commands.
+    """
+
+    game: Path
+    port: int
+    pace: int
+    log: log_files.Target
+    form: str = "words"
+    start: Optional[float] = None
+    linger: float = 30.0
+    patience: float = 30.0
+    silence: float = SILENCE
+    journal: Optional[Path] = None
+    page: Optional[int] = None
+    late: int = 6
+    names: bool = False
+    orders: Optional[TextIO] = None
+
+    def longest_silence(self) -> float:
+        """How many seconds an agent may say nothing and keep its seat from another link: agents
+        that act once a tick say nothing for a tick."""
+        return max(self.silence, 2 * self.pace / 1000)

@@ -1,0 +1,320 @@
+"""The start of the server, with strangers at its port, and the end of a game that is waited for."""
+
+import os
+import signal
+import socket
+import subprocess
+import sys
+import time
+import unittest
+from pathlib import Path
+from typing import Iterator
+from unittest import mock
+
+from geesefuton.hosting import events, server
+from geesefuton.hosting.control import Phase
+from geesefuton.hosting.events import End
+from geesefuton.hosting.listeners import listens
+from geesefuton.hosting.server import TRIES, fault_of_head, first_line
+from geesefuton.processes import free_port
+from tests.helpers import TOP, fake_program, python
+from tests.test_lobby import GAME, MOST, WORDS, Case, Host
+
+
+class Strangers(Case):
+    """Somebody else is at the server's port before the lobby."""
+
+    def setUp(self) -> None:
+        super().setUp()
+        self.patch(mock.patch.object(server, "WELCOMING", 0.7))
+
+    def patch(self, patch: "mock._patch[object]") -> None:
+        patch.start()
+        self.addCleanup(patch.stop)
+
+    def set(self, **variables: str) -> None:
+        self.patch(mock.patch.dict(os.environ, variables))
+
+    def stranger(self, said: str, name: str = "stranger") -> Path:
+        """A stranger comes before the lobby's links, and says something."""
+        file = self.folder / name
+        file.write_text(said)
+        self.set(FAKE_STRANGER=str(file))
+        return file
+
+    def check_game(self, host: Host) -> None:
+        """All agents play and leave."""
+        agents = self.agents(host, *WORDS)
+        for number, agent in enumerate(agents):
+            self.assertEqual(agent.welcome()[0], f"welcome {number}")
+            agent.quit()
+        host.hurry()
+        self.assertEqual(set(host.end().values()), {End.LEFT})
+        self.assertEqual(host.status, 0)
+
+    def test_a_silent_stranger_at_the_servers_port_costs_that_port_alone(self) -> None:
+        file = self.stranger("")
+        host = Host(self.folder, start=None, pace=1000)
+        self.check_game(host)
+        self.assertFalse(file.exists())
+        warned, = host.of(events.Warned)
+        self.assertRegex(warned.text, "has not started at its port .*stranger.*another port")
+
+    def test_a_stranger_with_a_seats_word_at_the_servers_port_does_not_get_the_seat(self) -> None:
+        file = self.stranger("hello seat3\n")
+        host = Host(self.folder, start=None, pace=1000)
+        self.check_game(host)
+        self.assertFalse(file.exists())
+        warned, = host.of(events.Warned)
+        self.assertRegex(warned.text, "asked for seat 3: the lobby was sent 'refused taken'")
+
+    def test_a_stranger_with_a_wrong_first_line_is_no_fault(self) -> None:
+        self.stranger("GET / HTTP/1.1\n")
+        host = Host(self.folder, start=None, pace=1000)
+        self.check_game(host)
+        self.assertEqual(host.of(events.Warned), [])
+
+    def test_strangers_at_every_port_end_the_start(self) -> None:
+        self.patch(mock.patch.object(server, "WELCOMING", 0.2))
+        self.stranger("hello seat0\n", "stays")
+        host = Host(self.folder, pace=5, start=0)
+        host.end()
+        self.assertEqual((host.status, host.of(events.Began)), (server.TAKEN, []))
+        self.assertEqual(len(host.of(events.Warned)), TRIES)
+        self.assertIn("no more ports are tried", host.of(events.Warned)[-1].text)
+
+    def test_somebody_elses_server_at_the_port_is_left_alone(self) -> None:
+        self.set(FAKE_LATE="0.3")  # so that the lobby finds the other one listening
+        with socket.create_server(("127.0.0.1", 0)) as other:
+            ports = iter([other.getsockname()[1]])
+            self.patch(mock.patch.object(
+                server, "free_port", side_effect=lambda: next(ports, None) or free_port()))
+            host = Host(self.folder, start=None, pace=1000)
+            self.check_game(host)
+            other.setblocking(False)
+            self.assertRaises(BlockingIOError, other.accept)
+        self.assertEqual(host.of(events.Warned), [])
+
+    def test_where_the_system_tells_nothing_nothing_is_said_to_somebody_elses_server(self) -> None:
+        self.set(FAKE_LATE="0.1")
+        self.patch(mock.patch.object(server, "SETTLING", 1.5))
+        self.patch(mock.patch.object(server, "listens", return_value=None))
+        with socket.create_server(("127.0.0.1", 0)) as other:
+            ports = iter([other.getsockname()[1]])
+            self.patch(mock.patch.object(
+                server, "free_port", side_effect=lambda: next(ports, None) or free_port()))
+            host = Host(self.folder, start=None, pace=1000)
+            self.check_game(host)
+            other.setblocking(False)
+            with other.accept()[0] as link:
+                self.assertEqual(link.recv(99), b"")
+            self.assertRaises(BlockingIOError, other.accept)
+
+    def test_a_server_that_listens_late_is_waited_for(self) -> None:
+        self.set(FAKE_LATE="0.8")
+        host = Host(self.folder, start=None, pace=1000)
+        self.check_game(host)
+        self.assertEqual(host.of(events.Warned), [])
+
+    def test_a_server_that_never_listens_is_given_up(self) -> None:
+        self.set(FAKE_LATE=str(MOST))
+        self.patch(mock.patch.object(server, "LISTENING", 0.2))
+        host = Host(self.folder, pace=5, start=0)
+        host.end()
+        self.assertEqual(host.status, server.TAKEN)
+        self.assertIn("did not listen within", host.of(events.Warned)[-1].text)
+
+    def test_the_head_of_the_log_has_to_seat_the_lobby(self) -> None:
+        seated = [f"link {seat} seated {seat}" for seat in range(8)]
+        self.set(FAKE_HEAD=",".join(["serve", *seated]))
+        host = Host(self.folder, pace=2, start=0, linger=0)
+        host.end()
+        self.assertEqual(host.of(events.Warned), [])
+        self.set(FAKE_HEAD=",".join(["serve", *seated[:3], "link 3 wrongword", *seated[5:]]))
+        host = Host(self.folder, pace=2, start=0, linger=0, journal=self.folder / "other.journal")
+        host.end()
+        warned, = host.of(events.Warned)
+        self.assertIn("did not have all eight seats of the server, but 0 1 2 5 6 7", warned.text)
+
+
+class Heads(unittest.TestCase):
+    def test_what_is_wrong_with_a_head(self) -> None:
+        def head(*lines: str) -> bytes:
+            return "\n".join(["taclog 1", "serve", *lines, "missed 0", "auction 0 54"]).encode()
+
+        seated = [f"link {number} seated {number}" for number in range(8)]
+        self.assertEqual(fault_of_head(head(*seated)), "")
+        self.assertEqual(fault_of_head(b"taclog 1\nfault links\n"), "")
+        self.assertEqual(fault_of_head(b""), "")
+        moved = [f"link {number + 1} seated {number}" for number in range(8)]
+        self.assertEqual(fault_of_head(head("link 0 lost", *moved)), "")
+        self.assertIn("but 1 0 2 3 4 5 6 7:", fault_of_head(
+            head("link 0 seated 1", "link 1 seated 0", *seated[2:])))
+        self.assertIn("but none:", fault_of_head(head()))
+
+    def test_a_first_line_is_not_taken_away(self) -> None:
+        ours, theirs = socket.socketpair()
+        with ours, theirs:
+            ours.setblocking(False)
+            self.assertIsNone(first_line(ours))
+            theirs.sendall(b"welcome")
+            self.assertIsNone(first_line(ours))
+            theirs.sendall(b" 3\nendow")
+            for _ in range(2):
+                self.assertEqual(first_line(ours), b"welcome 3")
+            self.assertEqual(ours.recv(99), b"welcome 3\nendow")
+            theirs.close()
+            self.assertRaises(ConnectionError, first_line, ours)
+
+
+class Listeners(unittest.TestCase):
+    """Whose a port is."""
+
+    def listening(self, number: int) -> None:
+        if listens(os.getpgrp(), number) is None:
+            self.skipTest("the system does not tell")
+
+    def test_ones_own_and_anothers(self) -> None:
+        with socket.create_server(("127.0.0.1", 0)) as own:
+            port = own.getsockname()[1]
+            self.listening(port)
+            self.assertTrue(listens(os.getpgrp(), port))
+            child = subprocess.Popen(["sleep", str(MOST)], start_new_session=True)
+            try:
+                self.assertFalse(listens(child.pid, port))
+            finally:
+                child.kill()
+                child.wait()
+        self.assertFalse(listens(os.getpgrp(), port))
+
+    def test_a_child_of_the_program_counts_as_the_program(self) -> None:
+        code = ("import subprocess, sys; subprocess.run([sys.executable, '-c', 'import socket; "
+                "other = socket.create_server((\"\", 0)); print(other.getsockname()[1], flush=True)"
+                "; import sys; sys.stdin.read()'])")
+        with subprocess.Popen(python(code), stdin=subprocess.PIPE, stdout=subprocess.PIPE,
+                              start_new_session=True) as child:
+            assert child.stdout is not None and child.stdin is not None
+            port = int(child.stdout.readline())
+            self.listening(port)
+            self.assertTrue(listens(child.pid, port))
+            self.assertFalse(listens(os.getpgrp(), port))
+            child.stdin.close()
+
+    def test_a_system_that_does_not_tell(self) -> None:
+        with mock.patch.object(Path, "read_text", side_effect=FileNotFoundError):
+            self.assertIsNone(listens(os.getpgrp(), 7000))
+        with socket.create_server(("127.0.0.1", 0)) as own:
+            self.listening(own.getsockname()[1])
+            with mock.patch("os.readlink", side_effect=PermissionError):
+                self.assertIsNone(listens(os.getpgrp(), own.getsockname()[1]))
+
+
+class Signals(Case):
+    """The command while the server starts, and after the last tick."""
+
+    def start(self, *more: str, pace: int = 15, **variables: str) -> "subprocess.Popen[bytes]":
+        words = [sys.executable, str(TOP / "tools/lobby"), str(GAME), str(free_port()), str(pace),
+                 "--start", "0", *more]
+        script = subprocess.Popen(
+            words, stdin=subprocess.PIPE, stdout=subprocess.PIPE, stderr=subprocess.PIPE,
+            cwd=self.folder, env={**os.environ, **variables})
+        self.addCleanup(script.kill)  # if the test fails
+        return script
+
+    def lines(self, script: "subprocess.Popen[bytes]") -> Iterator[str]:
+        """The lines that the host is told."""
+        assert script.stderr is not None
+        for line in script.stderr:
+            yield line.decode()
+        self.fail("it has ended")
+
+    def wait_for(self, script: "subprocess.Popen[bytes]", text: str) -> str:
+        return next(line for line in self.lines(script) if text in line)
+
+    def test_while_the_server_starts_a_signal_ends_it(self) -> None:
+        for number in (signal.SIGINT, signal.SIGTERM):
+            script = self.start(FAKE_LATE=str(MOST))
+            self.wait_for(script, "waiting at port")
+            time.sleep(0.5)  # the server is being started
+            script.send_signal(number)
+            told = script.communicate(timeout=MOST / 2)
+            self.assertEqual((script.returncode, told[0]), (128 + number, b""))
+            self.assertNotIn(b"Traceback", told[1])
+
+    def test_a_page_that_ends_while_agents_are_gathered_is_told_at_once(self) -> None:
+        words = [sys.executable, "-c", "raise SystemExit(7)"]
+        with mock.patch("geesefuton.hosting.page_process.page_words", return_value=words):
+            host = Host(self.folder, start=None, page=free_port())
+            warned, = host.wait(events.Warned)
+            self.assertIn("the page has ended, exit status 7", warned.text)
+            self.assertIs(host.lobby.phase, Phase.GATHERING)
+            host.lobby.interrupt()
+            host.end()
+
+    def agent(self, script: "subprocess.Popen[bytes]", port: int) -> socket.socket:
+        link = socket.create_connection(("localhost", port))
+        self.addCleanup(link.close)
+        link.sendall(b"hello seat0\n")
+        self.wait_for(script, "seat0 is here")
+        return link
+
+    def ending(self, *more: str) -> "subprocess.Popen[bytes]":
+        """A lobby that waits for seat0 after the last tick, and was told ctrl-C once."""
+        script = self.start("--after", str(MOST), *more, pace=20)
+        port = int(self.wait_for(script, "waiting at port").split(" at port ")[1].split(" ")[0])
+        self.agent(script, port)
+        self.wait_for(script, "tick 54")
+        script.send_signal(signal.SIGINT)
+        self.assertRegex(self.wait_for(script, "ctrl-C"),
+                         r"waiting (199|200) s for seat0; Enter or ctrl-C ends now")
+        return script
+
+    def check_end(self, script: "subprocess.Popen[bytes]") -> None:
+        told = script.communicate(timeout=MOST / 2)
+        self.assertEqual((script.returncode, told[0]), (0, b"taclog 1\nend\n"), told[1])
+
+    def test_enter_ends_what_is_waited_for_after_the_last_tick(self) -> None:
+        script = self.ending()
+        assert script.stdin is not None
+        script.stdin.write(b"\n")
+        script.stdin.flush()
+        self.check_end(script)
+
+    def test_a_second_ctrl_c_after_the_last_tick_leaves_the_log(self) -> None:
+        script = self.ending()
+        script.send_signal(signal.SIGINT)
+        self.check_end(script)
+
+    def test_the_wait_for_the_page_can_be_interrupted(self) -> None:
+        slow = [sys.executable, "-c", f"import time; time.sleep({MOST})"]
+        with mock.patch("geesefuton.hosting.page_process.page_words", return_value=slow):
+            host = Host(self.folder, pace=2, start=0, linger=0, page=free_port())
+            host.wait(events.Finished)
+            self.assertTrue(host.thread.is_alive())
+            host.lobby.interrupt()
+            host.thread.join(20.0)
+            self.assertFalse(host.thread.is_alive())
+        self.assertEqual(host.status, 0)
+
+    def test_ctrl_c_while_the_command_is_being_loaded_gives_no_traceback(self) -> None:
+        held = self.folder / "held"
+        held.mkdir()
+        (held / "argparse.py").write_text("import os, time\nos.write(2, b'loading\\n')\n"
+                                          f"time.sleep({MOST})\n")
+        script = self.start(PYTHONPATH=str(held))
+        self.wait_for(script, "loading")
+        script.send_signal(signal.SIGINT)
+        told = script.communicate(timeout=MOST / 2)
+        self.assertEqual((script.returncode, told), (-signal.SIGINT, (b"", b"")))
+
+    def test_ctrl_c_while_the_game_file_is_read_gives_no_traceback(self) -> None:
+        tac = fake_program(self.folder, f"echo reading >&2; exec sleep {MOST}")
+        script = self.start(TAC=tac)
+        self.wait_for(script, "reading")
+        script.send_signal(signal.SIGINT)
+        told = script.communicate(timeout=MOST / 2)
+        self.assertEqual((script.returncode, told), (130, (b"", b"")))
+
+
+if __name__ == "__main__":
+    unittest.main()
