@@ -75,7 +75,8 @@ class Host:
                                     "journal": folder / "my.journal", "linger": 0.3,
                                     "start": 0.5, "patience": 30, "silence": 0.4, **more}
         self.lobby = Lobby(LobbySettings(game=GAME, **settings))
-        self.port, self.told, self.status = self.lobby.port, [], None
+        self.port, self.told = self.lobby.port, list[Event]()
+        self.status: Optional[int] = None
         self.thread = threading.Thread(target=self.run, daemon=True)
         self.thread.start()
 
@@ -129,9 +130,9 @@ class BeforeTheGame(Case):
     def test_first_lines(self) -> None:
         host = Host(self.folder, start=None, patience=0.3)
         self.agents(host, "seat0")
-        for first, answer in ((b"hello seat0\n", "taken"), (b"hello seat9\n", "wrongword"),
-                              (b"hello seat1\r\n", "syntax"), (b"GET / HTTP/1.1\n\n", "syntax"),
-                              (b"x" * 600, "syntax"), (b"hello seat0\n" + b"y" * 99999, "taken")):
+        for first, answer in ((b"hello seat9\n", "wrongword"), (b"hello seat1\r\n", "syntax"),
+                              (b"GET / HTTP/1.1\n\n", "syntax"), (b"x" * 600, "syntax"),
+                              (b"hello seat9\n" + b"y" * 99999, "wrongword")):
             with self.subTest(first=first[:20]):
                 link = Agent(host.port, first=first)
                 self.assertEqual(link.line(), f"refused {answer}")
@@ -143,7 +144,7 @@ class BeforeTheGame(Case):
         host.lobby.interrupt()
         self.assertEqual((host.end(), host.status), ({}, 130))
         self.assertEqual([event.answer for event in host.of(events.Refused)],
-                         ["taken", "wrongword", "syntax", "syntax", "syntax", "taken"])
+                         ["wrongword", "syntax", "syntax", "syntax", "wrongword"])
 
     def test_links_that_say_nothing_do_not_keep_agents_out(self) -> None:
         host = Host(self.folder, start=None, pace=1000, patience=60)
@@ -155,7 +156,7 @@ class BeforeTheGame(Case):
         self.assertEqual([silent[0].line(), silent[1].line()], ["", ""])
         host.hurry()
         host.end()
-        self.assertTrue(any("have sent no line" in event.text for event in host.of(events.Warned)))
+        self.assertIn("200 links have sent no line", [event.why for event in host.of(events.Lost)])
 
     def test_one_that_goes_may_come_again(self) -> None:
         host = Host(self.folder, start=None, pace=1000)
@@ -171,6 +172,22 @@ class BeforeTheGame(Case):
         self.assertEqual(set(host.end().values()), {End.LEFT})
         self.assertEqual((host.status, len(host.of(events.Ended))), (0, 8))
         self.assertEqual(host.of(events.Began)[0].seats, tuple(range(8)))
+
+    def test_before_the_game_a_second_link_waits_for_the_end_of_the_first(self) -> None:
+        with mock.patch("geesefuton.hosting.seats.PROBED", 0.3):
+            host = Host(self.folder, start=None, pace=1000)
+            first = self.agents(host, "seat0")[0]
+            second = Agent(host.port, "seat0")
+            self.assertEqual(second.line(), "refused taken")  # the first is live
+            second.close()
+        third = Agent(host.port, "seat0")
+        first.close()
+        agents = [third, *self.agents(host, *WORDS[1:])]
+        for number, agent in enumerate(agents):
+            self.assertEqual(agent.welcome()[0], f"welcome {number}")
+            agent.quit()
+        host.hurry()
+        self.assertEqual(set(host.end().values()), {End.LEFT})
 
     def test_lines_before_the_game_are_asked_in_it(self) -> None:
         host = Host(self.folder, pace=1000)

@@ -14,7 +14,9 @@ from geesefuton.hosting import events
 from geesefuton.hosting.events import End, Event
 from geesefuton.hosting.journal import Journal
 from geesefuton.hosting.links import OuterLink
-from geesefuton.hosting.relay import MOST_HELD, MOST_SAID, MOST_STRANGERS, PARTING, Relay
+from geesefuton.hosting.relay import (MOST_HELD, MOST_SAID, MOST_STRANGERS, NEAR_MOST, PARTING,
+                                      UNREAD, Relay)
+from geesefuton.hosting.seats import Seat, State
 from geesefuton.hosting.sessions import ADMISSION, Session
 from geesefuton.records.dialects import MOST_LINE
 
@@ -375,6 +377,56 @@ class Ends(Case):
             word: End.ABSENT for word in WORDS[2:]}})
 
 
+class Faults(Case):
+    """A fault about one seat."""
+
+    def test_a_link_that_is_gone_is_no_fault_of_the_game(self) -> None:
+        second = self.connect(b"hello seat0\n")
+        self.turns()
+        self.relay._drop(self.relay._links[0])  # as if its end had been missed
+        self.relay.pass_time(time.monotonic() + MOST + 1)
+        self.turn_until(second, b"w\n" * ADMISSION)
+        third = self.connect(b"hello seat1\n")
+        self.turns()
+        heir = self.relay.seats.seats[1].heir
+        assert heir is not None
+        self.relay._drop(self.relay._links[heir])
+        self.relay.pass_time(time.monotonic() + MOST + 1)
+        self.assertTrue(self.has_ended(third))
+        self.assertIs(self.relay.seats.seats[1].state, State.FREE)
+        again = self.connect(b"hello seat1\n")
+        self.turn_until(again, b"w\n" * ADMISSION)
+
+    def test_the_server_ends_one_session_and_the_others_go_on(self) -> None:
+        self.servers[0].close()
+        self.turn_until_told(events.Ended)
+        self.assertTrue(self.has_ended(self.agents[0]))
+        second = self.connect(b"hello seat0\n")
+        self.turn_until(second, b"refused taken\n")
+        self.relay.pass_time(time.monotonic() + MOST + 1)
+        self.ask(1, b"own 1\n", b"@0 own 0 ()\n")
+        self.assertEqual(self.ends(), {"seat0": End.LEFT})
+        self.assertEqual(self.of(events.Warned), [])
+
+    def test_an_error_about_one_seat_is_not_anothers(self) -> None:
+        seconds = [self.connect(b"hello seat%d\n" % number) for number in range(2)]
+        self.turns()
+        give = Relay._give
+
+        def fails(relay: Relay, seat: Seat, *more: Any) -> None:
+            if seat.number == 0:
+                raise RuntimeError("a fault")
+            give(relay, seat, *more)
+
+        with mock.patch.object(Relay, "_give", fails):
+            self.relay.pass_time(time.monotonic() + MOST + 1)
+        self.turn_until(seconds[1], b"w\n" * ADMISSION)
+        self.assertIn("a fault", self.of(events.Warned)[0].text)
+        self.assertTrue(self.has_ended(seconds[0]))
+        third = self.connect(b"hello seat0\n")
+        self.turn_until(third, b"w\n" * ADMISSION)
+
+
 class Strangers(Case):
     """Links that have no seat."""
 
@@ -448,14 +500,14 @@ class Strangers(Case):
         self.assertFalse(self.has_ended(link))
         self.relay.pass_time(time.monotonic() + MOST + 1)
         self.assertTrue(self.has_ended(link))
-        event, = self.of(events.Warned)
-        self.assertIn(f"127.0.0.1 sent no line for {MOST:g} seconds", event.text)
+        event, = self.of(events.Lost)
+        self.assertEqual((event.source, event.why),
+                         ("127.0.0.1", f"it sent no line for {MOST:g} seconds"))
         self.assertFalse(self.has_ended(self.agents[0]))
 
     def test_one_that_goes_without_a_line_is_told(self) -> None:
         self.connect(b"hello").close()
-        self.assertIn("127.0.0.1 went away without a line",
-                      self.turn_until_told(events.Warned)[0].text)
+        self.assertEqual(self.turn_until_told(events.Lost)[0].why, "it ended without a line")
         self.assertEqual(self.of(events.Departed), [])
 
     def test_the_eldest_goes_if_there_are_too_many(self) -> None:
@@ -496,6 +548,34 @@ class Strangers(Case):
             idle, between, probes = (link.getsockopt(socket.IPPROTO_TCP, getattr(socket, name))
                                      for name in ("TCP_KEEPIDLE", "TCP_KEEPINTVL", "TCP_KEEPCNT"))
             self.assertTrue(8 <= idle + between * probes <= 15)
+
+    @unittest.skipUnless(hasattr(socket, "TCP_USER_TIMEOUT"), "the system has no such time")
+    def test_and_so_is_one_to_which_something_is_on_its_way(self) -> None:
+        link = self.relay._links[0].socket
+        self.assertTrue(8000 <= link.getsockopt(socket.IPPROTO_TCP, socket.TCP_USER_TIMEOUT)
+                        <= 15000)
+
+    def test_an_agent_that_does_not_read_is_told_of_in_the_game(self) -> None:
+        link = self.relay._links[0]
+        link.held += b"x" * (8 << 20)  # more than the system keeps
+        self.relay._watch(link)
+        self.turns()
+        self.relay.pass_time(time.monotonic() + UNREAD - 1)
+        self.assertEqual(self.of(events.Warned), [])
+        for _ in range(2):
+            self.relay.pass_time(time.monotonic() + UNREAD + 1)
+        event, = self.of(events.Warned)
+        self.assertIn("seat0 has not read what it was sent", event.text)
+
+    def test_a_seat_is_told_of_before_its_lines_are_used_up(self) -> None:
+        self.assertEqual(NEAR_MOST, 60000)
+        with mock.patch("geesefuton.hosting.relay.NEAR_MOST", 3):
+            for number in range(5):
+                self.ask(0, b"own %d\n" % number, b"@0 own 0 ()\n")
+                self.assertEqual(len(self.of(events.Warned)), int(number >= 2))
+            self.ask(1, b"own 5\n", b"@0 own 0 ()\n")
+        event, = self.of(events.Warned)
+        self.assertRegex(event.text, "seat0 has sent 3 lines; beyond 65,536 it is not answered")
 
 
 if __name__ == "__main__":

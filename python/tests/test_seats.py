@@ -4,7 +4,8 @@ import unittest
 from typing import Callable, Dict, List, Tuple
 
 from geesefuton.hosting.events import End
-from geesefuton.hosting.seats import Action, Close, Give, Over, Refuse, Seat, Seats, State
+from geesefuton.hosting.links import KEEPALIVE
+from geesefuton.hosting.seats import PROBED, Action, Close, Give, Over, Refuse, Seat, Seats, State
 
 FREE, WAIVED, HELD, CLOSING = State.FREE, State.WAIVED, State.HELD, State.CLOSING
 CLAIMED, OVER = State.CLAIMED, State.OVER
@@ -18,7 +19,8 @@ STAYS: List[Action] = []
 
 def seat_in(state: State, playing: bool) -> Seat:
     """A seat in a state, whose holder spoke at 100."""
-    seat = Seat(4, "violet", SILENCE, state, heard=100.0, played=playing, playing=playing)
+    seat = Seat(4, "violet", SILENCE, state, heard=100.0, claimed=100.0, played=playing,
+                playing=playing)
     if state in (HELD, CLOSING, CLAIMED):
         seat.holder = HOLDER
     if state is CLAIMED:
@@ -50,13 +52,18 @@ BEFORE: Dict[State, Dict[str, Outcome]] = {
     WAIVED: {"come soon": (HELD, [Give(OTHER, False)]), "come late": (HELD, [Give(OTHER, False)]),
              "begin": (OVER, [Over(End.ABSENT)]), "leave": (OVER, [Over(End.LEFT)]),
              "finish": (OVER, [Over(End.ABSENT)])},
-    HELD: {"come soon": (HELD, [Refuse(OTHER)]), "come late": (HELD, [Refuse(OTHER)]),
+    HELD: {"come soon": (CLAIMED, []), "come late": (CLAIMED, []),
            "stop": (CLOSING, []), "holder goes": (FREE, []), "leave": (OVER, [Over(End.LEFT)]),
            "finish": (OVER, [Close(HOLDER), Over(End.HUNG)])},
     CLOSING: {"come soon": (HELD, [Close(HOLDER), Give(OTHER, False)]),
               "come late": (HELD, [Close(HOLDER), Give(OTHER, False)]),
               "holder goes": (FREE, []), "leave": (OVER, [Over(End.LEFT)]),
               "finish": (OVER, [Close(HOLDER), Over(End.HUNG)])},
+    CLAIMED: {"come soon": (CLAIMED, [Refuse(OTHER)]), "come late": (CLAIMED, [Refuse(OTHER)]),
+              "speak": (HELD, [Refuse(HEIR)]), "stop": (HELD, [Close(HOLDER), Give(HEIR, False)]),
+              "holder goes": (HELD, [Give(HEIR, False)]), "heir goes": (HELD, []),
+              "leave": (OVER, [Refuse(HEIR), Over(End.LEFT)]),
+              "finish": (OVER, [Refuse(HEIR), Close(HOLDER), Over(End.HUNG)])},
     OVER: {"come soon": (OVER, [Refuse(OTHER)]), "come late": (OVER, [Refuse(OTHER)])},
 }
 
@@ -162,7 +169,25 @@ class Seating(unittest.TestCase):
     def test_a_new_seat_is_free_and_has_not_played(self) -> None:
         seat = Seat(0, "red")
         self.assertEqual(seat.come(HOLDER, SOON), [Give(HOLDER, False)])
-        self.assertEqual(seat.come(OTHER, SOON), [Refuse(OTHER)])
+
+    def test_before_the_game_a_link_that_is_gone_gives_way_and_one_that_is_live_does_not(
+            self) -> None:
+        seat = Seat(0, "red")
+        seat.come(HOLDER, 0.0)
+        self.assertEqual(seat.come(HEIR, LATE), [])
+        self.assertEqual(seat.wait(LATE + PROBED - 0.1), [])
+        self.assertEqual(seat.go(HOLDER, LATE + PROBED - 0.1), [Give(HEIR, False)])
+        self.assertEqual(seat.come(OTHER, 2 * LATE), [])
+        self.assertEqual(seat.wait(2 * LATE + PROBED), [Refuse(OTHER)])
+        self.assertEqual((seat.state, seat.holder, seat.heir), (HELD, HEIR, None))
+
+    def test_one_that_waits_when_the_game_begins_waits_by_the_rules_of_the_game(self) -> None:
+        seat = Seat(0, "red", SILENCE)
+        seat.come(HOLDER, 0.0)
+        seat.come(HEIR, LATE)
+        seat.begin(LATE + PROBED - 1)
+        self.assertEqual(seat.wait(LATE + PROBED + 1), [])
+        self.assertEqual(seat.wait(LATE + PROBED - 1 + SILENCE), [Close(HOLDER), Give(HEIR, True)])
 
     def test_a_link_gives_way_after_ten_seconds_unless_told_otherwise(self) -> None:
         for seat, silence in ((Seat(0, "red"), 10), (Seats(["red"]).seats[0], 10),
@@ -179,6 +204,12 @@ class Seating(unittest.TestCase):
         seat.go(HOLDER, SOON)
         seat.begin(SOON)
         self.assertEqual(seat.release(), [Over(End.ABSENT)])
+
+
+class Probing(unittest.TestCase):
+    def test_a_link_that_is_gone_has_ended_before_its_heir_is_refused(self) -> None:
+        idle, between, probes = KEEPALIVE.values()
+        self.assertLess(idle + between * probes, PROBED)
 
 
 class Admission(unittest.TestCase):

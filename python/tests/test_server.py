@@ -8,7 +8,7 @@ import sys
 import time
 import unittest
 from pathlib import Path
-from typing import Iterator
+from typing import Any, Iterator
 from unittest import mock
 
 from geesefuton.hosting import events, server
@@ -28,7 +28,7 @@ class Strangers(Case):
         super().setUp()
         self.patch(mock.patch.object(server, "WELCOMING", 0.7))
 
-    def patch(self, patch: "mock._patch[object]") -> None:
+    def patch(self, patch: Any) -> None:
         patch.start()
         self.addCleanup(patch.stop)
 

@@ -2,6 +2,7 @@
 
 import re
 import threading
+import time
 import unittest
 from datetime import datetime
 from typing import List, Sequence
@@ -45,9 +46,9 @@ class Texts(unittest.TestCase):
             events.Ended(0.0, 1, "seat1", End.HUNG, 17), events.Finished(0.0, 130, None),
             events.Finished(0.0, 6, "my.log")), [
             "seat1 is here from 10.0.0.7; missing: seat0 seat2 seat3 seat4 seat5 seat6 seat7",
-            "seat1 went away, and may come again",
+            "seat1 went away, and may reconnect",
             "seat3 is here from 10.0.0.6; missing: seat0 seat1 seat2 seat4 seat5 seat6 seat7",
-            "seat1 is here again, from 10.0.0.8",
+            "seat1 is back, from 10.0.0.8",
             "seat4 is here from 10.0.0.5; missing: seat0 seat2 seat5 seat6 seat7",
             "seat2 is not waited for",
             "the game begins without seat0 seat2 seat3 seat4 seat5 seat6 seat7",
@@ -67,7 +68,7 @@ class Texts(unittest.TestCase):
         told = texts_of(*(events.Ended(0.0, 2, "seat2", reason, 3) for reason in End))
         self.assertEqual(dict(zip(End, told)), {
             End.LEFT: "seat2 has left, 3 lines",
-            End.GONE: "seat2 went away and did not come again, 3 lines",
+            End.GONE: "seat2 went away and did not reconnect, 3 lines",
             End.HUNG: "seat2 still had its link long after the last tick, 3 lines",
             End.ABSENT: "seat2 never came, 3 lines",
             End.REFUSED: "seat2 sent only lines that were refused, 3 lines"})
@@ -85,22 +86,51 @@ class Texts(unittest.TestCase):
         self.assertEqual(texts_of(events.Finished(0.0, 137, "l")),
                          ["the game is over, exit status 137; the log is in l"])
 
-    def test_the_same_refusal_is_told_once_in_ten_seconds(self) -> None:
+    def test_refusals_are_told_once_in_ten_seconds_for_each_address(self) -> None:
         def refused(at: float, source: str = "h", answer: str = "taken") -> events.Refused:
             return events.Refused(at, source, answer, "hello seat1")
 
-        told = parts_of(refused(20), refused(25), refused(26, "i"), refused(27, "h", "syntax"),
-                        refused(29.9), refused(30), refused(31, "k"), refused(39))
-        self.assertEqual([text for _, _, text in told], [
+        told = texts_of(refused(20), refused(25), refused(26, "i"), refused(27, "h", "syntax"),
+                        refused(29.9), refused(30), events.Lost(31, "k", "it sent no line"),
+                        refused(39), events.Lost(45, "i", "it ended without a line"))
+        self.assertEqual(told, [
             "refused taken to h, which said 'hello seat1'",
             "refused taken to i, which said 'hello seat1'",
-            "refused syntax to h, which said 'hello seat1'",
-            "refused taken to h, which said 'hello seat1'",
-            "refused taken to k, which said 'hello seat1'"])
+            "3 more links from h took no seat, the last: refused taken to h, which said "
+            "'hello seat1'",
+            "a link from k is gone: it sent no line",
+            "2 more links from h took no seat, the last: refused taken to h, which said "
+            "'hello seat1'",
+            "a link from i is gone: it ended without a line"])
+
+    def test_a_flood_of_guesses_and_connects_is_a_few_lines(self) -> None:
+        flood: List[Event] = []
+        for number in range(2000):
+            flood.append(events.Refused(number / 100, "h", "wrongword", f"hello word{number}"))
+            flood.append(events.Lost(number / 100, "h", "it ended without a line"))
+            flood.append(events.Lost(number / 100, f"10.0.{number % 250}.{number // 250}", "none"))
+        told = texts_of(*flood)
+        self.assertLess(len(told), 200)
+        self.assertRegex("\n".join(told), "[0-9]{3} more links from other addresses took no seat")
+
+    def test_what_is_counted_is_told_though_nothing_more_happens(self) -> None:
+        told: List[str] = []
+        came = threading.Event()
+        with mock.patch("geesefuton.hosting.teller.tell", told.append), \
+                mock.patch("geesefuton.hosting.teller.LOOK", 0.01):
+            teller = Teller(WORDS)
+            for at in (time.time() - 20.0, time.time() - 19.0):
+                teller.tell(events.Lost(at, "h", "it sent no line"))
+            deadline = time.monotonic() + 60.0
+            while len(told) < 2 and time.monotonic() < deadline:
+                came.wait(0.01)
+            self.assertEqual(len(told), 2)
+            teller.close()
 
     def test_only_faults_are_marked_and_each_line_has_its_time(self) -> None:
         at = 1_700_000_000.0
         faults = [events.Departed(at, 1, "seat1"), events.Refused(at, "h", "taken", "x"),
+                  events.Lost(at, "i", "it sent no line"),
                   events.Warned(at, "mind")]
         others = [events.Arrived(at, 1, "seat1", "h"), events.Rejoined(at, 1, "seat1", "h"),
                   events.Waived(at, "seat1"), events.Began(at, ()), events.Ticked(at, 6, (0,) * 8),

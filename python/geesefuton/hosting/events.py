@@ -47,6 +47,15 @@ class Refused:
 
 
 @dataclass(frozen=True)
+class Lost:
+    """A link that sent no line is gone."""
+
+    at: float
+    source: str
+    why: str
+
+
+@dataclass(frozen=True)
 class Waived:
     """The host does not wait for an agent any longer."""
 
@@ -110,5 +119,5 @@ class Warned:
 
 
 Event = Union[
-    Arrived, Departed, Refused, Waived, Began, Ticked, Rejoined, Ended, Finished, Warned
+    Arrived, Departed, Refused, Lost, Waived, Began, Ticked, Rejoined, Ended, Finished, Warned
 ]

@@ -1,4 +1,8 @@
-"""The links from outside: to agents, and to strangers that have no seat."""
+"""The links from outside: to agents, and to strangers that have no seat.
+
+A link is *parting* once it was sent its last line: it has a moment to end its side, and is closed
+then. Lines of it that were passed on to the server and have no reply yet are *owed* to it.
+"""
 
 from __future__ import annotations
 
@@ -10,6 +14,7 @@ from geesefuton.hosting.seats import Seat
 from geesefuton.records.dialects import MOST_LINE
 
 KEEPALIVE = {"TCP_KEEPIDLE": 5, "TCP_KEEPINTVL": 3, "TCP_KEEPCNT": 3}  # seconds, seconds, probes
+UNACKNOWLEDGED = 14_000  # milliseconds, the same time for a link with something on its way
 
 
 class OuterLink:
@@ -21,6 +26,8 @@ class OuterLink:
         said: What it sent and was not passed on.
         held: What is still to be sent to it.
         owed: How many of its lines were passed on and are not answered.
+        stuck: Since when it takes nothing of what is held; None while nothing is held back.
+        is_told: Whether the host was told so.
         has_ended: Whether it sends nothing more.
         parting: When it is closed at the latest; None while it is in use.
     """
@@ -33,6 +40,8 @@ class OuterLink:
         self.owed = 0
         self.has_ended, self.is_open, self.wants = False, True, 0
         self.parting: Optional[float] = None
+        self.stuck: Optional[float] = None
+        self.is_told = False
         self._is_skipping = False  # whether the rest of a line that is too long is coming
         tune(link)
 
@@ -49,9 +58,26 @@ class OuterLink:
             del self.said[MOST_LINE + 1 - length:]
             self._is_skipping = True
 
+    def is_stranger(self) -> bool:
+        """Whether it has not sent a first line."""
+        return self.seat is None and self.parting is None
+
     def has_line(self) -> bool:
         """Whether a whole line is there."""
         return b"\n" in self.said
+
+    def send(self) -> None:
+        """Sends what is held, as far as it is taken.
+
+        Raises:
+            OSError: The link has failed.
+        """
+        try:
+            while self.held:
+                del self.held[:self.socket.send(self.held)]
+                self.stuck = None
+        except BlockingIOError:
+            self.stuck = self.stuck or time.monotonic()
 
     def take(self) -> bytes:
         """Takes the first line away, without its end."""
@@ -63,10 +89,13 @@ class OuterLink:
 
 def tune(link: socket.socket) -> None:
     """Sets up a link: nothing waits for it, small pieces are sent at once, and one whose machine
-    has gone is noticed after some ten seconds, where the system can do so."""
+    has gone is noticed after some ten seconds, where the system can do so. There a link that takes
+    nothing of what it is sent for as long is ended, too."""
     link.setblocking(False)
     link.setsockopt(socket.IPPROTO_TCP, socket.TCP_NODELAY, 1)
     link.setsockopt(socket.SOL_SOCKET, socket.SO_KEEPALIVE, 1)
     for name, value in KEEPALIVE.items():
         if hasattr(socket, name):
             link.setsockopt(socket.IPPROTO_TCP, getattr(socket, name), value)
+    if hasattr(socket, "TCP_USER_TIMEOUT"):
+        link.setsockopt(socket.IPPROTO_TCP, socket.TCP_USER_TIMEOUT, UNACKNOWLEDGED)

@@ -14,7 +14,7 @@ import itertools
 import selectors
 import socket
 import time
-from typing import Any, Callable, Dict, Optional, Sequence
+from typing import Any, Callable, Dict, Optional, Sequence, Union
 
 from geesefuton.hosting import events
 from geesefuton.hosting.events import End, Event
@@ -27,6 +27,9 @@ from geesefuton.records.dialects import MOST_LINE, is_bye, is_refusal
 MOST_SAID = 65536  # bytes of an agent's lines that are kept; it is not read while there are more
 MOST_HELD = 65536  # bytes for an agent that does not read; nothing is asked for it beyond these
 MOST_STRANGERS = 200  # links that have not sent a first line
+MOST_LINES = 65536  # of a seat that the server answers
+NEAR_MOST = 60000  # lines of a seat of which the host is told
+UNREAD = 5.0  # seconds after which the host is told of an agent that does not read
 PARTING = 1.0  # seconds that a link has to end its side after it was sent its last line
 
 
@@ -99,17 +102,15 @@ class Relay:
             self.attend(self._listener, self._accept)
         for seat in self.seats.seats:
             self._do(seat, seat.wait(now))
-        silent = []
         for link in list(self._links.values()):
             if link.parting is not None and now > link.parting:
                 self._drop(link)
-            elif link.seat is None and link.parting is None and now - link.since > self._patience:
-                silent.append(link.source)
-                self._drop(link)
-        if silent:
-            sources = " ".join(sorted(set(silent)))
-            self._warn(f"{len(silent)} of the links from {sources} sent no line for "
-                       f"{self._patience:g} seconds, and are let go")
+            elif link.is_stranger() and now - link.since > self._patience:
+                self._lose(link, f"it sent no line for {self._patience:g} seconds")
+            elif link.seat and link.stuck and now - link.stuck > UNREAD and not link.is_told:
+                link.is_told = True
+                self._warn(f"{link.seat.word} has not read what it was sent for {UNREAD:g} seconds;"
+                           " nothing more is asked for it until it does")
         self._deliver()
 
     def _watch(self, link: OuterLink | Session) -> None:
@@ -144,11 +145,9 @@ class Relay:
             self.forget(self._listener)
             self._deaf_until = time.monotonic() + 0.5
             return None
-        strangers = [other for other in self._links.values()
-                     if other.seat is None and other.parting is None]
+        strangers = [other for other in self._links.values() if other.is_stranger()]
         if len(strangers) >= MOST_STRANGERS:
-            self._warn(f"{strangers[0].source} is let go: {MOST_STRANGERS} links have sent no line")
-            self._drop(strangers[0])
+            self._lose(strangers[0], f"{MOST_STRANGERS} links have sent no line")
         try:
             guest = OuterLink(next(self._numbers), link, str(where[0]).removeprefix("::ffff:"))
         except OSError:  # it has gone already
@@ -205,8 +204,7 @@ class Relay:
         if link.parting is not None:
             return self._watch(link) if link.held else self._drop(link)
         if seat is None:
-            self._warn(f"{link.source} went away without a line")
-            return self._drop(link)
+            return self._lose(link, "it ended without a line")
         if seat.holder == link.number and (link.has_line() or link.owed or link.held):
             self._do(seat, seat.stop(time.monotonic()))
             return self._watch(link)
@@ -240,13 +238,20 @@ class Relay:
             del self._links[link.number]
             self._due.pop(link.number, None)
 
+    def _lose(self, link: OuterLink, why: str) -> None:
+        """Closes a link that sent no line."""
+        self._emit(events.Lost(time.time(), link.source, why))
+        self._drop(link)
+
     def _part(self, link: OuterLink, last: bytes = b"") -> None:
         """Sends a link what it still gets, and closes it once it has ended its side."""
         if link.is_open and link.parting is None:
             link.parting = time.monotonic() + PARTING
-            link.seat = None
+            seat, link.seat = link.seat, None
             link.said.clear()
             self._owe(link, last)
+            if seat is not None:
+                self._do(seat, seat.go(link.number, time.monotonic()))
 
     def _refuse(self, link: OuterLink, answer: str, line: bytes) -> None:
         text = line[:40].decode("ascii", "replace")
@@ -254,16 +259,30 @@ class Relay:
         self._part(link, f"refused {answer}\n".encode("ascii"))
 
     def _do(self, seat: Seat, actions: Sequence[Action]) -> None:
-        """Does what a seat asks for."""
+        """Does what a seat asks for. A fault costs the link that it is about, and no other seat."""
         for action in actions:
-            if isinstance(action, Give):
-                self._give(seat, self._links[action.link], action.again)
-            elif isinstance(action, Refuse):
-                self._refuse(self._links[action.link], "taken", f"hello {seat.word}".encode())
-            elif isinstance(action, Close):
-                self._drop(self._links[action.link])
-            elif isinstance(action, Over):
+            if isinstance(action, Over):
                 self._finish_seat(seat, action.reason)
+                continue
+            link = self._links.get(action.link)
+            try:
+                if link is not None:
+                    self._act(seat, action, link)
+                elif isinstance(action, Give):  # it has gone meanwhile
+                    self._do(seat, seat.go(action.link, time.monotonic()))
+            except Exception as fault:
+                self._warn(f"a link of {seat.word} is ended after an error: {fault!r}")
+                if link is not None:
+                    self._fail(link)
+
+    def _act(self, seat: Seat, action: Union[Give, Refuse, Close], link: OuterLink) -> None:
+        """Does what a seat asks for a link."""
+        if isinstance(action, Give):
+            self._give(seat, link, action.again)
+        elif isinstance(action, Refuse):
+            self._refuse(link, "taken", f"hello {seat.word}".encode())
+        else:
+            self._drop(link)
 
     def _give(self, seat: Seat, link: OuterLink, again: bool) -> None:
         if self.journal:
@@ -290,17 +309,17 @@ class Relay:
                 self.journal.flush()
             due, self._due = self._due, {}
             for link in due.values():
-                if link.is_open:
+                try:
                     self._write(link)
+                except Exception as fault:
+                    self._warn(f"a link is ended after an error: {fault!r}")
+                    self._fail(link)
 
     def _write(self, link: OuterLink | Session) -> None:
         if isinstance(link, OuterLink) and not link.is_open:
             return None
         try:
-            while link.held:
-                del link.held[:link.socket.send(link.held)]
-        except BlockingIOError:
-            pass
+            link.send()
         except OSError:
             return self._fail(link)
         if isinstance(link, OuterLink) and not link.held:
@@ -362,7 +381,7 @@ class Relay:
     def settle(self) -> None:
         """The server has ended: what is left of seats and links is over."""
         for seat in self.seats.seats:
-            self._do(seat, seat.finish() if seat.holder is None else seat.leave())
+            self._do(seat, seat.finish() if self._holder(seat) is None else seat.leave())
         self.finish()
 
     def is_done(self) -> bool:
@@ -391,6 +410,10 @@ class Relay:
         if self.journal:
             self.journal.request(seat.number, line)
         session.asked.append(link)
+        session.passed += 1
+        if session.passed == NEAR_MOST:
+            self._warn(f"{seat.word} has sent {NEAR_MOST:,} lines; beyond {MOST_LINES:,} it is not "
+                       "answered")
         link.owed += 1
         session.held += line + b"\n"
         self._write(session)
@@ -458,7 +481,8 @@ class Relay:
         session.has_ended = True
         session.held.clear()
         self._watch(session)
-        link = self._holder(session.seat)
+        seat, link = session.seat, self._holder(session.seat)
+        self._do(seat, seat.finish() if link is None else seat.leave())
         if link is not None:
             self._part(link)
 

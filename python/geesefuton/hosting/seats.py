@@ -1,13 +1,17 @@
-"""Who may have which seat: admission, coming again, and the end of a seat, without sockets.
+"""Who may have which seat: admission, reconnecting, and the end of a seat, without sockets.
 
-A link is known by a number. Each thing that happens to a seat is a method, which gives back what
-is to be done about it; `Seat` is a small machine whose states are those of `State`.
+A *seat* is one of the eight places of a game, taken by its word; a link has it, or none. An *heir*
+is a second link with the word of a seat that a link has: it waits until that one is known to be
+live, or gone. A link is known by a number. Each thing that happens to a seat is a method, which
+gives back what is to be done about it; `Seat` is a small machine whose states are those of `State`.
 
 Before the game an agent whose link ends leaves its seat free. In the game its session at the
-server is kept, so the agent may come again with the same word until the last tick, and a seat
-whose agent never came waits for it. A link that has gone silent without an end, as when a machine
-loses its network, cannot be told from one that thinks. So a second link with its word waits: if
-the first one speaks, the second is refused, and if not, it takes the seat.
+server is kept, so the agent may reconnect with the same word until the last tick, and a seat whose
+agent never came waits for it. A link that has gone silent without an end, as when a machine loses
+its network, cannot be told from one that thinks. So a second link with its word becomes the heir.
+If the first one speaks, the heir is refused. If it says nothing for long in the game, the heir
+takes the seat. Before the game nothing has to be said: there the heir takes the seat only once the
+first link has ended, as one does whose machine is gone, and otherwise is refused after a while.
 """
 
 from __future__ import annotations
@@ -20,6 +24,8 @@ from typing import List, Optional, Sequence, Tuple, Union
 from geesefuton.hosting.events import End
 
 SILENCE = 10.0  # seconds without a word after which a link gives way to another with its word
+
+PROBED = 16.0  # seconds in which a link ends whose machine is gone, as the system probes it
 
 GREETING = re.compile(rb"hello ([a-z0-9]{1,16})")
 
@@ -75,7 +81,7 @@ class Seat:
         silence: The seconds without a word after which its link gives way to another.
         holder: The link that has it.
         heir: A link that waits for it.
-        heard: When the holder spoke last, in seconds.
+        heard: When the holder spoke last, in seconds, and `claimed` when the heir came.
         played: Whether an agent had it in the game.
         playing: Whether the game has begun.
         kept: Whether it waits for its agent while no link has it.
@@ -88,6 +94,7 @@ class Seat:
     holder: Optional[int] = None
     heir: Optional[int] = None
     heard: float = 0.0
+    claimed: float = 0.0
     played: bool = False
     playing: bool = False
     kept: bool = True
@@ -98,10 +105,10 @@ class Seat:
             return self._give(link, now)
         if self.state is State.CLOSING:
             return self._replace(link, now)
-        if self.state is State.HELD and self.playing:
-            if now - self.heard >= self.silence:
+        if self.state is State.HELD:
+            if self.playing and now - self.heard >= self.silence:
                 return self._replace(link, now)
-            self.state, self.heir = State.CLAIMED, link
+            self.state, self.heir, self.claimed = State.CLAIMED, link, now
             return []
         return [Refuse(link)]
 
@@ -138,8 +145,12 @@ class Seat:
 
     def wait(self, now: float) -> List[Action]:
         """Time passes."""
-        if self.state is State.CLAIMED and now - self.heard >= self.silence:
+        if self.state is not State.CLAIMED:
+            return []
+        if self.playing and now - self.heard >= self.silence:
             return self._replace(self.heir, now)
+        if not self.playing and now - self.claimed >= PROBED:
+            return self._refuse_heir()  # the holder's machine has answered all the while
         return []
 
     def waive(self) -> List[Action]:

@@ -19,7 +19,7 @@ class Session:
     Attributes:
         welcome: The lines of the welcome that have come.
         asked: The links whose lines were passed on and are not answered.
-        lines: How many lines agents have sent for it.
+        lines: How many lines agents have sent for it, and `passed` how many were passed on.
         answered: How many replies came, and `refused` how many of them refuse a line.
     """
 
@@ -28,7 +28,7 @@ class Session:
         self.welcome: List[bytes] = []
         self.asked: Deque[OuterLink] = deque()
         self.held = bytearray()
-        self.lines = self.answered = self.refused = 0
+        self.lines = self.passed = self.answered = self.refused = 0
         self.has_ended, self.wants = False, 0
         self._tail = b""
         link.setblocking(False)
@@ -41,3 +41,15 @@ class Session:
     def reason(self, reason: End) -> End:
         """The reason of its end, in view of what was answered."""
         return End.REFUSED if self.refused and self.refused == self.answered else reason
+
+    def send(self) -> None:
+        """Sends what is held, as far as it is taken.
+
+        Raises:
+            OSError: The link has failed.
+        """
+        try:
+            while self.held:
+                del self.held[:self.socket.send(self.held)]
+        except BlockingIOError:
+            pass

@@ -5,15 +5,16 @@ from __future__ import annotations
 import queue
 import threading
 import time
-from typing import Dict, List, Optional, Sequence, Set
+from typing import List, Optional, Sequence, Set
 
 from geesefuton import program
 from geesefuton.hosting import events
 from geesefuton.hosting.events import End, Event
+from geesefuton.hosting.refusals import AGAIN, Refusals
 from geesefuton.processes import tell
 from geesefuton.records.games import TICKS
 
-AGAIN = 10.0  # seconds in which the same refusal is told once
+LOOK = 1.0  # seconds between two looks at refusals that are still to be told
 STOPPED = 130  # the exit status of a game that was ended before its time
 
 
@@ -24,7 +25,7 @@ class Teller:
     def __init__(self, words: Sequence[str]) -> None:
         self._words = list(words)
         self._here: Set[str] = set()
-        self._refused: Dict[str, float] = {}  # when a refusal was told
+        self._refusals = Refusals()
         self._lines: "queue.SimpleQueue[Optional[str]]" = queue.SimpleQueue()
         self._thread = threading.Thread(target=self._write, daemon=True)
         self._thread.start()
@@ -32,9 +33,7 @@ class Teller:
     def tell(self, event: Event) -> None:
         """Tells an event."""
         for text in self._texts(event):
-            clock = time.strftime("%H:%M:%S", time.localtime(event.at))
-            is_fault = isinstance(event, (events.Refused, events.Warned, events.Departed))
-            self._lines.put(f"{'! ' if is_fault else ''}{clock} {text}")
+            self._put(event.at, text, isinstance(event, FAULTS))
 
     def say(self, text: str) -> None:
         """Tells a text."""
@@ -42,11 +41,27 @@ class Teller:
 
     def close(self) -> None:
         """Waits a little until all is told."""
+        self._tell_refusals(time.time() + AGAIN)
         self._lines.put(None)
         self._thread.join(2.0)
 
+    def _put(self, at: float, text: str, is_fault: bool) -> None:
+        clock = time.strftime("%H:%M:%S", time.localtime(at))
+        self._lines.put(f"{'! ' if is_fault else ''}{clock} {text}")
+
+    def _tell_refusals(self, at: float) -> None:
+        for text in self._refusals.due(at):
+            self._put(min(at, time.time()), text, is_fault=True)
+
     def _write(self) -> None:
-        for line in iter(self._lines.get, None):
+        while True:
+            try:
+                line = self._lines.get(timeout=LOOK)
+            except queue.Empty:
+                self._tell_refusals(time.time())
+                continue
+            if line is None:
+                return
             tell(line)
 
     def _texts(self, event: Event) -> List[str]:
@@ -57,16 +72,16 @@ class Teller:
                     f"missing: {' '.join(missing) or 'nobody'}"]
         if isinstance(event, events.Rejoined):
             self._here.add(event.word)
-            return [f"{event.word} is here again, from {event.source}"]
+            return [f"{event.word} is back, from {event.source}"]
         if isinstance(event, events.Departed):
             self._here.discard(event.word)
-            return [f"{event.word} went away, and may come again"]
+            return [f"{event.word} went away, and may reconnect"]
         if isinstance(event, events.Refused):
-            text = f"refused {event.answer} to {event.source}, which said {event.line!r}"
-            if event.at - self._refused.get(text, 0.0) < AGAIN:
-                return []
-            self._refused[text] = event.at
-            return [text]
+            return self._refused(event.at, event.source, f"refused {event.answer} to "
+                                 f"{event.source}, which said {event.line!r}")
+        if isinstance(event, events.Lost):
+            return self._refused(event.at, event.source,
+                                 f"a link from {event.source} is gone: {event.why}")
         if isinstance(event, events.Waived):
             return [f"{event.word} is not waited for"]
         if isinstance(event, events.Began):
@@ -88,10 +103,17 @@ class Teller:
             return [f"the game is over, exit status {event.status}{more}{log}"]
         return [event.text]
 
+    def _refused(self, at: float, source: str, text: str) -> List[str]:
+        """What is to be told now of a link that took no seat, and of those before it."""
+        told = self._refusals.due(at)
+        now = self._refusals.add(at, source, text)
+        return told if now is None else [*told, now]
 
+
+FAULTS = (events.Refused, events.Lost, events.Warned, events.Departed)
 ENDS = {
     End.LEFT: "has left",
-    End.GONE: "went away and did not come again",
+    End.GONE: "went away and did not reconnect",
     End.HUNG: "still had its link long after the last tick",
     End.ABSENT: "never came",
     End.REFUSED: "sent only lines that were refused",
