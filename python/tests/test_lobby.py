@@ -295,6 +295,21 @@ class InTheGame(Case):
                           if event.word == "seat1"], [2])
         self.assertEqual(self.asked()[1:], ["1 hey", "1 " + "z" * 513])
 
+    @unittest.skipUnless(hasattr(socket, "TCP_USER_TIMEOUT"), "the system has no such time")
+    def test_one_that_reads_nothing_for_long_loses_its_link_and_may_reconnect(self) -> None:
+        with mock.patch("geesefuton.hosting.links.UNACKNOWLEDGED", 300):
+            host = Host(self.folder, start=0.2, pace=1000)
+            deaf = self.agents(host, "seat0")[0]
+            deaf.socket.setsockopt(socket.SOL_SOCKET, socket.SO_RCVBUF, 2048)
+            deaf.send(b"own 1\n" * 1000)
+            host.wait(events.Departed)
+        again = Agent(host.port, "seat0")
+        self.assertEqual(again.welcome()[0], "welcome 0")
+        again.quit()
+        host.hurry()
+        self.assertEqual(host.end()["seat0"], End.LEFT)
+
+    @mock.patch("geesefuton.hosting.links.UNACKNOWLEDGED", int(1000 * MOST))
     def test_one_that_never_reads_holds_nobody(self) -> None:
         host = Host(self.folder, pace=1000, linger=0.2)
         deaf, agent = self.agents(host, "seat0", "seat1")

@@ -11,7 +11,7 @@ class End(enum.Enum):
     """Why an agent's part in a game was over."""
 
     LEFT = "left"  # it asked to quit, or ended its link after the last tick
-    GONE = "gone"  # its link ended during the game, and it did not come again
+    GONE = "gone"  # its link ended during the game, and it did not reconnect
     HUNG = "hung"  # it still had its link when the lobby ended all links
     ABSENT = "absent"  # it never came
     REFUSED = "refused"  # it sent lines, and each of them was refused
@@ -29,7 +29,7 @@ class Arrived:
 
 @dataclass(frozen=True)
 class Departed:
-    """The link of a seated agent has ended. Until the game is over the agent may come again."""
+    """The link of a seated agent has ended. Until the game is over the agent may reconnect."""
 
     at: float
     seat: int
