@@ -17,11 +17,10 @@ from typing import Any, Iterator, Optional
 from unittest import mock
 
 from geesefuton.hosting import lobby, lobby_command
-from geesefuton.hosting.control import Control, Phase
+from geesefuton.hosting.control import STOPPED, Control, Phase
 from geesefuton.hosting.lobby import Lobby, LobbyError
 from geesefuton.hosting.page_process import PageProcess, page_words
 from geesefuton.hosting.settings import LobbySettings
-from geesefuton.hosting.teller import STOPPED
 from geesefuton.processes import free_port
 from tests.helpers import TOP, python, variables
 

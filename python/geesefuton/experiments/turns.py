@@ -18,7 +18,7 @@ import time
 from typing import List, Optional
 
 from geesefuton import program
-from geesefuton.hosting.control import Phase
+from geesefuton.hosting.control import STOPPED, Phase
 from geesefuton.hosting.hosted_game import HostedGame
 from geesefuton.hosting.sessions import Session
 from geesefuton.learning.stepping import Stepped
@@ -95,7 +95,7 @@ class TurnServer:
         return [turner.passed for turner in self._turners]
 
     def play(self, game: HostedGame) -> int:
-        """Plays the game, and gives the exit status of its process.
+        """Plays the game, and gives the exit status of its process, or `STOPPED`.
 
         Raises:
             program.ProgramError: The program ends before the game is over.
@@ -113,10 +113,11 @@ class TurnServer:
             for turner in self._turners:
                 turner.say(welcome(game.text, turner.seat))
             self._play_ticks(game, table)
-            if not game.is_stopped:
-                game.relay.turn(0)  # what was answered last
-                game.relay.finish()
-                game.log.append(table.finish())
+            if game.is_stopped:
+                return STOPPED
+            game.relay.turn(0)  # what was answered last
+            game.relay.finish()
+            game.log.append(table.finish())
         return program.OK
 
     def _play_ticks(self, game: HostedGame, table: Stepped) -> None:

@@ -7,6 +7,8 @@ import enum
 import socket
 from typing import Callable, Protocol
 
+STOPPED = 130  # the exit status of a game that was ended before its time
+
 
 class Phase(enum.Enum):
     """How far a game is."""

@@ -104,6 +104,5 @@ class Serving(Protocol):
 
     def play(self, game: HostedGame) -> int:
         """Plays a game whose agents are gathered, and gives the exit status of what answered them.
-
-        It leaves early if the game is stopped. The log is added to `game.log`.
+        The log is added to `game.log`. If the game is stopped it leaves early, and gives `STOPPED`.
         """

@@ -16,7 +16,7 @@ from typing import Callable, List, Optional, Tuple
 
 from geesefuton import program
 from geesefuton.hosting import events, log_files
-from geesefuton.hosting.control import Control, Phase
+from geesefuton.hosting.control import STOPPED, Control, Phase
 from geesefuton.hosting.events import Event
 from geesefuton.hosting.hosted_game import LOOK, HostedGame, Serving
 from geesefuton.hosting.journal import Journal
@@ -25,7 +25,6 @@ from geesefuton.hosting.relay import Relay
 from geesefuton.hosting.seats import State
 from geesefuton.hosting.server import ClockServer
 from geesefuton.hosting.settings import LobbySettings
-from geesefuton.hosting.teller import STOPPED
 from geesefuton.processes import Children, why
 
 FULL = 4  # the exit status if the output takes no more
@@ -152,7 +151,7 @@ class Lobby:
             return self._stop(game)
         self._control.phase = Phase.STARTING
         status = self._serving.play(game)
-        if game.is_stopped:
+        if status == STOPPED:
             return self._stop(game)
         if status < 0:  # ended by a signal: as a shell tells it
             status = 128 - status

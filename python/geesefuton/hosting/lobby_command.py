@@ -28,11 +28,11 @@ from typing import Optional
 
 from geesefuton.arguments import Parser, seconds, whole
 from geesefuton.hosting import log_files
-from geesefuton.hosting.control import Phase
+from geesefuton.hosting.control import STOPPED, Phase
 from geesefuton.hosting.lobby import Lobby, LobbyError
 from geesefuton.hosting.seats import SILENCE
 from geesefuton.hosting.settings import LobbySettings
-from geesefuton.hosting.teller import STOPPED, Teller
+from geesefuton.hosting.teller import Teller
 from geesefuton.processes import command, tell, why
 from geesefuton.records.games import TICKS
 

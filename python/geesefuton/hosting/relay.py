@@ -14,7 +14,7 @@ import itertools
 import selectors
 import socket
 import time
-from typing import Any, Callable, Dict, Optional, Sequence, Union
+from typing import Any, Callable, Dict, Optional, Sequence
 
 from geesefuton.hosting import events
 from geesefuton.hosting.events import End, Event
@@ -261,23 +261,22 @@ class Relay:
     def _do(self, seat: Seat, actions: Sequence[Action]) -> None:
         """Does what a seat asks for. A fault costs the link that it is about, and no other seat."""
         for action in actions:
-            if isinstance(action, Over):
-                self._finish_seat(seat, action.reason)
-                continue
-            link = self._links.get(action.link)
+            link = None if isinstance(action, Over) else self._links.get(action.link)
             try:
-                if link is not None:
-                    self._act(seat, action, link)
-                elif isinstance(action, Give):  # it has gone meanwhile
-                    self._do(seat, seat.go(action.link, time.monotonic()))
+                self._act(seat, action, link)
             except Exception as fault:
-                self._warn(f"a link of {seat.word} is ended after an error: {fault!r}")
+                self._warn(f"an error about {seat.word}: {fault!r}")
                 if link is not None:
                     self._fail(link)
 
-    def _act(self, seat: Seat, action: Union[Give, Refuse, Close], link: OuterLink) -> None:
-        """Does what a seat asks for a link."""
-        if isinstance(action, Give):
+    def _act(self, seat: Seat, action: Action, link: Optional[OuterLink]) -> None:
+        """Does one thing that a seat asks for; `link` is the one that it is about, if there is."""
+        if isinstance(action, Over):
+            self._finish_seat(seat, action.reason)
+        elif link is None:
+            if isinstance(action, Give):  # it has gone meanwhile
+                self._do(seat, seat.go(action.link, time.monotonic()))
+        elif isinstance(action, Give):
             self._give(seat, link, action.again)
         elif isinstance(action, Refuse):
             self._refuse(link, "taken", f"hello {seat.word}".encode())

@@ -19,11 +19,10 @@ from pathlib import Path
 from typing import List, Optional
 
 from geesefuton import program
-from geesefuton.hosting.control import Phase
+from geesefuton.hosting.control import STOPPED, Phase
 from geesefuton.hosting.hosted_game import HostedGame
 from geesefuton.hosting.listeners import listens
 from geesefuton.hosting.sessions import Session
-from geesefuton.hosting.teller import STOPPED
 from geesefuton.processes import free_port
 from geesefuton.records.games import SEATS, TICKS
 
@@ -41,7 +40,8 @@ class ClockServer:
     """Serves a game by `tac serve`, which lets ticks pass by its clock."""
 
     def play(self, game: HostedGame) -> int:
-        """Plays the game, and gives the server's exit status, negative for a signal."""
+        """Plays the game, and gives the server's exit status, negative for a signal; `STOPPED` if
+        the game was stopped before the log was there."""
         file = game.folder / "game"
         file.write_text(game.text, encoding="ascii")
         start = self._begin(game, file)
@@ -51,7 +51,7 @@ class ClockServer:
                 game.relay.begin([Session(seat, link)
                                   for seat, link in zip(game.relay.seats.seats, start.links)])
             self._play(game, start)
-            if game.is_stopped:
+            if not start.output.closed:
                 return STOPPED
             status = start.fault_status or start.process.wait()
         warning = fault_of_head(b"".join(game.log)) if start.links else ""

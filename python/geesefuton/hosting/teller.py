@@ -9,13 +9,13 @@ from typing import List, Optional, Sequence, Set
 
 from geesefuton import program
 from geesefuton.hosting import events
+from geesefuton.hosting.control import STOPPED
 from geesefuton.hosting.events import End, Event
 from geesefuton.hosting.refusals import AGAIN, Refusals
 from geesefuton.processes import tell
 from geesefuton.records.games import TICKS
 
 LOOK = 1.0  # seconds between two looks at refusals that are still to be told
-STOPPED = 130  # the exit status of a game that was ended before its time
 
 
 class Teller:
