@@ -223,7 +223,7 @@ class Matches(unittest.TestCase):
         result = self.play('echo "$@" $AGENT_SEED $PYTHONHASHSEED', "echo $AGENT_SEED",
                            turns=30, patience=2.5)
         self.assertEqual((result.kind, len(result.scores)), (Kind.TURNS, 8))
-        self.assertEqual((tuple(Lobby.turns), self.notes()), ((30, 2.5), ""))
+        self.assertEqual((tuple(Turns.given), self.notes()), ((30, 2.5), ""))
         printed = (self.place / "7.0.out.red0").read_text().split()
         self.assertEqual(printed[:4] + printed[5:], ["4321", "red0", "--pause", "0", "0"])
         self.assertTrue(printed[4].isdigit())

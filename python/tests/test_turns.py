@@ -182,7 +182,7 @@ class Turns(Case):
 
     def test_who_says_nothing_is_passed_over_until_it_speaks(self) -> None:
         host = Host(self.folder, patience=0.1)
-        agents = self.agents(host, ["own 1"] * 60 + ["quit"], [], *[["quit"]] * 6)
+        agents = self.agents(host, ["own 1"] * 900 + ["quit"], [], *[["quit"]] * 6)
         for _ in range(10):
             agents[1].line()  # the welcome
         while not host.server.passed[1]:
@@ -192,7 +192,7 @@ class Turns(Case):
         self.assertEqual(host.end(), [End.LEFT, End.HUNG] + [End.LEFT] * 6)
         asked = host.asked()
         self.assertEqual([line for line in asked if line != "1 own 2"],
-                         due(1, ["own 1"] * 60 + ["quit"], [], *[["quit"]] * 6))
+                         due(1, ["own 1"] * 900 + ["quit"], [], *[["quit"]] * 6))
         self.assertGreater(host.server.passed[1], 0)
         self.assertEqual(host.server.passed[:1] + host.server.passed[2:], [0] * 7)
 
