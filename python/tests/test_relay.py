@@ -165,12 +165,14 @@ class Passing(Case):
 
     def test_a_line_that_is_too_long_may_come_in_pieces(self) -> None:
         link, lines = next(iter(self.relay._links.values())), list[bytes]()
-        for piece in (b"own 4\n" + b"x" * (MOST_LINE + 9), b"x" * 9, b"x\nown 5\nown"):
+        for piece in (b"own 4\n" + b"x" * (MOST_LINE + 9), b"x" * 9, b"x\nown 5\n",
+                      b"y" * (MOST_LINE + 9), b"\nown"):
             link.feed(piece)
         while link.has_line():
             lines.append(link.take())
         # What makes it too long is kept, and the lines around it are whole.
-        self.assertEqual(lines, [b"own 4", b"x" * (MOST_LINE + 1), b"own 5"])
+        self.assertEqual(lines, [b"own 4", b"x" * (MOST_LINE + 1), b"own 5",
+                                 b"y" * (MOST_LINE + 1)])
         self.assertEqual(link.said, b"own")
 
     def test_lines_go_one_at_a_time(self) -> None:
