@@ -374,6 +374,13 @@ class Ends(Case):
         self.servers[0].sendall(b"")
         self.servers[0].close()
         self.assertTrue(self.has_ended(self.agents[0]))
+        for server in self.servers[1:]:
+            server.close()
+        self.turns()
+        self.assertFalse(self.relay.is_done())  # an agent has its link
+        self.agents[0].close()
+        self.turns()
+        self.assertTrue(self.relay.is_done())
         self.relay.settle()
         self.assertEqual(self.ends(), {"seat0": End.LEFT, "seat1": End.GONE, **{
             word: End.ABSENT for word in WORDS[2:]}})

@@ -1,5 +1,7 @@
 """Games in turns, before a program that answers by no rules, and before the real one."""
 
+import csv
+import io
 import os
 import random
 import socket
@@ -371,11 +373,16 @@ class Real(unittest.TestCase):
         agents = [TOP / "examples" / "agents" / f"{name}.py"
                   for name in ("trader", "planner", "baseline")]
         words = ["--games", "1", "--turns", "2", *agents]
-        first = run("experiments.tournament", *words)
-        second = run("experiments.tournament", "--patience", "99", *words)
-        self.assertEqual((first.returncode, second.stdout), (0, first.stdout), first.stderr)
-        self.assertEqual([line.split(",")[-3:][::2] for line in first.stdout.splitlines()[1:]],
-                         [["played", "turns2"]] * 8)
+        played = []
+        for more in ([], ["--patience", "99"]):
+            done = run("experiments.tournament", *more, *words)
+            self.assertEqual(done.returncode, 0, done.stderr)
+            played.append(list(csv.DictReader(io.StringIO(done.stdout))))
+            for row in played[-1]:
+                self.assertIn(f"patience={more[-1] if more else 30} ", row.pop("settings"))
+        self.assertEqual(played[0], played[1])
+        self.assertEqual([(row["end"], row["kind"]) for row in played[0]],
+                         [("played", "turns2")] * 8)
 
 
 if __name__ == "__main__":
