@@ -11,6 +11,7 @@ from geesefuton.learning.environment import ActionError, Environment
 from geesefuton.program import ProgramError
 from geesefuton.records.drawing import drawn_rooms
 from geesefuton.records.games import FLIGHTS, HOTELS, TICKS, Game, GameError, read_game
+from geesefuton.records.rules import prices_of
 from tests.helpers import SERVED_GAME, TOP, fake_program, needs_program
 
 FIRST = TOP / "examples" / "first.game"  # of version 1
@@ -139,7 +140,7 @@ class Steps(unittest.TestCase):
         self.assertEqual(self.environment.state()["deals"], self.infos)
 
     def test_flights_move_and_hotels_close_at_their_ticks(self) -> None:
-        prices = [flight.prices() for flight in self.game.flights]
+        prices = [prices_of(flight) for flight in self.game.flights]
         observations = self.observations
         for tick in range(TICKS):
             seen = observations[self.agents[7]]
@@ -334,7 +335,7 @@ class Games(unittest.TestCase):
 
     def test_a_bid_that_is_taken_back_is_no_longer_in_the_scores(self) -> None:
         game = read_game(FIRST.read_text())
-        good, least = min(((good, min(game.flights[good].prices())) for good in FLIGHTS),
+        good, least = min(((good, min(prices_of(game.flights[good]))) for good in FLIGHTS),
                           key=lambda flight: flight[1] - game.flights[flight[0]].first)
         self.assertLess(least, game.flights[good].first)
         with Environment(FIRST, scores=True) as environment:

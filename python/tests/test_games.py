@@ -3,7 +3,7 @@ from typing import List
 
 from geesefuton.records import games
 from geesefuton.records.games import Client, Flight, Game, GameError, Package, read_game
-from tests.helpers import TOP, served_game
+from tests.helpers import TOP
 
 
 def text_of(name: str) -> str:
@@ -221,30 +221,6 @@ class Rules(unittest.TestCase):
         for nights, more in (((2, 0, 0), 10), ((0, 3, 0), 20), ((0, 0, 2), 40), ((3, 0, 2), 50)):
             self.assertEqual(early.worth(Package(0, 2, 4, nights)), 1000 + more)
         self.assertEqual(list(client.nights()), [1, 2])
-
-    def test_how_a_flight_moves(self) -> None:
-        up = Flight(300, 30, (0,) * 53)
-        self.assertEqual(up.next_price(300, 27, 0), 290)  # between -10 and 20
-        self.assertEqual(up.next_price(300, 27, 30), 320)
-        self.assertEqual(up.next_price(300, 27, 31), 290)
-        down = Flight(300, -10, (0,) * 53)
-        self.assertEqual(down.next_price(300, 54, 0), 290)  # between -10 and 10
-        self.assertEqual(down.next_price(300, 27, 20), 310)  # the end is 0
-        self.assertEqual(down.next_price(300, 40, 0), 295)  # between -5 and 10
-        self.assertEqual(down.next_price(300, 40, 15), 310)
-        self.assertEqual(down.next_price(300, 40, 16), 295)
-        self.assertEqual(up.next_price(795, 54, 39), 800)
-        self.assertEqual(up.next_price(152, 1, 0), 150)
-
-    def test_prices_of_a_flight(self) -> None:
-        for flight in served_game().flights:
-            prices = [flight.first]
-            for number in range(53):
-                end = 10 + (number + 1) * (flight.bound - 10) // 54
-                low, high = (-10, end) if end > 0 else (end, 10) if end < 0 else (-10, 10)
-                moved = prices[-1] + low + flight.draws[number] % (high - low + 1)
-                prices.append(min(800, max(150, moved)))
-            self.assertEqual(flight.prices(), prices)
 
 
 if __name__ == "__main__":

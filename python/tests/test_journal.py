@@ -1,16 +1,18 @@
 """Journals: what the server takes a line for, what a reader makes of a journal, and its errors."""
 
+import errno
 import json
 import os
 import tempfile
 import threading
+import time
 import unittest
 from pathlib import Path
 from typing import Any, Dict, List
 from unittest import mock
 
-from geesefuton.hosting.journal import (SYNC, Call, Journal, JournalError, JournalReader, Schedule,
-                                        read_journal)
+from geesefuton.hosting.journal import (SYNC, Exchange, Journal, JournalError, JournalReader,
+                                        Schedule, read_journal)
 from geesefuton.records.dialects import CASH, Asked, asked_by, reply_of
 
 DATA = Path(__file__).resolve().parent / "data"
@@ -228,8 +230,8 @@ class Keeping(unittest.TestCase):
         synced = threading.Event()
 
         def sync(number: int) -> None:
-            self.assertEqual(os.fstat(number).st_ino, self.file.stat().st_ino)
-            synced.set()
+            if os.path.samestat(os.fstat(number), self.file.stat()):
+                synced.set()
 
         with mock.patch("geesefuton.hosting.journal.SYNC", 0.01), mock.patch("os.fsync", sync):
             journal = self.open()
@@ -241,27 +243,74 @@ class Keeping(unittest.TestCase):
         with mock.patch("geesefuton.hosting.journal.SYNC", 100.0), mock.patch("os.fsync") as fsync:
             self.file.unlink()
             journal = self.open()
+            fsync.reset_mock()  # of the folder
             journal.tell(tick=0, t=0)
             fsync.assert_not_called()
             journal.close()  # waits for the disk
             fsync.assert_called_once()
         self.assertLessEqual(SYNC, 1.0)  # the page for hosts says once a second
 
+    def test_the_name_of_a_new_journal_is_put_onto_the_disk(self) -> None:
+        synced: List[os.stat_result] = []
+        with mock.patch("os.fsync", lambda number: synced.append(os.fstat(number))):
+            self.open()
+            self.assertTrue(os.path.samestat(synced[0], self.file.parent.stat()))
+
     def test_a_file_that_no_disk_has(self) -> None:
-        journal = self.open()
-        with mock.patch("os.fsync", side_effect=OSError(22, "Invalid argument")):
+        with mock.patch("os.fsync", side_effect=OSError(errno.EINVAL, "Invalid argument")):
+            journal = self.open()
             journal.tell(tick=0, t=0)
             journal.close()
         self.assertEqual((self.warned, self.file.read_text()), ([], '{"tick":0,"t":0}\n'))
 
-    def test_a_closed_journal_holds_no_file(self) -> None:
-        with mock.patch("os.close") as close:
-            journal = Journal(self.file, self.fail)
-            number = journal._number
+    def test_a_disk_that_fails_is_told_once(self) -> None:
+        threads = []
+        fault, failed = OSError(errno.EIO, "Input/output error"), threading.Event()
+
+        def sync(number: int) -> None:
+            if os.path.samestat(os.fstat(number), self.file.stat()):
+                failed.set()
+                raise fault
+
+        with mock.patch("os.fsync", sync), mock.patch("geesefuton.hosting.journal.SYNC", 0.01):
+            journal = Journal(self.file, lambda text: (
+                self.warned.append(text), threads.append(threading.current_thread())))
+            self.addCleanup(journal.close)
+            deadline = time.monotonic() + 20
+            while not self.warned and time.monotonic() < deadline:
+                journal.tell(tick=0, t=0)
+                failed.wait(20)
+            for _ in range(3):
+                journal.tell(tick=0, t=0)
             journal.close()
-            close.assert_called_once_with(number)
+        self.assertEqual(self.warned, [
+            f"the disk does not keep the journal {self.file} (Input/output error): the game goes "
+            "on, and a loss of power may cost more than its last second"])
+        self.assertEqual(threads, [threading.main_thread()])  # that of the game
+        self.assertTrue(journal.is_whole)
+
+    def test_a_folder_that_cannot_be_put_onto_the_disk_is_told(self) -> None:
+        with mock.patch("os.fsync", side_effect=OSError(errno.EIO, "Input/output error")):
+            journal = self.open()
+            journal.tell(tick=0, t=0)
+            self.assertEqual(len(self.warned), 1)
+            journal.close()
+        self.assertEqual(len(self.warned), 1)
+
+    def test_a_disk_that_fails_at_the_very_end_is_told(self) -> None:
+        journal = self.open()
+        journal.tell(tick=0, t=0)
+        with mock.patch("os.fsync", side_effect=OSError(errno.EIO, "Input/output error")):
+            journal.close()
+        self.assertEqual(len(self.warned), 1)
+
+    def test_a_closed_journal_holds_no_file(self) -> None:
+        journal = Journal(self.file, self.fail)
+        number = journal._number
         assert number is not None
-        os.close(number)
+        journal.close()
+        with self.assertRaises(OSError):
+            os.fstat(number)
 
 
 class Meaning(unittest.TestCase):
@@ -323,10 +372,10 @@ class Meaning(unittest.TestCase):
                            {"a": 1, "r": "@0 cash -7", "t": 333}, {"a": 1, "q": "quit"},
                            {"tick": 4, "t": 400}, {"a": 1, "r": "bye", "t": 404})
         self.assertEqual(reader.calls, [
-            Call(1, Asked("own", 20, "own 20"), 3, 2, "@4 own 0 ()", 4, 311, 7),
-            Call(2, None, 6, 3, "no syntax", None, 322, 8),
-            Call(1, Asked("cash", CASH, "cash"), 4, 2, "@0 cash -7", 0, 333, 9),
-            Call(1, None, 10, 3, "bye", None, 404, 12)])
+            Exchange(1, Asked("own", 20, "own 20"), 3, 2, "@4 own 0 ()", 4, 311, 7),
+            Exchange(2, None, 6, 3, "no syntax", None, 322, 8),
+            Exchange(1, Asked("cash", CASH, "cash"), 4, 2, "@0 cash -7", 0, 333, 9),
+            Exchange(1, None, 10, 3, "bye", None, 404, 12)])
         first, second = reader.agents[1:3]
         self.assertEqual((first.asked, first.answered, first.refused, first.last), (3, 3, 0, 3))
         self.assertEqual((second.asked, second.answered, second.refused, second.last), (1, 1, 1, 3))
@@ -342,10 +391,10 @@ class Meaning(unittest.TestCase):
             {"a": 5, "q": line} for line in ("cash", "quote 3", "bid 3 ((1 0))", "hm", "quit",
                                              "withdraw 4", "own 28", "bid 27 ((1 5))")),
             {"a": 7, "q": "own 0"}, {"a": 0, "q": "own 1"})
-        self.assertEqual(reader.pending(), [Call(0, Asked("own", 1, "own 1"), 12, 2),
-                                            Call(5, Asked("withdraw", 4, "withdraw 4"), 8, 2),
-                                            Call(5, Asked("bid", 27, "bid 27 ((1 5))"), 10, 2),
-                                            Call(7, Asked("own", 0, "own 0"), 11, 2)])
+        self.assertEqual(reader.pending(), [Exchange(0, Asked("own", 1, "own 1"), 12, 2),
+                                            Exchange(5, Asked("withdraw", 4, "withdraw 4"), 8, 2),
+                                            Exchange(5, Asked("bid", 27, "bid 27 ((1 5))"), 10, 2),
+                                            Exchange(7, Asked("own", 0, "own 0"), 11, 2)])
 
     def test_json(self) -> None:
         reader = JournalReader()

@@ -5,6 +5,7 @@ import contextlib
 import json
 import os
 import re
+import resource
 import signal
 import socket
 import subprocess
@@ -18,16 +19,16 @@ from pathlib import Path
 from typing import Any, Dict, List, Optional, Tuple
 from unittest import mock
 
-from geesefuton.hosting.live import MOST_VIEWERS, NICE, Live, Viewers, _arguments
+from geesefuton.hosting.live import NICE, STALL, Live, _arguments
 from geesefuton.hosting.projection import Projection, View
 from geesefuton.hosting.recovery import RecoveryError
+from geesefuton.hosting.viewers import Faults
 from geesefuton.processes import free_port
+from tests.helpers import DATA, TOP
+from tests.journals import LINES, nights_of, place_of
 
-HERE = Path(__file__).resolve().parent
-DATA, TOP = HERE / "data", HERE.parents[1]
-LINES = (DATA / "lobby.journal").read_text().split("\n")[:-1]
 PAGE = TOP / "python/geesefuton/hosting/live.html"
-TICK_9 = next(place for place, line in enumerate(LINES) if '"tick":9,' in line)
+TICK_9 = place_of(9)
 MOST = 60.0  # seconds that anything may take, on a machine that is busy with other work
 
 
@@ -48,7 +49,7 @@ class Lateness(unittest.TestCase):
     """Which projection may be shown whole."""
 
     def secret(self, late: int, ticks: List[int], now: int) -> Optional[int]:
-        live = Live(mock.Mock(), View(late, False), mock.Mock(), mock.Mock())
+        live = Live(mock.Mock(), View(late, False), mock.Mock(), mock.Mock(), mock.Mock())
         for tick in ticks:
             live._reader.tick = tick
             live._add(projection(tick))
@@ -67,7 +68,7 @@ class Lateness(unittest.TestCase):
 
     def test_after_the_game_all_is_shown(self) -> None:
         for late in (0, 6, 54):
-            live = Live(mock.Mock(), View(late, False), mock.Mock(), mock.Mock())
+            live = Live(mock.Mock(), View(late, False), mock.Mock(), mock.Mock(), mock.Mock())
             for tick in (0, 53, 54):
                 live._add(projection(tick))
             live._is_final = True
@@ -76,11 +77,14 @@ class Lateness(unittest.TestCase):
 
 
 class Following(unittest.TestCase):
+    def setUp(self) -> None:
+        self.told: List[str] = []
+
     def test_a_line_that_comes_in_pieces_is_read_once_it_is_whole(self) -> None:
         text = ("\n".join(LINES) + "\n").encode("ascii")
         pieces = [text[at:at + 1000] for at in range(0, len(text), 1000)]
         journal = mock.Mock(read=mock.Mock(side_effect=[*pieces, b""]))
-        live = Live(journal, View(6, False), mock.Mock(), mock.Mock())
+        live = Live(journal, View(6, False), mock.Mock(), mock.Mock(), mock.Mock())
         with mock.patch("geesefuton.hosting.live.LOOK", 0.0), \
                 mock.patch.object(live, "show", mock.AsyncMock()):
             asyncio.run(live.follow())
@@ -89,8 +93,9 @@ class Following(unittest.TestCase):
 
     def live(self, late: int, *lines: str) -> Live:
         """A page on some lines of a journal."""
-        made = Live(mock.Mock(), View(late, False), mock.Mock(), mock.Mock(show=mock.AsyncMock()))
-        made._reader.read("\n".join(lines))
+        made = Live(mock.Mock(), View(late, False), mock.Mock(), mock.Mock(show=mock.AsyncMock()),
+                    Faults(self.told.append))
+        made._read("\n".join(lines))
         return made
 
     def shown(self, made: Live) -> List[Dict[str, Any]]:
@@ -108,7 +113,8 @@ class Following(unittest.TestCase):
         assert made._zero is not None
         since = time.monotonic() - made._zero
         self.assertTrue(0.9 <= since < 0.9 + MOST / 10, since)
-        waiting, *states = self.shown(made)
+        empty, waiting, *states = self.shown(made)
+        self.assertEqual(empty, {"phase": "empty", "over": False})
         self.assertEqual((waiting["phase"], "elapsed" in waiting), ("waiting", False))
         self.assertEqual([(state["phase"], state["status"]) for state in states],
                          [("running", None), ("running", 0)])
@@ -117,49 +123,47 @@ class Following(unittest.TestCase):
 
     def test_a_state_is_shown_once(self) -> None:
         made = self.live(6)
-        asyncio.run(made.show())  # nothing is known yet
-        self.assertEqual(self.shown(made), [])
-        made._reader.read(LINES[0])
+        made._read(LINES[0])
         for _ in range(2):
             asyncio.run(made.show())
         state, = self.shown(made)
         self.assertEqual((state["phase"], state["flights"], "elapsed" in state, "hotels" in state),
                          ("waiting", [], False, False))
-        made._reader.read("\n".join(LINES[1:TICK_9 + 1]))
+        made._read("\n".join(LINES[1:TICK_9 + 1]))
         for _ in range(2):
             asyncio.run(made.show())
         self.assertEqual([state["tick"] for state in self.shown(made)], [0, 9])
         self.assertEqual(len(self.shown(made)[1]["hotels"]), 8)
         self.assertEqual({call[0][1] for call in made._viewers.show.call_args_list}, {False})
 
-    def projected(self, made: Live, *faults: Optional[Exception]) -> "Tuple[List[Any], List[str]]":
-        """How projections were made until the game was over, and what was told."""
+    def projected(self, made: Live, *faults: Optional[Exception]) -> List[Any]:
+        """How projections were made until the game was over."""
         asked: List[Any] = []
-        told: List[str] = []
         rest = iter(LINES[TICK_9 + 1:])
 
-        def project(reader: Any, player: Any, true_file: bool) -> Projection:
+        def project(reader: Any, nights: Any, player: Any, true_file: bool) -> Projection:
             self.assertIsNot(reader, made._reader)  # more is added meanwhile
+            self.assertEqual(nights, nights_of(reader))
             asked.append((reader.tick, player is made._player, true_file))
             fault = faults[len(asked) - 1] if len(asked) <= len(faults) else None
-            made._reader.read("\n".join(next(rest) for _ in range(60)) if len(asked) < 3
-                              else "\n".join(rest))
+            made._read("\n".join(next(rest) for _ in range(60)) if len(asked) < 3
+                       else "\n".join(rest))
             if fault:
                 raise fault
             return projection(reader.tick)
 
         with mock.patch("geesefuton.hosting.live.project", project), \
-                mock.patch("geesefuton.hosting.live.EACH", 0.01), \
-                mock.patch("geesefuton.hosting.live.tell", told.append):
+                mock.patch("geesefuton.hosting.live.EACH", 0.01):
             asyncio.run(asyncio.wait_for(made.project(), MOST))
-        return asked, told
+        return asked
 
     def test_projections_are_made_until_the_game_is_over(self) -> None:
         for late in (0, 6):
             made = self.live(late, *LINES[:TICK_9 + 1])
-            asked, told = self.projected(made)
-            self.assertEqual([entry[1:] for entry in asked], [(True, not late)] * 4)
-            self.assertEqual((asked[0][0], asked[-1][0], told), (9, 54, []))
+            asked = self.projected(made)
+            self.assertEqual([entry[1:] for entry in asked],
+                             [(True, not late)] * 3 + [(True, True)])
+            self.assertEqual((asked[0][0], asked[-1][0], self.told), (9, 54, []))
             states = self.shown(made)
             self.assertEqual((states[-1]["phase"], states[-1]["agents"][0]["score"]),
                              ("over", [54, 0, 0, 54]))
@@ -168,144 +172,93 @@ class Following(unittest.TestCase):
             finals = [call[0][1] for call in made._viewers.show.call_args_list]
             self.assertEqual((finals[-1], finals.count(True)), (True, 1))
 
+    def test_what_is_shown_after_the_game_is_not_made_before(self) -> None:
+        made = self.live(54, *LINES[:TICK_9 + 1])
+
+        async def work() -> None:
+            projecting = asyncio.ensure_future(made.project())
+            for lines in (LINES[TICK_9 + 1:-1], LINES[-1:]):
+                await asyncio.sleep(0.1)
+                self.assertEqual((project.call_count, made._newest, len(made._older)), (0, None, 0))
+                made._read("\n".join(lines))
+            await projecting
+
+        with mock.patch("geesefuton.hosting.live.project",
+                        mock.Mock(return_value=projection(54))) as project, \
+                mock.patch("geesefuton.hosting.live.EACH", 0.01):
+            asyncio.run(asyncio.wait_for(work(), MOST))
+        self.assertEqual((project.call_count, len(made._older)), (1, 0))
+        self.assertEqual(self.shown(made)[-1]["agents"][0]["score"], [54, 0, 0, 54])
+
+    def test_of_each_tick_one_projection_is_kept(self) -> None:
+        made = self.live(6, *LINES[:TICK_9 + 1])
+        for tick in (3, 3, 3, 4, 4, 5, 9, 9):
+            made._add(projection(tick))
+        self.assertEqual([kept.tick for kept in made._older], [3, 4, 5, 9])
+
     def test_a_projection_that_cannot_be_made_is_told(self) -> None:
         made = self.live(0, *LINES[:TICK_9 + 1])
-        asked, told = self.projected(made, None, RecoveryError("no game"))
-        self.assertEqual((len(asked), told), (4, [f"live: no scores at tick {asked[1][0]}: no game"
-                                                  ]))
+        asked = self.projected(made, None, RecoveryError("no game"))
+        self.assertEqual((len(asked), self.told),
+                         (4, [f"live: no scores at tick {asked[1][0]}: no game"]))
         self.assertEqual(self.shown(made)[-1]["shown"], 54)
+
+    def test_a_projection_for_which_there_is_no_open_file_is_told_once(self) -> None:
+        made = self.live(0, *LINES[:TICK_9 + 1])
+        asked = self.projected(made, *[OSError(24, "Too many open files")] * 3)
+        self.assertEqual((len(asked), self.told),
+                         (4, ["live: no scores at tick 9: Too many open files"]))
+        self.assertEqual(self.shown(made)[-1]["shown"], 54)
+
+    def test_a_journal_that_stops_is_shown_as_stopped(self) -> None:
+        made = self.live(6, *LINES[:TICK_9 + 1])
+        with mock.patch("time.monotonic", return_value=made._heard) as clock:
+            for late, due in ((0.1, False), (STALL, False), (STALL + 0.2, True), (STALL + 9, True)):
+                clock.return_value = made._heard + late
+                asyncio.run(made.show())
+                self.assertEqual(self.shown(made)[-1]["stalled"], due)
+            self.assertEqual(len(self.shown(made)), 2)
+            made._read(LINES[TICK_9 + 1])  # it goes on
+            asyncio.run(made.show())
+            self.assertFalse(self.shown(made)[-1]["stalled"])
+        made._read("\n".join(LINES[TICK_9 + 2:-1]))
+        with mock.patch("time.monotonic", return_value=made._heard + 99):
+            asyncio.run(made.show())
+        state = self.shown(made)[-1]
+        self.assertEqual((state["tick"], state["stalled"]), (54, False))  # nothing more is due
+
+    def test_a_journal_that_nobody_writes_any_more_ends_the_game(self) -> None:
+        rest = ("\n".join(LINES[:TICK_9 + 1]) + '\n{"a":3,"q":').encode("ascii")  # a full disk
+        for text, due in ((b"", {"phase": "empty", "over": True}), (rest, None)):
+            made = self.live(6)
+            pieces = iter([text[:1000], text[1000:]])
+            made._journal = mock.Mock(read=lambda _: next(pieces, b""))
+            made.cut()
+
+            async def work() -> None:
+                await asyncio.gather(made.follow(), made.project())
+
+            with mock.patch("geesefuton.hosting.live.project",
+                            mock.Mock(return_value=projection(9))) as project, \
+                    mock.patch("geesefuton.hosting.live.LOOK", 0.0):
+                asyncio.run(asyncio.wait_for(work(), MOST))
+            self.assertTrue(made.is_over())
+            last = made._viewers.show.call_args
+            self.assertTrue(last[0][1])
+            state = json.loads(last[0][0])
+            if due:
+                self.assertEqual((state, project.call_count), (due, 0))
+            else:
+                self.assertEqual((state["phase"], state["tick"], state["status"]),
+                                 ("over", 9, None))
+                self.assertEqual(state["agents"][0]["score"], [9, 0, 0, 9])
+                self.assertTrue(project.call_args[0][3])  # nobody plays it any more
 
     def test_a_game_that_ends_before_it_begins(self) -> None:
         made = self.live(0, LINES[0], '{"over":5}')
-        asked, _ = self.projected(made)
-        self.assertEqual(asked, [])
+        self.assertEqual(self.projected(made), [])
         state, = self.shown(made)
         self.assertEqual((state["phase"], state["status"]), ("over", 5))
-
-
-Answer = Tuple[str, Dict[str, str], bytes]
-
-
-class Answering(unittest.TestCase):
-    """What viewers are sent."""
-
-    def setUp(self) -> None:
-        self.viewers = Viewers(b"the page")
-
-    def run_it(self, work: Any) -> Any:
-        async def served() -> Any:
-            self.viewers._changed = asyncio.Condition()  # of this loop, in Python 3.9
-            server = await asyncio.start_server(self.viewers.serve, "127.0.0.1", 0, limit=8192)
-            try:
-                return await work(server.sockets[0].getsockname()[1])
-            finally:
-                server.close()
-
-        return asyncio.run(asyncio.wait_for(served(), MOST))
-
-    async def ask(self, port: int, request: bytes) -> Answer:
-        reader, writer = await asyncio.open_connection("127.0.0.1", port)
-        writer.write(request)
-        head, _, body = (await reader.read()).partition(b"\r\n\r\n")  # until it is closed
-        writer.close()
-        status, *lines = head.decode().split("\r\n")
-        return status, dict(line.split(": ", 1) for line in lines), body
-
-    def get(self, path: str, how: str = "GET") -> Answer:
-        answer: Answer = self.run_it(
-            lambda port: self.ask(port, f"{how} {path} HTTP/1.1\r\nHost: x\r\n\r\n".encode()))
-        return answer
-
-    def test_the_page_and_the_newest_state(self) -> None:
-        for path in ("/", "/?a=b"):
-            status, heads, body = self.get(path)
-            self.assertEqual((status, heads["Content-Type"], heads["Content-Length"], body),
-                             ("HTTP/1.1 200 OK", "text/html; charset=utf-8", "8", b"the page"))
-            self.assertEqual((heads["Cache-Control"], heads["Connection"]), ("no-store", "close"))
-        for state in (b'{"a":1}', b'{"a":22}'):
-            asyncio.run(self.viewers.show(state, False))
-            status, heads, body = self.get("/state")
-            self.assertEqual((status, heads["Content-Type"], body),
-                             ("HTTP/1.1 200 OK", "application/json", state))
-        self.assertEqual(self.viewers.count, 0)
-
-    def test_nothing_else_is_there(self) -> None:
-        for path, how in (("/live.py", "GET"), ("/", "POST"), ("/state", "PUT"), ("", "GET"),
-                          ("/events", "POST"), ("/state/", "GET")):
-            self.assertEqual(self.get(path, how)[0], "HTTP/1.1 404 Not Found", (path, how))
-        self.assertEqual(self.run_it(lambda port: self.ask(port, b"GET\r\n\r\n"))[0],
-                         "HTTP/1.1 404 Not Found")
-
-    def test_up_to_200_may_look(self) -> None:
-        self.assertEqual(MOST_VIEWERS, 200)
-        self.viewers.count = 199
-        self.assertEqual(self.get("/")[0], "HTTP/1.1 200 OK")
-        self.viewers.count = 200
-        self.assertEqual(self.get("/")[0], "HTTP/1.1 503 Service Unavailable")
-        self.assertEqual(self.viewers.count, 200)
-
-    def test_one_that_says_nothing_is_let_go(self) -> None:
-        with mock.patch("geesefuton.hosting.live.STALLED", 0.05):
-            for request in (b"", b"GET / HTTP/1.1\r\n"):
-                self.assertEqual(self.run_it(lambda port: self.ask(port, request)), ("", {}, b""))
-        self.assertEqual(self.run_it(lambda port: self.ask(port, b"x" * 99999))[0], "")
-        self.assertEqual(self.viewers.count, 0)
-
-    def test_one_that_takes_nothing_is_let_go(self) -> None:
-        async def work(port: int) -> int:
-            await self.viewers.show(b"x" * (32 << 20), False)
-            reader, writer = await asyncio.open_connection("127.0.0.1", port, limit=1024)
-            writer.write(b"GET /state HTTP/1.1\r\n\r\n")
-            got = len(await reader.read(1024))
-            while self.viewers.count:
-                await asyncio.sleep(0.01)
-            with contextlib.suppress(ConnectionError):
-                while piece := await reader.read(1 << 20):
-                    got += len(piece)
-            writer.close()
-            return got
-
-        with mock.patch("geesefuton.hosting.live.STALLED", 0.1):
-            self.assertLess(self.run_it(work), 32 << 20)
-
-    def test_each_state_is_sent_until_the_last(self) -> None:
-        async def work(port: int) -> List[bytes]:
-            reader, writer = await asyncio.open_connection("127.0.0.1", port)
-            writer.write(b"GET /events HTTP/1.1\r\n\r\n")
-            head = await reader.readuntil(b"\r\n\r\n")
-            self.assertIn(b"200 OK\r\nContent-Type: text/event-stream\r\n", head)
-            parts = [await reader.readuntil(b"\n\n")]
-            for number in range(3):
-                await self.viewers.show(b'{"a":%d}' % number, number == 2)
-                parts.append(await reader.readuntil(b"\n\n"))
-            parts.append(await reader.read())
-            late = await self.ask(port, b"GET /events HTTP/1.1\r\n\r\n")
-            return [*parts, late[2]]
-
-        last = b"event: end\ndata: over\n\n"
-        self.assertEqual(self.run_it(work), [
-            b"retry: 1000\n\n", b'data: {"a":0}\n\n', b'data: {"a":1}\n\n',
-            b'data: {"a":2}\n\n', last, b'retry: 1000\n\ndata: {"a":2}\n\n' + last])
-
-    def test_a_link_on_which_nothing_happens_is_kept(self) -> None:
-        wait = asyncio.wait_for
-
-        async def sooner(what: Any, seconds: float) -> Any:
-            return await wait(what, seconds / 100)
-
-        async def work(port: int) -> List[bytes]:
-            reader, writer = await asyncio.open_connection("127.0.0.1", port)
-            writer.write(b"GET /events HTTP/1.1\r\n\r\n")
-            await reader.readuntil(b"retry: 1000\n\n")
-            with mock.patch("asyncio.wait_for", sooner):
-                await self.viewers.show(b"{}", False)
-                parts = [await reader.readuntil(b"\n\n") for _ in range(3)]
-            await self.viewers.show(b"[]", True)
-            await reader.read()
-            return parts
-
-        self.assertEqual(self.run_it(work),
-                         [b"data: {}\n\n", b": still here\n\n", b": still here\n\n"])
 
 
 class Words(unittest.TestCase):
@@ -333,13 +286,20 @@ class Serving(unittest.TestCase):
         self.journal = Path(place.name, "journal")
         self.port = free_port()
 
-    def start(self, *more: str) -> "subprocess.Popen[bytes]":
+    def start(self, *more: str, **how: Any) -> "subprocess.Popen[bytes]":
         live = subprocess.Popen(
             [sys.executable, str(TOP / "tools/live"), str(self.journal), str(self.port), *more],
-            env={**os.environ, "TAC": str(HERE / "fake_tac.py")}, stderr=subprocess.PIPE)
-        self.addCleanup(live.wait)
-        self.addCleanup(live.kill)
+            env={**os.environ, "TAC": str(DATA.parent / "fake_tac.py")}, stderr=subprocess.PIPE,
+            **{"stdin": subprocess.DEVNULL, **how})
+        self.addCleanup(self.end, live)
         return live
+
+    def end(self, live: "subprocess.Popen[bytes]") -> None:
+        live.kill()
+        live.wait()
+        for pipe in (live.stdin, live.stderr):
+            if pipe is not None:
+                pipe.close()
 
     def get(self, path: str) -> "tuple[bytes, str]":
         deadline = time.monotonic() + MOST
@@ -367,13 +327,15 @@ class Serving(unittest.TestCase):
         page, policy = self.get("/")
         self.assertEqual(page, PAGE.read_bytes())
         self.assertIn("default-src 'none'", policy)
-        with self.assertRaises(urllib.error.HTTPError):
+        with self.assertRaises(urllib.error.HTTPError) as refused:
             self.get("/../journal")
+        refused.exception.close()
         viewers = [self.events() for _ in range(3)]
         self.addCleanup(lambda: [viewer.close() for viewer in viewers])
         hangs = self.events()
         self.addCleanup(hangs.close)
         reads = [viewer.makefile("rb") for viewer in viewers]
+        self.addCleanup(lambda: [read.close() for read in reads])
         states = [self.states(read, 1)[0] for read in reads]
         self.assertEqual({state["phase"] for state in states}, {"running"})
         self.assertEqual({(state["tick"], state["late"]) for state in states}, {(9, 6)})
@@ -399,6 +361,41 @@ class Serving(unittest.TestCase):
             if line.startswith(b"data: {"):
                 states.append(json.loads(line[6:]))
         return states
+
+    def test_silent_links_neither_end_the_page_nor_hide_it(self) -> None:
+        self.journal.write_text("\n".join(LINES[:TICK_9 + 1]) + "\n")
+        few = 64  # open files
+        live = self.start(preexec_fn=lambda: resource.setrlimit(
+            resource.RLIMIT_NOFILE, (few, few)))
+        self.get("/")
+        with contextlib.ExitStack() as stack:
+            for _ in range(5 * few):
+                stack.enter_context(socket.create_connection(("127.0.0.1", self.port)))
+            viewer = stack.enter_context(self.events())
+            read = stack.enter_context(viewer.makefile("rb"))
+            self.assertEqual(self.states(read, 1)[0]["tick"], 9)
+            with self.journal.open("a") as file:
+                file.write("\n".join(LINES[TICK_9 + 1:]) + "\n")
+            text = read.read()  # until the page ends it
+            self.assertEqual(json.loads(re.findall(rb"data: (\{.*\})", text)[-1])["phase"], "over")
+        self.assertEqual(self.get("/")[0], PAGE.read_bytes())
+        self.assertIsNone(live.poll())
+        live.terminate()
+        told = live.communicate(timeout=MOST)[1].decode().split("\n")
+        self.assertLess(len(told), 6, told)
+
+    def test_a_game_whose_journal_has_no_end_is_over_once_standard_input_is_closed(self) -> None:
+        self.journal.write_text("\n".join(LINES[:TICK_9 + 1]) + '\n{"a":1,"q')
+        live = self.start("--until-over", stdin=subprocess.PIPE)
+        self.get("/")
+        with self.events() as viewer, viewer.makefile("rb") as read:
+            self.assertEqual(self.states(read, 1)[0]["phase"], "running")
+            assert live.stdin is not None
+            live.stdin.close()
+            text = read.read()
+        state = json.loads(re.findall(rb"data: (\{.*\})", text)[-1])
+        self.assertEqual((state["phase"], state["status"], state["tick"]), ("over", None, 9))
+        self.assertEqual(live.wait(MOST), 0)
 
     def test_it_stays_until_it_is_stopped(self) -> None:
         self.journal.write_text("\n".join(LINES) + "\n")

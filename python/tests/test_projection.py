@@ -1,124 +1,22 @@
-"""What a live page shows of a game: its hotel nights, its projection, and how much of them."""
+"""What a live page shows of a game: its projection, and how much of it."""
 
 import json
+import random
+import tempfile
 import unittest
+from dataclasses import replace
 from pathlib import Path
 from typing import Any, Dict, List, Optional, Tuple
 from unittest import mock
 
 from geesefuton.hosting.journal import JournalReader
-from geesefuton.hosting.projection import (Night, Projection, View, nights_of, project,
-                                           without_future)
-from geesefuton.hosting.recovery import RecoveryError
-from geesefuton.records.games import Game, read_game
+from geesefuton.hosting.projection import Projection, View, project, without_future
+from geesefuton.hosting.recovery import Player, RecoveryError
+from geesefuton.records.games import DRAWS
 from geesefuton.records.logs import read_log
-from tests.helpers import CountingPlayer
-
-DATA = Path(__file__).resolve().parent / "data"
-LINES = (DATA / "lobby.journal").read_text().split("\n")[:-1]
-HEAD: Dict[str, Any] = json.loads(LINES[0])  # its pace is 100 milliseconds
-GAME = read_game(HEAD["game"])
-
-
-def begun(*lines: Dict[str, Any], tick: int = 0, game: Game = GAME) -> JournalReader:
-    """A journal of a game that has begun: with these lines, and then the tick."""
-    reader = JournalReader()
-    reader.read("\n".join(map(json.dumps, [
-        {**HEAD, "game": game.text()}, {"begin": [0, 1, 2, 3, 4, 5, 6, 7]}, {"tick": 0, "t": 0},
-        *lines, *([{"tick": tick, "t": 100 * tick}] if tick else [])])))
-    return reader
-
-
-def asked(agent: int, line: str, reply: str, time: int) -> List[Dict[str, Any]]:
-    return [{"a": agent, "q": line}, {"a": agent, "r": reply, "t": time}]
-
-
-class Nights(unittest.TestCase):
-    """A night of two rooms, the third to close, at tick 18."""
-
-    GOOD = GAME.closing[2]
-
-    def night(self, tick: int, *calls: Tuple[int, str, str, int], live: bool = False) -> Night:
-        """The night at a tick after calls: agent, words, reply, and milliseconds."""
-        lines = [line for agent, words, reply, time in calls
-                 for line in asked(agent, words.replace("G", str(self.GOOD)), reply, time)]
-        game = GAME.with_rooms([2] * 8, live)
-        return nights_of(begun(*lines, tick=tick, game=game))[self.GOOD - 8]
-
-    BIDS = [(0, "bid G ((1 50))", "@0 taken 0 0", 150), (1, "bid G ((2 60))", "@1 taken 0 0", 250),
-            (2, "bid G ((1 90))", "@3 taken 0 0", 650), (2, "bid G ((2 95))", "@4 taken 0 0", 700)]
-
-    def test_nothing_was_asked(self) -> None:
-        for live in (False, True):
-            self.assertEqual(self.night(0, live=live), Night([[0, 0]], [[0, 0]], None))
-            self.assertEqual(self.night(17, live=live),
-                             Night([[0, 0], [6, 0], [12, 0]], [[0, 0]], None))
-            self.assertEqual(self.night(18, live=live).closed, [18, 0, 0])
-            self.assertEqual(self.night(54, live=live),
-                             Night([[0, 0], [6, 0], [12, 0], [18, 0]], [[0, 0]], [18, 0, 0]))
-
-    def test_by_the_minute_the_clock_publishes_the_ask(self) -> None:
-        asks = [[0, 0], [2.5, 60], [7, 95]]
-        for tick, published, closed in (
-                (12, [[0, 0], [6, 60], [12, 95]], None), (17, [[0, 0], [6, 60], [12, 95]], None),
-                (18, [[0, 0], [6, 60], [12, 95], [18, 95]], [18, 95, 2])):
-            self.assertEqual(self.night(tick, *self.BIDS), Night(published, asks, closed))
-
-    def test_live_quotes_publish_with_each_bid(self) -> None:
-        night = self.night(18, *self.BIDS, live=True)
-        self.assertEqual(night.published,
-                         [[0, 0], [2.5, 60], [6, 60], [7, 95], [12, 95], [18, 95]])
-        self.assertEqual((night.asks, night.closed), ([[0, 0], [2.5, 60], [7, 95]], [18, 95, 2]))
-
-    def test_fewer_units_than_rooms_are_sold_for_nothing(self) -> None:
-        self.assertEqual(self.night(18, *self.BIDS[:1]).closed, [18, 0, 1])
-
-    def test_a_new_bid_replaces_the_earlier_one(self) -> None:
-        night = self.night(18, self.BIDS[1], (0, "bid G ((1 50))", "@0 taken 0 0", 150),
-                           (1, "bid G ((1 70))", "@2 taken 0 0", 300))
-        self.assertEqual((night.asks, night.closed),
-                         ([[0, 0], [2.5, 60], [3, 50]], [18, 50, 2]))
-
-    def test_what_was_refused_or_read_changes_nothing(self) -> None:
-        night = self.night(18, self.BIDS[1], (0, "bid G ((2 99) (-1 5))", "@0 no sell", 150),
-                           (0, "own G", "@2 own 0 ()", 260), (3, "bid G ((2 0))", "no bid 4", 270),
-                           (0, "withdraw G", "@3 no wrongcall", 280),
-                           (4, "quote G", "@4 quote 0 0 open", 290),
-                           (5, "quote G", "@1 quote 0 0 open", 300),  # was on its way for long
-                           (0, "bid G ((2 60))", "@5 no belowquote 1 61 0", 610))
-        self.assertEqual((night.asks, night.closed), ([[0, 0], [2.5, 60]], [18, 60, 2]))
-
-    def test_nothing_comes_before_what_stands_before_it(self) -> None:
-        # The lobby's clock told tick 6 a moment after the server's.
-        night = self.night(18, self.BIDS[1], (0, "bid G ((1 70))", "@0 taken 0 0", 100),
-                           (2, "bid G ((1 80))", "@3 taken 0 0", 599))
-        self.assertEqual(night.asks, [[0, 0], [2.5, 60], [6, 70]])
-        night = self.night(6, (0, "bid G ((2 70))", "@0 taken 0 0", 300),
-                           (1, "bid G ((2 80))", "@1 taken 0 0", 290))
-        self.assertEqual(night.asks, [[0, 0], [3, 70], [3, 80]])
-
-    def test_what_follows_a_position_that_is_not_known_waits(self) -> None:
-        calls = [(0, "bid G ((2 70))", "@0 taken 0 0", 300),
-                 (1, "bid G ((2 80))", "@2 taken 0 0", 590)]
-        self.assertEqual(self.night(5, *calls), Night([[0, 0]], [[0, 0], [3, 70]], None))
-        self.assertEqual(self.night(6, *calls),
-                         Night([[0, 0], [6, 70]], [[0, 0], [3, 70], [6, 80]], None))
-
-    def test_times_end_with_the_game_and_have_two_digits(self) -> None:
-        last = GAME.closing[7]
-        lines = asked(0, f"bid {last} ((2 70))", "@0 taken 0 0", 1234) \
-            + asked(1, f"bid {last} ((2 80))", "@1 taken 0 0", 5678)
-        reader = begun(*lines, tick=1, game=GAME.with_rooms([2] * 8, False))
-        self.assertEqual(nights_of(reader)[last - 8].asks, [[0, 0], [12.34, 70], [54, 80]])
-        reader.pace = 999
-        self.assertEqual(nights_of(reader)[last - 8].asks, [[0, 0], [1.24, 70], [5.68, 80]])
-
-    def test_each_night_has_its_own_rooms_and_bids(self) -> None:
-        lines = [line for good in range(8, 16)
-                 for line in asked(0, f"bid {good} ((1 50) (1 40) (1 30))", "@0 taken 0 0", 100)]
-        game = GAME.with_rooms([1, 2, 3, 4, 1, 2, 3, 4], False)
-        self.assertEqual([night.asks[-1] for night in nights_of(begun(*lines, tick=2, game=game))],
-                         [[1, 50], [1, 40], [1, 30], [0, 0]] * 2)
+from geesefuton.records.rules import prices_of
+from tests.helpers import DATA, CountingPlayer, needs_program
+from tests.journals import BEGIN, GAME, HEAD, LINES, asked, begun, nights_of, of_text
 
 
 class Projecting(unittest.TestCase):
@@ -127,7 +25,7 @@ class Projecting(unittest.TestCase):
     def project(self, reader: JournalReader, true_file: bool = True) -> Projection:
         self.player = CountingPlayer()
         player: Any = self.player
-        return project(reader, player, true_file)
+        return project(reader, nights_of(reader), player, true_file)
 
     def test_scores_are_best_cash_short_and_score(self) -> None:
         sheet = [f"score {agent} {100 + agent} {-7 * agent} {agent} {100 - 206 * agent}"
@@ -136,7 +34,7 @@ class Projecting(unittest.TestCase):
         for agent, line in enumerate(sheet):
             text = text.replace(f"score {agent} 0 0 0 0", line)
         player = mock.Mock(play=mock.Mock(return_value=([], text)))
-        self.assertEqual(project(begun(), player, True).scores,
+        self.assertEqual(project(begun(), nights_of(begun()), player, True).scores,
                          [[100 + agent, -7 * agent, agent, 100 - 206 * agent]
                           for agent in range(8)])
 
@@ -150,7 +48,7 @@ class Projecting(unittest.TestCase):
         self.assertEqual(made.scores, [[0, -1, 0, -1] if agent == 1 else [0] * 4
                                        for agent in range(8)])
         self.assertEqual(self.player.given, [(GAME.text(), "1 bid 20 ((1 5))\n")])
-        self.assertEqual(made.nights, nights_of(reader))
+        self.assertEqual(made.asks, [night.asks for night in nights_of(reader)])
 
     def test_the_game_that_is_played_knows_no_more_than_may_be_told(self) -> None:
         reader = begun(tick=20)
@@ -191,7 +89,7 @@ class Projecting(unittest.TestCase):
         reader = JournalReader()
         reader.read("\n".join(LINES))
         text = (DATA / "lobby.log").read_text()
-        made = project(reader, mock.Mock(play=mock.Mock(return_value=([], text))), True)
+        made = project(reader, [], mock.Mock(play=mock.Mock(return_value=([], text))), True)
         times, due = replies_to_bids(), []
         for good in range(16, 28):
             for position, entry in enumerate(log.histories[good]):
@@ -210,7 +108,7 @@ class Projecting(unittest.TestCase):
             bid = f"{agent} bid ((1 {price})) = taken 0 0\n"
             self.assertIn(bid, text)
             text = text.replace(bid, f"{bid}trade {agent} 1 1 5\n")
-        made = project(begun(*lines), mock.Mock(play=mock.Mock(return_value=([], text))), True)
+        made = project(begun(*lines), [], mock.Mock(play=mock.Mock(return_value=([], text))), True)
         self.assertEqual(made.trades, [[3.1, 20, 2, 1, 5], [3.1, 20, 3, 1, 5]])
 
 
@@ -236,12 +134,13 @@ class Views(unittest.TestCase):
 
     def secret(self, **more: Any) -> Projection:
         return Projection(**{"tick": 3, "scores": [[agent, 0, 0, agent] for agent in range(8)],
-                             "nights": nights_of(begun()), "trades": [], "asked": list(range(8)),
+                             "asks": [night.asks for night in nights_of(begun())],
+                             "trades": [], "asked": list(range(8)),
                              "silent": [], "refused": [], **more})
 
     def test_before_the_game(self) -> None:
         reader = JournalReader()
-        for line in (LINES[0], '{"begin":[0,1,2,3,4,5,6,7]}'):
+        for line in (LINES[0], BEGIN):
             reader.read(line)
             state = self.state(reader)
             self.assertEqual((state["phase"], state["flights"], state["status"], state["shown"]),
@@ -261,7 +160,7 @@ class Views(unittest.TestCase):
     def test_flights_have_the_prices_so_far(self) -> None:
         for tick, count in ((0, 1), (1, 2), (53, 54), (54, 54)):
             self.assertEqual(self.state(begun(tick=tick))["flights"],
-                             [flight.prices()[:count] for flight in GAME.flights])
+                             [prices_of(flight)[:count] for flight in GAME.flights])
 
     def test_rooms_sold_are_shown_at_once_or_in_the_end(self) -> None:
         bids = [line for good in range(8, 16)
@@ -279,11 +178,11 @@ class Views(unittest.TestCase):
 
     def test_what_only_one_agent_knows_is_that_of_the_projection(self) -> None:
         trades = [[number / 10, 20, 1, 2, number] for number in range(402)]
-        asks = [Night([[0, 0]], [[0, 0], [2.5, good]], None) for good in range(8, 16)]
-        state = self.state(begun(tick=9), secret=self.secret(trades=trades, nights=asks))
+        asks = [[[0, 0], [2.5, good]] for good in range(8, 16)]
+        state = self.state(begun(tick=9), secret=self.secret(trades=trades, asks=asks))
         self.assertEqual((state["shown"], state["traded"]), (3, 402))
         self.assertEqual(state["trades"], trades[2:])
-        self.assertEqual(state["asks"], [[[0, 0], [2.5, good]] for good in range(8, 16)])
+        self.assertEqual(state["asks"], asks)
         self.assertEqual([(agent["score"], agent["asked"]) for agent in state["agents"]],
                          [([agent, 0, 0, agent], agent) for agent in range(8)])
         plain = self.state(begun(tick=9))
@@ -319,6 +218,104 @@ class Views(unittest.TestCase):
         stems = [agent["name"] for agent in self.state(begun())["agents"]]
         self.assertEqual(stems, ["red", "orange", "yellow", "green", "blue", "violet", "brown",
                                  "grey"])
+
+
+class Showing(unittest.TestCase):
+    def test_no_future(self) -> None:
+        for tick in (0, 1, 23, 48, 54):
+            game = without_future(GAME, tick)
+            for flight, other in zip(GAME.flights, game.flights):
+                prices, still = prices_of(flight), prices_of(other)
+                self.assertEqual(prices[:tick + 1], still[:tick + 1])
+                self.assertEqual(set(still[tick:]) - {still[min(tick, DRAWS)]}, set())
+            self.assertEqual(game.closing[:tick // 6], GAME.closing[:tick // 6])
+            self.assertEqual(sorted(game.closing), sorted(GAME.closing))
+            self.assertEqual(list(game.closing[tick // 6:]), sorted(game.closing[tick // 6:]))
+
+    def test_what_is_shown_later(self) -> None:
+        reader = of_text(LINES[:next(place for place, line in enumerate(LINES)
+                                     if line.startswith('{"tick":20,'))])
+        nights = nights_of(reader)
+        made = Projection(9, [[5, -3, 1, -198]] * 8, [], [[3.0, 20, 1, 2, 70]] * 401,
+                          [7] * 8, [1, 5], [4])
+        early = View(6, False).state(reader, nights, None, False)
+        late = View(6, False).state(reader, nights, made, False)
+        self.assertFalse({"asks", "trades", "traded"} & set(early))
+        self.assertFalse({"score", "asked", "doing"} & {
+            key for agent in early["agents"] for key in agent})
+        self.assertEqual((early["phase"], early["tick"], early["shown"], late["shown"]),
+                         ("running", 19, None, 9))
+        self.assertEqual([agent["here"] for agent in early["agents"]],
+                         [{True: "here", False: "gone"}[agent.is_here]
+                          for agent in reader.agents[:5]] + ["missing"] * 3)
+        closed = [night["closed"] for night in early["hotels"] if night["closed"]]
+        self.assertEqual([len(night) for night in closed], [2] * 3)
+        self.assertEqual([len(flight) for flight in early["flights"]], [20] * 8)
+        self.assertEqual((late["traded"], len(late["trades"])), (401, 400))
+        self.assertEqual(late["agents"][4]["doing"], "refused")
+        self.assertEqual(late["agents"][1].get("doing"), "silent" if reader.agents[1].is_here
+                         else None)
+        self.assertEqual(late["agents"][0]["score"], [5, -3, 1, -198])
+        at_once = View(0, False).state(reader, nights, made, False)
+        self.assertEqual([len(night["closed"]) for night in at_once["hotels"] if night["closed"]],
+                         [3] * 3)
+        self.assertEqual(View(6, False).state(reader, nights, made, True)["phase"], "over")
+
+    def test_who_is_here(self) -> None:
+        lines, shown = LINES[:1], []
+        for line in ('{"without":2}', '{"here":2,"from":"10.0.0.7"}', '{"gone":2}',
+                     '{"here":2,"from":"10.0.0.7"}', '{"begin":[2]}', '{"gone":2,"t":5}',
+                     '{"end":2,"why":"left","t":9}'):
+            lines = [*lines, line]
+            shown.append(View(0, False).state(of_text(lines), None, None, False)["agents"][2])
+        self.assertEqual([agent["here"] for agent in shown],
+                         ["absent", "here", "missing", "here", "here", "gone", "left"])
+
+    def test_words_are_not_shown(self) -> None:
+        for count in (1, 6, 12, 60, len(LINES)):
+            reader = of_text(LINES[:count])
+            nights = nights_of(reader) if reader.has_begun else None
+            text = json.dumps(View(6, False).state(reader, nights, None, False))
+            for word in GAME.words:
+                self.assertNotIn(word, text)
+
+
+@needs_program
+class WithTheProgram(unittest.TestCase):
+    def setUp(self) -> None:
+        place = tempfile.TemporaryDirectory()
+        self.addCleanup(place.cleanup)
+        self.folder = Path(place.name)
+        self.player = Player(self.folder)
+
+
+    def test_only_an_agent_whose_lines_were_all_refused_counts_as_refused(self) -> None:
+        lines = [LINES[0], BEGIN, '{"tick":0,"t":0}']
+        for agent, line, reply in ((0, "buy", "no syntax"), (0, "cash", "@0 cash 0"),
+                                   (1, "buy", "no syntax")):
+            lines += [f'{{"a":{agent},"q":"{line}"}}', f'{{"a":{agent},"r":"{reply}","t":1}}']
+        shown = project(of_text(lines), [], self.player, true_file=True)
+        self.assertEqual(shown.refused, [1])
+
+    def test_a_projection_does_not_tell_the_future(self) -> None:
+        for tick in (13, 29):
+            place = next(number for number, line in enumerate(LINES)
+                         if line.startswith(f'{{"tick":{tick},'))
+            states = set()
+            for seed in range(2):
+                dice = random.Random(seed)
+                flights = tuple(replace(flight, draws=flight.draws[:tick + 1] + tuple(
+                    dice.randrange(1 << 32) for _ in range(tick + 1, DRAWS)))
+                    for flight in GAME.flights)
+                done, rest = GAME.closing[:tick // 6], list(GAME.closing[tick // 6:])
+                dice.shuffle(rest)
+                game = replace(GAME, flights=flights, closing=(*done, *rest))
+                head = json.dumps({**json.loads(LINES[0]), "game": game.text()})
+                reader = of_text([head, *LINES[1:place + 1]])
+                nights = nights_of(reader)
+                made = project(reader, nights, self.player, true_file=False)
+                states.add(json.dumps(View(6, False).state(reader, nights, made, False)))
+            self.assertEqual(len(states), 1)
 
 
 if __name__ == "__main__":

@@ -1,10 +1,7 @@
-"""Recovery: scripts of journals, with the program where it is there, and what a page may show."""
+"""Recovery: scripts of journals, with the program where it is there."""
 
-import json
 import os
 import random
-import subprocess
-import sys
 import tempfile
 import unittest
 from dataclasses import replace
@@ -13,50 +10,27 @@ from typing import Any, Dict, List, Sequence, Tuple
 from unittest import mock
 
 from geesefuton import program
-from geesefuton.hosting.journal import Call, JournalReader, Schedule, read_journal
-from geesefuton.hosting.projection import (Projection, View, names_of, nights_of, project,
-                                           without_future)
-from geesefuton.hosting.recovery import (Auction, Player, Recovery, RecoveryError, Script,
-                                         _tell_pending, differences, script_of)
-from geesefuton.processes import Output
+from geesefuton.hosting.journal import Exchange, JournalReader, Schedule, read_journal
+from geesefuton.hosting.recovery import (KnownHistory, Player, Recovery, RecoveryError, Script,
+                                         differences, script_of)
 from geesefuton.records.dialects import Asked, position_of
-from geesefuton.records.games import DRAWS, Game, read_game
 from geesefuton.records.logs import read_log
-from tests.helpers import CountingPlayer, fake_program, refusal
-
-HERE = Path(__file__).resolve().parent
-DATA, TOP = HERE / "data", HERE.parents[1]
-TEXT = (DATA / "lobby.journal").read_text()
-LINES = TEXT.split("\n")[:-1]
-GAME: Game = read_game(json.loads(LINES[0])["game"])
+from tests.helpers import DATA, CountingPlayer, fake_program, needs_program
+from tests.journals import BEGIN, GAME, LINES, asks, of_text, told
 
 
-def has_program() -> bool:
-    try:
-        program.find()
-        return True
-    except program.ProgramError:
-        return False
-
-
-def call(good: int, at: int, tick: int = 0, order: int = 0, agent: int = 1) -> Call:
-    return Call(agent, Asked("own", good, f"own {good}"), order, tick, f"@{at} own 0 ()", at)
-
-
-def of_text(lines: Sequence[str]) -> JournalReader:
-    reader = JournalReader()
-    reader.read("\n".join(lines))
-    return reader
+def call(good: int, at: int, tick: int = 0, order: int = 0, agent: int = 1) -> Exchange:
+    return Exchange(agent, Asked("own", good, f"own {good}"), order, tick, f"@{at} own 0 ()", at)
 
 
 class Placing(unittest.TestCase):
     """Where the calls of an auction stand between the ticks."""
 
     def ticks(self, good: int, calls: Sequence[Tuple[int, int]]) -> List[int]:
-        auction = Auction(good, Schedule(GAME))
+        history = KnownHistory(good, Schedule(GAME))
         for at, tick in calls:
-            auction.place(call(good, at, tick))
-        return [tick for tick, _ in auction.items(quotes=True)]
+            history.place(call(good, at, tick))
+        return [tick for tick, _ in history.items(quotes=True)]
 
     def test_flights_have_a_clocks_call_at_each_tick(self) -> None:
         self.assertEqual(self.ticks(0, [(0, 0), (1, 3), (4, 0), (5, 1)]), [0, 0, 2, 2])
@@ -81,11 +55,11 @@ class Placing(unittest.TestCase):
                                                 "1 own 0\n")
 
     def test_what_may_not_have_come_yet_is_left_out(self) -> None:
-        auction = Auction(0, Schedule(GAME))
+        history = KnownHistory(0, Schedule(GAME))
         for at in (0, 2, 5):
-            auction.place(call(0, at))
-        auction.cut(1)
-        self.assertEqual(sorted(auction.calls), [0, 2])
+            history.place(call(0, at))
+        history.cut(1)
+        self.assertEqual(sorted(history.calls), [0, 2])
 
 
 class Guessing(unittest.TestCase):
@@ -95,20 +69,20 @@ class Guessing(unittest.TestCase):
                tick: int = 10) -> List[int]:
         """Calls at these places, and as many requests of each of two agents without a reply; the
         guess is right that has these agents' requests at these places."""
-        auction = Auction(good, Schedule(GAME))
+        history = KnownHistory(good, Schedule(GAME))
         for at in places:
-            auction.place(replace(call(good, at), answered=100))
+            history.place(replace(call(good, at), answered=100))
         for agent in (2, 3):
-            auction.pending[agent] = [replace(call(good, 0, order=number, agent=agent), at=None)
+            history.pending[agent] = [replace(call(good, 0, order=number, agent=agent), at=None)
                                       for number in range(pending)]
-        known = dict(auction.calls)
-        for guess in auction.guesses(tick):
-            if auction.guess(known, guess) and right == {
-                    at: one.agent for at, one in auction.calls.items() if at not in known}:
+        known = dict(history.calls)
+        for guess in history.guesses(tick):
+            if history.guess(known, guess) and right == {
+                    at: one.agent for at, one in history.calls.items() if at not in known}:
                 for agent in (2, 3):  # the eldest were made
-                    orders = [one.order for one in auction.used if one.agent == agent]
+                    orders = [one.order for one in history.used if one.agent == agent]
                     self.assertEqual(orders, list(range(len(orders))))
-                return [one.agent for one in auction.used]
+                return [one.agent for one in history.used]
         return []
 
     def test_none(self) -> None:
@@ -141,7 +115,7 @@ class Guessing(unittest.TestCase):
         self.assertEqual(self.settle([0, 2], 1, {7: 7}), [])
 
     def test_none_stands_before_what_was_known(self) -> None:
-        auction = Auction(20, Schedule(GAME))
+        auction = KnownHistory(20, Schedule(GAME))
         auction.place(replace(call(20, 1), answered=10))
         auction.pending[2] = [replace(call(20, 0, order=20, agent=2), at=None)]
         self.assertEqual(list(auction.guesses(54)), [[], []])
@@ -150,18 +124,10 @@ class Guessing(unittest.TestCase):
 def journal(*lines: str, tick: int = 0) -> JournalReader:
     """A journal of a game that has begun, with these lines after a tick."""
     ticks = [f'{{"tick":{number},"t":{100 * number}}}' for number in range(tick + 1)]
-    return of_text([LINES[0], '{"begin":[0,1,2,3,4,5,6,7]}', *ticks, *lines])
+    return of_text([LINES[0], BEGIN, *ticks, *lines])
 
 
-def asks(agent: int, line: str) -> str:
-    return json.dumps({"a": agent, "q": line})
-
-
-def told(agent: int, line: str, time: int = 0) -> str:
-    return json.dumps({"a": agent, "r": line, "t": time})
-
-
-def asked(calls: Sequence[Call]) -> List[str]:
+def asked(calls: Sequence[Exchange]) -> List[str]:
     return [f"{call.agent} {call.asked.text}" for call in calls if call.asked is not None]
 
 
@@ -367,189 +333,7 @@ class Playing(unittest.TestCase):
             self.play("echo text 1 2; exit 8", "")
 
 
-class Telling(unittest.TestCase):
-    """What the command tells, and its exit status."""
-
-    def setUp(self) -> None:
-        place = tempfile.TemporaryDirectory()
-        self.addCleanup(place.cleanup)
-        self.folder = Path(place.name)
-        self.log = self.folder / "output"
-
-    def run_it(self, lines: Sequence[str], *words: object) -> Tuple[int, List[str]]:
-        """Runs the command on a journal, and gives its exit status and the lines that it tells."""
-        (self.folder / "journal").write_text("".join(line + "\n" for line in lines))
-        with mock.patch("geesefuton.hosting.recovery.Player", lambda folder: CountingPlayer()), \
-                mock.patch("geesefuton.hosting.recovery.Output",
-                           lambda target: Output(self.log if target == 1 else target)):
-            status, text = refusal("hosting.recovery", self.folder / "journal", *words)
-        return status, text.splitlines()
-
-    HEAD = [LINES[0], '{"begin":[0,1,2,3,4,5,6,7]}', '{"tick":0,"t":0}', '{"tick":7,"t":700}',
-            asks(0, "own 20"), told(0, "@0 own 0 ()", 701), asks(0, "quote 20"),
-            told(0, "@1 quote 0 0 open", 702), asks(0, "cash"), told(0, "@0 cash 0", 703),
-            asks(0, "hm"), told(0, "no syntax", 704)]
-
-    def test_how_the_game_ended(self) -> None:
-        more = "the scores are those of a game in which nobody asks anything more"
-        for lines, due in (
-                (self.HEAD, f"the journal ends after tick 7 of 54; 2 calls; {more}"),
-                ([*self.HEAD, '{"over":0,"t":800}'], "the game came to its end; 2 calls"),
-                ([*self.HEAD, '{"over":6,"t":800}'], "the game came to its end; 2 calls"),
-                ([*self.HEAD, '{"over":137,"t":800}'],
-                 f"the server failed (137) after tick 7 of 54; 2 calls; {more}"),
-                (LINES[:4], "the game had not begun")):
-            self.assertEqual(self.run_it(lines), (0, [due]))
-            self.assertEqual(read_log(self.log.read_bytes()).kind, "play")
-
-    def test_requests_without_a_reply(self) -> None:
-        lines = [*self.HEAD, asks(1, "bid 21 ((1 5))"), asks(2, "quote 21"),
-                 told(2, "@1 quote 5 0 open"), asks(3, "bid 23 ((1 5))"),
-                 told(3, "@0 taken 0 0"), asks(3, "bid 22 ((1 5))"), asks(4, "own 22")]
-        first, third, fourth = GAME.words[1], GAME.words[3], GAME.words[4]
-        status, text = self.run_it(lines)
-        self.assertEqual((status, text[1:]), (0, [
-            f"  without a reply, in the log: {first}: bid 21 ((1 5))",
-            f"  without a reply, left out: {third}: bid 22 ((1 5))",
-            f"  without a reply, left out: {fourth}: own 22",
-            "  nobody can know whether those left out were made; with them (--pending) scores "
-            f"change: {third} -1"]))
-        self.assertEqual([row.score for row in read_log(self.log.read_bytes()).scores],
-                         [0, -1, 0, -1, 0, 0, 0, 0])
-        status, text = self.run_it(lines, "--pending")
-        self.assertEqual((status, [line.split(": ")[0] for line in text[1:]]),
-                         (0, ["  without a reply, in the log"] * 3))
-        self.assertEqual([row.score for row in read_log(self.log.read_bytes()).scores],
-                         [0, -1, 0, -2, 0, 0, 0, 0])
-        status, text = self.run_it([*self.HEAD, asks(4, "own 22")])
-        self.assertTrue(text[-1].endswith("with them (--pending) no score changes"), text)
-
-    def test_changes_have_their_signs(self) -> None:
-        with mock.patch("geesefuton.hosting.recovery._scores_of",
-                        side_effect=[[5] * 8, [5, 5, 5, 20, 5, 5, 5, -12]]):
-            _, text = self.run_it([*self.HEAD, asks(4, "own 22")])
-        self.assertTrue(text[-1].endswith(f"change: {GAME.words[3]} +15, {GAME.words[7]} -17"),
-                        text)
-
-    def test_a_difference_is_told_and_the_log_is_written(self) -> None:
-        lines = [*self.HEAD, asks(1, "own 21"), told(1, "@0 own 4 ()")]
-        status, text = self.run_it(lines)
-        self.assertEqual((status, text[1:]),
-                         (1, ["! 1 own 21: it was told @0 own 4 (), and now @0 own 0 ()"]))
-        self.assertEqual(read_log(self.log.read_bytes()).kind, "play")
-
-    def test_a_journal_of_no_game_leaves_no_log(self) -> None:
-        lines = [*self.HEAD, asks(1, "own 20"), told(1, "@0 own 0 ()")]
-        status, text = self.run_it(lines)
-        self.assertEqual((status, text), (
-            1, [f"recover: {self.folder / 'journal'}: two replies have position 0 of good 20"]))
-        status, text = self.run_it(["hey"])
-        self.assertEqual((status, len(text), "line 1 is none of a journal" in text[0]),
-                         (1, 1, True))
-        none = self.folder / "none"
-        self.assertEqual(refusal("hosting.recovery", none),
-                         (1, f"recover: {none}: No such file or directory\n"))
-        self.assertFalse(self.log.exists())
-
-    def test_other_outputs(self) -> None:
-        script, game = self.folder / "my.script", self.folder / "my.game"
-        status, _ = self.run_it(self.HEAD, "--script", script, "--game", game)
-        self.assertEqual((status, game.read_text()), (0, GAME.text()))
-        self.assertEqual(script.read_text(),
-                         "tick\n" * 7 + "0 own 20\n0 quote 20\n0 cash\n")
-        status, text = self.run_it(self.HEAD, "--script", self.folder / "no" / "where")
-        self.assertEqual((status, text[-1]), (
-            1, f"recover: {self.folder / 'no' / 'where'}: No such file or directory"))
-        self.assertEqual(read_log(self.log.read_bytes()).kind, "play")
-        self.log.unlink()
-        self.log.mkdir()
-        status, text = self.run_it(self.HEAD)
-        self.assertEqual((status, text[-1]), (1, f"recover: {self.log}: Is a directory"))
-
-
-class Showing(unittest.TestCase):
-    def test_names(self) -> None:
-        words = ["red7k", "blue4", *(f"{letter}9" for letter in "cdefgh")]
-        self.assertEqual(names_of(words, False), ["red", "blue", *"cdefgh"])
-        self.assertEqual(names_of(words, True), words)
-        numbers = [f"agent {number}" for number in range(8)]
-        self.assertEqual(names_of([f"seat{number}" for number in range(8)], False), numbers)
-        self.assertEqual(names_of(["red", *words[1:]], False), numbers)
-
-    def test_no_future(self) -> None:
-        for tick in (0, 1, 23, 48, 54):
-            game = without_future(GAME, tick)
-            for flight, other in zip(GAME.flights, game.flights):
-                prices, still = flight.prices(), other.prices()
-                self.assertEqual(prices[:tick + 1], still[:tick + 1])
-                self.assertEqual(set(still[tick:]) - {still[min(tick, DRAWS)]}, set())
-            self.assertEqual(game.closing[:tick // 6], GAME.closing[:tick // 6])
-            self.assertEqual(sorted(game.closing), sorted(GAME.closing))
-            self.assertEqual(list(game.closing[tick // 6:]), sorted(game.closing[tick // 6:]))
-
-    def test_nights_are_those_of_the_log(self) -> None:
-        log = read_log((DATA / "lobby.log").read_text())
-        nights = nights_of(read_journal(DATA / "lobby.journal"))
-        for good, night in enumerate(nights, 8):
-            closing = next(entry for entry in log.histories[good] if entry.call.do == "close")
-            sold = sum(trade.units for trade in closing.trades)
-            price = closing.trades[0].price if closing.trades else 0
-            tick = 6 * (GAME.closing.index(good) + 1)
-            assert night.closed is not None
-            self.assertEqual(night.closed[0], tick)
-            self.assertEqual(night.closed[2], sold)
-            if sold:
-                self.assertEqual(night.closed[1], price)
-
-    def test_what_is_shown_later(self) -> None:
-        reader = of_text(LINES[:next(place for place, line in enumerate(LINES)
-                                     if line.startswith('{"tick":20,'))])
-        nights = nights_of(reader)
-        made = Projection(9, [[5, -3, 1, -198]] * 8, nights, [[3.0, 20, 1, 2, 70]] * 401,
-                          [7] * 8, [1, 5], [4])
-        early = View(6, False).state(reader, nights, None, False)
-        late = View(6, False).state(reader, nights, made, False)
-        self.assertFalse({"asks", "trades", "traded"} & set(early))
-        self.assertFalse({"score", "asked", "doing"} & {
-            key for agent in early["agents"] for key in agent})
-        self.assertEqual((early["phase"], early["tick"], early["shown"], late["shown"]),
-                         ("running", 19, None, 9))
-        self.assertEqual([agent["here"] for agent in early["agents"]],
-                         [{True: "here", False: "gone"}[agent.is_here]
-                          for agent in reader.agents[:5]] + ["missing"] * 3)
-        closed = [night["closed"] for night in early["hotels"] if night["closed"]]
-        self.assertEqual([len(night) for night in closed], [2] * 3)
-        self.assertEqual([len(flight) for flight in early["flights"]], [20] * 8)
-        self.assertEqual((late["traded"], len(late["trades"])), (401, 400))
-        self.assertEqual(late["agents"][4]["doing"], "refused")
-        self.assertEqual(late["agents"][1].get("doing"), "silent" if reader.agents[1].is_here
-                         else None)
-        self.assertEqual(late["agents"][0]["score"], [5, -3, 1, -198])
-        at_once = View(0, False).state(reader, nights, made, False)
-        self.assertEqual([len(night["closed"]) for night in at_once["hotels"] if night["closed"]],
-                         [3] * 3)
-        self.assertEqual(View(6, False).state(reader, nights, made, True)["phase"], "over")
-
-    def test_who_is_here(self) -> None:
-        lines, shown = LINES[:1], []
-        for line in ('{"without":2}', '{"here":2,"from":"10.0.0.7"}', '{"gone":2}',
-                     '{"here":2,"from":"10.0.0.7"}', '{"begin":[2]}', '{"gone":2,"t":5}',
-                     '{"end":2,"why":"left","t":9}'):
-            lines = [*lines, line]
-            shown.append(View(0, False).state(of_text(lines), None, None, False)["agents"][2])
-        self.assertEqual([agent["here"] for agent in shown],
-                         ["absent", "here", "missing", "here", "here", "gone", "left"])
-
-    def test_words_are_not_shown(self) -> None:
-        for count in (1, 6, 12, 60, len(LINES)):
-            reader = of_text(LINES[:count])
-            nights = nights_of(reader) if reader.has_begun else None
-            text = json.dumps(View(6, False).state(reader, nights, None, False))
-            for word in GAME.words:
-                self.assertNotIn(word, text)
-
-
-@unittest.skipUnless(has_program(), "there is no program: set TAC to the file of tac")
+@needs_program
 class WithTheProgram(unittest.TestCase):
     def setUp(self) -> None:
         place = tempfile.TemporaryDirectory()
@@ -591,7 +375,7 @@ class WithTheProgram(unittest.TestCase):
     def test_what_came_before_a_request_that_was_made_was_made_too(self) -> None:
         # Another agent's reply has the second position, so `own 20` of agent 1 had the first one.
         requests = [f'{{"a":1,"q":"{line}"}}' for line in ("bid 21 ((-1 90))", "own 20", "own 22")]
-        reader = of_text([LINES[0], '{"begin":[0,1,2,3,4,5,6,7]}', '{"tick":0,"t":0}', *requests,
+        reader = of_text([LINES[0], BEGIN, '{"tick":0,"t":0}', *requests,
                           '{"a":2,"q":"own 20"}',
                           f'{{"a":2,"r":"@1 own {GAME.endow[2][4]} ()","t":5}}'])
         recovery = Recovery(reader, self.player)
@@ -602,86 +386,6 @@ class WithTheProgram(unittest.TestCase):
         histories = read_log(log).histories
         self.assertEqual([len(histories[good]) for good in (20, 21, 22)], [3, 2, 1])
         self.assertEqual((histories[21][0].caller, self.audit(log), faults), (1, "sound", []))
-
-    def test_what_requests_without_a_reply_would_change_is_told(self) -> None:
-        # A seat alone makes no trip, so it would cost the agent its price. Its game has tick 0
-        # alone.
-        reader = of_text([LINES[0], '{"begin":[0,1,2,3,4,5,6,7]}', '{"tick":0,"t":0}',
-                          '{"a":1,"q":"bid 0 ((1 10000))"}'])
-        made = Recovery(reader, self.player)
-        told: List[str] = []
-        with mock.patch("geesefuton.hosting.recovery.tell", told.append):
-            _tell_pending(reader, made, self.player, made.log()[0])
-        self.assertIn(f"scores change: {GAME.words[1]} -{GAME.flights[0].first}", told[-1])
-
-    def test_only_an_agent_whose_lines_were_all_refused_counts_as_refused(self) -> None:
-        lines = [LINES[0], '{"begin":[0,1,2,3,4,5,6,7]}', '{"tick":0,"t":0}']
-        for agent, line, reply in ((0, "buy", "no syntax"), (0, "cash", "@0 cash 0"),
-                                   (1, "buy", "no syntax")):
-            lines += [f'{{"a":{agent},"q":"{line}"}}', f'{{"a":{agent},"r":"{reply}","t":1}}']
-        shown = project(of_text(lines), self.player, true_file=True)
-        self.assertEqual(shown.refused, [1])
-
-    def test_a_projection_does_not_tell_the_future(self) -> None:
-        for tick in (13, 29):
-            place = next(number for number, line in enumerate(LINES)
-                         if line.startswith(f'{{"tick":{tick},'))
-            states = set()
-            for seed in range(2):
-                dice = random.Random(seed)
-                flights = tuple(replace(flight, draws=flight.draws[:tick + 1] + tuple(
-                    dice.randrange(1 << 32) for _ in range(tick + 1, DRAWS)))
-                    for flight in GAME.flights)
-                done, rest = GAME.closing[:tick // 6], list(GAME.closing[tick // 6:])
-                dice.shuffle(rest)
-                game = replace(GAME, flights=flights, closing=(*done, *rest))
-                head = json.dumps({**json.loads(LINES[0]), "game": game.text()})
-                reader = of_text([head, *LINES[1:place + 1]])
-                made = project(reader, self.player, true_file=False)
-                states.add(json.dumps(View(6, False).state(reader, nights_of(reader), made, False)))
-            self.assertEqual(len(states), 1)
-
-    def test_replies_that_are_not_those_of_the_game_are_told(self) -> None:
-        place = LINES.index('{"a":3,"q":"own 22"}')
-        reply = next(at for at in range(place, len(LINES)) if LINES[at].startswith('{"a":3,"r"'))
-        had = GAME.endow[3][22 - 16]
-        self.assertIn(f'"@0 own {had} ()"', LINES[reply])
-        other = LINES[reply].replace(f"own {had}", f"own {had + 1}")
-        (self.folder / "other").write_text("\n".join([*LINES[:reply], other, *LINES[reply + 1:]])
-                                           + "\n")
-        told = f"3 own 22: it was told @0 own {had + 1} (), and now @0 own {had} ()"
-        log, faults = Recovery(read_journal(self.folder / "other"), self.player).log()
-        self.assertEqual((self.audit(log), faults), ("sound", [told]))
-        done = subprocess.run([sys.executable, str(TOP / "tools/recover"), "other"], text=True,
-                              stdout=subprocess.PIPE, stderr=subprocess.PIPE, check=False,
-                              cwd=self.folder)
-        self.assertEqual((done.returncode, done.stdout), (1, log))
-        self.assertIn(f"! {told}\n", done.stderr)
-
-    def test_the_command(self) -> None:
-        tool = [sys.executable, str(TOP / "tools/recover")]
-
-        def run(*words: object) -> "subprocess.CompletedProcess[str]":
-            return subprocess.run([*tool, *map(str, words)], stdout=subprocess.PIPE, text=True,
-                                  stderr=subprocess.PIPE, check=False, cwd=self.folder)
-
-        (self.folder / "cut").write_text("\n".join(LINES[:150]) + "\n")
-        done = run("cut", "--script", "my.script", "--game", "other.game")
-        self.assertEqual(done.returncode, 0)
-        self.assertIn("nobody asks anything more", done.stderr)
-        played = program.play(self.folder / "other.game", self.folder / "my.script")
-        self.assertEqual(played[played.index("taclog 1"):], done.stdout)
-        for words, text in ((["nowhere"], "nowhere: No such file"),
-                            (["other.game"], "line 1 is none of a journal"),
-                            (["cut", "--script", "no/where"], "no/where: No such file")):
-            done = run(*words)
-            self.assertEqual((done.returncode, "Traceback" in done.stderr), (1, False))
-            self.assertIn(text, done.stderr)
-        with open("/dev/full", "w", encoding="ascii") as full:
-            status = subprocess.run([*tool, "cut"], stdout=full, stderr=subprocess.PIPE,
-                                    check=False, cwd=self.folder, env=os.environ)
-        self.assertEqual(status.returncode, 1)
-        self.assertIn(b"No space left", status.stderr)
 
 
 if __name__ == "__main__":

@@ -10,17 +10,18 @@ from pathlib import Path
 from typing import Any
 from unittest import mock
 
-from geesefuton.records import page, report
+from geesefuton.records import report, report_page
 from geesefuton.records.logs import Log, read_played
-from geesefuton.records.page import Heading, ranks, why_nothing
 from geesefuton.records.prices import all_events
+from geesefuton.records.report_page import Heading, ranks, why_nothing
+from geesefuton.records.rules import prices_of
 from tests.helpers import (PLAYED, SERVED_GAME, SERVED_LOG, TOP, cells_of, fake_program,
                            needs_program, refusal, run, served_game, served_log, variables)
 
 
 def text_of(log: Log, warning: str = "") -> str:
     game = served_game()
-    return page.page(game, log, all_events(game, log), Heading("my.game", "today", warning))
+    return report_page.page(game, log, all_events(game, log), Heading("my.game", "today", warning))
 
 
 def scored(*scores: int) -> Log:
@@ -108,7 +109,7 @@ class Page(unittest.TestCase):
 
     def test_each_price_has_its_chart(self) -> None:
         self.assertEqual(self.text.count("<figure>"), 16)
-        prices = served_game().flights[0].prices()
+        prices = prices_of(served_game().flights[0])
         self.assertIn(f"day 1: <b>{prices[0]} to {prices[-1]}</b>", self.text)
         closes = re.findall(r"night (\d): <b>(\d+) at tick (\d+)</b>", self.text)
         self.assertEqual([int(tick) for _, _, tick in closes],
@@ -119,11 +120,13 @@ class Page(unittest.TestCase):
                          [getattr(reply, "price") for reply in sold])
 
     def test_bars_of_gains_and_losses(self) -> None:
-        self.assertEqual(page.bar(50, -50, 150).count("less"), 0)
-        self.assertIn('class="zero" style="left:25.0%"', page.bar(50, -50, 150))
-        self.assertIn('class="fill" style="left:25.0%;width:25.0%"', page.bar(50, -50, 150))
-        self.assertIn('class="fill less" style="left:0.0%;width:25.0%"', page.bar(-50, -50, 150))
-        self.assertIn('class="fill less" style="left:12.5%;width:12.5%"', page.bar(-25, -50, 150))
+        self.assertEqual(report_page.bar(50, -50, 150).count("less"), 0)
+        self.assertIn('class="zero" style="left:25.0%"', report_page.bar(50, -50, 150))
+        self.assertIn('class="fill" style="left:25.0%;width:25.0%"', report_page.bar(50, -50, 150))
+        self.assertIn('class="fill less" style="left:0.0%;width:25.0%"',
+                      report_page.bar(-50, -50, 150))
+        self.assertIn('class="fill less" style="left:12.5%;width:12.5%"',
+                      report_page.bar(-25, -50, 150))
         self.assertEqual(self.text.count('class="bar"'), 8)
         self.assertEqual(self.text.count('"fill less"'), 3)
 
@@ -150,7 +153,7 @@ class Page(unittest.TestCase):
         self.assertEqual(self.text.count("<table>"), self.text.count("</table>"))
 
     def test_letters_are_large_enough(self) -> None:
-        style = page.STYLE.read_text()
+        style = report_page.STYLE.read_text()
         self.assertIn("html { font-size: 26px; }", style)
         sizes = [float(size) for size in re.findall(r"font-size: ([0-9.]+)rem", style)]
         self.assertTrue(sizes and min(sizes) * 26 >= 20)
@@ -163,7 +166,7 @@ class Page(unittest.TestCase):
                      for part in parts]
             return 0.2126 * parts[0] + 0.7152 * parts[1] + 0.0722 * parts[2]
 
-        themes = re.findall(r":root \{(.*?)\}", page.STYLE.read_text(), re.S)
+        themes = re.findall(r":root \{(.*?)\}", report_page.STYLE.read_text(), re.S)
         self.assertEqual(len(themes), 2)
         for theme in themes:
             colours = dict(re.findall(r"--(\w+): (#[0-9a-f]+)", theme))
@@ -178,7 +181,7 @@ class Scripts(unittest.TestCase):
     def test_a_game_from_a_script(self) -> None:
         game = report.read_game((TOP / "examples" / "first.game").read_text())
         log = read_played(PLAYED.read_bytes()).log
-        text = page.page(game, log, all_events(game, log), Heading("g", "t"))
+        text = report_page.page(game, log, all_events(game, log), Heading("g", "t"))
         self.assertIn("played from a script or in turns", text)
         self.assertNotIn("Rooms:", text)
 

@@ -12,13 +12,14 @@ A journal is a text of JSON objects, one a line (docs/FORMATS.md, "The journal o
 
 A reply is written before it is passed on, with all lines before it. So whoever knows a reply finds
 it here, and each line that had a part in it before it. What a process has written survives its end
-by SIGKILL; what a machine had written a second before survives a loss of power.
+by SIGKILL. A loss of power may cost what was written in the last second or so, where the system's
+`fsync` waits for the disk, as that of Linux does.
 """
 
 from __future__ import annotations
 
-import contextlib
 import copy
+import errno
 import json
 import os
 import threading
@@ -31,24 +32,27 @@ from typing import Any, Callable, Deque, Dict, List, Optional, Tuple
 from geesefuton.processes import why
 from geesefuton.records.dialects import (CASH, MOST_LINE, Asked, asked_by, is_refusal, position_of,
                                          reply_of)
-from geesefuton.records.games import GOODS, HOTELS, SEATS, TICKS, Game, GameError, read_game
+from geesefuton.records.games import GOODS, SEATS, TICKS, Game, GameError, read_game
 from geesefuton.records.replies import ReplyError
+from geesefuton.records.rules import clock_ticks
 
 VERSION = 1
 SYNC = 1.0  # seconds between two requests to put what was written onto the disk
+NO_DISK = (errno.EINVAL, errno.ENOTSUP)  # what `fsync` says of a pipe or the like
 
 
 class Journal:
     """Writes a journal. Lines are kept until `flush`, or until a line that `tell` writes.
 
-    Once the file takes no more, `warn` is called and nothing more is written.
+    Once the file takes no more, `warn` is called and nothing more is written. Once the disk fails
+    to keep what was written, `warn` is called, and the journal goes on.
 
     Attributes:
         is_whole: Whether the file has taken all so far.
 
     Args:
         file: A new file.
-        warn: Is told why the file takes no more.
+        warn: Is told what fails, in the thread that writes.
 
     Raises:
         OSError: The file is there already, or cannot be made.
@@ -61,6 +65,9 @@ class Journal:
         # It has the seat words, which are passwords.
         how = os.O_WRONLY | os.O_CREAT | os.O_EXCL | os.O_APPEND
         self._number: Optional[int] = os.open(file, how, 0o600)
+        self._loss: Optional[OSError] = None  # why the disk did not keep something
+        self._is_loss_told = False
+        self._sync_folder()
         self._is_dirty, self._closed = False, threading.Event()
         self._syncing = threading.Thread(target=self._sync, args=(self._number,), daemon=True)
         self._syncing.start()
@@ -102,6 +109,7 @@ class Journal:
 
     def flush(self) -> None:
         """Writes all lines that are kept."""
+        self._tell_loss()
         if not self._held:
             return
         data = memoryview(("\n".join(self._held) + "\n").encode("ascii"))
@@ -118,23 +126,47 @@ class Journal:
         self.flush()
         self._closed.set()
         self._syncing.join()
+        self._tell_loss()
 
     def _give_up(self, fault: OSError) -> None:
         self._number = None
         self._warn(f"the journal {self.file} takes no more ({why(fault)}): the game goes on "
                    "without it")
 
+    def _tell_loss(self) -> None:
+        if self._loss is not None and not self._is_loss_told:
+            self._is_loss_told = True
+            self._warn(f"the disk does not keep the journal {self.file} ({why(self._loss)}): the "
+                       "game goes on, and a loss of power may cost more than its last second")
+
+    def _sync_folder(self) -> None:
+        """Puts the file's name onto the disk."""
+        try:
+            folder = os.open(self.file.parent, os.O_RDONLY)
+        except OSError as fault:
+            self._loss = fault
+            return
+        self._put(folder)
+        os.close(folder)
+
     def _sync(self, number: int) -> None:
         while not self._closed.wait(SYNC):
-            self._put(number)
-        self._put(number)
+            self._put_new(number)
+        self._put_new(number)
         os.close(number)
 
-    def _put(self, number: int) -> None:
+    def _put_new(self, number: int) -> None:
         if self._is_dirty:
             self._is_dirty = False
-            with contextlib.suppress(OSError):  # a pipe or the like
-                os.fsync(number)
+            self._put(number)
+
+    def _put(self, number: int) -> None:
+        """Waits until what was written is on the disk."""
+        try:
+            os.fsync(number)
+        except OSError as fault:
+            if fault.errno not in NO_DISK:
+                self._loss = fault
 
 
 class JournalError(Exception):
@@ -142,7 +174,7 @@ class JournalError(Exception):
 
 
 @dataclass
-class Call:
+class Exchange:
     """A request, and its reply in words once that has come.
 
     Attributes:
@@ -170,12 +202,7 @@ class Schedule:
     """The clock's calls of a game: at which ticks it calls each auction."""
 
     def __init__(self, game: Game) -> None:
-        def ticks_of(good: int) -> List[int]:
-            if good in HOTELS:
-                return list(range(6, game.hotels[good - 8].closes + 1, 6))
-            return list(range(1, TICKS + 1)) if good < 8 else [TICKS]
-
-        self.ticks = [ticks_of(good) for good in GOODS]
+        self.ticks = [clock_ticks(game, good) for good in GOODS]
 
     def most(self, good: int, tick: int) -> int:
         """How many calls of an auction the clock has made until a tick."""
@@ -225,7 +252,7 @@ class JournalReader:
         self.text, self.form, self.pace, self.at = "", "words", 0, 0
         self.game: Optional[Game] = None
         self.schedule: Optional[Schedule] = None
-        self.calls: List[Call] = []
+        self.calls: List[Exchange] = []
         self.agents = [Agent() for _ in range(SEATS)]
         self.is_playing, self.has_begun = False, False
         self.tick, self.time, self.lines = 0, 0, 0
@@ -257,14 +284,14 @@ class JournalReader:
         other.agents = [agent.copy() for agent in self.agents]
         return other
 
-    def pending(self) -> List[Call]:
+    def pending(self) -> List[Exchange]:
         """The calls of auctions that were passed on and have no reply, each agent's in order."""
         calls = []
         for number, agent in enumerate(self.agents):
             for order, tick, line in agent.waiting:
                 asked = asked_by(line, self.form)
                 if asked and asked.good != CASH and asked.keyword != "quote":
-                    calls.append(Call(number, asked, order, tick))
+                    calls.append(Exchange(number, asked, order, tick))
         return calls
 
     def _add(self, what: Dict[str, Any]) -> None:
@@ -309,7 +336,7 @@ class JournalReader:
             raise ValueError("the reply has no request")
         order, tick, asking = agent.waiting.popleft()
         reply = reply_of(line, self.form)
-        call = Call(number, None, order, tick, reply, position_of(reply), now, self.lines)
+        call = Exchange(number, None, order, tick, reply, position_of(reply), now, self.lines)
         agent.answered += 1
         agent.refused += is_refusal(line.encode("latin-1"))
         if call.at is not None:

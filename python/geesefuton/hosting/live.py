@@ -23,16 +23,19 @@ import json
 import os
 import signal
 import socket
+import stat
 import sys
 import time
 from collections import deque
 from pathlib import Path
-from typing import BinaryIO, Deque, List, Optional
+from typing import BinaryIO, Callable, Deque, List, Optional, Tuple
 
 from geesefuton.arguments import Parser, whole
 from geesefuton.hosting.journal import JournalError, JournalReader
-from geesefuton.hosting.projection import Night, Projection, View, nights_of, project
+from geesefuton.hosting.nights import Nights
+from geesefuton.hosting.projection import Projection, View, project
 from geesefuton.hosting.recovery import Player, RecoveryError
+from geesefuton.hosting.viewers import Faults, Viewers
 from geesefuton.processes import Children, command, tell, why
 from geesefuton.records.games import TICKS
 from geesefuton.records.logs import LogError
@@ -41,148 +44,97 @@ LOOK = 0.2  # seconds between looks at the journal
 EACH = 1.0  # seconds between projections, at least
 SHARE = 2  # projections may take one part of so many of the time
 PIECE = 1 << 18  # bytes of the journal that are read at once
-MOST_VIEWERS = 200
-STALLED = 15.0  # seconds after which a viewer that takes nothing is let go
+STALL = 3.0  # seconds by which a tick may be late until the page says that the journal has stopped
 LINGER = 4.0  # seconds that viewers have to take the last scores
 NICE = 5  # by how much the priority is lower
-HEAD = (
-    "HTTP/1.1 {}\r\nContent-Type: {}\r\nCache-Control: no-store\r\n"
-    "X-Content-Type-Options: nosniff\r\nReferrer-Policy: no-referrer\r\n"
-    "Content-Security-Policy: default-src 'none'; style-src 'unsafe-inline'; "
-    "script-src 'unsafe-inline'; connect-src 'self'; img-src data:; frame-ancestors 'none'\r\n"
-    "Connection: close\r\n")
-
-
-class Viewers:
-    """Serves the page and its states. Each viewer gets the newest state when it can take it, and
-    misses those between."""
-
-    def __init__(self, page: bytes) -> None:
-        self.count, self._page = 0, page
-        self._state, self._number, self._is_final = b"", 0, False
-        self._changed = asyncio.Condition()
-
-    async def show(self, state: bytes, is_final: bool) -> None:
-        """Sends a new state to all viewers."""
-        async with self._changed:
-            self._state, self._number, self._is_final = state, self._number + 1, is_final
-            self._changed.notify_all()
-
-    async def serve(self, reader: asyncio.StreamReader, writer: asyncio.StreamWriter) -> None:
-        """Serves one viewer."""
-        self.count += 1
-        try:
-            request = await asyncio.wait_for(reader.readuntil(b"\r\n\r\n"), STALLED)
-            await self._answer(request.split(b"\r\n")[0].split(b" "), writer)
-        except (asyncio.TimeoutError, asyncio.IncompleteReadError, asyncio.LimitOverrunError,
-                asyncio.CancelledError, OSError):
-            pass  # a viewer that is gone or takes nothing, or the page is stopped
-        finally:
-            self.count -= 1
-            if writer.transport.get_write_buffer_size():
-                writer.transport.abort()
-            else:
-                writer.close()
-
-    async def _answer(self, words: "list[bytes]", writer: asyncio.StreamWriter) -> None:
-        path = words[1].split(b"?")[0] if len(words) > 1 else b""
-        if self.count > MOST_VIEWERS:
-            await _send(writer, "503 Service Unavailable", "text/plain", b"too many viewers\n")
-        elif words[0] == b"GET" and path == b"/":
-            await _send(writer, "200 OK", "text/html; charset=utf-8", self._page)
-        elif words[0] == b"GET" and path == b"/state":
-            await _send(writer, "200 OK", "application/json", self._state)
-        elif words[0] == b"GET" and path == b"/events":
-            await self._stream(writer)
-        else:
-            await _send(writer, "404 Not Found", "text/plain", b"the page is at /\n")
-
-    async def _stream(self, writer: asyncio.StreamWriter) -> None:
-        link: socket.socket = writer.transport.get_extra_info("socket")
-        link.setsockopt(socket.SOL_SOCKET, socket.SO_SNDBUF, 1 << 16)
-        writer.transport.set_write_buffer_limits(1)  # `drain` waits until the system has all
-        writer.write(HEAD.format("200 OK", "text/event-stream").encode() + b"\r\nretry: 1000\n\n")
-        seen = 0
-        while True:
-            async with self._changed:
-                with contextlib.suppress(asyncio.TimeoutError):
-                    await asyncio.wait_for(
-                        self._changed.wait_for(lambda: self._number != seen), 10)
-                state, is_fresh, is_final = self._state, self._number != seen, self._is_final
-                seen = self._number
-            writer.write(b"data: " + state + b"\n\n" if is_fresh else b": still here\n\n")
-            if is_final:
-                writer.write(b"event: end\ndata: over\n\n")
-            await asyncio.wait_for(writer.drain(), STALLED)
-            if is_final:
-                return
-
-
-async def _send(writer: asyncio.StreamWriter, status: str, kind: str, body: bytes) -> None:
-    head = HEAD.format(status, kind) + f"Content-Length: {len(body)}\r\n\r\n"
-    writer.write(head.encode() + body)
-    await asyncio.wait_for(writer.drain(), STALLED)
 
 
 class Live:
     """Follows a journal, and shows what it says."""
 
-    def __init__(self, journal: BinaryIO, view: View, player: Player, viewers: Viewers) -> None:
+    def __init__(self, journal: BinaryIO, view: View, player: Player, viewers: Viewers,
+                 faults: Faults) -> None:
         self._journal, self._view, self._player, self._viewers = journal, view, player, viewers
-        self._reader = JournalReader()
+        self._faults, self._reader = faults, JournalReader()
         self._newest: Optional[Projection] = None
-        self._nights: Optional[List[Night]] = None
-        self._read = (0, 0)  # the lines and the tick of the journal when the nights were made
-        self._older: Deque[Projection] = deque()  # those that are not shown whole yet
+        self._nights: Optional[Nights] = None
+        self._older: Deque[Projection] = deque()  # those that are not shown whole yet, one a tick
         self._zero: Optional[float] = None  # when the welcome was sent
+        self._heard = time.monotonic()  # when the journal's last piece came
         self._shown = ""
-        self._is_final = False
+        self._is_cut, self._has_ended, self._is_final = False, False, False
 
     def is_over(self) -> bool:
-        """Whether the journal says that the server has ended."""
-        return self._reader.status is not None
+        """Whether the journal says that the server has ended, or nobody writes it any more."""
+        return self._reader.status is not None or self._has_ended
+
+    def cut(self) -> None:
+        """Is called once nobody writes the journal any more; what it has is still read."""
+        self._is_cut = True
 
     async def follow(self) -> None:
         """Reads what the lobby writes, until the game is over."""
         rest = b""
         while not self.is_over():
-            piece = self._journal.read(PIECE)
+            was_cut, piece = self._is_cut, self._journal.read(PIECE)
             if piece:
                 whole, _, rest = (rest + piece).rpartition(b"\n")
-                had_begun = self._reader.has_begun
-                self._reader.read(whole.decode("latin-1"))
-                if self._reader.has_begun and not had_begun:
-                    self._zero = time.monotonic() - self._reader.time / 1000
+                self._read(whole.decode("latin-1"))
+            elif was_cut:
+                self._has_ended = True
             await asyncio.sleep(LOOK if len(piece) < PIECE else 0.01)
             if len(piece) < PIECE:
                 await self.show()
 
+    def _read(self, text: str) -> None:
+        reader, had_begun = self._reader, self._reader.has_begun
+        reader.read(text)
+        self._heard = time.monotonic()
+        if reader.has_begun and not had_begun:
+            self._zero = self._heard - reader.time / 1000
+        if reader.has_begun:
+            self._nights = self._nights or Nights(reader)
+            self._nights.follow(reader)
+
     async def project(self) -> None:
         """Makes projections, while something changes, until the game is over."""
-        known, took = (0, 0), 0.0
+        known: Optional[Tuple[int, bool]] = None
+        took = 0.0
         while not self._is_final:
-            reader = self._reader
-            if reader.has_begun and known != (reader.lines, reader.tick):
-                known, start = (reader.lines, reader.tick), time.monotonic()
-                copy = reader.copy()
-                try:
-                    made = await asyncio.to_thread(project, copy, self._player,
-                                                   not self._view.late)
-                except (RecoveryError, LogError) as fault:  # the page goes on with what it has
-                    tell(f"live: no scores at tick {copy.tick}: {fault}")
-                else:
-                    self._add(made)
+            is_over = self.is_over()
+            now = self._reader.lines, is_over
+            if self._is_due(is_over) and known != now:
+                known, start = now, time.monotonic()
+                await self._make_projection(is_over)
                 took = time.monotonic() - start
-                self._is_final = copy.status is not None
-            elif self.is_over():
-                self._is_final = True
+            self._is_final = is_over
             await self.show()
             due = time.monotonic() + max(EACH - took, (SHARE - 1) * took)
             while time.monotonic() < due and not self.is_over():
                 await asyncio.sleep(0.1)
 
+    def _is_due(self, is_over: bool) -> bool:
+        """Whether a projection would be shown, now or later."""
+        return self._reader.has_begun and (is_over or self._view.late < TICKS)
+
+    async def _make_projection(self, is_over: bool) -> None:
+        """Makes a projection, unless something fails: then the page goes on with what it has."""
+        assert self._nights is not None
+        reader, nights = self._reader.copy(), self._nights.now()
+        try:
+            self._add(await asyncio.to_thread(project, reader, nights, self._player,
+                                              is_over or not self._view.late))
+        except (RecoveryError, LogError) as fault:
+            self._faults.tell(f"live: no scores at tick {reader.tick}", str(fault))
+        except OSError as fault:  # such as too many open files
+            self._faults.tell(f"live: no scores at tick {reader.tick}", why(fault))
+
     def _add(self, made: Projection) -> None:
         self._newest = made
+        if self._view.late >= TICKS:
+            return
+        if self._older and self._older[-1].tick == made.tick:
+            self._older.pop()
         self._older.append(made)
         while len(self._older) > 1 and self._older[1].tick <= self._reader.tick - self._view.late:
             self._older.popleft()
@@ -192,19 +144,22 @@ class Live:
         if self._is_final or not self._view.late:
             return self._newest
         old = self._older[0] if self._older else None
-        if old is None or self._view.late >= TICKS:
-            return None
-        return old if old.tick <= self._reader.tick - self._view.late else None
+        return old if old and old.tick <= self._reader.tick - self._view.late else None
+
+    def _is_stalled(self) -> bool:
+        """Whether the journal should have gone on, and has not: its disk is full, for instance."""
+        if not self._reader.has_begun or self._reader.tick >= TICKS or self.is_over():
+            return False
+        return time.monotonic() - self._heard > self._reader.pace / 1000 + STALL
 
     async def show(self) -> None:
         """Sends a new state to the viewers, if it is another one."""
         if self._reader.game is None:
-            return
-        if self._reader.has_begun and self._read != (self._reader.lines, self._reader.tick):
-            self._read = (self._reader.lines, self._reader.tick)
-            self._nights = nights_of(self._reader)
-        state = self._view.state(self._reader, self._nights, self._secret(), self._is_final)
-        text = json.dumps(state, separators=(",", ":"))
+            text = json.dumps({"phase": "empty", "over": self._is_final})
+        else:
+            state = self._view.state(self._reader, self._nights.now() if self._nights else None,
+                                     self._secret(), self._is_final)
+            text = json.dumps({**state, "stalled": self._is_stalled()}, separators=(",", ":"))
         if text == self._shown:
             return
         self._shown = text
@@ -214,18 +169,41 @@ class Live:
         await self._viewers.show(text.encode("ascii"), self._is_final)
 
 
-async def _run(given: argparse.Namespace, journal: BinaryIO, player: Player) -> None:
-    viewers = Viewers((Path(__file__).resolve().parent / "live.html").read_bytes())
-    live = Live(journal, View(given.late, given.names), player, viewers)
+def _listen(port: int) -> socket.socket:
+    """A listening socket on every address of the machine."""
     both = socket.has_dualstack_ipv6()
-    family = socket.AF_INET6 if both else socket.AF_INET
-    listener = socket.create_server(("", given.port), family=family, dualstack_ipv6=both,
-                                    backlog=128)
-    server = await asyncio.start_server(viewers.serve, sock=listener, limit=8192)
-    await asyncio.gather(live.follow(), live.project())
-    if not given.until_over:
-        await asyncio.Event().wait()
-    server.close()
+    return socket.create_server(("", port), family=socket.AF_INET6 if both else socket.AF_INET,
+                                dualstack_ipv6=both, backlog=128)
+
+
+def _watch_standard_input(cut: Callable[[], None]) -> None:
+    """Calls `cut` at the end of standard input, if that is a pipe: whoever started the page closes
+    it once nothing more comes."""
+    loop = asyncio.get_running_loop()
+
+    def look() -> None:
+        if not os.read(0, 4096):
+            loop.remove_reader(0)
+            cut()
+
+    with contextlib.suppress(OSError):  # there is no standard input
+        if stat.S_ISFIFO(os.fstat(0).st_mode):
+            loop.add_reader(0, look)
+
+
+async def _run(given: argparse.Namespace, journal: BinaryIO, player: Player) -> None:
+    faults = Faults(tell)
+    viewers = Viewers((Path(__file__).resolve().parent / "live.html").read_bytes(), faults)
+    live = Live(journal, View(given.late, given.names), player, viewers, faults)
+    with contextlib.closing(_listen(given.port)) as listener:
+        serving = asyncio.ensure_future(viewers.accept(listener))
+        if given.until_over:
+            _watch_standard_input(live.cut)
+        await asyncio.gather(live.follow(), live.project())
+        if not given.until_over:
+            await serving
+        serving.cancel()
+        await asyncio.wait([serving])
     deadline = time.monotonic() + LINGER
     while viewers.count and time.monotonic() < deadline:
         await asyncio.sleep(0.05)
@@ -260,8 +238,8 @@ def _arguments() -> argparse.Namespace:
     add("--names", action="store_true",
         help="call agents by their seat words, which are passwords")
     add("--until-over", action="store_true",
-        help="end once the game is over and viewers have its scores; otherwise the page stays "
-             "until ctrl-C")
+        help="end once the game is over, or a pipe at standard input is closed, and viewers have "
+             "the scores; otherwise the page stays until ctrl-C")
     return parser.parse_args()
 
 

@@ -142,19 +142,6 @@ class Flight:
     bound: int
     draws: Tuple[int, ...]
 
-    def next_price(self, price: int, tick: int, draw: int) -> int:
-        """The price in dollars after the update of a tick with a draw."""
-        limit = 10 + tick * (self.bound - 10) // TICKS
-        low, high = (-10, limit) if limit > 0 else (limit, 10) if limit < 0 else (-10, 10)
-        return min(800, max(150, price + low + draw % (high - low + 1)))
-
-    def prices(self) -> List[int]:
-        """Its prices in dollars, before the first tick and after each of the ticks 1 to 53."""
-        prices = [self.first]
-        for tick, draw in enumerate(self.draws, 1):
-            prices.append(self.next_price(prices[-1], tick, draw))
-        return prices
-
 
 @dataclass(frozen=True)
 class Hotel:

@@ -5,14 +5,15 @@ tick of the clock's last call in its auction, which comes at each tick for a fli
 sixth for a hotel. Ticket auctions have no such call before their end, so their trades have no tick.
 """
 
-from typing import Dict, Iterator, List, NamedTuple, Optional, Sequence, Tuple
+from typing import Iterator, List, NamedTuple, Optional, Sequence, Tuple
 
 from geesefuton.records.games import CLOCK, FLIGHTS, GOODS, HOTELS, HOUSE, Game
 from geesefuton.records.logs import Entry, Log
-from geesefuton.records.replies import No, Points
+from geesefuton.records.replies import No
+from geesefuton.records.rules import MINUTE, Rooms, next_price
 
 
-class Event(NamedTuple):
+class MarketEvent(NamedTuple):
     """Something that happened in an auction: a row of the report's CSV.
 
     Attributes:
@@ -35,21 +36,15 @@ class Event(NamedTuple):
     dollars: int
 
 
-def ask_of(bids: Dict[int, Points], rooms: int) -> int:
-    """The price of the last unit that would get a room; 0 if fewer units stand."""
-    units = sorted((price for points in bids.values() for count, price in points
-                    for _ in range(count)), reverse=True)
-    return units[rooms - 1] if len(units) >= rooms else 0
-
-
-def events_of(game: Game, good: int, history: Sequence[Entry]) -> Iterator[Event]:
+def events_of(game: Game, good: int, history: Sequence[Entry]) -> Iterator[MarketEvent]:
     """The prices and trades of an auction, in order."""
     prices = _flight_prices(game, good, history) if good in FLIGHTS else \
         _hotel_prices(game, good, history) if good in HOTELS else _no_prices(history)
     for position, (tick, price, what) in enumerate(prices, -1):
         if what:
             assert price is not None
-            yield Event(what, tick, good, None if position < 0 else position, None, None, price)
+            yield MarketEvent(what, tick, good, None if position < 0 else position, None, None,
+                              price)
         if position >= 0:
             yield from _trades(good, position, tick, history[position])
 
@@ -66,24 +61,23 @@ def _flight_prices(game: Game, good: int, history: Sequence[Entry]) -> Iterator[
         is_update = entry.call.do == "update" and entry.caller == CLOCK
         if is_update:
             tick = entry.call.tick
-            price = flight.next_price(price, tick, entry.call.draw)
+            price = next_price(flight, price, tick, entry.call.draw)
         yield tick, price, "price" if is_update else ""
 
 
 def _hotel_prices(game: Game, good: int, history: Sequence[Entry]) -> Iterator[Step]:
-    rooms, tick, price = game.rooms[good - HOTELS.start], 0, 0
-    bids: Dict[int, Points] = {}
+    rooms, tick, price = Rooms(game.rooms[good - HOTELS.start]), 0, 0
     yield tick, price, "price"
     for entry in history:
         call, before = entry.call.do, price
         what = ""
         if entry.caller == CLOCK and call in ("publish", "close"):
-            tick += 6
-            price = ask_of(bids, rooms)
+            tick += MINUTE
+            price = rooms.ask()
             what = "close" if call == "close" else "price"
         elif call == "bid" and not isinstance(entry.reply, No):
-            bids[entry.caller] = entry.call.points
-            price = ask_of(bids, rooms) if game.live else price
+            rooms.bid(entry.caller, entry.call.points)
+            price = rooms.ask() if game.live else price
         yield tick, price, what or ("price" if price != before else "")
 
 
@@ -93,14 +87,15 @@ def _no_prices(history: Sequence[Entry]) -> Iterator[Step]:
         yield None, None, ""
 
 
-def _trades(good: int, position: int, tick: Optional[int], entry: Entry) -> Iterator[Event]:
+def _trades(good: int, position: int, tick: Optional[int], entry: Entry) -> Iterator[MarketEvent]:
     for trade in entry.trades:
         if trade.buyer != HOUSE:
-            yield Event("trade", tick, good, position, trade.buyer, trade.units, trade.price)
+            yield MarketEvent("trade", tick, good, position, trade.buyer, trade.units, trade.price)
         if trade.seller != HOUSE:
-            yield Event("trade", tick, good, position, trade.seller, -trade.units, trade.price)
+            yield MarketEvent("trade", tick, good, position, trade.seller, -trade.units,
+                              trade.price)
 
 
-def all_events(game: Game, log: Log) -> List[Event]:
+def all_events(game: Game, log: Log) -> List[MarketEvent]:
     """The prices and trades of all auctions, by good."""
     return [event for good in GOODS for event in events_of(game, good, log.histories[good])]

@@ -23,8 +23,8 @@ from geesefuton.arguments import Parser
 from geesefuton.processes import Output, command, tell
 from geesefuton.records.games import Game, GameError, read_game
 from geesefuton.records.logs import Log, LogError, read_log
-from geesefuton.records.page import Heading, page
-from geesefuton.records.prices import Event, all_events
+from geesefuton.records.prices import MarketEvent, all_events
+from geesefuton.records.report_page import Heading, page
 from geesefuton.records.tables import csv_of
 
 START = b"taclog 1\n"
@@ -80,7 +80,7 @@ def read_both(game_file: Path, log_file: Path) -> Tuple[Game, Log, bytes]:
 
 def csv_text(game: Game, log: Log) -> str:
     """The prices, trades and scores as CSV."""
-    lines = [Event._fields, *all_events(game, log)]
+    lines = [MarketEvent._fields, *all_events(game, log)]
     scores = [("score", "", "", "", score.agent, "", score.score) for score in log.scores]
     return csv_of([*lines, *scores])
 

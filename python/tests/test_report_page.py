@@ -5,11 +5,12 @@ import unittest
 from dataclasses import replace
 from typing import Dict, List, Optional, Tuple
 
-from geesefuton.records import page
+from geesefuton.records import report_page
 from geesefuton.records.games import FLIGHTS, HOTELS, TICKS, Package
 from geesefuton.records.logs import Log, Score
-from geesefuton.records.page import Heading
-from geesefuton.records.prices import Event, all_events
+from geesefuton.records.prices import MarketEvent, all_events
+from geesefuton.records.report_page import Heading
+from geesefuton.records.rules import prices_of
 from tests.helpers import cells_of, served_game, served_log
 
 GAME, LOG = served_game(), served_log()
@@ -17,13 +18,13 @@ PRICES = [event for event in all_events(GAME, LOG) if event.what != "trade"]
 NOBODY = Score(0, 0, 0, 0, 0, (None,) * 8)
 
 
-def trade(good: int, agent: int, units: int, dollars: int) -> Event:
+def trade(good: int, agent: int, units: int, dollars: int) -> MarketEvent:
     """Units below 0 are sold. Trades of tickets have no tick."""
-    return Event("trade", 7 if good < 16 else None, good, 0, agent, units, dollars)
+    return MarketEvent("trade", 7 if good < 16 else None, good, 0, agent, units, dollars)
 
 
-def text_of(log: Log = LOG, *trades: Event) -> str:
-    return page.page(GAME, log, [*PRICES, *trades], Heading("my.game", "today"))
+def text_of(log: Log = LOG, *trades: MarketEvent) -> str:
+    return report_page.page(GAME, log, [*PRICES, *trades], Heading("my.game", "today"))
 
 
 def scored(*scores: int) -> Log:
@@ -131,7 +132,8 @@ class Reasons(unittest.TestCase):
                            ((3, 7, 12), "its goods make no trip"), ((), "bought nothing")):
             events = [trade(good, 1, 1, 5) for good in goods]
             events += [trade(good, 2, 1, 5) for good in (0, 4, 8)]  # another's
-            self.assertEqual(page.why_nothing(LOG, [*PRICES, *events], LOG.scores[1]), due, goods)
+            self.assertEqual(report_page.why_nothing(LOG, [*PRICES, *events], LOG.scores[1]), due,
+                             goods)
 
 
 Path = List[Tuple[int, float]]
@@ -153,13 +155,13 @@ class Charts(unittest.TestCase):
                 for tick, price in prices]
 
     def test_flights(self) -> None:
-        all_prices = [price for flight in GAME.flights for price in flight.prices()]
+        all_prices = [price for flight in GAME.flights for price in prices_of(flight)]
         low, high = min(all_prices) // 50 * 50, (max(all_prices) + 49) // 50 * 50
         for chart, flight in zip(self.charts()[:8], GAME.flights):
             self.assertEqual((chart["low"], chart["top"], chart["dot"]), (str(low), str(high), ""))
             drawn = [(int(tick), float(y)) for tick, y in
                      re.findall(r"[ML](\d+) ([\d.]+)", chart["path"])]
-            prices = list(enumerate(flight.prices()))
+            prices = list(enumerate(prices_of(flight)))
             self.assertEqual(drawn, self.path([*prices, (TICKS, prices[-1][1])], low, high))
         titles = [chart["title"].split(":")[0] for chart in self.charts()[:8]]
         self.assertEqual(titles, [f"day {day}" for day in (1, 2, 3, 4, 2, 3, 4, 5)])
@@ -188,7 +190,7 @@ class Charts(unittest.TestCase):
 
     def test_scales_of_prices_that_are_alike(self) -> None:
         flat = [event._replace(dollars=200 if event.good in FLIGHTS else 0) for event in PRICES]
-        text = page.page(GAME, LOG, flat, Heading("my.game", "today"))
+        text = report_page.page(GAME, LOG, flat, Heading("my.game", "today"))
         labels = re.findall(r'"top">(\d+)</span><span class="low">(\d+)<', text)
         self.assertEqual(labels, [("250", "200")] * 8 + [("100", "0")] * 8)
 
@@ -196,7 +198,7 @@ class Charts(unittest.TestCase):
 class Parts(unittest.TestCase):
     def test_a_table(self) -> None:
         self.assertEqual(
-            page.table(["a", "b"], [[1, "x"], [2, "y"]], (1,)),
+            report_page.table(["a", "b"], [[1, "x"], [2, "y"]], (1,)),
             '<div class="wide"><table><tr><th>a</th><th class="t">b</th></tr>'
             '<tr><td>1</td><td class="t">x</td></tr><tr><td>2</td><td class="t">y</td></tr>'
             '</table></div>')
@@ -213,7 +215,7 @@ class Parts(unittest.TestCase):
     def test_live_quotes_are_told_only_of_games_that_have_them(self) -> None:
         for live in (False, True):
             game = replace(GAME, live=live)
-            text = page.page(game, LOG, PRICES, Heading("my.game", "today"))
+            text = report_page.page(game, LOG, PRICES, Heading("my.game", "today"))
             self.assertEqual("publish with each bid" in text, live)
 
     def clients(self, package: Optional[Package]) -> List[str]:

@@ -9,7 +9,7 @@ from typing import Dict, Iterable, Iterator, List, Optional, Sequence, Tuple, Un
 from geesefuton.records.games import (AUCTIONS, CLIENTS, FLIGHTS, GOODS, HOTELS, ROOMS, SEATS,
                                       TICKETS, TICKS, Game, Package, name_of)
 from geesefuton.records.logs import Log, Score, trades_of
-from geesefuton.records.prices import Event
+from geesefuton.records.prices import MarketEvent
 
 STYLE = files("geesefuton.records").joinpath("report.css")
 Cell = Union[str, int]
@@ -47,7 +47,7 @@ def ranks(log: Log) -> Dict[int, int]:
             for agent, score in scores.items()}
 
 
-def why_nothing(log: Log, events: Sequence[Event], score: Score) -> str:
+def why_nothing(log: Log, events: Sequence[MarketEvent], score: Score) -> str:
     """Why an agent's trips are worth nothing; "" if they are worth something."""
     agent = score.agent
     if score.best:
@@ -96,7 +96,7 @@ def _order(log: Log) -> List[Score]:
     return sorted(log.scores, key=lambda score: (score.agent not in place, -score.score))
 
 
-def _scores(game: Game, log: Log, events: Sequence[Event]) -> str:
+def _scores(game: Game, log: Log, events: Sequence[MarketEvent]) -> str:
     place = ranks(log)
     low = min([0, *(score.score for score in log.scores)])
     high = max([1, *(score.score for score in log.scores)])
@@ -123,7 +123,7 @@ def _code(text: str) -> str:
     return html.escape(text.replace("`quit`", "quit"))
 
 
-def _spending(game: Game, log: Log, events: Sequence[Event]) -> str:
+def _spending(game: Game, log: Log, events: Sequence[MarketEvent]) -> str:
     """What each agent paid and earned, by kind of goods."""
     sums: Dict[Tuple[int, str, bool], int] = defaultdict(int)
     kind_of = {good: kind for kind, goods in KINDS for good in goods}
@@ -140,7 +140,7 @@ def _spending(game: Game, log: Log, events: Sequence[Event]) -> str:
     return f"<h2>What each team paid and earned</h2>{table(heads, rows, (0,))}"
 
 
-def _tickets(events: Sequence[Event]) -> str:
+def _tickets(events: Sequence[MarketEvent]) -> str:
     """The prices of each ticket."""
     rows: List[List[Cell]] = []
     for good in TICKETS:
@@ -184,7 +184,7 @@ def _chart(title: str, points: PricePath, low: int, high: int, steps: bool) -> s
             f'<span class="top">{high}</span><span class="low">{low}</span></div></figure>')
 
 
-def _price_rows(game: Game, events: Sequence[Event]) -> Iterator[str]:
+def _price_rows(game: Game, events: Sequence[MarketEvent]) -> Iterator[str]:
     paths: Dict[int, PricePath] = defaultdict(list)
     for event in events:
         if event.what in ("price", "close") and event.tick is not None:
@@ -211,7 +211,7 @@ def _price_rows(game: Game, events: Sequence[Event]) -> Iterator[str]:
             yield f'<h3>{AUCTIONS[group[0]].group}</h3><div class="charts">{"".join(charts)}</div>'
 
 
-def _prices(game: Game, events: Sequence[Event]) -> str:
+def _prices(game: Game, events: Sequence[MarketEvent]) -> str:
     live = " In this game they publish with each bid, too." if game.live else ""
     note = ("Dollars from tick 0 at the left to tick 54. Flights change at each tick. Every six "
             f"ticks hotels publish, and one closes, at the dot.{live}")
@@ -232,7 +232,7 @@ def _trip(package: Optional[Package]) -> List[Cell]:
             *(night or "" for night in package.nights)]
 
 
-def _trade_rows(events: Sequence[Event], agent: int) -> Iterator[List[Cell]]:
+def _trade_rows(events: Sequence[MarketEvent], agent: int) -> Iterator[List[Cell]]:
     """An agent's trades by good: units bought and sold, and the dollars paid and earned."""
     sums: Dict[int, List[int]] = {good: [0, 0, 0, 0] for good in GOODS}
     for event in events:
@@ -246,7 +246,7 @@ def _trade_rows(events: Sequence[Event], agent: int) -> Iterator[List[Cell]]:
                    earned if sold else "", earned - paid]
 
 
-def _teams(game: Game, log: Log, events: Sequence[Event]) -> Iterator[str]:
+def _teams(game: Game, log: Log, events: Sequence[MarketEvent]) -> Iterator[str]:
     clients = ["client", "days", "Towers", "alligators", "park", "museum", "got", "days",
                "alligators", "park", "museum", "worth"]
     trades = ["good", "bought", "for", "sold", "for", "cash"]
@@ -270,7 +270,7 @@ def _head(game: Game, log: Log, heading: Heading) -> str:
             f"{missed} All prices are in dollars.</p>{warning}")
 
 
-def page(game: Game, log: Log, events: Sequence[Event], heading: Heading) -> str:
+def page(game: Game, log: Log, events: Sequence[MarketEvent], heading: Heading) -> str:
     """The page of a game.
 
     Args:

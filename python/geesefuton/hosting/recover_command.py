@@ -1,0 +1,115 @@
+"""Makes the log of a game from the journal that the lobby wrote, however the game ended.
+
+It makes a game script of the journal, and lets `tac play` play it. After the last call that is
+known nobody does anything more.
+
+A request that had no reply yet is left out, unless the replies of others show that it was made.
+Nobody can know whether those left out were made: with --pending they are asked after all others,
+and the command tells for whom that changes a score.
+
+Each reply is compared with what `tac play` answers. A difference is told, and the exit status is
+then 1. Readings of cash are put near where they were, and are not compared.
+"""
+
+from __future__ import annotations
+
+import argparse
+import sys
+from pathlib import Path
+from typing import List
+
+from geesefuton import program
+from geesefuton.arguments import Parser
+from geesefuton.hosting.journal import JournalError, JournalReader, read_journal
+from geesefuton.hosting.recovery import Player, Recovery, RecoveryError, asked_of
+from geesefuton.processes import Children, Output, command, tell, why
+from geesefuton.records.games import TICKS
+from geesefuton.records.logs import read_scores
+
+
+def _arguments() -> argparse.Namespace:
+    parser = Parser("recover", __doc__)
+    add = parser.add_argument
+    add("journal", type=Path)
+    add("--pending", action="store_true",
+        help="requests without a reply are asked too, after all others")
+    add("--script", type=Path, metavar="FILE", help="write the script here, too")
+    add("--game", type=Path, metavar="FILE", help="write the game file here, too")
+    return parser.parse_args()
+
+
+def _summary(reader: JournalReader) -> str:
+    assert reader.game is not None
+    calls = sum(call.at is not None and asked_of(call).keyword != "quote" for call in reader.calls)
+    if reader.status in (program.OK, program.CLOCK):
+        return f"the game came to its end; {calls} calls"
+    if not reader.has_begun:
+        return "the game had not begun"
+    ends = "the journal ends" if reader.status is None else f"the server failed ({reader.status})"
+    return (f"{ends} after tick {reader.tick} of {TICKS}; {calls} calls; the scores are those of a "
+            "game in which nobody asks anything more")
+
+
+def _scores_of(log: str) -> List[int]:
+    return [row.score for row in read_scores(log)]
+
+
+def _tell_pending(reader: JournalReader, recovery: Recovery, player: Player, log: str) -> None:
+    """Tells which requests without a reply are in the log, and what the others would change."""
+    assert reader.game is not None
+    words = reader.game.words
+    for calls, what in ((recovery.made, "in the log"), (recovery.left, "left out")):
+        for call in calls:
+            tell(f"  without a reply, {what}: {words[call.agent]}: {asked_of(call).text}")
+    if not recovery.left:
+        return
+    other, _ = Recovery(reader, player, pending=True).log()
+    changed = [f"{word} {there - here:+}"
+               for word, here, there in zip(words, _scores_of(log), _scores_of(other))
+               if here != there]
+    tell("  nobody can know whether those left out were made; with them (--pending) "
+         + (f"scores change: {', '.join(changed)}" if changed else "no score changes"))
+
+
+def _main() -> int:
+    given = _arguments()
+    try:
+        reader = read_journal(given.journal)
+    except JournalError as fault:
+        tell(f"recover: {given.journal}: {fault}")
+        return 1
+    except OSError as fault:
+        tell(f"recover: {given.journal}: {why(fault)}")
+        return 1
+    with Children() as children:
+        player = Player(children.folder("recover"))
+        try:
+            recovery = Recovery(reader, player, given.pending)
+            log, faults = recovery.log()
+            tell(_summary(reader))
+            _tell_pending(reader, recovery, player, log)
+        except RecoveryError as fault:
+            tell(f"recover: {given.journal}: {fault}")
+            return 1
+        for line in faults:
+            tell(f"! {line}")
+        outputs = [(Output(1), log)]
+        outputs += [(Output(file), text) for file, text in (
+            (given.script, recovery.script().text), (given.game, reader.text)) if file]
+    is_whole = True
+    for output, text in outputs:
+        output.write(text)
+        output.close()
+        if output.fault is not None:
+            tell(f"recover: {output.name}: {output.fault}")
+            is_whole = False
+    return 0 if is_whole and not faults else 1
+
+
+def main() -> int:
+    """The command `recover`."""
+    return command("recover", _main)
+
+
+if __name__ == "__main__":
+    sys.exit(main())

@@ -1,0 +1,71 @@
+"""The rules of prices: flights, the clock's ticks, and hotels."""
+
+import unittest
+
+from geesefuton.records.games import GOODS, TICKS, Flight
+from geesefuton.records.rules import Rooms, clock_ticks, next_price, prices_of, still_draw
+from tests.helpers import served_game
+
+
+class Flights(unittest.TestCase):
+    def test_how_a_flight_moves(self) -> None:
+        up = Flight(300, 30, (0,) * 53)
+        self.assertEqual(next_price(up, 300, 27, 0), 290)  # between -10 and 20
+        self.assertEqual(next_price(up, 300, 27, 30), 320)
+        self.assertEqual(next_price(up, 300, 27, 31), 290)
+        down = Flight(300, -10, (0,) * 53)
+        self.assertEqual(next_price(down, 300, 54, 0), 290)  # between -10 and 10
+        self.assertEqual(next_price(down, 300, 27, 20), 310)  # the end is 0
+        self.assertEqual(next_price(down, 300, 40, 0), 295)  # between -5 and 10
+        self.assertEqual(next_price(down, 300, 40, 15), 310)
+        self.assertEqual(next_price(down, 300, 40, 16), 295)
+        self.assertEqual(next_price(up, 795, 54, 39), 800)
+        self.assertEqual(next_price(up, 152, 1, 0), 150)
+
+    def test_prices_of_a_flight(self) -> None:
+        for flight in served_game().flights:
+            prices = [flight.first]
+            for number in range(53):
+                end = 10 + (number + 1) * (flight.bound - 10) // 54
+                low, high = (-10, end) if end > 0 else (end, 10) if end < 0 else (-10, 10)
+                moved = prices[-1] + low + flight.draws[number] % (high - low + 1)
+                prices.append(min(800, max(150, moved)))
+            self.assertEqual(prices_of(flight), prices)
+
+    def test_a_price_that_stays(self) -> None:
+        for bound in range(-10, 31):
+            flight = Flight(300, bound, (0,) * 53)
+            for tick in range(1, TICKS + 1):
+                self.assertEqual(next_price(flight, 300, tick, still_draw(flight, tick)), 300)
+
+
+class Clock(unittest.TestCase):
+    def test_the_ticks_at_which_it_calls_an_auction(self) -> None:
+        game = served_game()
+        first, last = game.closing[0], game.closing[7]
+        ticks = [clock_ticks(game, good) for good in GOODS]
+        self.assertEqual((ticks[first], ticks[last]), ([6], [6, 12, 18, 24, 30, 36, 42, 48]))
+        self.assertEqual((ticks[0], ticks[7]), ([*range(1, 55)], [*range(1, 55)]))
+        self.assertEqual(ticks[16:], [[54]] * 12)
+
+
+class Hotels(unittest.TestCase):
+    def rooms(self, count: int) -> Rooms:
+        """A night in which three units stand at 90, 70 and 50 dollars, and a fourth at 50."""
+        rooms = Rooms(count)
+        for agent, points in ((0, ((1, 10),)), (0, ((2, 50), (1, 90))), (3, ((1, 70),))):
+            rooms.bid(agent, points)
+        return rooms
+
+    def test_the_ask_is_that_of_the_last_unit_that_gets_a_room(self) -> None:
+        self.assertEqual([self.rooms(count).ask() for count in (1, 2, 3, 4, 5)],
+                         [90, 70, 50, 50, 0])
+        self.assertEqual(Rooms(1).ask(), 0)
+
+    def test_no_more_rooms_are_sold_than_there_are(self) -> None:
+        self.assertEqual([self.rooms(count).sold() for count in (1, 4, 5)], [1, 4, 4])
+        self.assertEqual(Rooms(1).sold(), 0)
+
+
+if __name__ == "__main__":
+    unittest.main()
