@@ -3,7 +3,8 @@
 from __future__ import annotations
 
 import enum
-from dataclasses import dataclass
+import json
+from dataclasses import asdict, dataclass
 from typing import Optional, Tuple, Union
 
 
@@ -121,3 +122,10 @@ class Warned:
 Event = Union[
     Arrived, Departed, Refused, Lost, Waived, Began, Ticked, Rejoined, Ended, Finished, Warned
 ]
+
+
+def json_of(event: Event) -> str:
+    """An event as a line of JSON without its end: what it is, such as `ticked`, and its fields."""
+    fields = {name: value.value if isinstance(value, enum.Enum) else value
+              for name, value in asdict(event).items()}
+    return json.dumps({"event": type(event).__name__.lower(), **fields}, separators=(",", ":"))
