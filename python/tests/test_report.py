@@ -21,7 +21,8 @@ from tests.helpers import (PLAYED, SERVED_GAME, SERVED_LOG, TOP, cells_of, fake_
 
 def text_of(log: Log, warning: str = "") -> str:
     game = served_game()
-    return report_page.page(game, log, all_events(game, log), Heading("my.game", "today", warning))
+    return report_page.page(game, log, all_events(game, log),
+                            Heading("my.game", "today", warning), game.words)
 
 
 def scored(*scores: int) -> Log:
@@ -181,7 +182,7 @@ class Scripts(unittest.TestCase):
     def test_a_game_from_a_script(self) -> None:
         game = report.read_game((TOP / "examples" / "first.game").read_text())
         log = read_played(PLAYED.read_bytes()).log
-        text = report_page.page(game, log, all_events(game, log), Heading("g", "t"))
+        text = report_page.page(game, log, all_events(game, log), Heading("g", "t"), game.words)
         self.assertIn("played from a script or in turns", text)
         self.assertNotIn("Rooms:", text)
 
@@ -220,6 +221,19 @@ class Command(unittest.TestCase):
         self.assertIn("<h1>A game of TAC Classic</h1>", done.stdout)
         self.assertIn("served.game, played over links; the log was written 20", done.stdout)
         self.assertNotIn("warning\"", done.stdout)
+
+    def test_words_which_are_passwords_are_shown_only_if_asked_for(self) -> None:
+        words = ["red7k", "orange3x", "yellow9m", "green4", "blue77", "violet5", "brown8q", "grey0"]
+        game = self.place / "teams.game"
+        game.write_text(served_game().named(words).text())
+        plain, told, csv_rows = (self.ran(*more, game, SERVED_LOG).stdout
+                                 for more in ((), ("--names",), ("--csv",)))
+        for word in words:
+            self.assertNotIn(word, plain + csv_rows)
+            self.assertIn(f"<td class=\"t\">{word}</td>", told)
+        names = "red, orange, yellow, green, blue, violet, brown, grey"
+        self.assertIn(f"<title>A game of {names}</title>", plain)
+        self.assertIn("<td class=\"t\">agent 7</td>", self.ran(SERVED_GAME, SERVED_LOG).stdout)
 
     def test_the_csv(self) -> None:
         rows = list(csv.DictReader(io.StringIO(self.ran("--csv", SERVED_GAME, SERVED_LOG).stdout)))

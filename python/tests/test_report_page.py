@@ -24,7 +24,7 @@ def trade(good: int, agent: int, units: int, dollars: int) -> MarketEvent:
 
 
 def text_of(log: Log = LOG, *trades: MarketEvent) -> str:
-    return report_page.page(GAME, log, [*PRICES, *trades], Heading("my.game", "today"))
+    return report_page.page(GAME, log, [*PRICES, *trades], Heading("my.game", "today"), GAME.words)
 
 
 def scored(*scores: int) -> Log:
@@ -190,7 +190,7 @@ class Charts(unittest.TestCase):
 
     def test_scales_of_prices_that_are_alike(self) -> None:
         flat = [event._replace(dollars=200 if event.good in FLIGHTS else 0) for event in PRICES]
-        text = report_page.page(GAME, LOG, flat, Heading("my.game", "today"))
+        text = report_page.page(GAME, LOG, flat, Heading("my.game", "today"), GAME.words)
         labels = re.findall(r'"top">(\d+)</span><span class="low">(\d+)<', text)
         self.assertEqual(labels, [("250", "200")] * 8 + [("100", "0")] * 8)
 
@@ -211,11 +211,14 @@ class Parts(unittest.TestCase):
                       f"Towers {' '.join(rooms[4:])}. 3 ticks lapsed. ", text)
         self.assertNotIn("lapsed", text_of())
         self.assertIn(f"<title>A game of {', '.join(GAME.words)}</title>", text)
+        names = [f"<{number}>" for number in range(8)]
+        text = report_page.page(GAME, LOG, PRICES, Heading("my.game", "today"), names)
+        self.assertEqual((text.count("&lt;3&gt;"), "<3>" in text), (4, False))
 
     def test_live_quotes_are_told_only_of_games_that_have_them(self) -> None:
         for live in (False, True):
             game = replace(GAME, live=live)
-            text = report_page.page(game, LOG, PRICES, Heading("my.game", "today"))
+            text = report_page.page(game, LOG, PRICES, Heading("my.game", "today"), GAME.words)
             self.assertEqual("publish with each bid" in text, live)
 
     def clients(self, package: Optional[Package]) -> List[str]:

@@ -7,6 +7,9 @@ The log is that of `tac serve` or `tac play`, whose reply lines may stand before
 first, and if it is not sound the report says why and makes no page. With --unaudited it makes one
 all the same, which says so.
 
+Seat words are passwords. So the page calls an agent by the letters before the digits of its word,
+if these differ, or by its number, and with --names by its word.
+
 In the CSV `price` is the published price from that entry on, `close` that of a hotel's closing,
 `trade` what an agent bought (units above 0) or sold (below 0), with the dollars for each unit, and
 `score` a score. A log has no times: a call has the tick of the clock's last call in its auction,
@@ -25,6 +28,7 @@ from geesefuton.records.games import Game, GameError, read_game
 from geesefuton.records.logs import Log, LogError, read_log
 from geesefuton.records.prices import MarketEvent, all_events
 from geesefuton.records.report_page import Heading, page
+from geesefuton.records.seat_names import names_of
 from geesefuton.records.tables import csv_of
 
 START = b"taclog 1\n"
@@ -90,6 +94,8 @@ def _main() -> int:
     parser.add_argument("--csv", action="store_true", help="write CSV in place of the page")
     parser.add_argument("--unaudited", action="store_true",
                         help="show a log that is not sound, or was not audited, too")
+    parser.add_argument("--names", action="store_true",
+                        help="call agents by their seat words, which are passwords")
     parser.add_argument("game", type=Path, help="the game file")
     parser.add_argument("log", type=Path, help="the log")
     given = parser.parse_args()
@@ -115,7 +121,8 @@ def _main() -> int:
     else:
         written = time.strftime("%Y-%m-%d at %H:%M", time.localtime(given.log.stat().st_mtime))
         heading = Heading(given.game.name, written, warning)
-        out.write(page(game, log, all_events(game, log), heading))
+        names = names_of(game.words, given.names)
+        out.write(page(game, log, all_events(game, log), heading, names))
     if out.fault is not None:
         tell(f"report: {out.name}: {out.fault}")
         return 1

@@ -6,8 +6,8 @@ from dataclasses import dataclass
 from importlib.resources import files
 from typing import Dict, Iterable, Iterator, List, Optional, Sequence, Tuple, Union
 
-from geesefuton.records.games import (AUCTIONS, CLIENTS, FLIGHTS, GOODS, HOTELS, ROOMS, SEATS,
-                                      TICKETS, TICKS, Game, Package, name_of)
+from geesefuton.records.games import (AUCTIONS, CLIENTS, FLIGHTS, GOODS, HOTELS, ROOMS, TICKETS,
+                                      TICKS, Game, Package, name_of)
 from geesefuton.records.logs import Log, Score, trades_of
 from geesefuton.records.prices import MarketEvent
 
@@ -96,7 +96,7 @@ def _order(log: Log) -> List[Score]:
     return sorted(log.scores, key=lambda score: (score.agent not in place, -score.score))
 
 
-def _scores(game: Game, log: Log, events: Sequence[MarketEvent]) -> str:
+def _scores(names: Sequence[str], log: Log, events: Sequence[MarketEvent]) -> str:
     place = ranks(log)
     low = min([0, *(score.score for score in log.scores)])
     high = max([1, *(score.score for score in log.scores)])
@@ -104,7 +104,7 @@ def _scores(game: Game, log: Log, events: Sequence[MarketEvent]) -> str:
     for score in _order(log):
         home = sum(package is None for package in score.packages)
         told = [why_nothing(log, events, score), ENDS.get(log.end_of(score.agent), "")]
-        rows.append([place.get(score.agent, "–"), _word(game, score.agent),
+        rows.append([place.get(score.agent, "–"), html.escape(names[score.agent]),
                      f"<b>{score.score}</b>", bar(score.score, low, high), score.best, score.cash,
                      f"{home} of {CLIENTS}", score.short,
                      _code("; ".join(filter(None, told)))])
@@ -115,15 +115,11 @@ def _scores(game: Game, log: Log, events: Sequence[MarketEvent]) -> str:
     return f"<h2>Scores</h2>{table(heads, rows, (1, 8))}<p>{note}</p>"
 
 
-def _word(game: Game, agent: int) -> str:
-    return html.escape(game.words[agent])
-
-
 def _code(text: str) -> str:
     return html.escape(text.replace("`quit`", "quit"))
 
 
-def _spending(game: Game, log: Log, events: Sequence[MarketEvent]) -> str:
+def _spending(names: Sequence[str], log: Log, events: Sequence[MarketEvent]) -> str:
     """What each agent paid and earned, by kind of goods."""
     sums: Dict[Tuple[int, str, bool], int] = defaultdict(int)
     kind_of = {good: kind for kind, goods in KINDS for good in goods}
@@ -135,7 +131,7 @@ def _spending(game: Game, log: Log, events: Sequence[MarketEvent]) -> str:
     for agent in [score.agent for score in _order(log)]:
         paid = [sums[agent, kind, False] for kind, _ in KINDS]
         earned = sums[agent, "tickets", True]
-        rows.append([_word(game, agent), *paid, earned, earned - sum(paid)])
+        rows.append([html.escape(names[agent]), *paid, earned, earned - sum(paid)])
     heads = ["team", *(kind for kind, _ in KINDS), "tickets sold", "cash"]
     return f"<h2>What each team paid and earned</h2>{table(heads, rows, (0,))}"
 
@@ -246,13 +242,14 @@ def _trade_rows(events: Sequence[MarketEvent], agent: int) -> Iterator[List[Cell
                    earned if sold else "", earned - paid]
 
 
-def _teams(game: Game, log: Log, events: Sequence[MarketEvent]) -> Iterator[str]:
+def _teams(game: Game, names: Sequence[str], log: Log,
+           events: Sequence[MarketEvent]) -> Iterator[str]:
     clients = ["client", "days", "Towers", "alligators", "park", "museum", "got", "days",
                "alligators", "park", "museum", "worth"]
     trades = ["good", "bought", "for", "sold", "for", "cash"]
     for number, score in enumerate(_order(log)):
         yield (f'<details{"" if number else " open"}><summary>'
-               f"<b>{_word(game, score.agent)}</b>: trips worth {score.best}, cash {score.cash}, "
+               f"<b>{html.escape(names[score.agent])}</b>: trips worth {score.best}, cash {score.cash}, "
                f"score {score.score}</summary><h3>What each client wanted, and got on which nights"
                f"</h3>{table(clients, _client_rows(game, score), (6,))}<h3>Trades</h3>"
                f"{table(trades, _trade_rows(events, score.agent), (0,))}</details>")
@@ -270,7 +267,8 @@ def _head(game: Game, log: Log, heading: Heading) -> str:
             f"{missed} All prices are in dollars.</p>{warning}")
 
 
-def page(game: Game, log: Log, events: Sequence[MarketEvent], heading: Heading) -> str:
+def page(game: Game, log: Log, events: Sequence[MarketEvent], heading: Heading,
+         names: Sequence[str]) -> str:
     """The page of a game.
 
     Args:
@@ -278,12 +276,13 @@ def page(game: Game, log: Log, events: Sequence[MarketEvent], heading: Heading) 
         log: Its log.
         events: The prices and trades of all auctions (`prices.all_events`).
         heading: What stands at its head.
+        names: How the eight agents are called (`seat_names.names_of`).
     """
-    words = ", ".join(_word(game, agent) for agent in range(SEATS))
+    title = html.escape(", ".join(names))
     parts = ['<!doctype html><html lang="en"><meta charset="utf-8">'
              '<meta name="viewport" content="width=device-width, initial-scale=1">'
-             f"<title>A game of {words}</title><style>{STYLE.read_text(encoding='ascii')}</style>",
-             _head(game, log, heading), _scores(game, log, events), _spending(game, log, events),
-             _prices(game, events), _tickets(events), "<h2>Teams</h2>",
-             *_teams(game, log, events)]
+             f"<title>A game of {title}</title><style>{STYLE.read_text(encoding='ascii')}</style>",
+             _head(game, log, heading), _scores(names, log, events),
+             _spending(names, log, events), _prices(game, events), _tickets(events),
+             "<h2>Teams</h2>", *_teams(game, names, log, events)]
     return "\n".join(parts) + "</html>\n"
