@@ -17,7 +17,7 @@ from geesefuton.records.rules import Rooms
 
 STEP = 0.1  # ticks; of prices that are nearer to one another only the last is kept
 
-PricePath = List[List[float]]  # ticks and dollars
+PriceSteps = List[List[float]]  # ticks and dollars
 
 
 @dataclass(frozen=True)
@@ -30,8 +30,8 @@ class Night:
         closed: Once it is closed the tick, the price and the rooms sold.
     """
 
-    published: PricePath
-    asks: PricePath
+    published: PriceSteps
+    asks: PriceSteps
     closed: Optional[List[int]]
 
 
@@ -97,8 +97,8 @@ class _RunningNight:
     def _start(self) -> None:
         """Begins with the first position."""
         self._rooms, self._ask = Rooms(self._hotel.rooms), 0
-        self._published: PricePath = [[0, 0]]
-        self._asks: PricePath = [[0, 0]]
+        self._published: PriceSteps = [[0, 0]]
+        self._asks: PriceSteps = [[0, 0]]
         self._closed: Optional[List[int]] = None
         self._position, self._clocks, self._last = 0, 0, 0.0
 
@@ -126,7 +126,7 @@ def tick_of(call: Exchange, pace: int, least: float) -> float:
     return round(max(least, min(float(TICKS), call.time / pace)), 2)
 
 
-def _note(path: PricePath, tick: float, dollars: int) -> None:
+def _note(path: PriceSteps, tick: float, dollars: int) -> None:
     """Adds a price from a tick on, if it is another one."""
     if dollars == path[-1][1]:
         return

@@ -13,7 +13,7 @@ from dataclasses import dataclass, replace
 from typing import Any, Dict, List, Optional, Tuple
 
 from geesefuton.hosting.journal import JournalReader
-from geesefuton.hosting.nights import Night, PricePath, tick_of
+from geesefuton.hosting.nights import Night, PriceSteps, tick_of
 from geesefuton.hosting.recovery import Player, Recovery
 from geesefuton.records.games import DRAWS, SEATS, TICKETS, Flight, Game
 from geesefuton.records.logs import Log, read_log
@@ -39,7 +39,7 @@ class Projection:
 
     tick: int
     scores: List[List[int]]
-    asks: List[PricePath]
+    asks: List[PriceSteps]
     trades: List[List[float]]
     asked: List[int]
     silent: List[int]
