@@ -22,7 +22,7 @@ from unittest import mock
 from geesefuton.hosting.live import NICE, STALL, Live, _arguments
 from geesefuton.hosting.projection import Projection, View
 from geesefuton.hosting.recovery import RecoveryError
-from geesefuton.hosting.viewers import Faults
+from geesefuton.hosting.viewers import BEAT, Faults
 from geesefuton.processes import free_port
 from tests.helpers import DATA, TOP
 from tests.journals import LINES, nights_of, place_of
@@ -39,6 +39,11 @@ class Page(unittest.TestCase):
         for word in ("src=", "@import", "url(", "innerHTML", "insertAdjacent", "eval("):
             self.assertNotIn(word, text)
         self.assertEqual(re.findall(r"<link[^>]*>", text), ['<link rel="icon" href="data:,">'])
+
+    def test_a_screen_waits_for_two_beats_until_it_says_that_it_hears_nothing(self) -> None:
+        quiet = re.findall(r"QUIET = (\d+)", PAGE.read_text())
+        self.assertEqual(len(quiet), 1)
+        self.assertGreaterEqual(int(quiet[0]), 2 * 1000 * BEAT)
 
 
 def projection(tick: int) -> Projection:

@@ -226,7 +226,7 @@ class Crowds(Case):
         async def work(port: int) -> str:
             return (await self.ask(port, GET % b"/"))[0]
 
-        accept, faults = asyncio.BaseEventLoop.sock_accept, [OSError(24, "Too many open files")] * 3
+        faults = [OSError(24, "Too many open files")] * 3
         loop = asyncio.selector_events.BaseSelectorEventLoop
         accept = loop.sock_accept
 
