@@ -85,6 +85,11 @@ class OneNight(unittest.TestCase):
         self.assertEqual(self.night(6, *calls),
                          Night([[0, 0], [6, 70]], [[0, 0], [3, 70], [6, 80]], None))
 
+    def test_the_first_moment_keeps_its_price(self) -> None:
+        night = self.night(5, (0, "bid G ((2 70))", "@0 taken 0 0", 5),
+                           (1, "bid G ((2 80))", "@1 taken 0 0", 15))
+        self.assertEqual(night.asks, [[0, 0], [0.05, 80]])
+
     def test_times_end_with_the_game_and_have_two_digits(self) -> None:
         last = GAME.closing[7]
         lines = asked(0, f"bid {last} ((2 70))", "@0 taken 0 0", 1234) \
