@@ -15,6 +15,8 @@ ROWS = [
     (events.Refused(AT, "10.0.0.7", "wrongword", 'hey "\x1b\xff\n'),
      {"event": "refused", "at": AT, "source": "10.0.0.7", "answer": "wrongword",
       "line": 'hey "\x1b\xff\n'}),
+    (events.Lost(AT, "10.0.0.7", "said nothing"),
+     {"event": "lost", "at": AT, "source": "10.0.0.7", "why": "said nothing"}),
     (events.Waived(AT, "red7k"), {"event": "waived", "at": AT, "word": "red7k"}),
     (events.Began(AT, (0, 3)), {"event": "began", "at": AT, "seats": [0, 3]}),
     (events.Ticked(AT, 1, (5, 0, 0, 0, 0, 0, 0, 7)),
