@@ -130,9 +130,25 @@ class Answering(Case):
             return [*parts, late[2]]
 
         last = b"event: end\ndata: over\n\n"
-        self.assertEqual(self.run_it(work), [
+        with mock.patch("geesefuton.hosting.viewers.BEAT", MOST):  # a state does not wait for it
+            parts = self.run_it(work)
+        self.assertEqual(parts, [
             b"retry: 1000\n\n", b'data: {"a":0}\n\n', b'data: {"a":1}\n\n',
             b'data: {"a":2}\n\n', last, b'retry: 1000\n\ndata: {"a":2}\n\n' + last])
+
+    def test_one_that_takes_a_long_answer_slowly_gets_all_of_it(self) -> None:
+        async def work(port: int) -> int:
+            await self.viewers.show(b"x" * (8 << 20), False)
+            reader, writer = await self.open(port)
+            writer.write(GET % b"/state")
+            await reader.readuntil(b"\r\n\r\n")
+            got = 0
+            while piece := await reader.read(1 << 20):
+                got += len(piece)
+                await asyncio.sleep(0.01)
+            return got
+
+        self.assertEqual(self.run_it(work), 8 << 20)
 
     def test_a_link_on_which_nothing_happens_is_kept(self) -> None:
         wait = asyncio.wait_for
