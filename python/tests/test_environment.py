@@ -1,9 +1,11 @@
+import copy
 import os
+import pickle
 import random
 import tempfile
 import unittest
 from pathlib import Path
-from typing import Any, Dict, List
+from typing import Any, Callable, Dict, List
 from unittest import mock
 
 from geesefuton import program
@@ -99,6 +101,23 @@ class Arguments(unittest.TestCase):
                 self.assertRaises(ProgramError, environment.step, {})
                 self.assertEqual(environment.agents, [])
                 self.assertRaisesRegex(ActionError, "no game is played", environment.step, {})
+
+    def test_it_is_copied_only_while_no_game_is_played(self) -> None:
+        copies: List[Callable[[Environment], Any]] = [
+            copy.copy, copy.deepcopy, lambda each: pickle.loads(pickle.dumps(each))]
+        answers = ("for good in $(seq 28); do\n"
+                   'read -r line; echo "${line%% *} @0 quote 0 0 open"\n'
+                   "done\nread -r line\n")
+        with tempfile.TemporaryDirectory() as folder:
+            patch = mock.patch.dict(os.environ, {"TAC": fake_program(Path(folder), answers)})
+            with patch, Environment(FIRST) as environment:
+                for each in copies:
+                    self.assertEqual(each(environment).possible_agents,
+                                     environment.possible_agents)
+                environment.reset()
+                for each in copies:
+                    self.assertRaisesRegex(TypeError, "that plays a game", each, environment)
+                self.assertEqual(environment.num_agents, 8)
 
     def test_spaces_are_the_same_at_each_call(self) -> None:
         environment = Environment(FIRST)

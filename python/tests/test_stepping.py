@@ -1,12 +1,15 @@
+import copy
 import os
+import pickle
 import signal
 import subprocess
 import sys
 import tempfile
+import threading
 import time
 import unittest
 from pathlib import Path
-from typing import List
+from typing import Any, Callable, List
 from unittest import mock
 
 from geesefuton import program
@@ -105,6 +108,65 @@ class Pipes(unittest.TestCase):
         closed = Stepped("my.game")
         closed.close()
         self.assertRaisesRegex(ProgramError, "the game is over", closed.ask, ["0 own 8"])
+
+    def in_a_fork(self, call: Callable[[], Any]) -> None:
+        """Runs a call in a forked process, which then ends; fails if the call did."""
+        child = os.fork()
+        if not child:
+            status = 1
+            signal.alarm(5)
+            try:
+                call()
+                status = 0
+            finally:
+                os._exit(status)
+        self.assertEqual(os.waitpid(child, 0)[1], 0)
+
+    def test_a_forked_process_leaves_the_game_alone(self) -> None:
+        for each in (Stepped.close, Stepped.__del__):
+            with self.subTest(each=each.__name__), Stepped("my.game") as game:
+                self.in_a_fork(lambda: each(game))
+                self.assertEqual(game.ask(["0 own 8"]), ["0 @0 done "])
+                self.assertEqual(game.finish(), b"taclog 1\n")
+
+    def test_a_forked_process_cannot_play_the_game(self) -> None:
+        def play() -> None:
+            for call in (game.finish, lambda: game.ask(["0 own 8"])):
+                with self.assertRaisesRegex(ProgramError, "belongs to the process that began it"):
+                    call()
+
+        with Stepped("my.game") as game:
+            self.in_a_fork(play)
+            self.assertEqual(game.ask(["0 own 8"]), ["0 @0 done "])
+
+    def test_a_forked_process_that_goes_on_does_not_hold_the_game_up(self) -> None:
+        reading, writing = os.pipe()
+        game = Stepped("my.game")
+        child = os.fork()
+        if not child:
+            os.close(writing)
+            os.read(reading, 1)  # until the test has ended
+            os._exit(0)
+        os.close(reading)
+        limit = threading.Timer(8, os.close, (writing,))
+        limit.start()
+        try:
+            self.assertEqual(game.finish(), b"taclog 1\n")
+            self.assertTrue(limit.is_alive(), "the log came only when the other process ended")
+        finally:
+            if limit.is_alive():
+                limit.cancel()
+                os.close(writing)
+            limit.join()
+            os.waitpid(child, 0)
+
+    def test_a_game_is_not_copied(self) -> None:
+        with Stepped("my.game") as game:
+            calls: List[Callable[[Any], Any]] = [copy.copy, copy.deepcopy, pickle.dumps]
+            for each in calls:
+                with self.assertRaisesRegex(TypeError, "cannot be copied or pickled"):
+                    each(game)
+            self.assertEqual(game.ask(["0 own 8"]), ["0 @0 done "])
 
     @unittest.skipUnless(Path("/proc/self/fd").exists(), "open files are looked for in /proc")
     def test_no_file_and_no_process_is_left(self) -> None:

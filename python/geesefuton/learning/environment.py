@@ -374,6 +374,11 @@ class Environment:
             self._process.close()
             self._process = None
 
+    def __getstate__(self) -> Values:
+        if self._process is not None:
+            raise TypeError("an environment that plays a game cannot be copied or pickled")
+        return vars(self)
+
     def __enter__(self) -> "Environment":
         return self
 

@@ -6,6 +6,9 @@
 
 The lines are those of a game script (docs/FORMATS.md). The process needs no guard: it ends once the
 pipe to it closes, which the system does however the script that started it ends.
+
+A game belongs to the process that began it. In a process that is forked from that one it is closed
+at once, which leaves the game itself alone, and no game can be copied or pickled.
 """
 
 import fcntl
@@ -13,8 +16,9 @@ import os
 import select
 import signal
 import tempfile
+import weakref
 from types import TracebackType
-from typing import List, Optional, Sequence, Type, Union
+from typing import List, NoReturn, Optional, Sequence, Type, Union
 
 from geesefuton.program import INPUT, OK, ProgramError, Word, ended, find
 
@@ -36,6 +40,8 @@ class Stepped:
     def __init__(self, game: Union[Word, bytes]) -> None:
         self._process: Optional[int] = None
         self._script = self._replies = -1
+        self._owner = os.getpid()
+        _open_games.add(self)
         held: List[int] = []  # what only the process needs
         try:
             script, self._script = map(_above, os.pipe())
@@ -76,8 +82,7 @@ class Stepped:
         Raises:
             ProgramError: As `ask`.
         """
-        if self._script < 0:
-            raise ProgramError("the game is over")
+        self._need_script()
         try:
             rest = text[os.write(self._script, text):]
         except BlockingIOError:
@@ -104,8 +109,7 @@ class Stepped:
         Raises:
             ProgramError: As `ask`.
         """
-        if self._script < 0:
-            raise ProgramError("the game is over")
+        self._need_script()
         self._script = _closed(self._script)
         log = self._rest()
         status = self._wait()
@@ -114,15 +118,28 @@ class Stepped:
         return log
 
     def close(self) -> None:
-        """Ends the process, if it has not ended."""
+        """Ends the process, if it has not ended. In a forked process only its pipes are closed."""
         self._script = _closed(self._script)
         self._replies = _closed(self._replies)
+        if self._owner != os.getpid():
+            self._process = None
         if self._process is not None:
             try:
                 os.kill(self._process, signal.SIGKILL)
             except ProcessLookupError:
                 pass  # somebody else has waited for it
             self._wait()
+
+    def _need_script(self) -> None:
+        """Sees that the script can go on.
+
+        Raises:
+            ProgramError: It cannot.
+        """
+        if self._script < 0 and self._owner != os.getpid():
+            raise ProgramError("the game belongs to the process that began it")
+        if self._script < 0:
+            raise ProgramError("the game is over")
 
     def _both(self, rest: memoryview) -> List[bytes]:
         """Writes what a full pipe did not take, and reads meanwhile, so that neither side waits
@@ -177,8 +194,24 @@ class Stepped:
                  trace: Optional[TracebackType]) -> None:
         self.close()
 
+    def __reduce__(self) -> NoReturn:
+        raise TypeError("a game of a process cannot be copied or pickled")
+
     def __del__(self) -> None:
         self.close()
+
+
+_open_games: "weakref.WeakSet[Stepped]" = weakref.WeakSet()
+
+
+def _close_inherited() -> None:
+    """Closes what a forked process got of the games: held open there, the pipes would keep a game
+    from its end."""
+    for game in list(_open_games):
+        game.close()
+
+
+os.register_at_fork(after_in_child=_close_inherited)
 
 
 def _above(number: int) -> int:
