@@ -27,10 +27,11 @@ import math
 import random
 import time
 from functools import lru_cache
-from itertools import accumulate, count, cycle, islice, product, takewhile
+from itertools import accumulate, cycle, islice, product
 from typing import Dict, List, Optional, Sequence, Tuple
 try:
-    from link import HOTELS, TICKETS, Client, Link, arguments, inbound, outbound, room, ticket
+    from link import (HOTELS, TICKETS, Client, Link, Unanswered, inbound, outbound, room, run,
+                      ticket)
 except ModuleNotFoundError:  # a copy elsewhere: the package
     from geesefuton.link import *  # noqa: F403
 
@@ -178,6 +179,16 @@ class Baseline:
         self.scarce, self.tick, self.seen = False, -1, 0  # `seen` counts the ticks it acted in
         self.plan = Plan(self.clients, [[0] * UNITS] * 28)
 
+    def act(self) -> bool:
+        """A round. After a lost bid it reads what stands; what it holds is read with each plan."""
+        try:
+            return self.round()
+        except Unanswered:
+            for good in sorted(self.open):
+                points = self.link.holding(good).points
+                self.bids[good] = [price for units, price in points for _ in range(units)]
+            return True
+
     def round(self) -> bool:
         """Acts if a tick has passed, as seats' prices tell, and tells whether the game goes on."""
         boards = [self.link.quote(good) for good in range(8)]
@@ -284,17 +295,15 @@ def wait(pause: float, elapsed: float, looks: int) -> float:
     return max(pause / 3, elapsed / 500 if looks > 1500 else 0.0)
 
 
-def main() -> None:
-    host, port, word, pause = arguments(__doc__.splitlines()[0])
-    link = Link.greet(host, port, word)
-    agent, begun = Baseline(link, random.Random(random.random())), time.monotonic()
-    for looks in takewhile(lambda _: agent.round(), count()):
+def play(link: Link, pause: float) -> None:
+    agent, begun, looks = Baseline(link, random.Random(random.random())), time.monotonic(), 0
+    while agent.act():
         time.sleep(wait(pause, time.monotonic() - begun, looks))
+        looks += 1
     print(f"agent {link.agent} planned {sum(trip != HOME for trip in agent.plan.trips)} trips, has "
           f"{sum(agent.have[:8])} seats, {sum(agent.have[8:16])} rooms, cash {link.cash()}, "
           f"missed {max(0, LAST - agent.seen)} of {LAST} ticks")
-    link.quit()
 
 
 if __name__ == "__main__":
-    main()
+    run(__doc__.splitlines()[0], play)

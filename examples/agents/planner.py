@@ -2,16 +2,17 @@
 """Buys a fixed plan: for each client its preferred trip, in the hotel that its premium pays for.
 
 It buys the flights at once, and bids for the rooms 50 dollars above the quote, at most 300, and
-again when the quote has reached its bid, until the game is over. It keeps its tickets.
+again when the quote has reached its bid, until the game is over. It keeps its tickets. It begins
+with what it holds, so it plays on where it is started again in its game.
 """
 
 import time
 from collections import Counter
 
 try:
-    from link import HOTELS, Link, arguments, inbound, outbound, room, solve
+    from link import HOTELS, inbound, outbound, room, run, solve
 except ModuleNotFoundError:  # a copy elsewhere: the package
-    from geesefuton.link import HOTELS, Link, arguments, inbound, outbound, room, solve
+    from geesefuton.link import HOTELS, inbound, outbound, room, run, solve
 
 MOST_FOR_A_SEAT = 600  # dollars
 MOST_FOR_A_ROOM = 300  # dollars
@@ -29,10 +30,11 @@ def plan(clients):
 
 
 def buy_seats(link, needs):
-    """Buys the seats of the plan at once, whatever they cost up to a limit."""
+    """Buys the seats of the plan that it lacks at once, whatever they cost up to a limit."""
     for good, units in needs.items():
-        if good not in HOTELS:
-            link.bid(good, (units, MOST_FOR_A_SEAT))
+        lacking = 0 if good in HOTELS else units - link.own(good)
+        if lacking > 0:
+            link.bid(good, (lacking, MOST_FOR_A_SEAT))
 
 
 def bid_for_rooms(link, needs, standing, most=MOST_FOR_A_ROOM):
@@ -51,9 +53,7 @@ def bid_for_rooms(link, needs, standing, most=MOST_FOR_A_ROOM):
             standing[good] = price
 
 
-def main():
-    host, port, word, pause = arguments(__doc__)
-    link = Link.greet(host, port, word)
+def play(link, pause):
     needs, standing = plan(link.clients), Counter()
     buy_seats(link, needs)
     while not link.quote(0).closed:
@@ -64,8 +64,7 @@ def main():
     told = "unknown" if worth is None else worth
     print(f"agent {link.agent} planned {sum(needs.values())} units, has {bought} of these, "
           f"worth {told}, cash {link.cash()}")
-    link.quit()
 
 
 if __name__ == "__main__":
-    main()
+    run(__doc__, play)

@@ -12,9 +12,9 @@ import time
 from collections import Counter
 
 try:
-    from link import Link, arguments, ticket
+    from link import run, ticket
 except ModuleNotFoundError:  # a copy elsewhere: the package
-    from geesefuton.link import Link, arguments, ticket
+    from geesefuton.link import run, ticket
 from planner import bid_for_rooms, buy_seats, plan
 
 MOST_FOR_A_ROOM = 350  # dollars
@@ -73,9 +73,7 @@ def trade(link, kind, standing):
         standing[good] = held[night], points
 
 
-def main():
-    host, port, word, pause = arguments(__doc__)
-    link = Link.greet(host, port, word)
+def play(link, pause):
     needs, standing, offers = plan(link.clients), Counter(), {}
     buy_seats(link, needs)
     rounds = 0
@@ -90,8 +88,7 @@ def main():
     tickets = sum(link.own(ticket(kind, night)) for kind in range(3) for night in NIGHTS)
     print(f"agent {link.agent} has {bought} of {sum(needs.values())} units, had {sum(link.endow)} "
           f"tickets, has {tickets}, cash {link.cash()}")
-    link.quit()
 
 
 if __name__ == "__main__":
-    main()
+    run(__doc__, play)

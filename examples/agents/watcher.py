@@ -7,14 +7,12 @@ It makes no call of an auction, since a quote is none.
 import time
 
 try:
-    from link import Link, arguments
+    from link import run
 except ModuleNotFoundError:  # a copy elsewhere: the package
-    from geesefuton.link import Link, arguments
+    from geesefuton.link import run
 
 
-def main():
-    host, port, word, pause = arguments(__doc__)
-    link = Link.greet(host, port, word)
+def play(link, pause):
     open_goods = list(range(28))
     hotels = []
     while open_goods:
@@ -26,8 +24,7 @@ def main():
                     hotels.append(f"{good} at {quote.ask}")
         time.sleep(pause)
     print(f"agent {link.agent} saw the hotels close: {', '.join(hotels)}")
-    link.quit()
 
 
 if __name__ == "__main__":
-    main()
+    run(__doc__, play)

@@ -1,24 +1,32 @@
 """A link to the server, as in docs/PROTOCOL.md: one reply for each request.
 
-    link = Link.greet("localhost", 7000, "seat0")       # waits until the game begins
-    link.bid(8, (2, 120))                               # two rooms at 120 dollars or less each
-    print(link.quote(8).ask, link.own(8), link.cash())
-    link.quit()
+    with Link.greet("localhost", 7000, "seat0") as link:    # waits until the game begins
+        link.bid(8, (2, 120))                               # two rooms at 120 dollars or less each
+        print(link.quote(8).ask, link.own(8), link.cash())
+        link.quit()
 
 Agents speak lines of words, or JSON objects where the server was started so: `Link.greet` takes
 the form, and the calls are the same. `ask` takes and gives lines of words in either form.
+
+A link that is lost, since it ends or a reply takes longer than its limit, is connected again, as
+the lobby allows (docs/HOSTING.md). What was asked is asked again, but for a bid: it may have been
+admitted, and to bid twice may buy twice. So a lost bid raises `Unanswered`, and `own` tells what
+came of it.
 """
 
 import argparse
 import os
 import random
 import socket
+import sys
 import time
 from dataclasses import dataclass, field
-from typing import BinaryIO, Callable, Dict, List, NamedTuple, Optional, Sequence, Tuple
+from types import TracebackType
+from typing import BinaryIO, Callable, Dict, List, NamedTuple, Optional, Sequence, Tuple, Type
 
 from geesefuton import program as tac
 from geesefuton.arguments import seconds
+from geesefuton.processes import tell
 from geesefuton.records.games import (FLIGHTS, HOTELS, INBOUND, OUTBOUND, TICKETS, Client, inbound,
                                       outbound, room, ticket)
 from geesefuton.records.replies import (Cash, No, Own, Quote, Reply, ReplyError, Request, read_json,
@@ -27,15 +35,30 @@ from geesefuton.records.replies import (Cash, No, Own, Quote, Reply, ReplyError,
 
 __all__ = [
     "FLIGHTS", "HOTELS", "INBOUND", "OUTBOUND", "TICKETS", "Client", "Link", "LinkError", "Quote",
-    "Reply", "arguments", "inbound", "outbound", "program", "room", "solve", "ticket",
+    "Reply", "Unanswered", "arguments", "inbound", "outbound", "program", "room", "run", "solve",
+    "ticket",
 ]
 
 PATIENCE = 120  # seconds that a server which does not listen yet is tried for
+LIMIT = 10.0  # seconds that a reply may take
+# Seconds in which a lost link is connected again. The lobby waits two ticks, of a minute at most,
+# until it takes a link for lost that has not ended.
+REJOIN = 150.0
+TRY, BETWEEN = 15.0, 0.5  # seconds that one try of these takes at most, and to the next one
+KEEPALIVE = {"TCP_KEEPIDLE": 5, "TCP_KEEPINTVL": 3, "TCP_KEEPCNT": 3}  # seconds, seconds, probes
 Point = Tuple[int, int]  # units, below 0 for selling, and dollars for each
 
 
-class LinkError(SystemExit):
-    """The link ended, or was refused. An agent that does not catch it ends with this message."""
+class LinkError(Exception):
+    """The link ended, or was refused."""
+
+
+class Unanswered(LinkError):
+    """The link was lost before a bid was answered, and is back: `own` tells what came of it."""
+
+
+class _Lost(LinkError):
+    """The link ended, or a reply did not come in time."""
 
 
 class Form(NamedTuple):
@@ -61,6 +84,9 @@ class Link:
         agent: The number of the agent, 0 to 7.
         endow: The agent's tickets at first, good 16 first.
         clients: Its eight clients.
+        address: The server's name or address, and its port; None if the link cannot be connected
+            again.
+        limit: The seconds that a reply may take; None for no limit.
     """
 
     stream: socket.socket
@@ -70,9 +96,12 @@ class Link:
     agent: int = 0
     endow: List[int] = field(default_factory=list)
     clients: List[Client] = field(default_factory=list)
+    address: Optional[Tuple[str, int]] = None
+    limit: Optional[float] = None
 
     @classmethod
-    def greet(cls, host: str, port: int, word: str, form: str = "words") -> "Link":
+    def greet(cls, host: str, port: int, word: str, form: str = "words",
+              limit: Optional[float] = None) -> "Link":
         """Takes a seat by its word, and waits until the game begins.
 
         Args:
@@ -80,42 +109,107 @@ class Link:
             port: Its port.
             word: The seat word.
             form: What the server was started for, `words` or `json`.
+            limit: The seconds that a reply may take, 0 for no limit; None for what the variable
+                AGENT_LIMIT says, and without it `LIMIT`.
 
         Raises:
             LinkError: There is no server, or it refused the word.
         """
+        limit = _usual_limit() if limit is None else limit
         stream = _connect(host, port)
-        stream.setsockopt(socket.IPPROTO_TCP, socket.TCP_NODELAY, 1)
-        link = cls(stream, stream.makefile("rb"), word, form)
+        link = cls(stream, stream.makefile("rb"), word, form, address=(host, port),
+                   limit=limit or None)
         try:
-            link._take_welcome()
-        except LinkError:
+            link._take_welcome(None)
+        except _Lost as lost:
+            link._recover(lost)
+        except BaseException:
             link.close()
             raise
         return link
 
-    def _take_welcome(self) -> None:
+    def _take_welcome(self, limit: Optional[float]) -> None:
+        """Takes the seat. Each line may take so many seconds."""
+        _prepare(self.stream, limit)
         first = self._exchange(f"hello {self.word}").split()
         if first[:1] != ["welcome"]:
             raise LinkError(f"{self.word}: {' '.join(first)}")
         self.agent = int(first[1])
         self.endow = [int(units) for units in self.line().split()[2:]]
+        self.clients = []
         for _ in range(8):
             arrive, depart, premium, *values = map(int, self.line().split()[3:])
             self.clients.append(Client(arrive, depart, premium, (values[0], values[1], values[2])))
+        self.stream.settimeout(self.limit)
+
+    def rejoin(self, within: float = REJOIN) -> None:
+        """Ends the link, connects again with the same word, and takes the ten lines again.
+
+        The lobby gives the seat to the new link once the old one has ended or is silent for long.
+        Until then it may answer `refused taken`, and the link is tried again.
+
+        Args:
+            within: The seconds after which it is given up.
+
+        Raises:
+            LinkError: The link was not taken within this time, the word was refused, or the server
+                has ended.
+        """
+        if self.address is None:
+            raise LinkError(f"{self.word}: where the server is was not told")
+        fault, deadline = "", time.monotonic() + within
+        while True:
+            self.close()
+            left = deadline - time.monotonic()
+            if left <= 0:
+                raise LinkError(f"{self.word}: no link within {within:g} seconds{fault}")
+            try:
+                self.stream = socket.create_connection(self.address, min(left, TRY))
+                self.lines = self.stream.makefile("rb")
+                self._take_welcome(min(left, TRY))
+                return
+            except ConnectionRefusedError as refused:
+                raise LinkError(_no_link(*self.address, refused)) from None
+            except LinkError as refused:
+                if not isinstance(refused, _Lost) and "refused taken" not in str(refused):
+                    self.close()
+                    raise
+                fault = f" ({refused})"
+            except OSError as failed:
+                fault = f" ({failed.strerror or failed})"
+            time.sleep(min(BETWEEN, left))
+
+    def _recover(self, lost: _Lost) -> None:
+        """Connects a lost link again, and says so.
+
+        Raises:
+            LinkError: That failed. If the server has ended, it is told how the link was lost.
+        """
+        begun = time.monotonic()
+        try:
+            self.rejoin()
+        except LinkError as fault:
+            is_over = isinstance(fault.__context__, ConnectionRefusedError)
+            raise LinkError(str(lost if is_over or self.address is None else fault)) from None
+        tell(f"{lost}; connected again after {time.monotonic() - begun:.1f} seconds")
 
     def line(self) -> str:
         """The next line that the server sends, without its line end.
 
         Raises:
-            LinkError: The link was closed, or failed.
+            LinkError: The link was closed, or failed, or the line did not come in time.
         """
         try:
             line = self.lines.readline()
-        except OSError:
+        except OSError as fault:
+            if isinstance(fault, socket.timeout) and fault.errno is None:
+                raise _Lost(f"{self.word}: no reply within {self.stream.gettimeout():g} seconds") \
+                    from None
             line = b""
+        except ValueError:  # it was closed here
+            raise LinkError(f"{self.word}: the link was closed") from None
         if not line.endswith(b"\n"):
-            raise LinkError(f"{self.word}: the link was closed")
+            raise _Lost(f"{self.word}: the link was closed")
         return line[:-1].decode("ascii", "replace")
 
     def _exchange(self, line: str) -> str:
@@ -125,11 +219,29 @@ class Link:
             pass  # then no reply line comes either
         return self.line()
 
+    def _reply(self, line: str, keyword: str) -> str:
+        """The reply to a line. A lost link is connected again, and the line asked again unless it
+        is a bid; at `quit` it just ends."""
+        while True:
+            try:
+                return self._exchange(line)
+            except _Lost as lost:
+                if keyword == "quit":
+                    raise
+                self._recover(lost)
+            if keyword == "bid":
+                raise Unanswered(f"{self.word}: the link was lost before `{line}` was answered")
+
     def send(self, request: Request) -> Reply:
-        """Asks a request, and gives its reply."""
+        """Asks a request, and gives its reply.
+
+        Raises:
+            Unanswered: The link was lost before this bid was answered, and is back.
+            LinkError: The link is lost, or the reply is none.
+        """
         form = FORMS[self.form]
         while True:
-            line = self._exchange(form.ask(request))
+            line = self._reply(form.ask(request), request.do)
             try:
                 reply = form.read(line)
             except ReplyError as fault:
@@ -139,9 +251,13 @@ class Link:
                 return reply
 
     def ask(self, line: str) -> str:
-        """Asks a request by its line of words, and gives the reply as a line of words."""
+        """Asks a request by its line of words, and gives the reply as a line of words.
+
+        Raises:
+            LinkError: As `send`.
+        """
         if self.form == "words":
-            return self._exchange(line)
+            return self._reply(line, line.split(" ", 1)[0])
         request = read_request(line)
         return "no syntax" if request is None else words_of(self.send(request))
 
@@ -188,6 +304,36 @@ class Link:
         self.lines.close()
         self.stream.close()
 
+    def __enter__(self) -> "Link":
+        return self
+
+    def __exit__(self, kind: Optional[Type[BaseException]], fault: Optional[BaseException],
+                 trace: Optional[TracebackType]) -> None:
+        self.close()
+
+
+def _usual_limit() -> float:
+    """The seconds that a reply may take if the call does not say it."""
+    try:
+        return seconds(os.environ.get("AGENT_LIMIT", str(LIMIT)))
+    except argparse.ArgumentTypeError as fault:
+        raise LinkError(f"the variable AGENT_LIMIT: {fault}") from None
+
+
+def _prepare(stream: socket.socket, limit: Optional[float]) -> None:
+    """Lets each line be sent at once, and an end of the other side be noticed while nothing is
+    sent, where the system has the means for it."""
+    stream.settimeout(limit)
+    stream.setsockopt(socket.IPPROTO_TCP, socket.TCP_NODELAY, 1)
+    stream.setsockopt(socket.SOL_SOCKET, socket.SO_KEEPALIVE, 1)
+    for name, value in KEEPALIVE.items():
+        if hasattr(socket, name):
+            stream.setsockopt(socket.IPPROTO_TCP, getattr(socket, name), value)
+
+
+def _no_link(host: str, port: int, fault: OSError) -> str:
+    return f"no link to {host} at port {port}: {fault.strerror or fault}"
+
 
 def _connect(host: str, port: int) -> socket.socket:
     """A connection to the server, which may still be starting."""
@@ -199,8 +345,7 @@ def _connect(host: str, port: int) -> socket.socket:
             return socket.create_connection((host, port))
         except OSError as fault:
             if not isinstance(fault, ConnectionRefusedError) or time.monotonic() > deadline:
-                raise LinkError(f"no link to {host} at port {port}: {fault.strerror or fault}") \
-                    from None
+                raise LinkError(_no_link(host, port, fault)) from None
         time.sleep(0.2)
 
 
@@ -248,3 +393,26 @@ def arguments(what: str) -> Tuple[str, int, str, float]:
     if given.seed is not None:
         random.seed(given.seed)
     return given.host, given.port, given.word, given.pause
+
+
+def run(what: str, play: Callable[[Link, float], None]) -> None:
+    """Runs an agent: it takes its seat by the words of its command line, plays, and quits. If its
+    link is lost for good it ends with a line that says so, and status 1.
+
+    Args:
+        what: What the agent does, for its help text.
+        play: Plays a game with a link and a pause in seconds. It is called again after a lost bid,
+            so it should begin with `own`.
+    """
+    host, port, word, pause = arguments(what)
+    try:
+        with Link.greet(host, port, word) as link:
+            while True:
+                try:
+                    play(link, pause)
+                    break
+                except Unanswered:
+                    continue
+            link.quit()
+    except LinkError as fault:
+        sys.exit(str(fault))

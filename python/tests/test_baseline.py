@@ -7,8 +7,9 @@ import unittest
 from collections import Counter
 from typing import Callable, Dict, List, Optional, Tuple
 
-from geesefuton.link import Quote
+from geesefuton.link import Quote, Unanswered
 from geesefuton.records.games import HOTELS, TICKETS, Client, inbound, outbound
+from geesefuton.records.replies import Own
 from tests.helpers import TOP
 from tests.test_link import Server
 
@@ -243,6 +244,40 @@ class Games(unittest.TestCase):
             market.pass_tick()
         self.assertGreater(sum(market.hold[7][16:]), sum(market.deal.endow[7]))
         self.assertTrue(all(market.hold[0][good] >= 0 for good in TICKETS), market.hold[0])
+
+    def test_it_plays_on_after_lost_bids(self) -> None:
+        lost: List[int] = []
+
+        class Losing(Watched):
+            """Its link is lost at each seventh bid, before or after that was taken."""
+
+            def bid(self, good: int, *points: Tuple[int, int]) -> str:
+                lost.append(good)
+                if len(lost) % 14 == 0:
+                    raise Unanswered("lost")
+                reply = super().bid(good, *points)
+                if len(lost) % 7 == 0:
+                    raise Unanswered("lost")
+                return reply
+
+            def holding(self, good: int) -> Own:
+                taken = [points for other, points, reply in self.bids
+                         if other == good and reply.split()[1] == "taken"]
+                return Own(1, self.own(good), taken[-1] if taken else ())
+
+        market = Market(deal())
+        seat = Losing(market)
+        agent = Baseline(seat, random.Random(1))
+        for _ in range(TICKS):
+            self.assertTrue(agent.act())
+            market.pass_tick()
+        self.assertFalse(agent.act())
+        self.assertGreater(len(lost), 14)
+        for good in HOTELS:
+            stood = [price for _, price in seat.holding(good).points]
+            self.assertEqual(agent.bids[good], stood, good)
+        seats = [sum(good in goods for _, goods in agent.plan.trips) for good in range(8)]
+        self.assertTrue(all(held <= 8 for held in market.hold[0][:8]), (market.hold[0], seats))
 
     def test_with_a_seed_it_draws_from_nothing_else(self) -> None:
         played = []

@@ -1,10 +1,13 @@
+import importlib
 import re
 import subprocess
 import sys
 import unittest
 from typing import List
+from unittest import mock
 
 from tests.helpers import TOP, needs_program, variables
+from tests.test_link import WELCOME, Server
 
 
 def ran(name: str, *words: str) -> List[str]:
@@ -13,6 +16,30 @@ def ran(name: str, *words: str) -> List[str]:
                           stdin=subprocess.DEVNULL, stdout=subprocess.PIPE, timeout=300,
                           env=variables(), check=True)
     return done.stdout.splitlines()
+
+
+class Agents(unittest.TestCase):
+    def run_agent(self, name: str, port: int) -> "subprocess.CompletedProcess[str]":
+        words = [sys.executable, str(TOP / "examples" / "agents" / f"{name}.py"), "127.0.0.1",
+                 str(port), "red", "--pause", "0"]
+        return subprocess.run(words, stdin=subprocess.DEVNULL, capture_output=True, text=True,
+                              timeout=60, env=variables(), check=False)
+
+    def test_a_lost_link_ends_each_with_a_line(self) -> None:
+        for name in ("watcher", "planner", "trader", "baseline"):
+            with self.subTest(name=name):
+                server = Server([WELCOME])
+                done = self.run_agent(name, server.port)
+                server.join()
+                self.assertEqual((done.returncode, done.stdout, done.stderr),
+                                 (1, "", "red: the link was closed\n"))
+
+    def test_who_plans_buys_only_the_seats_that_are_lacking(self) -> None:
+        with mock.patch.object(sys, "path", [str(TOP / "examples" / "agents"), *sys.path]):
+            planner = importlib.import_module("planner")
+        link = mock.Mock(own={0: 0, 1: 3, 5: 1, 6: 2}.__getitem__)
+        planner.buy_seats(link, {0: 2, 1: 2, 5: 3, 6: 2, 8: 4})
+        self.assertEqual(link.bid.mock_calls, [mock.call(0, (2, 600)), mock.call(5, (2, 600))])
 
 
 @needs_program

@@ -1,4 +1,5 @@
 import contextlib
+import errno
 import os
 import random
 import shutil
@@ -9,11 +10,11 @@ import tempfile
 import threading
 import unittest
 from pathlib import Path
-from typing import Iterator, List, Sequence, Tuple
+from typing import Callable, Iterator, List, Optional, Sequence, Tuple
 from unittest import mock
 
 from geesefuton import link
-from geesefuton.link import Link, LinkError
+from geesefuton.link import Link, LinkError, Unanswered
 from geesefuton.records.games import Client
 from geesefuton.records.replies import No, Own, Quote, Request, Taken
 from tests.helpers import TOP, fake_program, needs_program, variables
@@ -24,12 +25,13 @@ WELCOME = ["welcome 3", "endow 3 0 1 1 2 2 0 2 2 2 0 1 1",
 
 
 class Server:
-    """A server of one link: it answers each line with the next of its answers, each some lines,
-    and then closes. `heard` has what it was sent."""
+    """A server of some links, one after the other: it answers each line of a link with the next of
+    its answers, each some lines, and then closes it. Where an answer is None it says nothing more,
+    and waits until the agent closes the link. `heard` has what it was sent."""
 
-    def __init__(self, answers: Sequence[Sequence[str]]) -> None:
+    def __init__(self, *links: Sequence[Optional[Sequence[str]]]) -> None:
         self.heard: List[str] = []
-        self._answers = answers
+        self._links = links
         self._listener = socket.create_server(("127.0.0.1", 0))
         self.port: int = self._listener.getsockname()[1]
         self._thread = threading.Thread(target=self._serve, daemon=True)
@@ -37,17 +39,32 @@ class Server:
 
     def _serve(self) -> None:
         with self._listener:
-            stream, _ = self._listener.accept()
+            for left, answers in zip(reversed(range(len(self._links))), self._links):
+                try:
+                    stream, _ = self._listener.accept()
+                except OSError:
+                    return  # it was ended
+                if not left:
+                    self._listener.close()
+                self._answer(stream, answers)
+
+    def _answer(self, stream: socket.socket, answers: Sequence[Optional[Sequence[str]]]) -> None:
         with stream, stream.makefile("rwb") as lines:
-            for answer in self._answers:
+            for answer in answers:
                 line = lines.readline()
                 if not line:
                     break
                 self.heard.append(line.decode())
+                if answer is None:
+                    lines.read()
+                    break
                 lines.write("".join(f"{text}\n" for text in answer).encode())
                 lines.flush()
 
     def join(self) -> None:
+        """Ends it, once it has answered the links that came."""
+        with contextlib.suppress(OSError):
+            self._listener.shutdown(socket.SHUT_RDWR)
         self._thread.join(5)
 
 
@@ -78,8 +95,8 @@ class Greeting(unittest.TestCase):
         server = Server([["refused taken"]])
         with self.assertRaises(LinkError) as caught:
             Link.greet("127.0.0.1", server.port, "red")
-        self.assertEqual(caught.exception.code, "red: refused taken")
-        self.assertIsInstance(caught.exception, SystemExit)
+        self.assertEqual(str(caught.exception), "red: refused taken")
+        self.assertIsInstance(caught.exception, Exception)
 
     def test_a_link_that_was_refused_is_closed(self) -> None:
         server = Server([["refused wrongword"]])
@@ -93,11 +110,12 @@ class Greeting(unittest.TestCase):
             self.assertTrue(agent.stream.getsockopt(socket.IPPROTO_TCP, socket.TCP_NODELAY))
 
     def test_a_link_that_closes_ends_the_agent(self) -> None:
-        for answers in ([], [WELCOME[:1]], [WELCOME[:5]]):
+        links: List[List[List[str]]] = [[], [WELCOME[:1]], [WELCOME[:5]]]
+        for answers in links:
             server = Server(answers)
             with self.assertRaises(LinkError) as caught:
                 Link.greet("127.0.0.1", server.port, "red")
-            self.assertEqual(caught.exception.code, "red: the link was closed")
+            self.assertEqual(str(caught.exception), "red: the link was closed")
 
     def test_no_server(self) -> None:
         with socket.socket() as probe:
@@ -106,7 +124,7 @@ class Greeting(unittest.TestCase):
         with mock.patch("geesefuton.link.PATIENCE", 0.0):
             with self.assertRaises(LinkError) as caught:
                 Link.greet("127.0.0.1", port, "red")
-        self.assertEqual(caught.exception.code,
+        self.assertEqual(str(caught.exception),
                          f"no link to 127.0.0.1 at port {port}: Connection refused")
         with self.assertRaisesRegex(LinkError, "no link to nowhere.invalid"):
             Link.greet("nowhere.invalid", 7000, "red")
@@ -174,7 +192,7 @@ class Words(unittest.TestCase):
             with seated(line) as (agent, _):
                 with self.assertRaises(LinkError) as caught:
                     agent.cash() if call == "cash" else getattr(agent, call)(3)
-                self.assertEqual(caught.exception.code, told)
+                self.assertEqual(str(caught.exception), told)
 
     def test_a_server_that_is_gone(self) -> None:
         with seated() as (agent, server):
@@ -184,7 +202,7 @@ class Words(unittest.TestCase):
                     agent.ask("cash")
 
     def test_a_link_that_fails(self) -> None:
-        for fault in (ConnectionResetError, TimeoutError):
+        for fault in (ConnectionResetError, TimeoutError(errno.ETIMEDOUT, "timed out")):
             stream = mock.Mock(sendall=mock.Mock(side_effect=fault))
             lines = mock.Mock(readline=mock.Mock(side_effect=fault))
             with self.assertRaisesRegex(LinkError, "red: the link was closed"):
@@ -199,6 +217,181 @@ class Words(unittest.TestCase):
             theirs.shutdown(socket.SHUT_WR)
             with self.assertRaisesRegex(LinkError, "red: the link was closed"):
                 agent.cash()
+
+
+class Lost(unittest.TestCase):
+    def setUp(self) -> None:
+        self.told: List[str] = []
+        for name, value in (("BETWEEN", 0.01), ("tell", self.told.append)):
+            patch = mock.patch.object(link, name, value)
+            patch.start()
+            self.addCleanup(patch.stop)
+
+    @contextlib.contextmanager
+    def seated(self, *links: Sequence[Optional[Sequence[str]]],
+               limit: float = 5.0) -> Iterator[Tuple[Link, Server]]:
+        """A link that has its seat at a server of some links."""
+        server = Server(*links)
+        with Link.greet("127.0.0.1", server.port, "red", limit=limit) as agent:
+            yield agent, server
+        server.join()
+
+    def test_a_link_that_ends_is_connected_again_and_the_line_asked_again(self) -> None:
+        for call, line, answer, due in (
+                ("cash", "cash", "@31 cash -660", -660), ("own", "own 8", "@3 own 2 ()", 2),
+                ("quote", "quote 8", "@9 quote 0 70 open", Quote(9, 0, 70, False)),
+                ("withdraw", "withdraw 8", "@4 no nobid", "@4 no nobid")):
+            with self.subTest(call=call), \
+                    self.seated([WELCOME], [WELCOME, [answer]]) as (agent, server):
+                words = () if call == "cash" else (8,)
+                self.assertEqual(getattr(agent, call)(*words), due)
+                self.assertEqual(server.heard, ["hello red\n"] * 2 + [line + "\n"])
+                self.assertEqual(len(agent.clients), 8)
+        self.assertEqual(len(self.told), 4)
+        self.assertRegex(self.told[0], "^red: the link was closed; connected again after [0-9.]+ s")
+
+    def test_a_reply_has_its_time(self) -> None:
+        links = [WELCOME, ["@1 own 1 ()"], None], [WELCOME, ["@2 own 1 ()"]]
+        with self.seated(*links, limit=0.2) as (agent, server):
+            self.assertEqual([agent.own(3), agent.own(3)], [1, 1])
+        self.assertEqual(server.heard, ["hello red\n", "own 3\n", "own 3\n", "hello red\n",
+                                        "own 3\n"])
+        self.assertEqual([line.split("; ")[0] for line in self.told],
+                         ["red: no reply within 0.2 seconds"])
+
+    def test_the_welcome_may_take_longer_than_a_reply(self) -> None:
+        ours, theirs = socket.socketpair()
+        with theirs, Link(ours, ours.makefile("rb"), "red", limit=0.05) as agent:
+            timer = threading.Timer(
+                0.3, lambda: theirs.sendall("".join(f"{line}\n" for line in WELCOME).encode()))
+            timer.start()
+            with mock.patch.object(link, "_prepare",
+                                   lambda stream, limit: stream.settimeout(limit)):
+                agent._take_welcome(None)
+            timer.join()
+            self.assertEqual((agent.agent, ours.gettimeout()), (3, 0.05))
+
+    def test_a_lost_bid_is_not_asked_again(self) -> None:
+        for form, own in (("words", "@5 own 2 ((1 80))"),
+                          ("json", '{"at":5,"own":2,"points":[[1,80]]}')):
+            bids: List[Callable[[Link], str]] = [lambda agent: agent.bid(0, (3, 80)),
+                                                 lambda agent: agent.ask("bid 0 ((3 80))")]
+            for bid in bids:
+                server = Server([WELCOME, None], [WELCOME, [own]])
+                with Link.greet("127.0.0.1", server.port, "red", form, 0.2) as agent:
+                    with self.assertRaisesRegex(Unanswered, "red: the link was lost before `.*bid"):
+                        bid(agent)
+                    self.assertEqual(agent.holding(0), Own(5, 2, ((1, 80),)))
+                server.join()
+
+    def test_a_seat_that_is_taken_for_a_while_is_asked_for_again(self) -> None:
+        taken = [["refused taken"]]
+        with self.seated([WELCOME], taken, taken, [], [WELCOME[:4]], [WELCOME, ["@0 cash 5"]]
+                         ) as (agent, server):
+            self.assertEqual(agent.cash(), 5)
+        self.assertEqual(len(self.told), 1)
+
+    def test_a_link_that_ends_before_its_game_is_connected_again(self) -> None:
+        with self.seated([WELCOME[:1]], [WELCOME, ["@0 cash 5"]]) as (agent, _):
+            self.assertEqual(agent.cash(), 5)
+        self.assertEqual(len(self.told), 1)
+
+    def test_what_cannot_be_mended_is_told(self) -> None:
+        with self.seated([WELCOME], [["refused wrongword"]]) as (agent, _):
+            self.assertRaisesRegex(LinkError, "^red: refused wrongword$", agent.cash)
+            self.assertRaisesRegex(LinkError, "^red: the link was closed$", agent.cash)
+        with self.seated([WELCOME]) as (agent, _):
+            self.assertRaisesRegex(LinkError, "^red: the link was closed$", agent.cash)
+        with self.seated([WELCOME]) as (agent, _):
+            self.assertRaisesRegex(LinkError, "Connection refused$", agent.rejoin)
+        with self.seated([WELCOME], *([[["refused taken"]]] * 400)) as (agent, _):
+            with self.assertRaisesRegex(LinkError, "^red: no link within 0.2 seconds .*taken"):
+                agent.rejoin(0.2)
+        self.assertEqual(self.told, [])
+
+    def test_who_is_silent_is_given_up(self) -> None:
+        with self.seated([WELCOME], [None], [None], [None]) as (agent, _), \
+                mock.patch.object(link, "TRY", 0.1):
+            with self.assertRaisesRegex(LinkError, "^red: no link within 0.25 seconds .*no reply"):
+                agent.rejoin(0.25)
+
+    def test_a_link_that_is_lost_at_quit_is_over(self) -> None:
+        with self.seated([WELCOME], [WELCOME]) as (agent, server):
+            self.assertRaisesRegex(LinkError, "the link was closed", agent.quit)
+            self.assertEqual(server.heard, ["hello red\n"])
+            agent.rejoin()
+        self.assertEqual(self.told, [])
+
+    def test_without_an_address_a_link_is_not_connected_again(self) -> None:
+        ours, theirs = socket.socketpair()
+        with Link(ours, ours.makefile("rb"), "red") as agent:
+            theirs.close()
+            self.assertRaisesRegex(LinkError, "^red: the link was closed$", agent.cash)
+            self.assertRaisesRegex(LinkError, "was not told", agent.rejoin)
+        self.assertEqual(ours.fileno(), -1)
+
+    def test_the_limit_is_that_of_the_call_or_of_the_variable(self) -> None:
+        for variables_, given, due in (({}, None, 10.0), ({"AGENT_LIMIT": "3"}, None, 3.0),
+                                       ({"AGENT_LIMIT": "0"}, None, None), ({}, 0, None),
+                                       ({"AGENT_LIMIT": "3"}, 4.5, 4.5)):
+            with mock.patch.dict(os.environ, variables_):
+                if not variables_:
+                    os.environ.pop("AGENT_LIMIT", None)
+                server = Server([WELCOME])
+                with Link.greet("127.0.0.1", server.port, "red", limit=given) as agent:
+                    self.assertEqual((agent.limit, agent.stream.gettimeout()), (due, due))
+                server.join()
+        with mock.patch.dict(os.environ, {"AGENT_LIMIT": "soon"}):
+            self.assertRaisesRegex(LinkError, "AGENT_LIMIT: a number of seconds", Link.greet,
+                                   "127.0.0.1", 7000, "red")
+
+
+class Running(unittest.TestCase):
+    def ran(self, server: Server, play: Callable[[Link, float], None]) -> None:
+        words = ["mine.py", "127.0.0.1", str(server.port), "red", "--pause", "0.5"]
+        with mock.patch("sys.argv", words), mock.patch.object(link, "tell"):
+            link.run("what", play)
+
+    def test_an_agent_plays_and_quits(self) -> None:
+        played: List[Tuple[int, float]] = []
+        server = Server([WELCOME, ["bye"]])
+        self.ran(server, lambda agent, pause: played.append((agent.agent, pause)))
+        server.join()
+        self.assertEqual((played, server.heard), ([(3, 0.5)], ["hello red\n", "quit\n"]))
+
+    def test_after_a_lost_bid_it_plays_on(self) -> None:
+        server = Server([WELCOME], [WELCOME, ["@0 own 0 ()"], ["@1 taken 0 0"], ["bye"]])
+
+        def play(agent: Link, _: float) -> None:
+            if "own 8\n" not in server.heard and len(server.heard) > 1:
+                agent.own(8)
+            agent.bid(8, (1, 50))
+
+        self.ran(server, play)
+        server.join()
+        self.assertEqual(server.heard[1:], ["hello red\n", "own 8\n", "bid 8 ((1 50))\n",
+                                            "quit\n"])
+
+    def test_a_link_that_fails_ends_it_with_a_line(self) -> None:
+        for links in ([["refused wrongword"]], [WELCOME]):
+            with self.assertRaises(SystemExit) as caught:
+                self.ran(Server(links), lambda agent, _: print(agent.cash()))
+            self.assertIn(caught.exception.code,
+                          ("red: refused wrongword", "red: the link was closed"))
+
+    def test_in_a_thread_the_error_of_a_link_is_not_lost(self) -> None:
+        caught: List[Exception] = []
+
+        def greet() -> None:
+            try:
+                Link.greet("127.0.0.1", 70000, "red")
+            except Exception as fault:
+                caught.append(fault)
+
+        thread = threading.Thread(target=greet)
+        thread.start()
+        thread.join()
+        self.assertEqual(len(caught), 1)
 
 
 class Json(unittest.TestCase):

@@ -220,12 +220,12 @@ class Matches(unittest.TestCase):
         self.assertEqual(Lobby.orders.count("without red2\n"), 0)
 
     def test_a_game_in_turns(self) -> None:
-        result = self.play('echo "$@" $AGENT_SEED $PYTHONHASHSEED', "echo $AGENT_SEED",
-                           turns=30, patience=2.5)
+        result = self.play('echo "$@" $AGENT_SEED $PYTHONHASHSEED $AGENT_LIMIT',
+                           "echo $AGENT_SEED", turns=30, patience=2.5)
         self.assertEqual((result.kind, len(result.scores)), (Kind.TURNS, 8))
         self.assertEqual((tuple(Turns.given), self.notes()), ((30, 2.5), ""))
         printed = (self.place / "7.0.out.red0").read_text().split()
-        self.assertEqual(printed[:4] + printed[5:], ["4321", "red0", "--pause", "0", "0"])
+        self.assertEqual(printed[:4] + printed[5:], ["4321", "red0", "--pause", "0", "0", "0"])
         self.assertTrue(printed[4].isdigit())
         self.assertNotEqual((self.place / "7.0.out.red1").read_text(), printed[4] + "\n")
         self.assertEqual(repeated("7.0 0")["AGENT_SEED"], printed[4])

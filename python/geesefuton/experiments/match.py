@@ -151,9 +151,11 @@ def _how(exited: Exit, reason: Optional[End]) -> str:
 
 def repeated(name: str) -> Dict[str, str]:
     """The variables of an agent that is to do the same each time: the number from which it draws,
-    `AGENT_SEED`, made from a name, and the order in which Python goes over a set."""
+    `AGENT_SEED`, made from a name, the order in which Python goes over a set, and that no reply
+    comes too late, however long the others think."""
     digest = hashlib.sha256(name.encode()).digest()
-    return {"AGENT_SEED": str(int.from_bytes(digest[:4], "big")), "PYTHONHASHSEED": "0"}
+    return {"AGENT_SEED": str(int.from_bytes(digest[:4], "big")), "PYTHONHASHSEED": "0",
+            "AGENT_LIMIT": "0"}
 
 
 class Match:
