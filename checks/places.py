@@ -20,8 +20,9 @@ WIDTH = 100
 
 
 def documents() -> List[str]:
-    found = glob.glob(os.path.join(ROOT, "*.md")) + glob.glob(os.path.join(ROOT, "docs", "*.md"))
-    return sorted(found + glob.glob(os.path.join(ROOT, "examples", "**", "*.md"), recursive=True))
+    patterns = ("*.md", "docs/*.md", "examples/**/*.md", "python/*.md")
+    return sorted(file for pattern in patterns
+                  for file in glob.glob(os.path.join(ROOT, pattern), recursive=True))
 
 
 def paths_of(text: str) -> Iterator[str]:
