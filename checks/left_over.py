@@ -20,14 +20,12 @@ from concurrent.futures import ThreadPoolExecutor
 from pathlib import Path
 from typing import Iterator, List, NamedTuple, Optional
 
-from trying import TOP, Parser
+from trying import MARK, TOP, Parser, what_is_left
 
 from geesefuton import program
 from geesefuton.arguments import whole
 from geesefuton.processes import Children, command, free_port
 
-MARK = "LEFT_OVER_MARK"
-GRACE = 4.0  # seconds that processes and folders have to end after their script
 MOST = 300.0  # seconds that a script may take to end
 MOMENTS = (0.2, 1.5, 4.0)  # seconds after its start at which a script is ended
 ENDS = (None, signal.SIGINT, signal.SIGTERM, signal.SIGHUP, signal.SIGKILL)
@@ -78,17 +76,6 @@ def scripts(hanger: str) -> Iterator[List[str]]:
     yield ["game in steps", "examples/step.py"]
 
 
-def left(mark: str) -> Iterator["tuple[int, str]"]:
-    """The processes that have the mark, each with its words."""
-    for place in Path("/proc").glob("[0-9]*"):
-        try:
-            if f"{MARK}={mark}".encode() in (place / "environ").read_bytes().split(b"\0"):
-                words = (place / "cmdline").read_bytes().replace(b"\0", b" ")
-                yield int(place.name), words.decode(errors="replace")
-        except OSError:
-            pass  # it has ended, or is another user's
-
-
 def tell(script: "subprocess.Popen[bytes]", number: signal.Signals) -> None:
     """Sends a signal to a script that may have ended."""
     try:
@@ -108,8 +95,8 @@ def end(script: "subprocess.Popen[bytes]", number: Optional[signal.Signals]) -> 
     script.wait(MOST)
 
 
-def what_is_left(run: Run, place: Path) -> List[str]:
-    """Ends a script, and gives what is left: processes, which are ended now, and folders.
+def tried(run: Run, place: Path) -> List[str]:
+    """Ends a script, and gives what is left of it.
 
     Args:
         run: The script, and how it ends.
@@ -127,16 +114,7 @@ def what_is_left(run: Run, place: Path) -> List[str]:
         end(script, run.number)
     except subprocess.TimeoutExpired:
         pass  # it is among the processes that are left
-    deadline = time.monotonic() + GRACE
-    while True:
-        processes, folders = list(left(mark)), sorted(temporary.iterdir())
-        if not processes and not folders or time.monotonic() > deadline:
-            break
-        time.sleep(0.05)
-    for process, _ in processes:
-        os.kill(process, signal.SIGKILL)
-    return ([f"process {process}: {what[:100]}" for process, what in processes]
-            + [f"folder {folder.name}" for folder in folders])
+    return what_is_left(mark, temporary)
 
 
 def main() -> int:
@@ -152,7 +130,7 @@ def main() -> int:
                 for number in ENDS for moment in (MOMENTS if number else (0.0,))]
         bad = 0
         with ThreadPoolExecutor(given.at_once) as pool:
-            found = pool.map(lambda run: what_is_left(run, children.folder("run")), runs)
+            found = pool.map(lambda run: tried(run, children.folder("run")), runs)
             for run, rest in zip(runs, found):
                 bad += bool(rest)
                 for what in rest:

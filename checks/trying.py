@@ -1,6 +1,8 @@
 """What the checks share: the package, the program to try, links, and one line for errors."""
 
 import contextlib
+import os
+import signal
 import sys
 import threading
 import time
@@ -8,7 +10,7 @@ from functools import partial
 from pathlib import Path
 from socket import SHUT_WR, create_connection, socket
 from types import TracebackType
-from typing import List, Optional, Sequence, Type
+from typing import Iterator, List, Optional, Sequence, Tuple, Type
 
 TOP = Path(__file__).resolve().parent.parent
 sys.path.insert(0, str(TOP / "python"))
@@ -16,6 +18,41 @@ sys.path.insert(0, str(TOP / "python"))
 from geesefuton import program  # noqa: E402
 from geesefuton.arguments import Parser  # noqa: E402
 from geesefuton.program import ProgramError  # noqa: E402
+
+MARK = "LEFT_OVER_MARK"  # the variable by which the processes of a script are found
+GRACE = 4.0  # seconds that processes and folders have to end after their script
+
+
+def what_is_left(mark: str, temporary: Path) -> List[str]:
+    """What a script has left after a while: processes, which are ended now, and folders.
+
+    Args:
+        mark: What the variable MARK was for the script. All that it starts inherits that, and is
+            found by it in /proc, so this needs Linux.
+        temporary: The folder for its temporary files.
+    """
+    deadline = time.monotonic() + GRACE
+    while True:
+        processes, folders = list(_marked(mark)), sorted(temporary.iterdir())
+        if not processes and not folders or time.monotonic() > deadline:
+            break
+        time.sleep(0.05)
+    for process, _ in processes:
+        with contextlib.suppress(ProcessLookupError):
+            os.kill(process, signal.SIGKILL)
+    return ([f"process {process}: {what[:100]}" for process, what in processes]
+            + [f"folder {folder.name}" for folder in folders])
+
+
+def _marked(mark: str) -> Iterator[Tuple[int, str]]:
+    """The processes that have the mark, each with its words."""
+    for place in Path("/proc").glob("[0-9]*"):
+        try:
+            if f"{MARK}={mark}".encode() in (place / "environ").read_bytes().split(b"\0"):
+                words = (place / "cmdline").read_bytes().replace(b"\0", b" ")
+                yield int(place.name), words.decode(errors="replace")
+        except OSError:
+            pass  # it has ended, or is another user's
 
 
 def parser_with_program(name: str, text: Optional[str]) -> Parser:
