@@ -187,7 +187,7 @@ class Link:
         """
         begun = time.monotonic()
         try:
-            self.rejoin()
+            self.rejoin(REJOIN)
         except LinkError as fault:
             is_over = isinstance(fault.__context__, ConnectionRefusedError)
             raise LinkError(str(lost if is_over or self.address is None else fault)) from None
@@ -222,11 +222,13 @@ class Link:
     def _reply(self, line: str, keyword: str) -> str:
         """The reply to a line. A lost link is connected again, and the line asked again unless it
         is a bid; at `quit` it just ends."""
+        until = time.monotonic() + REJOIN
         while True:
             try:
                 return self._exchange(line)
             except _Lost as lost:
-                if keyword == "quit":
+                if keyword == "quit" or time.monotonic() > until:
+                    self.close()
                     raise
                 self._recover(lost)
             if keyword == "bid":

@@ -7,7 +7,8 @@ is the exit status of `serve` and `step`, below 0 for a signal that ends `serve`
 FAKE_TAKEN makes it end as if its port were taken, once, and FAKE_EARLY at once. FAKE_LATE is how
 many seconds `serve` takes until it listens, and FAKE_HEAD stands at the head of its log. While
 there is a file FAKE_STRANGER, the first link is a stranger's, which says what is in the file; the
-file is removed then, if its name does not end with `stays`.
+file is removed then, if its name does not end with `stays`. FAKE_SLOW is how many seconds each line
+waits for its answer, and a line that begins with FAKE_HANG has none.
 """
 
 import os
@@ -24,6 +25,9 @@ SLOW = 0.25  # seconds until a bid is answered
 def answer(line: bytes) -> bytes:
     """The reply to a line."""
     words = line.split(b" ")
+    time.sleep(float(os.environ.get("FAKE_SLOW", "0")))
+    if "FAKE_HANG" in os.environ and line.startswith(os.environ["FAKE_HANG"].encode()):
+        time.sleep(1e6)
     if len(line) > 512:
         return b"no toolong"
     if words[0] == b"own" and len(words) == 2:

@@ -1,5 +1,6 @@
 """Links of the package that are lost, before the lobby."""
 
+import os
 import socket
 from unittest import mock
 
@@ -46,3 +47,24 @@ class Rejoining(Case):
             host.end()
             self.assertRaisesRegex(LinkError, "^seat3: the link was closed$", agent.own, 4)
         self.tell.assert_not_called()
+
+    def test_a_server_that_answers_slowly_is_no_lost_link(self) -> None:
+        with mock.patch.dict(os.environ, {"FAKE_SLOW": "0.3"}):
+            host = Host(self.folder, start=0.2, pace=1000)
+            with Link.greet("localhost", host.port, "seat3", limit=20) as agent:
+                self.assertEqual([agent.own(4), agent.own(5)], [0, 0])
+                agent.quit()
+            host.hurry()
+            self.assertIs(host.end()["seat3"], End.LEFT)
+        self.tell.assert_not_called()
+
+    def test_a_server_that_hangs_is_given_up(self) -> None:
+        with mock.patch.dict(os.environ, {"FAKE_HANG": "own 7"}), \
+                mock.patch("geesefuton.link.REJOIN", 1.0):
+            host = Host(self.folder, start=0.2, pace=1000)
+            with Link.greet("localhost", host.port, "seat3", limit=0.2) as agent:
+                self.assertEqual(agent.own(4), 0)
+                self.assertRaisesRegex(LinkError, "^seat3: no reply within 0.2", agent.own, 7)
+                self.assertRaisesRegex(LinkError, "^seat3: the link was closed$", agent.own, 4)
+            host.lobby.interrupt()
+            host.end()
