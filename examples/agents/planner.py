@@ -37,7 +37,7 @@ def buy_seats(link, needs):
             link.bid(good, (lacking, MOST_FOR_A_SEAT))
 
 
-def bid_for_rooms(link, needs, standing, most=MOST_FOR_A_ROOM):
+def bid_for_rooms(link, needs, standing, most):
     """Bids for the rooms of the plan whose quote has reached the standing bid.
 
     `standing` has the dollars of the standing bids.
@@ -53,13 +53,29 @@ def bid_for_rooms(link, needs, standing, most=MOST_FOR_A_ROOM):
             standing[good] = price
 
 
+class Planner:
+    """The agent: it begins with what it holds, and then acts again and again."""
+
+    most = MOST_FOR_A_ROOM
+
+    def __init__(self, link):
+        self.link, self.needs, self.standing = link, plan(link.clients), Counter()
+        buy_seats(link, self.needs)
+
+    def act(self):
+        """Bids for rooms, unless the game is over, and tells whether it goes on."""
+        if self.link.quote(0).closed:
+            return False
+        bid_for_rooms(self.link, self.needs, self.standing, self.most)
+        return True
+
+
 def play(link, pause):
-    needs, standing = plan(link.clients), Counter()
-    buy_seats(link, needs)
-    while not link.quote(0).closed:
-        bid_for_rooms(link, needs, standing)
+    agent = Planner(link)
+    while agent.act():
         time.sleep(pause)
     holdings = [link.own(good) for good in range(28)]
+    needs = agent.needs
     bought, worth = sum(holdings[good] for good in needs), solve(holdings, link.clients)
     told = "unknown" if worth is None else worth
     print(f"agent {link.agent} planned {sum(needs.values())} units, has {bought} of these, "

@@ -9,13 +9,12 @@ the game.
 """
 
 import time
-from collections import Counter
 
 try:
     from link import run, ticket
 except ModuleNotFoundError:  # a copy elsewhere: the package
     from geesefuton.link import run, ticket
-from planner import bid_for_rooms, buy_seats, plan
+from planner import Planner
 
 MOST_FOR_A_ROOM = 350  # dollars
 MARGIN = 10  # dollars that a trade has to gain
@@ -73,17 +72,30 @@ def trade(link, kind, standing):
         standing[good] = held[night], points
 
 
-def play(link, pause):
-    needs, standing, offers = plan(link.clients), Counter(), {}
-    buy_seats(link, needs)
-    rounds = 0
-    while not link.quote(0).closed:
-        bid_for_rooms(link, needs, standing, MOST_FOR_A_ROOM)
-        if rounds < MOST_ROUNDS:
+class Trader(Planner):
+    """The agent: a planner that trades tickets, too."""
+
+    most = MOST_FOR_A_ROOM
+
+    def __init__(self, link):
+        super().__init__(link)
+        self.offers, self.rounds = {}, 0
+
+    def act(self):
+        """Bids and trades, unless the game is over, and tells whether it goes on."""
+        goes_on = super().act()
+        if goes_on and self.rounds < MOST_ROUNDS:
             for kind in range(3):
-                trade(link, kind, offers)
-        rounds += 1
+                trade(self.link, kind, self.offers)
+        self.rounds += 1
+        return goes_on
+
+
+def play(link, pause):
+    agent = Trader(link)
+    while agent.act():
         time.sleep(pause)
+    needs = agent.needs
     bought = sum(link.own(good) for good in needs)
     tickets = sum(link.own(ticket(kind, night)) for kind in range(3) for night in NIGHTS)
     print(f"agent {link.agent} has {bought} of {sum(needs.values())} units, had {sum(link.endow)} "

@@ -12,18 +12,28 @@ except ModuleNotFoundError:  # a copy elsewhere: the package
     from geesefuton.link import run
 
 
-def play(link, pause):
-    open_goods = list(range(28))
-    hotels = []
-    while open_goods:
-        for good in list(open_goods):
-            quote = link.quote(good)
+class Watcher:
+    """The agent: it looks at all auctions that are open."""
+
+    def __init__(self, link):
+        self.link, self.open, self.hotels = link, list(range(28)), []
+
+    def act(self):
+        """Looks once, and tells whether it goes on."""
+        for good in list(self.open):
+            quote = self.link.quote(good)
             if quote.closed:
-                open_goods.remove(good)
+                self.open.remove(good)
                 if 8 <= good < 16:
-                    hotels.append(f"{good} at {quote.ask}")
+                    self.hotels.append(f"{good} at {quote.ask}")
+        return bool(self.open)
+
+
+def play(link, pause):
+    agent = Watcher(link)
+    while agent.act():
         time.sleep(pause)
-    print(f"agent {link.agent} saw the hotels close: {', '.join(hotels)}")
+    print(f"agent {link.agent} saw the hotels close: {', '.join(agent.hotels)}")
 
 
 if __name__ == "__main__":

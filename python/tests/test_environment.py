@@ -2,6 +2,7 @@ import copy
 import os
 import pickle
 import random
+import sys
 import tempfile
 import unittest
 from pathlib import Path
@@ -14,6 +15,7 @@ from geesefuton.program import ProgramError
 from geesefuton.records.drawing import drawn_rooms
 from geesefuton.records.games import FLIGHTS, HOTELS, TICKS, Game, GameError, read_game
 from geesefuton.records.rules import prices_of
+from tests import fake_gymnasium
 from tests.helpers import SERVED_GAME, TOP, fake_program, needs_program
 
 FIRST = TOP / "examples" / "first.game"  # of version 1
@@ -55,8 +57,9 @@ class Arguments(unittest.TestCase):
         bad: List[Dict[str, Any]] = [
             {"render_mode": "human"}, {"rooms": (0, 3)}, {"rooms": (4, 3)}, {"rooms": (3, 65)},
             {"rooms": "3..6"}, {"rooms": 3}, {"rooms": (1.5, 3)}, {"rooms": (1, 2, 3)},
-            {"game": FEW_ROOMS, "live": True},
-            {"game": FIRST, "rooms": (3, 6)}]
+            {"game": FEW_ROOMS, "live": True}, {"game": FIRST, "rooms": (3, 6)},
+            {"rounds": 0}, {"rounds": 1001}, {"rounds": 1.5}, {"rivals": {"seat8": "planner"}},
+            {"rivals": {"seat0": "nobody"}}, {"rivals": {f"seat{n}": "planner" for n in range(8)}}]
         for more in bad:
             with self.subTest(more=more):
                 self.assertRaises(ValueError, Environment, **more)
@@ -75,41 +78,38 @@ class Arguments(unittest.TestCase):
         self.assertRaisesRegex(ActionError, "no game is played", environment.step, {})
         self.assertEqual((environment.log, environment.script, environment.game), (None, "", ""))
         self.assertEqual(environment.render(), "tick 0 of 54\n")
-        self.assertEqual(environment.state(), {"tick": 0, "quotes": [], "deals": {}})
         self.assertIs(environment.unwrapped, environment)
         self.assertEqual(environment.metadata, {
-            "name": "geesefuton_v2", "render_modes": ["ansi"], "is_parallelizable": True})
+            "name": "geesefuton_v3", "render_modes": ["ansi"], "is_parallelizable": True})
         environment.close()
 
     def test_a_bad_reset_is_told_before_anything_changes(self) -> None:
         environment: Any = Environment()
         for seed in (-1, 1 << 64, "7", 1.5):
             self.assertRaises(ValueError, environment.reset, seed)
-        self.assertRaisesRegex(ValueError, "there are no options", environment.reset, 1, {"a": 1})
         self.assertIsNone(environment.seed)
 
-    def test_a_program_that_fails_later_ends_the_game(self) -> None:
-        # The stand-in answers the first 28 lines, and at a further one it ends.
-        loop = ("for good in $(seq 28); do\n"
-                'read -r line; echo "${line%% *} @0 quote 0 0 open"\n'
-                "done\nread -r line; exit 7\n")
-        with tempfile.TemporaryDirectory() as folder:
-            tac = fake_program(Path(folder), loop)
-            with mock.patch.dict(os.environ, {"TAC": tac}), Environment(FIRST) as environment:
-                environment.reset()
-                self.assertEqual(environment.num_agents, 8)
-                self.assertRaises(ProgramError, environment.step, {})
-                self.assertEqual(environment.agents, [])
-                self.assertRaisesRegex(ActionError, "no game is played", environment.step, {})
+    def test_a_program_that_fails_ends_the_game(self) -> None:
+        for body in ("read -r line; exit 7\n", "read -r line; echo text 1 1; exit 8\n"):
+            with tempfile.TemporaryDirectory() as folder:
+                tac = fake_program(Path(folder), body)
+                with mock.patch.dict(os.environ, {"TAC": tac}), Environment(FIRST) as environment:
+                    environment.reset()
+                    self.assertEqual(environment.num_agents, 8)
+                    agent = environment.agents[0]
+                    self.assertRaises(ProgramError, environment.step, {agent: ["own 8"]})
+                    self.assertEqual(environment.agents, [])
+                    self.assertRaisesRegex(ActionError, "no game is played", environment.step, {})
+        with mock.patch.dict(os.environ, {"TAC": "/nowhere/tac"}):
+            self.assertRaises(ProgramError, Environment(FIRST).reset)
+            self.assertRaises(ProgramError, Environment().reset)
 
     def test_it_is_copied_only_while_no_game_is_played(self) -> None:
         copies: List[Callable[[Environment], Any]] = [
             copy.copy, copy.deepcopy, lambda each: pickle.loads(pickle.dumps(each))]
-        answers = ("for good in $(seq 28); do\n"
-                   'read -r line; echo "${line%% *} @0 quote 0 0 open"\n'
-                   "done\nread -r line\n")
         with tempfile.TemporaryDirectory() as folder:
-            patch = mock.patch.dict(os.environ, {"TAC": fake_program(Path(folder), answers)})
+            tac = fake_program(Path(folder), "read -r line\n")
+            patch = mock.patch.dict(os.environ, {"TAC": tac})
             with patch, Environment(FIRST) as environment:
                 for each in copies:
                     self.assertEqual(each(environment).possible_agents,
@@ -120,24 +120,25 @@ class Arguments(unittest.TestCase):
                 self.assertEqual(environment.num_agents, 8)
 
     def test_spaces_are_the_same_at_each_call(self) -> None:
-        environment = Environment(FIRST)
-        agent = environment.possible_agents[3]
-        self.assertIs(environment.action_space(agent), environment.action_space(agent))
-        self.assertIs(environment.observation_space(agent), environment.observation_spaces[agent])
-        self.assertIsNot(environment.action_space(agent),
-                         environment.action_space(environment.possible_agents[4]))
-        self.assertEqual(list(environment.action_spaces), environment.possible_agents)
-        self.assertRaises(KeyError, environment.action_space, "nobody")
+        with fake_gymnasium.installed():
+            environment = Environment(FIRST)
+            agent = environment.possible_agents[3]
+            self.assertIs(environment.action_space(agent), environment.action_space(agent))
+            self.assertIs(environment.observation_space(agent),
+                          environment.observation_spaces[agent])
+            self.assertIsNot(environment.action_space(agent),
+                             environment.action_space(environment.possible_agents[4]))
+            self.assertEqual(list(environment.action_spaces), environment.possible_agents)
+            self.assertRaises(KeyError, environment.action_space, "nobody")
+            self.assertIs(environment.state_space, environment.state_space)
 
-    def test_a_program_that_fails_ends_the_game(self) -> None:
-        with tempfile.TemporaryDirectory() as folder:
-            told = 'read -r line; for good in 0 1; do echo "$good @0 quote 0 0 open"; done\n'
-            other = 'read -r line; for good in $(seq 28); do echo "0 @0 done"; done\nread -r line\n'
-            for body in ("echo memory; exit 7\n", told, "exit 0\n", other):
-                tac = fake_program(Path(folder), body)
-                with mock.patch.dict(os.environ, {"TAC": tac}), Environment(FIRST) as environment:
-                    self.assertRaises(ProgramError, environment.reset)
-                    self.assertEqual(environment.agents, [])
+    def test_without_gymnasium_there_are_no_spaces(self) -> None:
+        with mock.patch.dict(sys.modules, {"gymnasium": None, "numpy": None}):
+            sys.modules.pop("geesefuton.learning.spaces", None)
+            environment = Environment(FIRST)
+            for ask in (lambda: environment.action_space(environment.possible_agents[0]),
+                        lambda: environment.state_space, environment.state):
+                self.assertRaises(ModuleNotFoundError, ask)
 
 
 @needs_program
@@ -154,9 +155,11 @@ class Steps(unittest.TestCase):
         for seat, agent in enumerate(self.agents):
             clients = [(client.arrive, client.depart, client.premium, *client.values)
                        for client in self.game.clients[seat]]
-            self.assertEqual(self.infos[agent],
-                             {"endow": list(self.game.endow[seat]), "clients": clients})
-        self.assertEqual(self.environment.state()["deals"], self.infos)
+            self.assertEqual(self.infos[agent], {"endow": list(self.game.endow[seat]),
+                                                 "clients": tuple(clients)})
+            seen = self.observations[agent]
+            self.assertEqual((seen["clients"], seen["cash"]), (tuple(clients), 0))
+            self.assertEqual(seen["holdings"], (0,) * 16 + self.game.endow[seat])
 
     def test_flights_move_and_hotels_close_at_their_ticks(self) -> None:
         prices = [prices_of(flight) for flight in self.game.flights]
@@ -178,13 +181,13 @@ class Steps(unittest.TestCase):
         price = self.game.flights[3].first
         observations, rewards, ends, breaks, infos = self.environment.step({
             fifth: [f"bid 3 ((2 {price}))", "own 3"], second: ["own 3", "bid 99 ((1 1))", "what"]})
-        self.assertEqual(observations[fifth]["replies"], ["@0 taken 2 0", "@1 own 2 ()"])
+        self.assertEqual(observations[fifth]["replies"], ["@1 taken 2 0", "@2 own 2 ()"])
         self.assertEqual(observations[second]["replies"],
-                         ["@2 own 0 ()", "no auction", "no syntax"])
+                         ["@0 own 0 ()", "no auction", "no syntax"])
         self.assertEqual(observations[self.agents[0]]["replies"], [])
         for told, value in ((rewards, 0), (ends, False), (breaks, False), (infos, {})):
             self.assertEqual(told, dict.fromkeys(self.agents, value))
-        lines = [f"5 bid 3 ((2 {price}))", "5 own 3", "2 own 3", "2 bid 99 ((1 1))", "2 what",
+        lines = ["2 own 3", "2 bid 99 ((1 1))", "2 what", f"5 bid 3 ((2 {price}))", "5 own 3",
                  "tick", ""]
         self.assertEqual(self.environment.script.split("\n"), lines)
 
@@ -210,10 +213,10 @@ class Steps(unittest.TestCase):
         first: Any = [f"bid 0 ((1 {self.game.flights[0].first}))"]
         bad: List[Any] = [
             {agent: first, "nobody": []}, {agent: first, 1: []}, {agent: "own 8"}, {agent: 7},
-            {agent: None}, {agent: [*first, "quit"]}, {agent: [*first, "own 8\n"]},
+            {agent: None}, {agent: [*first, "own 8\n"]},
             {agent: [*first, "own 8\nquit"]}, {agent: [*first, 8]}, {agent: [*first, b"own 8"]},
             {agent: [*first, "\ud800"]}, [first], None, "own 8", {agent: ["own 8"] * 65_537},
-            {agent: ["own 8"] * 65_300 + ["y" * 600] * 37}]
+            {agent: ["own 8"] * 65_500 + ["y" * 600] * 37}]
         for actions in bad:
             with self.subTest(actions=repr(actions)[:60]):
                 self.assertRaises(ActionError, environment.step, actions)
@@ -231,20 +234,20 @@ class Steps(unittest.TestCase):
 
     def test_overlong_requests_are_answered_as_over_a_link(self) -> None:
         agent = self.agents[4]
-        requests = ["own 8", "x" * 512, "x" * 513, "ü" * 256, "ü" * 257, "own 8\r", "cash"]
+        requests = ["own 8", "x" * 512, "x" * 513, "ü" * 256, "ü" * 257, "own 8\r", "quit", "",
+                    "cash"]
         observations, *_ = self.environment.step({agent: requests})
         self.assertEqual(observations[agent]["replies"],
                          ["@0 own 0 ()", "no syntax", "no toolong", "no syntax", "no toolong",
-                          "no syntax", "@0 cash 0"])
+                          "no syntax", "no syntax", "no syntax", "@0 cash 0"])
         rest(self.environment)
         self.assertEqual(self.environment.log, played(self.environment))
 
-    def test_nobodys_lines_are_used_up_by_quotes(self) -> None:
-        # Each seat is asked for at most four quotes before and after each of the 54 ticks.
-        agent, left = self.agents[0], 65_536 - 55 * 4
+    def test_an_agent_has_all_lines_of_a_session(self) -> None:
+        agent, left = self.agents[0], 65_536
         observations, *_ = self.environment.step({agent: ["quit "] * left})
         self.assertEqual(observations[agent]["replies"], ["no syntax"] * left)
-        self.assertRaisesRegex(ActionError, "more than 65316", self.environment.step,
+        self.assertRaisesRegex(ActionError, "more than 65536", self.environment.step,
                                {agent: ["own 8"]})
         rest(self.environment)
         self.assertEqual(self.environment.log, played(self.environment))
@@ -260,8 +263,6 @@ class Steps(unittest.TestCase):
         self.environment.step({self.agents[0]: ["bid 16 ((-1 60))"],
                                self.agents[1]: ["bid 16 ((1 50))"]})
         self.assertIn("night 1 50/60", self.environment.render())
-        self.assertEqual(self.environment.state()["tick"], 1)
-        self.assertEqual(self.environment.state()["quotes"][16], (50, 60, False))
         rest(self.environment)
         self.assertEqual(self.environment.render().count(" x"), 28)
 
@@ -341,7 +342,7 @@ class Games(unittest.TestCase):
             scores = {**dict.fromkeys(agents, 0), agents[0]: -price,
                       agents[4]: 16 * 30 - 200 * short, agents[5]: -16 * 30}
             self.assertEqual({agent: info["score"] for agent, info in told[-1].items()}, scores)
-            with mock.patch.object(environment, "_scores_beside", side_effect=AssertionError):
+            with mock.patch("geesefuton.learning.scores.solve", side_effect=AssertionError):
                 told = environment.step({agents[4]: ["own 16", "cash", "quote 0", "what"]})
             self.assertEqual({agent: info["score"] for agent, info in told[-1].items()}, scores)
             # Two rooms at 7 dollars or less, of 16: they cost nothing.

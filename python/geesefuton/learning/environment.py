@@ -6,59 +6,73 @@
             actions = {agent: ["own 16"] for agent in environment.agents}
             observations, rewards, terminations, truncations, infos = environment.step(actions)
 
-An action is a list of request lines as in docs/PROTOCOL.md, except `quit`; an agent without an
-action asks nothing. In each step the requests are asked in the order in which they are given, agent
-by agent, and then a tick comes. An observation has the tick, the quotes of all 28 goods after it as
-(bid, ask, closed), and the replies to the agent's own requests. At reset `infos` has what an agent
-knows at first: `endow`, its tickets of the goods 16 to 27, and `clients`, for each of its clients
-the arrival, the departure, the premium and the values of the three ticket types. After the 54th
-step the game is over: the rewards are the scores, in dollars; before, they are 0.
+An action is a list of request lines as in docs/PROTOCOL.md; an agent without an action asks
+nothing. In each step the requests are asked seat by seat, and then a tick comes. No seat gains by
+its place: each step begins one seat later (`geesefuton.records.order`). An observation has
 
-The same requests in the same order give the same game, and its log is what `tac play` writes for
-the game's file and script. A game is one process of `tac step`.
+    tick        how many ticks have passed, 0 to 54
+    round       the round in this tick; with several rounds a tick, the tick comes after the last
+    quotes      of all 28 goods, each (bid, ask, closed)
+    holdings    how many units of the 28 goods the agent has; below 0 it owes them
+    cash        what it earned so far less what it paid, in dollars
+    clients     for each of its eight clients the arrival, the departure, the premium and the values
+                of the three ticket types
+    replies     those to its requests in this step
+
+At reset `infos` has also `endow`, its tickets of the goods 16 to 27. After the last step the game
+is over: the rewards are the scores, in dollars; before, they are 0.
+
+The same requests give the same game, and its log is what `tac play` writes for the game's file and
+script. A game is one process of `tac step`.
 """
 
+from __future__ import annotations
+
+import copy
+import random
+from importlib import import_module
 from operator import index
 from pathlib import Path
 from types import TracebackType
-from typing import Any, Callable, Dict, List, Mapping, Optional, Tuple, Type, Union
+from typing import Any, Callable, Dict, List, Mapping, Optional, Sequence, Tuple, Type, Union
 
 from geesefuton import program
-from geesefuton.learning import spaces
-from geesefuton.learning.stepping import Stepped
+from geesefuton.learning.books import Books, text_of
+from geesefuton.learning.market import LimitError, Market, score_rows
+from geesefuton.learning.rivals import Acting, Maker, Rivals, SeatLink, maker_of
+from geesefuton.learning.scores import Scorer
 from geesefuton.records.drawing import MOST_SEED, drawn_rooms
-from geesefuton.records.games import (AUCTIONS, CLIENTS, GOODS, HOTELS, MOST_ROOMS, ROOMS, SEATS,
-                                      TICKETS, TICKS, Auction, read_game)
-from geesefuton.records.logs import MOST_BYTES
+from geesefuton.records.games import (CLIENTS, GOODS, HOTELS, MOST_ROOMS, ROOMS, SEATS, TICKS, Game,
+                                      read_game)
+from geesefuton.records.order import order_of_turn
 
-MOST_LINES = 65_536  # of an agent in a game
+try:
+    from pettingzoo import ParallelEnv as Base
+except ImportError:  # then it has the same methods, and no common type
+    Base = object
+
+MOST_ROUNDS = 1000  # in a tick
 Actions = Mapping[str, "list[str]"]
-Quotes = List[Tuple[int, int, bool]]  # for each good its bid and its ask, and whether it is closed
 Values = Dict[str, Any]  # for each agent something
-
-# The quotes of all goods, asked by each seat in turn so that nobody's lines are used up by them.
-_ASK_QUOTES = "".join(f"{good % SEATS} quote {good}\n" for good in GOODS).encode()
-_TICK = b"tick\n"
-_WORDS = 6  # of a reply to these, such as `3 @54 quote 350 350 open`
-# What the environment needs of an agent's lines, and of the bytes of a script.
-_OWN_LINES = (TICKS + 1) * -(-len(GOODS) // SEATS)
-_OWN_BYTES = (TICKS + 1) * len(_TICK + _ASK_QUOTES)
+Step = Tuple[Values, Values, Values, Values, Values]
 
 
 class ActionError(ValueError):
     """Actions that cannot be asked, or a call that is not due; nothing has changed."""
 
 
-class Environment:
-    """Games of eight agents, one after the other.
+class Environment(Base):  # type: ignore[misc]
+    """Games of eight seats, one after the other.
 
     Attributes:
-        possible_agents: The names of the eight agents by seat, which are the words of the game.
+        possible_agents: The names of the agents by seat, which are the words of the game. Seats of
+            rivals are not among them.
         agents: Those that play now: all of them, or nobody before a game and after it.
         render_mode: `ansi`, or None; `render` gives the same text for both.
         seed: The seed that the game is made from; None for a game of a file.
         game: The text of the game file that is played; "" before the first game.
         tick: How many ticks have passed, 0 to 54.
+        round: The round in this tick, from 0.
         log: The log of the game, once it is over; None before.
 
     Args:
@@ -68,8 +82,11 @@ class Environment:
             seed as by `tools/tournament --rooms`; None for 16.
         live: Whether each bid publishes a hotel's price in made games.
         scores: Whether `infos` of each step have each agent's `score` if nobody asked anything
-            more. For it another process plays all requests so far again, in each step in which
-            somebody bids or withdraws.
+            more.
+        rounds: How many steps there are before each tick, 1 to 1000.
+        rivals: Agents that play in this process, by the names of their seats: each the name of a
+            shipped one, as `baseline`, or a class that is made with a `SeatLink` and has `act`,
+            which is called in each step.
         render_mode: `ansi`, or None.
 
     Raises:
@@ -78,10 +95,11 @@ class Environment:
         ValueError: Another argument is out of its range.
     """
 
-    metadata = {"name": "geesefuton_v2", "render_modes": ["ansi"], "is_parallelizable": True}
+    metadata = {"name": "geesefuton_v3", "render_modes": ["ansi"], "is_parallelizable": True}
 
     def __init__(self, game: Union[str, Path, None] = None, *,
                  rooms: Optional[Tuple[int, int]] = None, live: bool = False, scores: bool = False,
+                 rounds: int = 1, rivals: Optional[Rivals] = None,
                  render_mode: Optional[str] = None) -> None:
         if render_mode not in (None, "ansi"):
             raise ValueError(f"the render mode is 'ansi' or None, not {render_mode!r}")
@@ -90,30 +108,36 @@ class Environment:
         if rooms is not None and not _are_rooms(rooms):
             raise ValueError(f"rooms are two numbers from 1 to {MOST_ROOMS}, the least first, "
                              f"not {rooms!r:.60}")
+        if not isinstance(rounds, int) or not 1 <= rounds <= MOST_ROUNDS:
+            raise ValueError(f"rounds are a number from 1 to {MOST_ROUNDS}, not {rounds!r:.60}")
         self.render_mode = render_mode
-        self.possible_agents = [f"seat{seat}" for seat in range(SEATS)]
-        self._given = ""
+        self._given: Optional[Game] = None
         if game is not None:
-            read = read_game(Path(game).read_bytes().decode("latin-1"))
-            self._given, self.possible_agents = read.text(), list(read.words)
-        self._seats = {agent: seat for seat, agent in enumerate(self.possible_agents)}
-        self._rooms, self._live, self._has_scores = rooms, live, scores
+            self._given = read_game(Path(game).read_bytes().decode("latin-1"))
+        words = self._given.words if self._given else [f"seat{seat}" for seat in range(SEATS)]
+        self._rivals = _rivals_by_seat(rivals or {}, words)
+        self._seats = {word: seat for seat, word in enumerate(words) if seat not in self._rivals}
+        self.possible_agents = list(self._seats)
+        self._rooms, self._live, self._has_scores, self._rounds = rooms, live, scores, rounds
         self._next = 0  # the seed of the next game
         self._spaces: Values = {}
-        self._process: Optional[Stepped] = None
+        self._market: Optional[Market] = None
         self.agents: List[str] = []
         self.seed: Optional[int] = None
         self._clear("")
 
     def _clear(self, game: str) -> None:
         """Forgets the game before."""
-        self.game, self.tick = game, 0
+        self.game, self.tick, self.round = game, 0, 0
         self.log: Optional[bytes] = None
-        self._script: List[bytes] = []
-        self._lines = [0] * SEATS  # that each seat has asked
-        self._bytes = 0  # of the script
-        self._quotes: Quotes = []
-        self._scores_now: Optional[Values] = None  # if nobody asks anything more
+        self._script = b""  # of a game that is no longer played
+        self._boards: List[Tuple[int, int, bool]] = []
+        self._books: Optional[Books] = None
+        self._clients: List[Tuple[Tuple[int, ...], ...]] = []
+        self._links: Dict[int, SeatLink] = {}  # of rivals
+        self._acting: Dict[int, Optional[Acting]] = {}  # rivals; None for one that has ended
+        self._scorer: Optional[Scorer] = None
+        self._scores_now: Optional[List[int]] = None  # of all seats, if nobody asks anything more
 
     @property
     def num_agents(self) -> int:
@@ -132,11 +156,8 @@ class Environment:
 
     @property
     def script(self) -> str:
-        """The requests and ticks of the game so far, as a script for `tac play`.
-
-        The quotes of observations are left out: to ask for them changes nothing.
-        """
-        return b"".join(self._script).decode()
+        """The requests and ticks of the game so far, as a script for `tac play`."""
+        return (self._market.script if self._market else self._script).decode()
 
     @property
     def observation_spaces(self) -> Values:
@@ -148,18 +169,31 @@ class Environment:
         """The space of each agent's actions."""
         return {agent: self.action_space(agent) for agent in self.possible_agents}
 
+    @property
+    def state_space(self) -> Any:
+        """The space of `state`. As the other spaces it needs `gymnasium`."""
+        return self._space("state", lambda spaces: spaces.state_space(len(self._numbers())))
+
     def observation_space(self, agent: str) -> Any:
-        """The space of an agent's observations, the same at each call."""
-        return self._space("observation", agent, spaces.observation_space)
+        """The space of an agent's observations, the same at each call.
+
+        Raises:
+            ModuleNotFoundError: `gymnasium` is not installed.
+        """
+        return self._space(f"observation {self._seats[agent]}",
+                           lambda spaces: spaces.observation_space(self._rounds))
 
     def action_space(self, agent: str) -> Any:
-        """The space of an agent's actions (`geesefuton.learning.spaces`), the same at each call."""
-        return self._space("action", agent, spaces.action_space)
+        """The space of an agent's actions (`geesefuton.learning.spaces`), the same at each call.
 
-    def _space(self, kind: str, agent: str, make: Callable[[], Any]) -> Any:
-        key = f"{kind} {self._seats[agent]}"
+        Raises:
+            ModuleNotFoundError: `gymnasium` is not installed.
+        """
+        return self._space(f"action {self._seats[agent]}", lambda spaces: spaces.action_space())
+
+    def _space(self, key: str, make: Callable[[Any], Any]) -> Any:
         if key not in self._spaces:
-            self._spaces[key] = make()
+            self._spaces[key] = make(import_module("geesefuton.learning.spaces"))
         return self._spaces[key]
 
     def reset(self, seed: Optional[int] = None,
@@ -168,67 +202,51 @@ class Environment:
 
         Args:
             seed: What the game is made from, 0 to 18446744073709551615; None for the number after
-                that of the game before, or 0 at first. A game of a file is the same for each.
-            options: None or empty; there are none.
+                that of the game before, or 0 at first. A game of a file is the same for each, but
+                what its rivals draw is not.
+            options: There are none; what is given is ignored.
 
         Returns:
             For each agent its observation and its infos.
 
         Raises:
-            ValueError: The seed is none, or there are options. Nothing has changed.
+            ValueError: The seed is none. Nothing has changed.
             ProgramError: There is no program, or it ended with an error.
             OSError: There is no room for pipes.
         """
-        if options:
-            raise ValueError(f"there are no options, such as {next(iter(options))!r}")
         seed = self._next if seed is None else _seed(seed)
         self.close()
-        if self._given:
-            game, self.seed = self._given, None
-        else:
-            game, self.seed = self._made(seed), seed
+        game = self._given or self._made(seed)
+        self.seed = None if self._given else seed
         self._next = (seed + 1) % (MOST_SEED + 1)
-        self._clear(game)
-        self._process = Stepped(game.encode())
-        try:
-            self._read_quotes(self._exchange(_ASK_QUOTES, len(GOODS)))
-        except BaseException:
-            self.close()
-            raise
+        self._clear(game.text())
+        market = self._market = Market(game)
+        self._books, self._boards = market.books, list(market.books.boards)
+        self._clients = [tuple((client.arrive, client.depart, client.premium, *client.values)
+                               for client in clients) for clients in game.clients]
+        self._scorer = Scorer(game) if self._has_scores else None
+        self._links = {seat: SeatLink(market, seat, random.Random(f"{seed} {seat}"))
+                       for seat in self._rivals}
         self.agents = list(self.possible_agents)
-        return self._observations({}), self._deals()
+        infos = {agent: {"endow": list(game.endow[seat]), "clients": self._clients[seat]}
+                 for agent, seat in self._seats.items()}
+        return self._observations({}), infos
 
-    def _made(self, seed: int) -> str:
-        """The text of the game of a seed."""
-        game = program.make(seed)
+    def _made(self, seed: int) -> Game:
+        """The game of a seed."""
+        game = read_game(program.make(seed))
         if self._rooms is None and not self._live:
             return game
         rooms = drawn_rooms(seed, *self._rooms) if self._rooms else [ROOMS] * len(HOTELS)
-        lines = game.split("\n")
-        lines[0] = "tac 2"
-        lines[11:11] = [" ".join(map(str, ["rooms", *rooms])),
-                        "quotes live" if self._live else "quotes minute"]
-        return "\n".join(lines)
+        return game.with_rooms(rooms, self._live)
 
-    def _deals(self) -> Values:
-        """What each agent knows at first, from the canonical text of the game."""
-        lines = self.game.split("\n")
-        place = 11 if lines[0] == "tac 1" else 13
-        deals: Values = {}
-        for seat, agent in enumerate(self.possible_agents):
-            first = place + SEATS + CLIENTS * seat
-            clients = [tuple(map(int, line.split(" ")[3:]))
-                       for line in lines[first:first + CLIENTS]]
-            endow = list(map(int, lines[place + seat].split(" ")[2:]))
-            deals[agent] = {"endow": endow, "clients": clients}
-        return deals
-
-    def step(self, actions: Actions) -> Tuple[Values, Values, Values, Values, Values]:
-        """Asks the requests of the agents, and lets a tick pass.
+    def step(self, actions: Actions) -> Step:
+        """Asks the requests of the agents, and lets a tick pass after the last round.
 
         Args:
             actions: For each agent that asks something the list of its request lines, without line
-                ends. One of more than 512 bytes is answered `no toolong`, as over a link.
+                ends. One of more than 512 bytes is answered `no toolong`, as over a link, and
+                `quit` is not asked, but answered `no syntax`.
 
         Returns:
             For each agent its observation, its reward in dollars, whether the game is over, whether
@@ -239,63 +257,32 @@ class Environment:
             ProgramError: The program ended with an error. The game is lost.
             OSError: There is no room for the pipes of `scores`. The game is lost.
         """
-        text, asked = self._asked(actions)
+        asked = self._asked(actions)
+        assert self._market is not None
         try:
-            return self._step(text, asked)
+            replies = self._play(self._market, asked)
+            self.round += 1
+            if self.round == self._rounds:
+                self.round = 0
+                self._market.advance()
+                self.tick += 1
+            self._boards = list(self._market.books.boards)
+            return self._told(self._market, replies)
         except BaseException:
             self.close()
             raise
 
-    def _step(self, text: bytes, asked: List[Tuple[str, bool]]
-              ) -> Tuple[Values, Values, Values, Values, Values]:
-        """Plays a step by the lines of its requests."""
-        sent = text.count(b"\n")
-        self._script += [text, _TICK]
-        if b" bid " in text or b" withdraw " in text:
-            self._scores_now = None  # no other request changes what anybody gets
-        told = self._exchange(text + _TICK + _ASK_QUOTES, sent + len(GOODS)).split("\n", sent)
-        self._read_quotes(told.pop())
-        self.tick += 1
-        replies: Dict[str, List[str]] = {}
-        left = iter(told)
-        for agent, is_sent in asked:
-            reply = next(left)[2:] if is_sent else "no toolong"
-            replies.setdefault(agent, []).append(reply)
-        return self._told(replies)
-
-    def _told(self, replies: Dict[str, List[str]]
-              ) -> Tuple[Values, Values, Values, Values, Values]:
-        """What a step returns."""
-        agents, is_over = self.agents, self.tick == TICKS
-        observations = self._observations(replies)
-        rewards: Values = dict.fromkeys(agents, 0)
-        infos: Values = {agent: {} for agent in agents}
-        if is_over:
-            assert self._process is not None
-            self.log = self._process.finish()
-            rewards = self._scores(self.log)
-            self.close()
-        if self._has_scores:
-            if self._scores_now is None or is_over:
-                self._scores_now = rewards if is_over else self._scores_beside()
-            for agent, score in self._scores_now.items():
-                infos[agent]["score"] = score
-        return (observations, rewards, dict.fromkeys(agents, is_over),
-                dict.fromkeys(agents, False), infos)
-
-    def _asked(self, actions: Actions) -> Tuple[bytes, List[Tuple[str, bool]]]:
-        """The lines of all requests, and for each request its agent and whether it has a line.
+    def _asked(self, actions: Actions) -> Dict[int, List[str]]:
+        """The requests of each seat.
 
         Raises:
             ActionError: An action cannot be asked.
         """
-        if not self.agents:
+        if self._market is None:
             raise ActionError("no game is played: reset it first")
         if not isinstance(actions, Mapping):
             raise ActionError(f"actions are a dictionary by agent, not {actions!r:.60}")
-        lines: List[str] = []
-        asked: List[Tuple[str, bool]] = []
-        counts = self._lines[:]
+        asked: Dict[int, List[str]] = {}
         for agent, requests in actions.items():
             seat = self._seats.get(agent)
             if seat is None:
@@ -303,50 +290,82 @@ class Environment:
             if not isinstance(requests, (list, tuple)):
                 raise ActionError(f"the action of {agent} is a list of requests, "
                                   f"not {requests!r:.60}")
-            counts[seat] += len(requests)
-            if counts[seat] > MOST_LINES - _OWN_LINES:
-                raise ActionError(f"{agent} asks more than {MOST_LINES - _OWN_LINES} requests")
             for request in requests:
-                is_sent = _is_sent(agent, request)
-                asked.append((agent, is_sent))
-                if is_sent:
-                    lines.append(f"{seat} {request}\n")
-        text = "".join(lines).encode()
-        if self._bytes + len(text) > MOST_BYTES - _OWN_BYTES:
-            raise ActionError(f"a script has at most {MOST_BYTES - _OWN_BYTES:,} bytes of requests")
-        self._lines, self._bytes = counts, self._bytes + len(text)
-        return text, asked
+                _check(agent, request)
+            asked[seat] = list(requests)
+        try:
+            self._market.check([(seat, line) for seat, lines in asked.items() for line in lines])
+        except LimitError as fault:
+            raise ActionError(str(fault)) from None
+        return asked
 
-    def _exchange(self, text: bytes, due: int) -> str:
-        """Plays lines of the script, and gives the replies."""
-        assert self._process is not None
-        return self._process.exchange(text, due).decode("latin-1")
+    def _play(self, market: Market, asked: Dict[int, List[str]]) -> Dict[int, List[str]]:
+        """Lets each seat act, and gives the replies to each that asked something."""
+        waiting: List[Tuple[int, str]] = []
+        replies: Dict[int, List[str]] = {}
+        before = market.changes
+        for seat in [*order_of_turn(self.tick, self.round), None]:
+            if seat is not None and seat not in self._rivals:
+                waiting += [(seat, line) for line in asked.get(seat, ())]
+                continue
+            for (asking, _), reply in zip(waiting, market.ask(waiting)):
+                replies.setdefault(asking, []).append(reply)
+            waiting = []
+            if seat is not None:
+                self._act(seat)
+        if market.changes != before:
+            self._scores_now = None  # no other request changes what anybody gets
+        return replies
 
-    def _read_quotes(self, replies: str) -> None:
-        """Keeps the quotes of all goods."""
-        words = replies.split()
-        if len(words) != _WORDS * len(GOODS):
-            raise program.ProgramError(f"{replies[:60]!r} are no quotes of all goods")
-        self._quotes = list(zip(map(int, words[3::_WORDS]), map(int, words[4::_WORDS]),
-                                map("closed".__eq__, words[5::_WORDS])))
+    def _act(self, seat: int) -> None:
+        """Lets a rival act, unless it has ended."""
+        if seat not in self._acting:
+            self._acting[seat] = self._rivals[seat](self._links[seat])
+        rival = self._acting[seat]
+        if rival is not None and not rival.act():
+            self._acting[seat] = None
 
-    def _observations(self, replies: Dict[str, List[str]]) -> Values:
+    def _told(self, market: Market, replies: Dict[int, List[str]]) -> Step:
+        """What a step returns."""
+        agents, is_over = self.agents, self.tick == TICKS
+        observations = self._observations(replies)
+        rewards: Values = dict.fromkeys(agents, 0)
+        infos: Values = {agent: {} for agent in agents}
+        if is_over:
+            self.log = market.finish()
+            self._scores_now = [row[-1] for row in score_rows(self.log)]
+            rewards = {agent: self._scores_now[self._seats[agent]] for agent in agents}
+            self.close()
+        if self._scorer is not None:
+            if self._scores_now is None:
+                self._scores_now = self._scorer.scores(market.books)
+            for agent in agents:
+                infos[agent]["score"] = self._scores_now[self._seats[agent]]
+        return (observations, rewards, dict.fromkeys(agents, is_over),
+                dict.fromkeys(agents, False), infos)
+
+    def _observations(self, replies: Dict[int, List[str]]) -> Values:
         """What each agent sees."""
-        return {agent: {"tick": self.tick, "quotes": self._quotes,
-                        "replies": replies.get(agent, [])} for agent in self.agents}
+        books = self._books
+        assert books is not None
+        return {agent: {"tick": self.tick, "round": self.round, "quotes": self._boards,
+                        "holdings": tuple(books.holdings[seat]), "cash": books.cash[seat],
+                        "clients": self._clients[seat], "replies": replies.get(seat, [])}
+                for agent, seat in self._seats.items()}
 
-    def _scores(self, log: bytes) -> Values:
-        """The score of each agent."""
-        scores = (line.split()[5] for line in log[log.rindex(b"\nsheet\n"):].split(b"\n")
-                  if line.startswith(b"score "))
-        return dict(zip(self.possible_agents, map(int, scores)))
+    def clone(self) -> "Environment":
+        """The same environment in the same game, which goes on by itself, in a process of its own.
 
-    def _scores_beside(self) -> Values:
-        """The score that each agent has if nobody asks anything more."""
-        script = b"".join(self._script)
-        with Stepped(self.game.encode()) as beside:
-            beside.exchange(script, script.count(b"\n") - self.tick)
-            return self._scores(beside.finish())
+        Raises:
+            ProgramError: There is no program, or it ended with an error.
+            OSError: There is no room for pipes.
+        """
+        other = object.__new__(type(self))
+        memory: Dict[int, Any] = {id(self): other}
+        if self._market is not None:
+            memory[id(self._market)] = self._market.copied()
+        other.__dict__.update(copy.deepcopy(self.__dict__, memory))
+        return other
 
     def render(self) -> str:
         """The tick and the boards of all goods as a text of some lines.
@@ -354,30 +373,47 @@ class Environment:
         A flight and a hotel night have their price, a ticket the highest bid and the lowest ask,
         in dollars; a closed auction has `x` after these.
         """
-        lines = [f"tick {self.tick} of {TICKS}"]
-        for first in range(0, len(GOODS) if self._quotes else 0, 4):
-            boards = zip(AUCTIONS[first:first + 4], self._quotes[first:first + 4])
-            lines.append(f"{AUCTIONS[first].group:20}"
-                         + "".join(_board(auction, quote) for auction, quote in boards).rstrip())
-        return "\n".join(lines) + "\n"
+        return f"tick {self.tick} of {TICKS}\n{text_of(self._boards)}"
 
-    def state(self) -> Values:
-        """What the environment knows of the whole game: the tick, the quotes of all goods, and each
-        agent's tickets and clients."""
-        return {"tick": self.tick, "quotes": list(self._quotes),
-                "deals": self._deals() if self.game else {}}
+    def state(self) -> Any:
+        """What the environment knows of the whole game, as an array of whole numbers: the tick and
+        the round; of each good its bid, its ask and whether it is closed; and of each of the eight
+        seats its holdings, its cash, and six numbers for each client.
+
+        Raises:
+            ModuleNotFoundError: `numpy` is not installed.
+        """
+        numpy = import_module("numpy")
+        return numpy.array(self._numbers(), dtype=numpy.int64)
+
+    def _numbers(self) -> List[int]:
+        """The numbers of the state; before the first game they are 0."""
+        boards = self._boards or [(0, 0, False)] * len(GOODS)
+        numbers = [self.tick, self.round, *(int(number) for board in boards for number in board)]
+        for seat in range(SEATS):
+            if self._books is None:
+                numbers += [0] * (len(GOODS) + 1 + 6 * CLIENTS)
+            else:
+                numbers += [*self._books.holdings[seat], self._books.cash[seat],
+                            *(number for client in self._clients[seat] for number in client)]
+        return numbers
 
     def close(self) -> None:
         """Ends the game that is played. Another may be begun."""
         self.agents = []
-        if self._process is not None:
-            self._process.close()
-            self._process = None
+        if self._market is not None:
+            self._script = self._market.script
+            self._market.close()
+            self._market, self._links, self._acting = None, {}, {}
 
     def __getstate__(self) -> Values:
-        if self._process is not None:
-            raise TypeError("an environment that plays a game cannot be copied or pickled")
-        return vars(self)
+        if self._market is not None:
+            raise TypeError("an environment that plays a game cannot be copied or pickled: "
+                            "clone() gives another one in the same game")
+        return self.__dict__
+
+    def __str__(self) -> str:
+        return str(self.metadata["name"])
 
     def __enter__(self) -> "Environment":
         return self
@@ -385,6 +421,20 @@ class Environment:
     def __exit__(self, kind: Optional[Type[BaseException]], fault: Optional[BaseException],
                  trace: Optional[TracebackType]) -> None:
         self.close()
+
+
+def _rivals_by_seat(rivals: Rivals, words: Sequence[str]) -> Dict[int, Maker]:
+    """What makes the rival of each seat that has one.
+
+    Raises:
+        ValueError: There is no such seat, no such agent is shipped, or no seat is left.
+    """
+    for word in rivals:
+        if word not in words:
+            raise ValueError(f"there is no seat {word!r:.60}")
+    if len(rivals) == SEATS:
+        raise ValueError("rivals at all seats leave none for an agent")
+    return {words.index(word): maker_of(rival) for word, rival in rivals.items()}
 
 
 def _seed(seed: Any) -> int:
@@ -409,26 +459,17 @@ def _are_rooms(rooms: Any) -> bool:
             and 1 <= rooms[0] <= rooms[1] <= MOST_ROOMS)
 
 
-def _is_sent(agent: str, request: Any) -> bool:
-    """Whether a request is short enough to be asked.
+def _check(agent: str, request: Any) -> None:
+    """Sees that a request is a line.
 
     Raises:
-        ActionError: It is no request that may be asked.
+        ActionError: It is none.
     """
     if not isinstance(request, str):
         raise ActionError(f"a request of {agent} is a text, not {request!r:.60}")
-    if request == "quit" or "\n" in request:
-        raise ActionError(f"{agent} may not ask {request!r:.60}")
-    if request.isascii():
-        return len(request) <= spaces.MOST_LENGTH
     try:
-        return len(request.encode()) <= spaces.MOST_LENGTH
+        is_line = request.isascii() and "\n" not in request or b"\n" not in request.encode()
     except UnicodeEncodeError:
-        raise ActionError(f"{agent} may not ask {request!r:.60}") from None
-
-
-def _board(auction: Auction, quote: Tuple[int, int, bool]) -> str:
-    """A good's part of a line."""
-    bid, ask, is_closed = quote
-    price = f"{bid}/{ask}" if auction.number in TICKETS else str(ask)
-    return f"  {auction.name[auction.name.index(',') + 2:]} {price}{' x' if is_closed else ''}"
+        is_line = False
+    if not is_line:
+        raise ActionError(f"{agent} may not ask {request!r:.60}")

@@ -1,201 +1,55 @@
-"""What an agent may see and ask in a game in steps, as spaces: those of `gymnasium` where it is
-installed, and otherwise objects of our own with the same names, attributes and ranges.
+"""What an agent may see and ask in a game in steps, as the spaces of `gymnasium`, which has to be
+installed for this module: `pip install 'geesefuton[learn]'`.
 
-An observation has the tick, the quotes of the 28 goods, each a bid and an ask in dollars and
-whether the auction is closed, and the replies to the agent's requests. An action is a list of
-requests, lines of at most 512 bytes; what is none is answered `no syntax`.
+An observation has the tick, the round in it, the quotes of the 28 goods, each a bid and an ask in
+dollars and whether the auction is closed, what the agent holds, its cash, what its clients want,
+and the replies to its requests. An action is a list of requests, lines of at most 512 bytes; what
+is none is answered `no syntax`.
 """
 
-import random
-from importlib import import_module
-from typing import Any, Iterator, Optional
+from typing import Any
 
-from geesefuton.records.games import GOODS, TICKS
+import numpy as np
+from gymnasium import spaces
 
-MOST_LENGTH = 512  # bytes of a request or a reply
+from geesefuton.records.dialects import MOST_LINE
+from geesefuton.records.games import CLIENTS, GOODS, TICKS
+
 MOST_DOLLARS = 10_001  # of a quote
+MOST_UNITS = 1 << 20  # that an agent holds, or owes
+MOST_CASH = 1 << 31  # dollars that it has, or owes
 LETTERS = "".join(map(chr, range(32, 127)))
+CLIENT = (5, 6, 151, 201, 201, 201)  # above arrival, departure, premium and the ticket values
 
 
-class Space:
-    """A set of values.
+class Lists(spaces.Sequence):  # type: ignore[misc]
+    """Any number of values of one space, as a list or a tuple."""
 
-    Attributes:
-        shape: That of an array of a value; None where a value is no array.
-    """
-
-    shape: Optional["tuple[int, ...]"] = None
-
-    def __init__(self) -> None:
-        self._source = random.Random()
-
-    def seed(self, seed: Optional[int] = None) -> None:
-        """Begins the samples of this space, and of those that it consists of, from a seed."""
-        self._source.seed(seed)
-        for part in self._parts():
-            part.seed(None if seed is None else self._source.getrandbits(32))
-
-    def sample(self) -> Any:
-        """A value of the space, drawn at random."""
-        raise NotImplementedError
-
-    def contains(self, value: Any) -> bool:
-        """Whether a value is in the space."""
-        raise NotImplementedError
-
-    def _parts(self) -> Iterator["Space"]:
-        return iter(())
-
-    def __contains__(self, value: Any) -> bool:
-        return self.contains(value)
-
-    def __eq__(self, other: Any) -> bool:
-        return type(self) is type(other) and self._what() == other._what()
-
-    def __hash__(self) -> int:
-        return hash(repr(self))
-
-    def __repr__(self) -> str:
-        told = ", ".join(f"{name}={value!r}" for name, value in self._what().items())
-        return f"{type(self).__name__}({told})"
-
-    def _what(self) -> "dict[str, Any]":
-        return {name: value for name, value in vars(self).items() if name[0] != "_"}
+    def contains(self, x: Any) -> bool:
+        return bool(super().contains(tuple(x) if isinstance(x, list) else x))
 
 
-class Discrete(Space):
-    """The `n` whole numbers from `start`."""
-
-    shape = ()
-
-    def __init__(self, n: int, start: int = 0) -> None:
-        super().__init__()
-        self.n, self.start = n, start
-
-    def sample(self) -> int:
-        return self.start + self._source.randrange(self.n)
-
-    def contains(self, value: Any) -> bool:
-        return isinstance(value, int) and self.start <= value < self.start + self.n
-
-
-class Text(Space):
-    """Texts of `min_length` to `max_length` characters of `charset`."""
-
-    def __init__(self, max_length: int, *, min_length: int = 1, charset: str = LETTERS) -> None:
-        super().__init__()
-        self.max_length, self.min_length, self.charset = max_length, min_length, charset
-
-    def sample(self) -> str:
-        length = self._source.randint(self.min_length, self.max_length)
-        return "".join(self._source.choices(self.charset, k=length))
-
-    def contains(self, value: Any) -> bool:
-        return (isinstance(value, str) and self.min_length <= len(value) <= self.max_length
-                and set(value) <= set(self.charset))
-
-
-class Sequence(Space):
-    """Any number of values of one space."""
-
-    def __init__(self, space: Space) -> None:
-        super().__init__()
-        self.feature_space = space
-
-    def sample(self) -> "tuple[Any, ...]":
-        return tuple(self.feature_space.sample() for _ in range(self._source.randrange(4)))
-
-    def contains(self, value: Any) -> bool:
-        return isinstance(value, (list, tuple)) and all(map(self.feature_space.contains, value))
-
-    def _parts(self) -> Iterator[Space]:
-        return iter((self.feature_space,))
-
-
-class Tuple(Space):
-    """A value of each of some spaces, in their order."""
-
-    def __init__(self, spaces: "list[Space]") -> None:
-        super().__init__()
-        self.spaces = tuple(spaces)
-
-    def sample(self) -> "tuple[Any, ...]":
-        return tuple(space.sample() for space in self.spaces)
-
-    def contains(self, value: Any) -> bool:
-        return (isinstance(value, (list, tuple)) and len(value) == len(self.spaces)
-                and all(space.contains(part) for space, part in zip(self.spaces, value)))
-
-    def _parts(self) -> Iterator[Space]:
-        return iter(self.spaces)
-
-    def __getitem__(self, place: int) -> Space:
-        return self.spaces[place]
-
-    def __len__(self) -> int:
-        return len(self.spaces)
-
-
-class Dict(Space):
-    """A value of each of some spaces, by their keys."""
-
-    def __init__(self, spaces: "dict[str, Space]") -> None:
-        super().__init__()
-        self.spaces = dict(spaces)
-
-    def sample(self) -> "dict[str, Any]":
-        return {key: space.sample() for key, space in self.spaces.items()}
-
-    def contains(self, value: Any) -> bool:
-        return (isinstance(value, dict) and value.keys() == self.spaces.keys()
-                and all(space.contains(value[key]) for key, space in self.spaces.items()))
-
-    def _parts(self) -> Iterator[Space]:
-        return iter(self.spaces.values())
-
-    def __getitem__(self, key: str) -> Space:
-        return self.spaces[key]
-
-    def __len__(self) -> int:
-        return len(self.spaces)
-
-
-class Ours:
-    """The spaces of this module, by the names of `gymnasium.spaces`."""
-
-    Discrete, Text, Sequence, Tuple, Dict = Discrete, Text, Sequence, Tuple, Dict
-
-
-def kinds() -> Any:
-    """The module `gymnasium.spaces` where it is installed, and otherwise `Ours`."""
-    try:
-        return import_module("gymnasium.spaces")
-    except ImportError:
-        return Ours
-
-
-def _lists(of: Any, space: Any) -> Any:
-    """The space of all lists of values of a space; those of `gymnasium` have tuples alone."""
-    if of is Ours:
-        return Sequence(space)
-
-    class Lists(of.Sequence):  # type: ignore[misc]
-        def contains(self, value: Any) -> bool:
-            return bool(super().contains(tuple(value) if isinstance(value, list) else value))
-
-    return Lists(space)
-
-
-def action_space() -> Any:
+def action_space() -> spaces.Space:
     """The space of an agent's actions."""
-    of = kinds()
-    return _lists(of, of.Text(MOST_LENGTH, min_length=0, charset=LETTERS))
+    return Lists(spaces.Text(MOST_LINE, min_length=0, charset=LETTERS))
 
 
-def observation_space() -> Any:
-    """The space of an agent's observations."""
-    of = kinds()
-    board = [of.Discrete(MOST_DOLLARS + 1), of.Discrete(MOST_DOLLARS + 1), of.Discrete(2)]
-    return of.Dict({"tick": of.Discrete(TICKS + 1),
-                    "quotes": of.Tuple([of.Tuple(board) for _ in GOODS]),
-                    "replies": _lists(of, of.Text(MOST_LENGTH, charset=LETTERS))})
+def observation_space(rounds: int) -> spaces.Space:
+    """The space of an agent's observations, in games of so many rounds a tick."""
+    board = [spaces.Discrete(MOST_DOLLARS + 1), spaces.Discrete(MOST_DOLLARS + 1),
+             spaces.Discrete(2)]
+    held = spaces.Discrete(2 * MOST_UNITS + 1, start=-MOST_UNITS)
+    client = [spaces.Discrete(count) for count in CLIENT]
+    return spaces.Dict({
+        "tick": spaces.Discrete(TICKS + 1),
+        "round": spaces.Discrete(rounds),
+        "quotes": spaces.Tuple([spaces.Tuple(board) for _ in GOODS]),
+        "holdings": spaces.Tuple([held for _ in GOODS]),
+        "cash": spaces.Discrete(2 * MOST_CASH + 1, start=-MOST_CASH),
+        "clients": spaces.Tuple([spaces.Tuple(client) for _ in range(CLIENTS)]),
+        "replies": Lists(spaces.Text(MOST_LINE, charset=LETTERS))})
+
+
+def state_space(count: int) -> spaces.Space:
+    """The space of the state of a whole game, so many whole numbers."""
+    return spaces.Box(-MOST_CASH, MOST_CASH, (count,), np.int64)

@@ -1,0 +1,150 @@
+"""A game that is played in steps: its process, its script and its books."""
+
+from __future__ import annotations
+
+import copy
+from typing import List, Sequence, Tuple
+
+from geesefuton import program
+from geesefuton.learning.books import Books
+from geesefuton.learning.stepping import Stepped
+from geesefuton.records.dialects import MOST_LINE
+from geesefuton.records.games import SEATS, TICKS, Game
+from geesefuton.records.logs import MOST_BYTES
+from geesefuton.records.replies import read_points
+
+MOST_LINES = 65_536  # of an agent in a game
+TICK = b"tick\n"
+Requests = Sequence[Tuple[int, str]]  # each a seat and a line
+
+
+class LimitError(ValueError):
+    """More requests than a game takes; nothing has changed."""
+
+
+class Market:
+    """A game that is played in steps.
+
+    Attributes:
+        game: The game.
+        books: What stands, is held and was paid.
+        changes: How many bids and withdrawals were answered by an auction.
+
+    Raises:
+        ProgramError: There is no program.
+        OSError: There is no room for pipes.
+    """
+
+    def __init__(self, game: Game) -> None:
+        self.game, self.books = game, Books(game)
+        self._text = game.text().encode()
+        self._process = Stepped(self._text)
+        self._script: List[bytes] = []
+        self.changes = 0
+        self._lines = [0] * SEATS  # that each seat has asked
+        self._bytes = len(TICK) * TICKS  # of the script
+
+    @property
+    def script(self) -> bytes:
+        """The requests and ticks so far, as a script for `tac play`."""
+        return b"".join(self._script)
+
+    def ask(self, requests: Requests) -> List[str]:
+        """Asks requests, and gives their replies. What cannot be asked of a game is answered here:
+        a line of more than 512 bytes by `no toolong`, as over a link, and `quit` by `no syntax`.
+
+        Raises:
+            LimitError: These are more lines of a seat, or bytes of a script, than a game takes.
+            ProgramError: The program has ended. The game is lost.
+        """
+        sent = [request for request in requests if not _unasked(request[1])]
+        if not sent:
+            return [_unasked(line) for _, line in requests]
+        text = "".join([f"{seat} {line}\n" for seat, line in sent]).encode()
+        self._lines, self._bytes = self._counted(requests)
+        self._script.append(text)
+        told = self._process.exchange(text, len(sent)).decode("latin-1").split("\n")
+        replies = [line[2:] for line in told[:-1]]
+        for (seat, line), reply in zip(sent, replies):
+            if line[:1] in ("b", "w") and reply[0] == "@":
+                self._enter(seat, line, reply)
+        left = iter(replies)
+        return [_unasked(line) or next(left) for _, line in requests]
+
+    def check(self, requests: Requests) -> None:
+        """Sees that there is room for requests.
+
+        Raises:
+            LimitError: These are more lines of a seat, or bytes of a script, than a game takes.
+        """
+        self._counted(requests)
+
+    def _counted(self, requests: Requests) -> Tuple[List[int], int]:
+        """The lines of each seat and the bytes of the script with these requests."""
+        lines, size = self._lines[:], self._bytes
+        for seat, line in requests:
+            lines[seat] += 1
+            size += 0 if _unasked(line) else _size(line) + 3  # with the seat and the line's end
+        if max(lines) > MOST_LINES:
+            raise LimitError(f"{self.game.words[lines.index(max(lines))]} asks more than "
+                             f"{MOST_LINES} requests")
+        if size > MOST_BYTES:
+            raise LimitError(f"a script has at most {MOST_BYTES:,} bytes")
+        return lines, size
+
+    def _enter(self, seat: int, line: str, reply: str) -> None:
+        """Enters a bid or a withdrawal into the books, if it was admitted."""
+        call, good, *points = line.split(" ", 2)
+        what = reply.split(" ", 2)[1]
+        self.changes += 1
+        if what == "taken":
+            self.books.bid(seat, int(good), read_points(points[0]))
+        elif what == "done" and call == "withdraw":
+            self.books.withdraw(seat, int(good))
+
+    def advance(self) -> None:
+        """Lets a tick pass."""
+        self._script.append(TICK)
+        self._process.exchange(TICK, 0)
+        self.books.advance()
+
+    def finish(self) -> bytes:
+        """The log of the game.
+
+        Raises:
+            ProgramError: The program has ended otherwise, or the log has other cash than the books.
+        """
+        log = self._process.finish()
+        if [row[1] for row in score_rows(log)] != self.books.cash:
+            raise program.ProgramError("the log has other cash than the books")
+        return log
+
+    def copied(self) -> Market:
+        """The same game in a process of its own, which goes on by itself."""
+        other = object.__new__(Market)
+        vars(other).update({name: copy.copy(value) for name, value in vars(self).items()
+                            if name not in ("_process", "books")})
+        other.books, other._process = self.books.copied(), Stepped(self._text)
+        script = self.script
+        other._process.exchange(script, script.count(b"\n") - self.books.tick)
+        return other
+
+    def close(self) -> None:
+        """Ends the process, if it has not ended."""
+        self._process.close()
+
+
+def _size(line: str) -> int:
+    """The bytes of a line."""
+    return len(line) if line.isascii() else len(line.encode())
+
+
+def _unasked(line: str) -> str:
+    """The reply to a line that is not asked of the game; "" for one that is."""
+    return "no syntax" if line == "quit" else "no toolong" if _size(line) > MOST_LINE else ""
+
+
+def score_rows(log: bytes) -> List[Tuple[int, ...]]:
+    """For each agent its best total, its cash, its tickets short and its score, from a log."""
+    sheet = log[log.rindex(b"\nsheet\n"):].split(b"\n")
+    return [tuple(map(int, line.split()[2:])) for line in sheet if line.startswith(b"score ")]

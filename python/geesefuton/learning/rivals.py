@@ -1,0 +1,123 @@
+"""Agents that play in the process of a game in steps, such as those of examples/agents."""
+
+from __future__ import annotations
+
+import importlib
+import random
+import sys
+from pathlib import Path
+from types import ModuleType
+from typing import Callable, Dict, Protocol, Tuple, Union, cast
+
+from geesefuton import program
+from geesefuton.learning.market import Market
+from geesefuton.records.replies import Own, Quote, ReplyError, read_words, text_of_points
+
+SHIPPED = {"baseline": True, "planner": False, "trader": False, "watcher": False}  # if it draws
+
+
+class SeatLink:
+    """A seat of a market, with the calls of a link (`geesefuton.link.Link`).
+
+    What the books have costs no request: boards, what it holds, and its cash. So their positions
+    are 0.
+
+    Attributes:
+        agent: The number of the seat.
+        endow: Its tickets at first, good 16 first.
+        clients: Its eight clients.
+        source: What it may draw from, which follows from the game's seed.
+    """
+
+    def __init__(self, market: Market, seat: int, source: random.Random) -> None:
+        self.agent, self.source = seat, source
+        self.endow, self.clients = list(market.game.endow[seat]), list(market.game.clients[seat])
+        self._market = market
+
+    def ask(self, line: str) -> str:
+        """Asks a request by its line of words, and gives the reply."""
+        return self._market.ask([(self.agent, line)])[0]
+
+    def bid(self, good: int, *points: Tuple[int, int]) -> str:
+        """Bids points, each units and dollars, which replace the whole earlier bid there."""
+        return self.ask(f"bid {good} {text_of_points(points)}")
+
+    def withdraw(self, good: int) -> str:
+        """Takes the standing bid back."""
+        return self.ask(f"withdraw {good}")
+
+    def quote(self, good: int) -> Quote:
+        """The board of an auction."""
+        bid, ask, is_closed = self._market.books.boards[good]
+        return Quote(0, bid, ask, is_closed)
+
+    def own(self, good: int) -> int:
+        """How many units the agent holds; below 0 it owes them."""
+        return self._market.books.holdings[self.agent][good]
+
+    def holding(self, good: int) -> Own:
+        """What the agent holds, and its standing points.
+
+        Raises:
+            ReplyError: The agent has no call left in this auction.
+        """
+        reply = read_words(self.ask(f"own {good}"))
+        if not isinstance(reply, Own):
+            raise ReplyError(f"own {good} is refused")
+        return reply
+
+    def cash(self) -> int:
+        """What the agent earned so far less what it paid, in dollars."""
+        return self._market.books.cash[self.agent]
+
+
+class Acting(Protocol):
+    """An agent that acts when it is told to."""
+
+    def act(self) -> object:
+        """Acts once, and tells whether it goes on."""
+
+
+Maker = Callable[[SeatLink], Acting]  # makes an agent for its seat
+Rivals = Dict[str, Union[str, Maker]]  # by the names of their seats
+
+
+class Shipped:
+    """Makes a shipped agent.
+
+    Raises:
+        ValueError: No agent of this name is shipped, or the package stands in no clone.
+    """
+
+    def __init__(self, name: str) -> None:
+        if name not in SHIPPED or program.top() is None:
+            where = "" if program.top() else ", with a clone alone"
+            raise ValueError(f"the agents {', '.join(SHIPPED)} are shipped{where}, not "
+                             f"{name!r:.60}")
+        self.name = name
+
+    def __call__(self, link: SeatLink) -> Acting:
+        """Makes the agent for its seat."""
+        agent = getattr(_module(self.name), self.name.capitalize())
+        return cast(Acting, agent(link, link.source) if SHIPPED[self.name] else agent(link))
+
+
+def _module(name: str) -> ModuleType:
+    """The module of a shipped agent."""
+    folder = str(Path(str(program.top()), "examples", "agents"))
+    sys.path.insert(0, folder)  # one takes parts of another
+    try:
+        return importlib.import_module(name)
+    finally:
+        sys.path.remove(folder)
+
+
+def maker_of(rival: Union[str, Maker]) -> Maker:
+    """What makes a rival: the class of an agent, or what makes the shipped one of a name.
+
+    Raises:
+        ValueError: As `Shipped`.
+    """
+    if isinstance(rival, str):
+        return Shipped(rival)
+    return rival

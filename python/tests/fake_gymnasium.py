@@ -1,0 +1,175 @@
+"""A stand-in for `gymnasium` and `numpy`: spaces with the same names, attributes and ranges, as far
+as the package uses them, so that its own can be tried where those are not installed."""
+
+import contextlib
+import random
+import sys
+import types
+from typing import Any, Dict as Mapping, Iterator, Optional, Sequence as Several, Tuple as Pair
+from unittest import mock
+
+
+class Space:
+    """A set of values."""
+
+    def __init__(self) -> None:
+        self._source = random.Random()
+
+    def seed(self, seed: Optional[int] = None) -> None:
+        self._source.seed(seed)
+        for part in self._parts():
+            part.seed(None if seed is None else self._source.getrandbits(32))
+
+    def _parts(self) -> "Iterator[Space]":
+        return iter(())
+
+    def sample(self) -> Any:
+        raise NotImplementedError
+
+    def contains(self, x: Any) -> bool:
+        raise NotImplementedError
+
+    def __contains__(self, x: Any) -> bool:
+        return self.contains(x)
+
+
+class Discrete(Space):
+    """The `n` whole numbers from `start`."""
+
+    def __init__(self, n: int, start: int = 0) -> None:
+        super().__init__()
+        self.n, self.start = n, start
+
+    def sample(self) -> int:
+        return self.start + self._source.randrange(self.n)
+
+    def contains(self, x: Any) -> bool:
+        return isinstance(x, int) and self.start <= x < self.start + self.n
+
+
+class Text(Space):
+    """Texts of `min_length` to `max_length` characters of `charset`."""
+
+    def __init__(self, max_length: int, *, min_length: int = 1, charset: str = "ab") -> None:
+        super().__init__()
+        self.max_length, self.min_length, self.charset = max_length, min_length, charset
+
+    def sample(self) -> str:
+        length = self._source.randint(self.min_length, self.max_length)
+        return "".join(self._source.choices(self.charset, k=length))
+
+    def contains(self, x: Any) -> bool:
+        return (isinstance(x, str) and self.min_length <= len(x) <= self.max_length
+                and set(x) <= set(self.charset))
+
+
+class Sequence(Space):
+    """Any number of values of one space, as a tuple alone."""
+
+    def __init__(self, space: Space) -> None:
+        super().__init__()
+        self.feature_space = space
+
+    def sample(self) -> Any:
+        return tuple(self.feature_space.sample() for _ in range(self._source.randrange(4)))
+
+    def contains(self, x: Any) -> bool:
+        return isinstance(x, tuple) and all(map(self.feature_space.contains, x))
+
+    def _parts(self) -> Iterator[Space]:
+        return iter((self.feature_space,))
+
+
+class Tuple(Space):
+    """A value of each of some spaces, in their order."""
+
+    def __init__(self, spaces: Several[Space]) -> None:
+        super().__init__()
+        self.spaces = tuple(spaces)
+
+    def sample(self) -> Any:
+        return tuple(space.sample() for space in self.spaces)
+
+    def contains(self, x: Any) -> bool:
+        return (isinstance(x, (list, tuple)) and len(x) == len(self.spaces)
+                and all(space.contains(part) for space, part in zip(self.spaces, x)))
+
+    def _parts(self) -> Iterator[Space]:
+        return iter(self.spaces)
+
+
+class Dict(Space):
+    """A value of each of some spaces, by their keys."""
+
+    def __init__(self, spaces: Mapping[str, Space]) -> None:
+        super().__init__()
+        self.spaces = dict(spaces)
+
+    def sample(self) -> Any:
+        return {key: space.sample() for key, space in self.spaces.items()}
+
+    def contains(self, x: Any) -> bool:
+        return (isinstance(x, dict) and x.keys() == self.spaces.keys()
+                and all(space.contains(x[key]) for key, space in self.spaces.items()))
+
+    def _parts(self) -> Iterator[Space]:
+        return iter(self.spaces.values())
+
+    def __getitem__(self, key: str) -> Space:
+        return self.spaces[key]
+
+
+class Box(Space):
+    """Arrays of a shape, here lists, of numbers between two bounds."""
+
+    def __init__(self, low: float, high: float, shape: Pair[int, ...] = (),
+                 dtype: object = None) -> None:
+        super().__init__()
+        self.low, self.high, self.shape, self.dtype = low, high, shape, dtype
+
+    def contains(self, x: Any) -> bool:
+        return len(x) == self.shape[0] and all(self.low <= number <= self.high for number in x)
+
+
+class MultiDiscrete(Space):
+    """Lists of whole numbers, each below its own bound."""
+
+    def __init__(self, nvec: Several[int]) -> None:
+        super().__init__()
+        self.nvec = list(nvec)
+
+    def sample(self) -> Any:
+        return [self._source.randrange(count) for count in self.nvec]
+
+    def contains(self, x: Any) -> bool:
+        return len(x) == len(self.nvec) and all(
+            0 <= number < count for number, count in zip(x, self.nvec))
+
+
+class Env:
+    """The interface of `gymnasium.Env`, as far as it says what `reset` does with a seed."""
+
+    def reset(self, *, seed: Optional[int] = None, options: Optional[Any] = None) -> Any:
+        """Nothing is drawn."""
+
+
+def array(numbers: Any, dtype: object = None) -> Any:
+    """A list in place of an array."""
+    return list(numbers)
+
+
+@contextlib.contextmanager
+def installed() -> Iterator[None]:
+    """Lets these stand for `gymnasium` and `numpy`, and modules that import them be imported anew."""
+    spaces = types.ModuleType("gymnasium.spaces")
+    vars(spaces).update(Space=Space, Discrete=Discrete, Text=Text, Sequence=Sequence, Tuple=Tuple,
+                        Dict=Dict, Box=Box, MultiDiscrete=MultiDiscrete)
+    gymnasium, numpy = types.ModuleType("gymnasium"), types.ModuleType("numpy")
+    vars(gymnasium).update(spaces=spaces, Env=Env)
+    vars(numpy).update(array=array, int64="int64", float32="float32", asarray=array)
+    ours = ("geesefuton.learning.spaces", "geesefuton.learning.numeric")
+    with mock.patch.dict(sys.modules, {"gymnasium": gymnasium, "gymnasium.spaces": spaces,
+                                       "numpy": numpy}):
+        for name in ours:
+            sys.modules.pop(name, None)
+        yield
