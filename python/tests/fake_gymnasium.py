@@ -167,7 +167,8 @@ def installed() -> Iterator[None]:
     gymnasium, numpy = types.ModuleType("gymnasium"), types.ModuleType("numpy")
     vars(gymnasium).update(spaces=spaces, Env=Env)
     vars(numpy).update(array=array, int64="int64", float32="float32", asarray=array)
-    ours = ("geesefuton.learning.spaces", "geesefuton.learning.numeric")
+    ours = ("geesefuton.learning.spaces", "geesefuton.learning.numeric",
+            "geesefuton.learning.interfaces")
     with mock.patch.dict(sys.modules, {"gymnasium": gymnasium, "gymnasium.spaces": spaces,
                                        "numpy": numpy}):
         for name in ours:

@@ -38,6 +38,7 @@ from typing import Any, Callable, Dict, List, Mapping, Optional, Sequence, Tuple
 
 from geesefuton import program
 from geesefuton.learning.books import Books, text_of
+from geesefuton.learning.interfaces import ParallelEnv
 from geesefuton.learning.market import LimitError, Market, score_rows
 from geesefuton.learning.rivals import Acting, Maker, Rivals, SeatLink, maker_of
 from geesefuton.learning.scores import Scorer
@@ -45,11 +46,6 @@ from geesefuton.records.drawing import MOST_SEED, drawn_rooms
 from geesefuton.records.games import (CLIENTS, GOODS, HOTELS, MOST_ROOMS, ROOMS, SEATS, TICKS, Game,
                                       read_game)
 from geesefuton.records.order import order_of_turn
-
-try:
-    from pettingzoo import ParallelEnv as Base
-except ImportError:  # then it has the same methods, and no common type
-    Base = object
 
 MOST_ROUNDS = 1000  # in a tick
 Actions = Mapping[str, "list[str]"]
@@ -61,7 +57,7 @@ class ActionError(ValueError):
     """Actions that cannot be asked, or a call that is not due; nothing has changed."""
 
 
-class Environment(Base):  # type: ignore[misc]
+class Environment(ParallelEnv):  # type: ignore[misc]
     """Games of eight seats, one after the other.
 
     Attributes:

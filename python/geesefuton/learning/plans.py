@@ -1,0 +1,66 @@
+"""A plan of trips at given prices: what a seat still has to buy, and what its trips are worth.
+
+The plan is greedy: each client in turn takes the trip that gains most, where what is held and left
+by those before it costs nothing. So it is quick, and often not the best one.
+"""
+
+from typing import List, NamedTuple, Sequence, Tuple
+
+from geesefuton.records.games import GOODS, inbound, outbound, room, ticket
+
+NEVER = 1 << 20  # dollars: the price of what cannot be had
+TRIP = 1000  # dollars that a trip on the preferred days is worth
+DAY = 100  # dollars less for each day's difference
+STAYS = [(arrive, depart) for arrive in range(1, 5) for depart in range(arrive + 1, 6)]
+Wishes = Tuple[int, ...]  # arrival, departure, premium, and the values of the ticket types
+
+
+class Plan(NamedTuple):
+    """A plan.
+
+    Attributes:
+        wanted: How many units of each good its trips use.
+        worth: What its trips are worth less what is still to be bought costs, in dollars.
+    """
+
+    wanted: List[int]
+    worth: int
+
+
+def plan(clients: Sequence[Wishes], prices: Sequence[int], holdings: Sequence[int]) -> Plan:
+    """A plan for clients, at a price in dollars for each unit of a good that is not held."""
+    left, wanted, worth = list(holdings), [0] * len(GOODS), 0
+    for client in clients:
+        costs = [0 if units > 0 else price for units, price in zip(left, prices)]
+        gain, goods = _trip(client, costs)
+        worth += gain
+        for good in goods:
+            left[good] -= 1
+            wanted[good] += 1
+    return Plan(wanted, worth)
+
+
+def _trip(client: Wishes, costs: Sequence[int]) -> Tuple[int, List[int]]:
+    """What the best trip of a client gains at these costs, and the goods that it uses."""
+    wish_in, wish_out, premium, *values = client
+    best, stay, chosen = 0, (0, 0), 0
+    for hotel in (0, 1):
+        for arrive, depart in STAYS:
+            first = room(hotel, arrive)
+            gain = (TRIP + premium * hotel - DAY * (abs(arrive - wish_in) + abs(depart - wish_out))
+                    - costs[arrive - 1] - costs[depart + 2]
+                    - sum(costs[first:first + depart - arrive]))
+            if gain > best:
+                best, stay, chosen = gain, (arrive, depart), hotel
+    if not best:
+        return 0, []
+    nights = list(range(*stay))
+    goods = [inbound(stay[0]), outbound(stay[1]), *(room(chosen, night) for night in nights)]
+    for kind, value in sorted(enumerate(values), key=lambda each: -each[1]):
+        cost, night = min(((costs[ticket(kind, night)], night) for night in nights),
+                          default=(NEVER, 0))
+        if value > cost:
+            best += value - cost
+            goods.append(ticket(kind, night))
+            nights.remove(night)
+    return best, goods
