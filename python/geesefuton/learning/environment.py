@@ -29,7 +29,6 @@ script. A game is one process of `tac step`.
 from __future__ import annotations
 
 import copy
-import random
 from importlib import import_module
 from operator import index
 from pathlib import Path
@@ -40,7 +39,7 @@ from geesefuton import program
 from geesefuton.learning.books import Books, text_of
 from geesefuton.learning.interfaces import ParallelEnv
 from geesefuton.learning.market import LimitError, Market, score_rows
-from geesefuton.learning.rivals import Acting, Maker, Rivals, SeatLink, maker_of
+from geesefuton.learning.rivals import Maker, Players, Rivals, maker_of
 from geesefuton.learning.scores import Scorer
 from geesefuton.records.drawing import MOST_SEED, drawn_rooms
 from geesefuton.records.games import (CLIENTS, GOODS, HOTELS, MOST_ROOMS, ROOMS, SEATS, TICKS, Game,
@@ -130,8 +129,7 @@ class Environment(ParallelEnv):  # type: ignore[misc]
         self._boards: List[Tuple[int, int, bool]] = []
         self._books: Optional[Books] = None
         self._clients: List[Tuple[Tuple[int, ...], ...]] = []
-        self._links: Dict[int, SeatLink] = {}  # of rivals
-        self._acting: Dict[int, Optional[Acting]] = {}  # rivals; None for one that has ended
+        self._players: Optional[Players] = None  # the rivals
         self._scorer: Optional[Scorer] = None
         self._scores_now: Optional[List[int]] = None  # of all seats, if nobody asks anything more
 
@@ -221,8 +219,7 @@ class Environment(ParallelEnv):  # type: ignore[misc]
         self._clients = [tuple((client.arrive, client.depart, client.premium, *client.values)
                                for client in clients) for clients in game.clients]
         self._scorer = Scorer(game) if self._has_scores else None
-        self._links = {seat: SeatLink(market, seat, random.Random(f"{seed} {seat}"))
-                       for seat in self._rivals}
+        self._players = Players(market, self._rivals, seed)
         self.agents = list(self.possible_agents)
         infos = {agent: {"endow": list(game.endow[seat]), "clients": self._clients[seat]}
                  for agent, seat in self._seats.items()}
@@ -307,19 +304,11 @@ class Environment(ParallelEnv):  # type: ignore[misc]
             for (asking, _), reply in zip(waiting, market.ask(waiting)):
                 replies.setdefault(asking, []).append(reply)
             waiting = []
-            if seat is not None:
-                self._act(seat)
+            if seat is not None and self._players is not None:
+                self._players.act(seat)
         if market.changes != before:
             self._scores_now = None  # no other request changes what anybody gets
         return replies
-
-    def _act(self, seat: int) -> None:
-        """Lets a rival act, unless it has ended."""
-        if seat not in self._acting:
-            self._acting[seat] = self._rivals[seat](self._links[seat])
-        rival = self._acting[seat]
-        if rival is not None and not rival.act():
-            self._acting[seat] = None
 
     def _told(self, market: Market, replies: Dict[int, List[str]]) -> Step:
         """What a step returns."""
@@ -400,7 +389,7 @@ class Environment(ParallelEnv):  # type: ignore[misc]
         if self._market is not None:
             self._script = self._market.script
             self._market.close()
-            self._market, self._links, self._acting = None, {}, {}
+            self._market, self._players = None, None
 
     def __getstate__(self) -> Values:
         if self._market is not None:

@@ -7,10 +7,12 @@ import random
 import sys
 from pathlib import Path
 from types import ModuleType
-from typing import Callable, Dict, Protocol, Tuple, Union, cast
+from typing import Callable, Dict, List, Mapping, Optional, Protocol, Tuple, Union, cast
 
 from geesefuton import program
-from geesefuton.learning.market import Market
+from geesefuton.learning.market import Market, score_rows
+from geesefuton.records.games import TICKS, Game
+from geesefuton.records.order import order_of_turn
 from geesefuton.records.replies import Own, Quote, ReplyError, read_words, text_of_points
 
 SHIPPED = {"baseline": True, "planner": False, "trader": False, "watcher": False}  # if it draws
@@ -121,3 +123,46 @@ def maker_of(rival: Union[str, Maker]) -> Maker:
     if isinstance(rival, str):
         return Shipped(rival)
     return rival
+
+
+class Players:
+    """Rivals at some seats of a market. Each is made when it is first told to act.
+
+    Args:
+        market: The market.
+        makers: What makes the rival of each seat.
+        seed: From which, with their seats, follows what they draw.
+    """
+
+    def __init__(self, market: Market, makers: Mapping[int, Maker], seed: int) -> None:
+        self._market, self._makers, self._seed = market, makers, seed
+        self._playing: Dict[int, Optional[Acting]] = {}  # None for one that has ended
+
+    def act(self, seat: int) -> None:
+        """Lets the rival of a seat act, unless it has ended."""
+        if seat not in self._playing:
+            source = random.Random(f"{self._seed} {seat}")
+            self._playing[seat] = self._makers[seat](SeatLink(self._market, seat, source))
+        rival = self._playing[seat]
+        if rival is not None and not rival.act():
+            self._playing[seat] = None
+
+
+def scores_of(game: Game, makers: Mapping[int, Maker], seed: int) -> List[int]:
+    """The scores of a game in which nobody plays but these, each once between two ticks.
+
+    Raises:
+        ProgramError: There is no program, or it ended with an error.
+        OSError: There is no room for pipes.
+    """
+    market = Market(game)
+    try:
+        players = Players(market, makers, seed)
+        for tick in range(TICKS):
+            for seat in order_of_turn(tick, 0):
+                if seat in makers:
+                    players.act(seat)
+            market.advance()
+        return [row[-1] for row in score_rows(market.finish())]
+    finally:
+        market.close()

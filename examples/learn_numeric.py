@@ -1,0 +1,100 @@
+#!/usr/bin/env python3
+"""Learns one seat's bids from rewards, and compares it with the planner in the same seat and games.
+
+Its policy has a table: for each phase of a game, which is how many hotel nights have closed, and
+each group of goods (flights, hotel nights, tickets) how likely each level of `geesefuton.learning.
+numeric` is. In each game it draws a level for each of these, plays, and makes what it drew likelier
+by how much the game's rewards were above the mean (REINFORCE). Its rivals are planners. It draws
+from `--seed` alone. It learns from the games of the seeds 1, 2, .., and is compared in those of
+1,000,001, .., which it has not seen, with the likeliest levels. It needs `numpy`.
+"""
+
+import argparse
+import statistics
+import sys
+
+from step import Environment  # noqa: F401  # first: it finds the package
+
+import numpy as np
+
+from geesefuton import program
+from geesefuton.arguments import whole
+from geesefuton.learning.numeric import LEVELS, SEATS, Seat
+from geesefuton.learning.rivals import Shipped, scores_of
+from geesefuton.processes import command
+from geesefuton.records.games import read_game
+
+GROUPS = ((0, 8), (8, 16), (16, 28))  # the goods of a group: flights, hotel nights, tickets
+PHASES, BATCH, RATE, MEMORY = 9, 8, 0.3, 0.9
+CLOSED = slice(41, 49)  # the places of an observation that tell which nights have closed
+UNSEEN = 1_000_001
+
+
+def likelihoods(table):
+    """How likely each level is, by phase and group."""
+    powers = np.exp(table - table.max(axis=-1, keepdims=True))
+    return powers / powers.sum(axis=-1, keepdims=True)
+
+
+def play(environment, seed, levels):
+    """The rewards of a game in all, and its score, with a level for each phase and group."""
+    observation, _ = environment.reset(seed=seed)
+    total, tick, end, info = 0.0, 0, False, {}
+    while not end:
+        phase = int(observation[CLOSED].sum())
+        action = np.zeros(28, int)
+        if tick % 6 in (0, 3):  # once after each closing, and once between two
+            for group, (first, last) in enumerate(GROUPS):
+                action[first:last] = levels[phase, group]
+        observation, reward, end, _, info = environment.step(action)
+        total, tick = total + reward, tick + 1
+    return total, info["score"]
+
+
+def learn(environment, given, source):
+    """The table after all games."""
+    table, usual = np.zeros((PHASES, len(GROUPS), LEVELS)), None
+    table[:, 2, 0] = 2.0  # at first tickets are mostly left alone
+    for batch in range(given.games // BATCH):
+        odds, step, rewards = likelihoods(table), np.zeros_like(table), []
+        drawn = []
+        for number in range(BATCH):
+            levels = (odds.cumsum(-1) > source.random((PHASES, len(GROUPS), 1))).argmax(-1)
+            reward, _ = play(environment, 1 + batch * BATCH + number, levels)
+            rewards.append(reward)
+            drawn.append(np.eye(LEVELS)[levels] - odds)
+        mean, spread = statistics.mean(rewards), statistics.pstdev(rewards) or 1.0
+        usual = mean if usual is None else MEMORY * usual + (1 - MEMORY) * mean
+        for reward, gradient in zip(rewards, drawn):
+            step += (reward - usual) / spread * gradient
+        table += RATE * step / BATCH
+        if batch % 10 == 9:
+            print(f"{(batch + 1) * BATCH} games: a reward of {usual:.2f} a game", flush=True)
+    return table
+
+
+def main():
+    parser = argparse.ArgumentParser(description=__doc__,
+                                     formatter_class=argparse.RawDescriptionHelpFormatter)
+    parser.add_argument("--games", type=whole(BATCH), default=800, help="games to learn from (800)")
+    parser.add_argument("--unseen", type=whole(2), default=80, help="games to compare in (80)")
+    parser.add_argument("--seed", type=whole(0), default=1, help="what it draws from (1)")
+    given = parser.parse_args()
+    environment = Seat(rivals=dict.fromkeys(SEATS[1:], "planner"))
+    table = learn(environment, given, np.random.default_rng(given.seed))
+    best, seeds = table.argmax(axis=-1), range(UNSEEN, UNSEEN + given.unseen)
+    mine = [play(environment, seed, best)[1] for seed in seeds]
+    environment.close()
+    planners = dict.fromkeys(range(8), Shipped("planner"))
+    theirs = [scores_of(read_game(program.make(seed)), planners, seed)[0] for seed in seeds]
+    gains = [own - other for own, other in zip(mine, theirs)]
+    error = statistics.stdev(gains) / len(gains) ** 0.5
+    print(f"levels by phase: flights {best[:, 0]}, hotel nights {best[:, 1]}, tickets {best[:, 2]}")
+    print(f"{len(gains)} games that it has not seen: {statistics.mean(mine):.0f} dollars a game, the "
+          f"planner in its seat {statistics.mean(theirs):.0f}: {statistics.mean(gains):.0f} more, "
+          f"with a standard error of {error:.0f} by pairs")
+    return 0
+
+
+if __name__ == "__main__":
+    sys.exit(command("learn_numeric.py", main))
