@@ -2,19 +2,24 @@ import copy
 import os
 import pickle
 import random
+import signal
 import sys
 import tempfile
 import unittest
+from collections import Counter
 from pathlib import Path
 from typing import Any, Callable, Dict, List
 from unittest import mock
 
 from geesefuton import program
 from geesefuton.learning.environment import ActionError, Environment
+from geesefuton.learning.market import score_rows
+from geesefuton.learning.rivals import SeatLink, maker_of, scores_of
 from geesefuton.program import ProgramError
 from geesefuton.records.drawing import drawn_rooms
 from geesefuton.records.games import FLIGHTS, HOTELS, TICKS, Game, GameError, read_game
 from geesefuton.records.rules import prices_of
+from geesefuton.records.order import order_of_turn
 from tests import fake_gymnasium
 from tests.helpers import SERVED_GAME, TOP, fake_program, needs_program
 
@@ -33,14 +38,14 @@ def played(environment: Environment) -> bytes:
     return text[text.index("taclog 1\n"):].encode()
 
 
-def random_actions(source: random.Random, agents: List[str]) -> Actions:
-    """Requests of all kinds, good and bad ones."""
+def random_actions(source: random.Random, agents: List[str], most: int = 3) -> Actions:
+    """Requests of all kinds, good and bad ones, at most so many of an agent."""
     def request() -> str:
         good, units = source.randrange(30), source.choice([-2, -1, 1, 2, 20])
         return source.choice([f"bid {good} (({units} {source.randrange(1, 400)}))", f"own {good}",
                               f"withdraw {good}", f"quote {good}", "cash", "nonsense", "x" * 600])
 
-    return {agent: [request() for _ in range(source.randrange(4))]
+    return {agent: [request() for _ in range(source.randrange(most + 1))]
             for agent in source.sample(agents, source.randrange(len(agents) + 1))}
 
 
@@ -271,7 +276,8 @@ class Steps(unittest.TestCase):
 class Games(unittest.TestCase):
     def test_games_by_random_actions_have_the_logs_of_play(self) -> None:
         source = random.Random(54)
-        with Environment() as environment, Environment(FEW_ROOMS) as file, \
+        with fake_gymnasium.installed(), Environment() as environment, \
+                Environment(FEW_ROOMS, rounds=2) as file, \
                 Environment(rooms=(1, 4), live=True) as live:
             for number in range(10):
                 each = (environment, file, live)[number % 3]
@@ -286,6 +292,32 @@ class Games(unittest.TestCase):
                                       for agent in agents},
                                      {agent: len(actions.get(agent, [])) for agent in agents})
                 self.assertEqual(each.log, played(each))
+
+    def test_what_agents_see_is_what_they_would_be_answered(self) -> None:
+        source = random.Random(7)
+        reading = [*(f"quote {good}" for good in range(28)), *(f"own {good}" for good in range(28)),
+                   "cash"]
+        with Environment(FEW_ROOMS, rounds=2) as environment, \
+                Environment(rooms=(1, 3), live=True, rounds=3) as live:
+            for each in (environment, live, live):
+                seen, _ = each.reset()
+                while each.agents:
+                    agents = list(each.agents)
+                    if each.round:
+                        seen, *_ = each.step(random_actions(source, agents, most=12))
+                        continue
+                    told, *_ = each.step(dict.fromkeys(agents, reading))
+                    for agent in agents:
+                        before, words = seen[agent], [reply.split() for reply
+                                                      in told[agent]["replies"]]
+                        self.assertEqual([(int(bid), int(ask), state == "closed") for
+                                          _, _, bid, ask, state in words[:28]], before["quotes"])
+                        self.assertEqual(tuple(int(word[2]) for word in words[28:56]),
+                                         before["holdings"])
+                        self.assertEqual(int(words[56][2]), before["cash"])
+                    seen = told
+                assert each.log is not None
+                self.assertGreater(each.log.count(b"\ntrade "), 20)
 
     def test_games_follow_from_their_seeds(self) -> None:
         with Environment() as environment:
@@ -379,3 +411,129 @@ class Games(unittest.TestCase):
         environment.reset()
         self.assertEqual((environment.seed, environment.num_agents), (2, 8))
         environment.close()
+
+    def test_no_seat_gains_by_its_place(self) -> None:
+        with Environment(FIRST) as environment:
+            environment.reset()
+            while environment.agents:
+                environment.step(dict.fromkeys(reversed(environment.agents), ["cash"]))
+            ticks = environment.script.split("tick\n")[:TICKS]
+            orders = [[int(line[0]) for line in each.splitlines()] for each in ticks]
+            self.assertEqual(orders, [order_of_turn(tick, 0) for tick in range(TICKS)])
+            firsts = Counter(order[0] for order in orders)
+            self.assertEqual((len(firsts), min(firsts.values())), (8, 6))
+
+    def test_several_rounds_pass_before_a_tick(self) -> None:
+        with Environment(FIRST, rounds=3) as environment:
+            environment.reset()
+            agent, seen = environment.agents[0], []
+            for _ in range(7):
+                told, *_ = environment.step({agent: ["cash"]})
+                seen.append((told[agent]["tick"], told[agent]["round"]))
+            self.assertEqual(seen, [(0, 1), (0, 2), (1, 0), (1, 1), (1, 2), (2, 0), (2, 1)])
+            self.assertEqual(environment.script, 2 * ("0 cash\n" * 3 + "tick\n") + "0 cash\n")
+            rest(environment)
+            self.assertEqual(environment.log, played(environment))
+
+
+class Bidder:
+    """A rival that draws what it bids."""
+
+    def __init__(self, link: SeatLink) -> None:
+        self.link, self.acted = link, 0
+
+    def act(self) -> bool:
+        self.acted += 1
+        self.link.bid(8, (1, self.link.source.randrange(1, 400)))
+        self.link.ask("quit")
+        return self.acted < 20
+
+
+@needs_program
+class Rivals(unittest.TestCase):
+    def play(self, environment: Environment, seed: int) -> Environment:
+        environment.reset(seed)
+        rest(environment)
+        return environment
+
+    def test_shipped_agents_play_at_their_seats(self) -> None:
+        rivals: Any = {"seat1": "baseline", "seat4": "planner", "seat5": "trader",
+                       "seat7": "watcher"}
+        with Environment(rivals=rivals) as environment:
+            self.assertEqual(environment.possible_agents, ["seat0", "seat2", "seat3", "seat6"])
+            observations, _ = environment.reset(3)
+            self.assertEqual(list(observations), environment.possible_agents)
+            self.assertRaisesRegex(ActionError, "no agent 'seat1'", environment.step,
+                                   {"seat1": ["cash"]})
+            _, rewards, *_ = rest(environment)
+            self.assertEqual(rewards, dict.fromkeys(environment.possible_agents, 0))
+            assert environment.log is not None
+            scores = [row[-1] for row in score_rows(environment.log)]
+            self.assertEqual(scores[7], 0)
+            self.assertTrue(all(scores[seat] > 1000 for seat in (1, 4, 5)), scores)
+            first = environment.script
+            self.assertEqual(self.play(environment, 3).script, first)
+            self.assertNotEqual(self.play(environment, 4).script, first)
+
+    def test_any_class_that_acts_is_a_rival(self) -> None:
+        with Environment(rivals={"seat3": Bidder}) as environment:
+            first = self.play(environment, 6).script
+            self.assertEqual(first.count("3 bid 8 "), 20)
+            self.assertNotIn("quit", first)
+            self.assertEqual(self.play(environment, 6).script, first)
+            self.assertEqual(environment.log, played(environment))
+            pickle.loads(pickle.dumps(environment)).close()
+
+    def test_games_of_rivals_alone_have_scores(self) -> None:
+        game = read_game(program.make(1))
+        makers = {seat: maker_of("planner") for seat in range(8)}
+        scores = scores_of(game, makers, 1)
+        self.assertEqual((len(scores), scores), (8, scores_of(game, makers, 2)))
+        self.assertEqual(scores_of(game, {}, 1), [0] * 8)
+
+
+@needs_program
+class Clones(unittest.TestCase):
+    def test_a_clone_goes_on_by_itself(self) -> None:
+        source = random.Random(3)
+        with Environment(rounds=2, scores=True, rivals={"seat3": Bidder}) as environment:
+            environment.reset(9)
+            agents = list(environment.agents)
+            for _ in range(31):
+                environment.step(random_actions(source, agents))
+            other = environment.clone()
+            self.addCleanup(other.close)
+            self.assertEqual((other.tick, other.round, other.script, other.agents),
+                             (15, 1, environment.script, agents))
+            actions = [random_actions(source, agents) for _ in range(54 * 2 - 31)]
+            for each in actions:
+                self.assertEqual(environment.step(each), other.step(each))
+            self.assertEqual(environment.log, other.log)
+
+    def test_a_clone_that_ends_leaves_the_game_alone(self) -> None:
+        with Environment(FIRST) as environment:
+            environment.reset()
+            other = environment.clone()
+            other.step({other.agents[0]: ["bid 8 ((1 50))"]})
+            other.close()
+            told, *_ = environment.step({environment.agents[0]: ["own 8"]})
+            self.assertEqual(told[environment.agents[0]]["replies"], ["@0 own 0 ()"])
+
+    def test_a_forked_process_begins_a_game_of_its_own(self) -> None:
+        with Environment() as environment:
+            environment.reset(5)
+            agent = environment.agents[0]
+            child = os.fork()
+            if not child:
+                status = 1
+                try:
+                    signal.alarm(20)
+                    environment.reset(6)
+                    rest(environment)
+                    status = 0
+                finally:
+                    os._exit(status)
+            self.assertEqual(os.waitpid(child, 0)[1], 0)
+            told, *_ = environment.step({agent: ["own 8"]})
+            self.assertEqual(told[agent]["replies"], ["@0 own 0 ()"])
+            rest(environment)

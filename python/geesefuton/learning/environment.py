@@ -348,7 +348,8 @@ class Environment(ParallelEnv):  # type: ignore[misc]
         other = object.__new__(type(self))
         memory: Dict[int, Any] = {id(self): other}
         if self._market is not None:
-            memory[id(self._market)] = self._market.copied()
+            copied = memory[id(self._market)] = self._market.copied()
+            memory[id(self._market.books)] = copied.books
         other.__dict__.update(copy.deepcopy(self.__dict__, memory))
         return other
 
