@@ -8,7 +8,7 @@ import os
 import shutil
 import subprocess
 from pathlib import Path
-from typing import List, Optional, Sequence, Tuple, Union
+from typing import Any, Dict, List, Optional, Sequence, Tuple, Union
 
 __all__ = [
     "INPUT", "MEANINGS", "OK", "CLOCK", "UNSOUND", "ProgramError", "audit", "ended", "find", "make",
@@ -58,9 +58,10 @@ def find() -> str:
     Raises:
         ProgramError: There is no such file, or it is no program.
     """
-    clone = top()
-    built = str(clone / "crates" / "tacd" / "out" / "tacd") if clone else None
-    name = os.environ.get("TAC") or built
+    name = os.environ.get("TAC")
+    if not name:
+        clone = top()
+        name = str(clone / "crates" / "tacd" / "out" / "tacd") if clone else None
     if name is None:
         raise ProgramError("there is no program: set the variable TAC to the file of tac")
     file = shutil.which(name)
@@ -87,14 +88,15 @@ def run(command: str, *words: Word, given: bytes = b"", allowed: Sequence[int] =
     Raises:
         ProgramError: There is no program, it ended with another status, or took too long.
     """
+    how: Dict[str, Any] = {"input": given} if given else {"stdin": subprocess.DEVNULL}
     try:
-        done = subprocess.run([find(), command, *map(str, words)], input=given,
-                              stdout=subprocess.PIPE, timeout=timeout, check=False)
+        done = subprocess.run([find(), command, *map(str, words)], stdout=subprocess.PIPE,
+                              timeout=timeout, check=False, **how)
     except subprocess.TimeoutExpired:
         raise ProgramError(f"tac {command} took longer than {timeout:g} seconds") from None
     except OSError as fault:
         raise ProgramError(f"the file of tac cannot be run: {fault.strerror}") from None
-    text = done.stdout.decode("ascii", "replace")
+    text: str = done.stdout.decode("ascii", "replace")
     if done.returncode not in allowed:
         raise ended(command, done.returncode, text.split("\n", 1)[0])
     return text

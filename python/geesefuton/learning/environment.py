@@ -213,8 +213,9 @@ class Environment(ParallelEnv):  # type: ignore[misc]
         game = self._given or self._made(seed)
         self.seed = None if self._given else seed
         self._next = (seed + 1) % (MOST_SEED + 1)
-        self._clear(game.text())
-        market = self._market = Market(game)
+        market = Market(game)
+        self._clear(market.text)
+        self._market = market
         self._books, self._boards = market.books, list(market.books.boards)
         self._clients = [tuple((client.arrive, client.depart, client.premium, *client.values)
                                for client in clients) for clients in game.clients]

@@ -26,7 +26,7 @@ class Market:
     """A game that is played in steps.
 
     Attributes:
-        game: The game.
+        game: The game, and `text` its file.
         books: What stands, is held and was paid.
         changes: How many bids and withdrawals were answered by an auction.
 
@@ -37,9 +37,10 @@ class Market:
 
     def __init__(self, game: Game) -> None:
         self.game, self.books = game, Books(game)
-        self._text = game.text().encode()
-        self._process = Stepped(self._text)
+        self.text = game.text()
+        self._process = Stepped(self.text.encode())
         self._script: List[bytes] = []
+        self._waiting = b""  # ticks that the process was not told yet
         self.changes = 0
         self._lines = [0] * SEATS  # that each seat has asked
         self._bytes = len(TICK) * TICKS  # of the script
@@ -63,7 +64,7 @@ class Market:
         text = "".join([f"{seat} {line}\n" for seat, line in sent]).encode()
         self._lines, self._bytes = self._counted(requests)
         self._script.append(text)
-        told = self._process.exchange(text, len(sent)).decode("latin-1").split("\n")
+        told = self._exchange(text, len(sent)).decode("latin-1").split("\n")
         replies = [line[2:] for line in told[:-1]]
         for (seat, line), reply in zip(sent, replies):
             if line[:1] in ("b", "w") and reply[0] == "@":
@@ -105,8 +106,13 @@ class Market:
     def advance(self) -> None:
         """Lets a tick pass."""
         self._script.append(TICK)
-        self._process.exchange(TICK, 0)
+        self._waiting += TICK
         self.books.advance()
+
+    def _exchange(self, text: bytes, due: int) -> bytes:
+        """Plays lines, and the ticks before them."""
+        waiting, self._waiting = self._waiting, b""
+        return self._process.exchange(waiting + text, due)
 
     def finish(self) -> bytes:
         """The log of the game.
@@ -114,6 +120,7 @@ class Market:
         Raises:
             ProgramError: The program has ended otherwise, or the log has other cash than the books.
         """
+        self._exchange(b"", 0)
         log = self._process.finish()
         if [row[1] for row in score_rows(log)] != self.books.cash:
             raise program.ProgramError("the log has other cash than the books")
@@ -124,8 +131,8 @@ class Market:
         other = object.__new__(Market)
         vars(other).update({name: copy.copy(value) for name, value in vars(self).items()
                             if name not in ("_process", "books")})
-        other.books, other._process = self.books.copied(), Stepped(self._text)
-        script = self.script
+        other.books, other._process = self.books.copied(), Stepped(self.text.encode())
+        script, other._waiting = self.script, b""
         other._process.exchange(script, script.count(b"\n") - self.books.tick)
         return other
 

@@ -236,8 +236,15 @@ class _Lines:
 
     def numbers(self, word: str, ranges: Sequence[Tuple[int, int]]) -> List[int]:
         """The numbers of the next line, each in its range."""
-        return [self._number(text, low, high)
-                for text, (low, high) in zip(self.take(word, len(ranges)), ranges)]
+        words = self.take(word, len(ranges))
+        try:
+            numbers = list(map(int, words))
+        except ValueError:
+            numbers = []
+        if list(map(str, numbers)) == words and all([low <= number <= high for number, (low, high)
+                                                     in zip(numbers, ranges)]):
+            return numbers
+        return [self._number(text, low, high) for text, (low, high) in zip(words, ranges)]
 
     def _number(self, text: str, low: int, high: int) -> int:
         plain = text[1:] if low < 0 and text.startswith("-") else text
