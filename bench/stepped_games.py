@@ -1,137 +1,109 @@
 #!/usr/bin/env python3
-"""Measures games in steps on one processor: how many a second, in the environment and as before.
+"""Measures games in steps on one processor: how many steps a second.
 
-    bench/stepped_games.py crates/tacd/out/tacd --processor 3
+    bench/stepped_games.py crates/tacd/out/tacd --processor 3 --beside ../before/python
 
-A game is `reset` with a seed of its own, 54 steps with the quotes of all 28 goods, which are read,
-and `close`; nobody asks anything more. Beside
-`geesefuton.learning.environment`, where a game is one process, it plays games as `examples/step.py` did before: that started a process in each step, which
-played the script so far again. A third way is the environment where each step tells what the
-scores would be, and somebody bids in each. They take turns, round by round, in this process, which
-keeps to one processor with all that it starts. The output has for each the games in a second of
-wall time, in the best round and in the median one, and the milliseconds of a processor for a game
-in the median one, of Python and of the program.
+A game is `reset` with a seed of its own, 54 steps and `close`. There are three ways: nobody asks
+anything, and the quotes of all goods are read; all eight agents read what they hold and their cash;
+and one agent bids in each step, and scores are told. The ways take turns, round by round, each in a
+process of its own that keeps to one processor with all that it starts. With `--beside` the package
+in another folder, of another version, plays the same games in turn with this one, and has to see
+the same; where its observations have no holdings, its agents ask for them. The output has for each
+way the steps in a second of a processor and of wall time, in the median round.
 """
 
 import os
-import resource
 import statistics
 import sys
-import tempfile
-import time
-from pathlib import Path
-from typing import Callable, Dict, List, NamedTuple, Tuple
+from typing import Dict, List, NamedTuple, Tuple
 
-from running import Parser, command, file_of, whole
+from running import Parser, command, file_of, run, whole
 
-from geesefuton import program
-from geesefuton.learning.environment import Environment
-from geesefuton.records.games import GOODS, TICKS
+from geesefuton.program import ProgramError
+
+HERE = os.path.join(os.path.dirname(os.path.dirname(os.path.abspath(__file__))), "python")
+WAYS = ("nobody asks", "all read", "scores")
+# Plays games, and prints the seconds, the seconds of a processor, and a sum over what was seen.
+PLAYER = """
+import os, resource, sys, time
+folder, way, processor, first, count = sys.argv[1:]
+sys.path.insert(0, folder)
+try:
+    from geesefuton.learning.environment import Environment
+except ImportError:
+    from geesefuton.environment import Environment
+os.sched_setaffinity(0, {int(processor)})
+def spent():
+    both = map(resource.getrusage, (resource.RUSAGE_SELF, resource.RUSAGE_CHILDREN))
+    return sum(each.ru_utime + each.ru_stime for each in both)
+environment, seen = Environment(scores=way == "scores"), 0
+reading = [*(f"own {good}" for good in range(28)), "cash"]
+wall, before = time.perf_counter(), spent()
+for seed in range(int(first), int(first) + int(count)):
+    observations, _ = environment.reset(seed)
+    agents = list(environment.agents)
+    has_holdings = "holdings" in observations[agents[0]]
+    while environment.agents:
+        actions = {}
+        if way == "scores":
+            actions = {agents[0]: ["bid 27 ((1 1))"]}
+        elif way == "all read" and not has_holdings:
+            actions = dict.fromkeys(agents, reading)
+        if way == "all read" and has_holdings:
+            seen += sum(sum(observations[agent]["holdings"]) + observations[agent]["cash"]
+                        for agent in agents)
+        observations, *_ = environment.step(actions)
+        if way != "all read":
+            seen += sum(ask for _, ask, _ in observations[agents[0]]["quotes"])
+        elif not has_holdings:
+            seen += sum(int(reply.split()[2]) for agent in agents
+                        for reply in observations[agent]["replies"])
+environment.close()
+print(time.perf_counter() - wall, spent() - before, seen)
+"""
 
 
 class Round(NamedTuple):
-    """The seconds of a game on average: of wall time, and of a processor, of Python and of the
-    program."""
+    """The steps in a second of wall time and of a processor, and a sum over what was seen."""
 
     wall: float
-    python: float
-    program: float
+    processor: float
+    seen: int
 
 
-def steps(environment: Environment, seed: int, asked: List[str]) -> Tuple[int, bytes]:
-    """Plays a game in which an agent asks the same in each step. Gives the sum of all asks that it
-    has seen, and the log."""
-    observations, _ = environment.reset(seed)
-    agent, seen = environment.agents[0], 0
-    while environment.agents:
-        seen += sum(ask for _, ask, _ in observations[agent]["quotes"])
-        observations, *_ = environment.step({agent: asked})
-    environment.close()
-    assert environment.log is not None
-    return seen, environment.log
-
-
-def in_the_environment(seed: int) -> Tuple[int, bytes]:
-    """Plays a game in one process."""
-    return steps(Environment(), seed, [])
-
-
-def with_scores(seed: int) -> Tuple[int, bytes]:
-    """Plays a game whose steps tell scores."""
-    return steps(Environment(scores=True), seed, ["bid 27 ((1 1))"])
-
-
-def as_before(seed: int) -> Tuple[int, bytes]:
-    """Plays a game with a process for each step. Gives the same as `steps`."""
-    seen, log = 0, ""
-    with tempfile.TemporaryDirectory() as folder:
-        game, script = Path(folder, "game"), Path(folder, "script")
-        game.write_text(program.make(seed))
-        program.show(game)
-        for tick in range(TICKS + 1):
-            lines = ["tick"] * tick + [f"0 quote {good}" for good in GOODS]
-            script.write_text("".join(line + "\n" for line in lines))
-            *told, log = program.play(game, script).split("\n", len(GOODS))
-            asks = [int(line.split()[4]) for line in told]
-            seen += sum(asks) if tick < TICKS else 0
-    return seen, log.encode()
-
-
-WAYS: Dict[str, Callable[[int], Tuple[int, bytes]]] = {
-    "in the environment": in_the_environment,
-    "with scores": with_scores,
-    "as before": as_before}
-
-
-def spent(who: int) -> float:
-    """The seconds of a processor that this process, or those that it has waited for, have used."""
-    used = resource.getrusage(who)
-    return used.ru_utime + used.ru_stime
-
-
-def measured(play: Callable[[int], Tuple[int, bytes]], seeds: List[int]) -> Round:
-    """Plays the games of some seeds."""
-    wall, own = time.perf_counter(), spent(resource.RUSAGE_SELF)
-    others = spent(resource.RUSAGE_CHILDREN)
-    for seed in seeds:
-        play(seed)
-    return Round((time.perf_counter() - wall) / len(seeds),
-                 (spent(resource.RUSAGE_SELF) - own) / len(seeds),
-                 (spent(resource.RUSAGE_CHILDREN) - others) / len(seeds))
+def measured(folder: str, way: str, processor: int, first: int, count: int) -> Round:
+    """Plays games with the package of a folder."""
+    words = [sys.executable, "-c", PLAYER, folder, way, str(processor), str(first), str(count)]
+    wall, spent, seen = run(words).text.split()
+    return Round(54 * count / float(wall), 54 * count / float(spent), int(seen))
 
 
 def main() -> int:
-    parser = Parser("stepped_games", __doc__)
+    parser = Parser("stepped_games", __doc__ or "")
     parser.add_argument("tac", help="the file of tac")
+    parser.add_argument("--beside", metavar="FOLDER", help="the folder of the other package")
     parser.add_argument("--processor", type=whole(0), default=max(os.sched_getaffinity(0)),
                         help="the number of the processor; the last one")
-    parser.add_argument("--rounds", type=whole(1), default=5, help="rounds of each; 5")
-    parser.add_argument("--games", type=whole(1), default=100,
-                        help="games of a round in the environment; 100")
-    parser.add_argument("--others", type=whole(1), default=3,
-                        help="games of a round of the two other ways; 3")
+    parser.add_argument("--rounds", type=whole(1), default=5, help="rounds of each way; 5")
+    parser.add_argument("--games", type=whole(1), default=20, help="games of a round; 20")
     given = parser.parse_args()
     os.environ["TAC"] = file_of(given.tac)
     if given.processor not in os.sched_getaffinity(0):
         parser.error(f"there is no processor {given.processor}")
-    os.sched_setaffinity(0, {given.processor})
-    if in_the_environment(0) != as_before(0):
-        print("the game of seed 0 differs")
-        return 1
-    counts = dict.fromkeys(WAYS, given.others)
-    counts["in the environment"] = given.games
-    rounds: Dict[str, List[Round]] = {way: [] for way in WAYS}
-    seed = 1
-    for _ in range(given.rounds):
-        for way, play in WAYS.items():
-            rounds[way].append(measured(play, list(range(seed, seed + counts[way]))))
-            seed += counts[way]
-    for way, each in rounds.items():
-        wall = [1 / one.wall for one in each]
-        print(f"{way:18} {len(each)} rounds of {counts[way]} games; games a second: best "
-              f"{max(wall):.1f}, median {statistics.median(wall):.1f}; milliseconds of a processor "
-              f"a game: Python {1000 * statistics.median(one.python for one in each):.2f}, program "
-              f"{1000 * statistics.median(one.program for one in each):.2f}", flush=True)
+    folders = [HERE, *([os.path.abspath(given.beside)] if given.beside else [])]
+    rounds: Dict[Tuple[str, str], List[Round]] = {}
+    for number in range(given.rounds):
+        for way in WAYS:
+            found = [measured(folder, way, given.processor, 1 + number * given.games, given.games)
+                     for folder in folders]
+            if len({each.seen for each in found}) != 1:
+                raise ProgramError(f"{way}: the two packages saw different games")
+            for folder, each in zip(folders, found):
+                rounds.setdefault((way, folder), []).append(each)
+    for (way, folder), each_round in rounds.items():
+        print(f"{way:12} steps a second of a processor "
+              f"{statistics.median(each.processor for each in each_round):6.0f}, of wall time "
+              f"{statistics.median(each.wall for each in each_round):6.0f}  {folder}", flush=True)
     print(f"load {os.getloadavg()[0]:.1f}")
     return 0
 

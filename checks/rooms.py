@@ -4,8 +4,8 @@
     checks/rooms.py
 
 It fails if a module of python/geesefuton imports from a room above its own or beside it, if it uses
-a private member that another module defines, be it by a class that it extends, or if it has more
-than 500 lines. The rooms are listed below, the lowest first; those of one line stand beside each
+a private member that another module defines, be it by a class that it extends, if it has 500 lines
+or more, or if the map in python/README.md does not name it. The rooms are listed below, the lowest first; those of one line stand beside each
 other.
 """
 
@@ -19,6 +19,7 @@ from trying import TOP, Parser
 from geesefuton.processes import command
 
 PACKAGE = TOP / "python" / "geesefuton"
+MAP = TOP / "python" / "README.md"
 # A name is a room if it is a folder, and otherwise a module of the package's own folder.
 ORDER = (("program", "processes", "arguments"), ("records",), ("link",), ("hosting", "learning"),
          ("experiments",))
@@ -184,11 +185,17 @@ def faults_of(modules: Dict[str, Module]) -> List[str]:
     return faults
 
 
+def not_in_map(modules: Dict[str, Module], text: str) -> List[str]:
+    """A fault for each module that a map does not name."""
+    return [f"{where(module, 1)}: python/README.md does not name it" for module in modules.values()
+            if module.file.name != "__init__.py" and f"`{module.file.name}`" not in text]
+
+
 def main() -> int:
     """Prints the faults, and returns 1 if there is one."""
     Parser("checks/rooms.py", __doc__ or "").parse_args()
     modules = read_modules(PACKAGE)
-    faults = faults_of(modules)
+    faults = faults_of(modules) + not_in_map(modules, MAP.read_text(encoding="utf-8"))
     for fault in faults:
         print("rooms.py: " + fault.replace(f"{TOP}/", ""))
     print(f"rooms.py: {f'{len(faults)} faults' if faults else f'{len(modules)} modules in order'}")

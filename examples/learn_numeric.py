@@ -3,10 +3,10 @@
 
 Its policy has a table: for each phase of a game, which is how many hotel nights have closed, and
 each group of goods (flights, hotel nights, tickets) how likely each level of `geesefuton.learning.
-numeric` is. In each game it draws a level for each of these, plays, and makes what it drew likelier
-by how much the game's rewards were above the mean (REINFORCE). Its rivals are planners. It draws
-from `--seed` alone. It learns from the games of the seeds 1, 2, .., and is compared in those of
-1,000,001, .., which it has not seen, with the likeliest levels. It needs `numpy`.
+numeric` is. It plays each game eight times with levels that it draws, and makes those likelier by
+how much their rewards were above the mean of the eight (REINFORCE). Its rivals are planners. It
+draws from `--seed` alone. It learns from the games of the seeds 1, 2, .., and is compared in those
+of 1,000,001, .., which it has not seen, with the likeliest levels. It needs `numpy`.
 """
 
 import argparse
@@ -25,7 +25,7 @@ from geesefuton.processes import command
 from geesefuton.records.games import read_game
 
 GROUPS = ((0, 8), (8, 16), (16, 28))  # the goods of a group: flights, hotel nights, tickets
-PHASES, BATCH, RATE, MEMORY = 9, 8, 0.3, 0.9
+PHASES, TIMES, RATE = 9, 8, 1.0
 CLOSED = slice(41, 49)  # the places of an observation that tell which nights have closed
 UNSEEN = 1_000_001
 
@@ -53,30 +53,27 @@ def play(environment, seed, levels):
 
 def learn(environment, given, source):
     """The table after all games."""
-    table, usual = np.zeros((PHASES, len(GROUPS), LEVELS)), None
+    table, told = np.zeros((PHASES, len(GROUPS), LEVELS)), []
     table[:, 2, 0] = 2.0  # at first tickets are mostly left alone
-    for batch in range(given.games // BATCH):
-        odds, step, rewards = likelihoods(table), np.zeros_like(table), []
-        drawn = []
-        for number in range(BATCH):
+    for seed in range(1, given.games + 1):
+        odds, rewards, drawn = likelihoods(table), [], []
+        for _ in range(TIMES):
             levels = (odds.cumsum(-1) > source.random((PHASES, len(GROUPS), 1))).argmax(-1)
-            reward, _ = play(environment, 1 + batch * BATCH + number, levels)
-            rewards.append(reward)
+            rewards.append(play(environment, seed, levels)[0])
             drawn.append(np.eye(LEVELS)[levels] - odds)
         mean, spread = statistics.mean(rewards), statistics.pstdev(rewards) or 1.0
-        usual = mean if usual is None else MEMORY * usual + (1 - MEMORY) * mean
         for reward, gradient in zip(rewards, drawn):
-            step += (reward - usual) / spread * gradient
-        table += RATE * step / BATCH
-        if batch % 10 == 9:
-            print(f"{(batch + 1) * BATCH} games: a reward of {usual:.2f} a game", flush=True)
+            table += RATE / TIMES * (reward - mean) / spread * gradient
+        told.append(mean)
+        if seed % 20 == 0:
+            print(f"{seed} games: a reward of {statistics.mean(told[-20:]):.2f} a game", flush=True)
     return table
 
 
 def main():
     parser = argparse.ArgumentParser(description=__doc__,
                                      formatter_class=argparse.RawDescriptionHelpFormatter)
-    parser.add_argument("--games", type=whole(BATCH), default=800, help="games to learn from (800)")
+    parser.add_argument("--games", type=whole(0), default=200, help="games to learn from (200)")
     parser.add_argument("--unseen", type=whole(2), default=80, help="games to compare in (80)")
     parser.add_argument("--seed", type=whole(0), default=1, help="what it draws from (1)")
     given = parser.parse_args()

@@ -69,3 +69,11 @@ class Rooms(unittest.TestCase):
         self.assertEqual(self.faults(link="\n" * 499), [])
         self.assertEqual(self.faults(link="\n" * 500),
                          ["link.py:500: modules have fewer than 500 lines"])
+
+    def test_the_map_names_each_module(self) -> None:
+        with tempfile.TemporaryDirectory() as folder:
+            Path(folder, "__init__.py").write_text("")
+            Path(folder, "link.py").write_text("")
+            modules = rooms.read_modules(Path(folder))
+            self.assertEqual(rooms.not_in_map(modules, "the `link.py`"), [])
+            self.assertRegex(rooms.not_in_map(modules, "link.py")[0], "link.py:1: .* not name it")

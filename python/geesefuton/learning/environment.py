@@ -210,10 +210,10 @@ class Environment(ParallelEnv):  # type: ignore[misc]
         """
         seed = self._next if seed is None else _seed(seed)
         self.close()
-        game = self._given or self._made(seed)
+        game, text = (self._given, "") if self._given else self._made(seed)
         self.seed = None if self._given else seed
         self._next = (seed + 1) % (MOST_SEED + 1)
-        market = Market(game)
+        market = Market(game, text)
         self._clear(market.text)
         self._market = market
         self._books, self._boards = market.books, list(market.books.boards)
@@ -226,13 +226,14 @@ class Environment(ParallelEnv):  # type: ignore[misc]
                  for agent, seat in self._seats.items()}
         return self._observations({}), infos
 
-    def _made(self, seed: int) -> Game:
-        """The game of a seed."""
-        game = read_game(program.make(seed))
+    def _made(self, seed: int) -> Tuple[Game, str]:
+        """The game of a seed, and its canonical text if that is at hand."""
+        text = program.make(seed)
+        game = read_game(text)
         if self._rooms is None and not self._live:
-            return game
+            return game, text
         rooms = drawn_rooms(seed, *self._rooms) if self._rooms else [ROOMS] * len(HOTELS)
-        return game.with_rooms(rooms, self._live)
+        return game.with_rooms(rooms, self._live), ""
 
     def step(self, actions: Actions) -> Step:
         """Asks the requests of the agents, and lets a tick pass after the last round.
@@ -288,7 +289,9 @@ class Environment(ParallelEnv):  # type: ignore[misc]
                 _check(agent, request)
             asked[seat] = list(requests)
         try:
-            self._market.check([(seat, line) for seat, lines in asked.items() for line in lines])
+            if asked:
+                self._market.check([(seat, line) for seat, lines in asked.items()
+                                    for line in lines])
         except LimitError as fault:
             raise ActionError(str(fault)) from None
         return asked
@@ -297,6 +300,8 @@ class Environment(ParallelEnv):  # type: ignore[misc]
         """Lets each seat act, and gives the replies to each that asked something."""
         waiting: List[Tuple[int, str]] = []
         replies: Dict[int, List[str]] = {}
+        if not asked and not self._rivals:
+            return replies
         before = market.changes
         for seat in [*order_of_turn(self.tick, self.round), None]:
             if seat is not None and seat not in self._rivals:

@@ -26,18 +26,23 @@ class Market:
     """A game that is played in steps.
 
     Attributes:
-        game: The game, and `text` its file.
+        game: The game.
+        text: Its canonical text.
         books: What stands, is held and was paid.
         changes: How many bids and withdrawals were answered by an auction.
+
+    Args:
+        game: The game.
+        text: Its canonical text, if that is at hand.
 
     Raises:
         ProgramError: There is no program.
         OSError: There is no room for pipes.
     """
 
-    def __init__(self, game: Game) -> None:
+    def __init__(self, game: Game, text: str = "") -> None:
         self.game, self.books = game, Books(game)
-        self.text = game.text()
+        self.text = text or game.text()
         self._process = Stepped(self.text.encode())
         self._script: List[bytes] = []
         self._waiting = b""  # ticks that the process was not told yet

@@ -8,17 +8,17 @@ of Gymnasium, and `Seats` a `ParallelEnv` of PettingZoo.
 
 **An observation** is an array of 155 numbers, each scaled to a size of about 1: the tick; the asks
 of all goods; the bids of the tickets; which hotel nights are closed; what the seat holds of each
-good; what its plan at the present prices lacks of it (`geesefuton.learning.plans`); its cash; what
-the plan is worth; and six numbers for each client.
+good; what its trips at the present prices lack of it (`geesefuton.learning.trips`); its cash; what
+these trips are worth; and six numbers for each client.
 
 **An action** has a level for each of the 28 goods, 0 to 5; 0 leaves what stands. A flight's level
-above 0 buys the seats that the plan lacks. A hotel night's level bids for all of its rooms in the
-plan 1, 25, 50, 100 or 200 dollars above the quote. A ticket's levels bid for one at 20, 50 or 80
+above 0 buys the seats that the trips lack. A hotel night's level bids for all the rooms that they
+use 1, 25, 50, 100 or 200 dollars above the quote. A ticket's levels bid for one at 20, 50 or 80
 dollars, or offer one at 60 or 100.
 
-**The reward** is by how much the score that the plan promises has grown, in thousands of dollars:
-its worth, and the cash. After the last step it is the score itself that counts; so the rewards of a
-game are its score less what the plan promised at first.
+**The reward** is by how much the score that the trips promise has grown, in thousands of dollars:
+what they are worth, and the cash. After the last step it is the score itself that counts; so the
+rewards of a game are its score less what was promised at first.
 """
 
 from __future__ import annotations
@@ -30,7 +30,7 @@ import numpy
 
 from geesefuton.learning.environment import Environment
 from geesefuton.learning.interfaces import Env, ParallelEnv
-from geesefuton.learning.plans import NEVER, Plan, plan
+from geesefuton.learning.trips import NEVER, chosen
 from geesefuton.records.games import FLIGHTS, GOODS, HOTELS, TICKETS, TICKS
 
 SEATS = [f"seat{number}" for number in range(8)]
@@ -58,7 +58,7 @@ class View:
     """What a seat sees, in numbers, and what it asks.
 
     Attributes:
-        promised: What its plan and its cash promise as a score, in dollars.
+        promised: What its trips and its cash promise as a score, in dollars.
     """
 
     def __init__(self, seen: Dict[str, Any]) -> None:
@@ -66,8 +66,8 @@ class View:
         quotes, held = seen["quotes"], seen["holdings"]
         prices = [NEVER if is_closed else max(ask, 1) if good < TICKETS.start else ask or NEVER
                   for good, (_, ask, is_closed) in enumerate(quotes)]
-        self._plan: Plan = plan(seen["clients"], prices, held)
-        self.promised = self._plan.worth + int(seen["cash"])
+        self._trips = chosen(seen["clients"], prices, held)
+        self.promised = self._trips.worth + int(seen["cash"])
 
     def observation(self) -> Any:
         """The array of numbers."""
@@ -77,14 +77,14 @@ class View:
                    *(float(quotes[good][2]) for good in HOTELS),
                    *(units / 8 for units in seen["holdings"]),
                    *(self._lacking(good) / 8 for good in GOODS),
-                   seen["cash"] / 5000, self._plan.worth / 5000]
+                   seen["cash"] / 5000, self._trips.worth / 5000]
         for client in seen["clients"]:
             numbers += [wish / scale for wish, scale in zip(client, WISHES)]
         return numpy.array([min(100.0, max(-100.0, number)) for number in numbers],
                            dtype=numpy.float32)
 
     def _lacking(self, good: int) -> int:
-        return max(0, self._plan.wanted[good] - max(0, int(self._seen["holdings"][good])))
+        return max(0, self._trips.wanted[good] - max(0, int(self._seen["holdings"][good])))
 
     def requests(self, action: Sequence[int]) -> List[str]:
         """The requests that an action stands for.
@@ -102,7 +102,7 @@ class View:
             if good in FLIGHTS:
                 price += FOR_A_SEAT
             elif good in HOTELS:
-                units, price = self._plan.wanted[good], ask + ABOVE[level - 1]
+                units, price = self._trips.wanted[good], ask + ABOVE[level - 1]
             else:
                 units, price = TRADES[level - 1]
             if level and units and not is_closed and price <= MOST:

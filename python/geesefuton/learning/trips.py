@@ -1,6 +1,6 @@
-"""A plan of trips at given prices: what a seat still has to buy, and what its trips are worth.
+"""Trips at given prices: what a seat still has to buy for its clients, and what that is worth.
 
-The plan is greedy: each client in turn takes the trip that gains most, where what is held and left
+The choice is greedy: each client in turn takes the trip that gains most, where what is held and left
 by those before it costs nothing. So it is quick, and often not the best one.
 """
 
@@ -15,20 +15,20 @@ STAYS = [(arrive, depart) for arrive in range(1, 5) for depart in range(arrive +
 Wishes = Tuple[int, ...]  # arrival, departure, premium, and the values of the ticket types
 
 
-class Plan(NamedTuple):
-    """A plan.
+class Trips(NamedTuple):
+    """Trips of a seat's clients.
 
     Attributes:
-        wanted: How many units of each good its trips use.
-        worth: What its trips are worth less what is still to be bought costs, in dollars.
+        wanted: How many units of each good they use.
+        worth: What they are worth less what is still to be bought costs, in dollars.
     """
 
     wanted: List[int]
     worth: int
 
 
-def plan(clients: Sequence[Wishes], prices: Sequence[int], holdings: Sequence[int]) -> Plan:
-    """A plan for clients, at a price in dollars for each unit of a good that is not held."""
+def chosen(clients: Sequence[Wishes], prices: Sequence[int], holdings: Sequence[int]) -> Trips:
+    """Trips for clients, at a price in dollars for each unit of a good that is not held."""
     left, wanted, worth = list(holdings), [0] * len(GOODS), 0
     for client in clients:
         costs = [0 if units > 0 else price for units, price in zip(left, prices)]
@@ -37,13 +37,13 @@ def plan(clients: Sequence[Wishes], prices: Sequence[int], holdings: Sequence[in
         for good in goods:
             left[good] -= 1
             wanted[good] += 1
-    return Plan(wanted, worth)
+    return Trips(wanted, worth)
 
 
 def _trip(client: Wishes, costs: Sequence[int]) -> Tuple[int, List[int]]:
     """What the best trip of a client gains at these costs, and the goods that it uses."""
     wish_in, wish_out, premium, *values = client
-    best, stay, chosen = 0, (0, 0), 0
+    best, stay, house = 0, (0, 0), 0
     for hotel in (0, 1):
         for arrive, depart in STAYS:
             first = room(hotel, arrive)
@@ -51,11 +51,11 @@ def _trip(client: Wishes, costs: Sequence[int]) -> Tuple[int, List[int]]:
                     - costs[arrive - 1] - costs[depart + 2]
                     - sum(costs[first:first + depart - arrive]))
             if gain > best:
-                best, stay, chosen = gain, (arrive, depart), hotel
+                best, stay, house = gain, (arrive, depart), hotel
     if not best:
         return 0, []
     nights = list(range(*stay))
-    goods = [inbound(stay[0]), outbound(stay[1]), *(room(chosen, night) for night in nights)]
+    goods = [inbound(stay[0]), outbound(stay[1]), *(room(house, night) for night in nights)]
     for kind, value in sorted(enumerate(values), key=lambda each: -each[1]):
         cost, night = min(((costs[ticket(kind, night)], night) for night in nights),
                           default=(NEVER, 0))
