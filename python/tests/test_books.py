@@ -8,6 +8,7 @@ from geesefuton.learning.books import Books, Flight, Night, Tickets, text_of
 from geesefuton.records.games import CLOCK, FLIGHTS, GOODS, HOTELS, HOUSE, TICKETS, Game, read_game
 from geesefuton.records.logs import Entry, Log, read_log
 from geesefuton.records.replies import No, Own
+from geesefuton.records.rules import prices_of
 from tests.helpers import DATA, served_game, served_log
 
 Trade = Tuple[int, int, int]
@@ -25,7 +26,7 @@ class Logs(unittest.TestCase):
         """Plays the history of each auction, and compares trades, holdings and cash."""
         books, cash = Books(game), [0] * 8
         for good in GOODS:
-            flight = Flight(game.flights[good].prices()) if good in FLIGHTS else None
+            flight = Flight(prices_of(game.flights[good])) if good in FLIGHTS else None
             night = Night(game.rooms[good - 8], game.live) if good in HOTELS else None
             auction = flight or night or Tickets()
             for place, entry in enumerate(log.histories[good]):

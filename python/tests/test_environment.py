@@ -18,8 +18,8 @@ from geesefuton.learning.rivals import SeatLink, maker_of, scores_of
 from geesefuton.program import ProgramError
 from geesefuton.records.drawing import drawn_rooms
 from geesefuton.records.games import FLIGHTS, HOTELS, TICKS, Game, GameError, read_game
-from geesefuton.records.rules import prices_of
 from geesefuton.records.order import order_of_turn
+from geesefuton.records.rules import prices_of
 from tests import fake_gymnasium
 from tests.helpers import SERVED_GAME, TOP, fake_program, needs_program
 

@@ -10,8 +10,8 @@ from typing import Dict, List, Sequence, Tuple
 
 from geesefuton.records.games import AUCTIONS, FLIGHTS, HOTELS, SEATS, TICKETS, TICKS, Auction, Game
 from geesefuton.records.replies import Points
+from geesefuton.records.rules import MINUTE, prices_of
 
-MINUTE = 6  # ticks from one publication of a hotel's price to the next
 PENALTY = 200  # dollars for each ticket that an agent owes at the end
 Board = Tuple[int, int, bool]  # the bid, the ask, and whether the auction is closed
 Trade = Tuple[int, int, int]  # an agent, its units (below 0: sold), and the dollars for each
@@ -178,7 +178,7 @@ class Books:
         self.holdings = [[0] * TICKETS.start + list(endow) for endow in game.endow]
         self.cash = [0] * SEATS
         self._closing = game.closing
-        self._flights = [Flight(flight.prices()) for flight in game.flights]
+        self._flights = [Flight(prices_of(flight)) for flight in game.flights]
         self._nights = [Night(rooms, game.live) for rooms in game.rooms]
         self._tickets = [Tickets() for _ in TICKETS]
         self.boards: List[Board] = [(0, flight.price, False) for flight in self._flights]
