@@ -1,5 +1,6 @@
 import json
 import os
+import pickle
 import random
 import signal
 import subprocess
@@ -12,6 +13,7 @@ from typing import Any, Dict, List, Set, Tuple
 from unittest import mock
 
 from geesefuton.experiments.deals import Rule
+from geesefuton.experiments.match import Result
 from geesefuton.experiments.plan import Plan
 from geesefuton.experiments.provenance import Agent
 from geesefuton.experiments.results import HEAD, Outcome, Row, text_of
@@ -173,18 +175,17 @@ class Folders(unittest.TestCase):
             self.begin()
 
 
-# A stand-in for the process of a game: it writes that it has begun, and scores soon.
+# A stand-in for the process of a game: it writes that it has begun, and scores soon. It starts fast,
+# since it takes its job and gives its result as bytes.
 WORKER = """
-import os, random, sys, time
+import os, random, re, sys, time
 from multiprocessing.connection import Connection
-from geesefuton.experiments.match import Result
-from geesefuton.experiments.results import Outcome
 parent = Connection(int(sys.argv[1]))
-job = parent.recv()
+name = re.search(rb"[0-9]+[.][0-9]", parent.recv_bytes())[0].decode()
 with open(os.environ["BEGUN"], "a") as begun:
-    begun.write(job.name + "\\n")
+    begun.write(name + "\\n")
 time.sleep(random.random() * 0.1)
-parent.send(Result(tuple(range(8)), (Outcome.PLAYED,) * 8))
+parent.send_bytes(open(os.environ["RESULT"], "rb").read())
 time.sleep(60)
 """
 COMMAND = """
@@ -205,6 +206,8 @@ class Killed(unittest.TestCase):
         self.addCleanup(folder.cleanup)
         self.place = Path(folder.name)
         (self.place / "worker").write_text(WORKER)
+        result = Result(tuple(range(8)), (Outcome.PLAYED,) * 8)
+        (self.place / "result").write_bytes(pickle.dumps(result))
         self.begun, self.out = self.place / "begun", self.place / "run"
         self.begun.touch()
         self.tac = fake_program(self.place, f"cat '{SERVED_GAME}'")
@@ -215,7 +218,8 @@ class Killed(unittest.TestCase):
         return subprocess.Popen(
             python(COMMAND, self.place / "worker", *map(str, words)), stdin=subprocess.DEVNULL,
             stdout=subprocess.PIPE, stderr=subprocess.STDOUT, cwd=self.place,
-            env=variables({"TAC": self.tac, "BEGUN": str(self.begun)}))
+            env=variables({"TAC": self.tac, "BEGUN": str(self.begun),
+                           "RESULT": str(self.place / "result")}))
 
     def finished(self) -> Set[str]:
         return {f"{row.deal}.{row.rotation}" for row in read_scores(self.out).rows}
