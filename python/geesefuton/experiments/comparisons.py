@@ -8,7 +8,7 @@ seats are, and few values make a wide interval. Nothing is approximated by the n
 import functools
 import math
 from dataclasses import dataclass
-from typing import List, Optional, Sequence, Tuple
+from typing import List, NamedTuple, Optional, Sequence
 
 LEVEL = 0.95
 POWER = 0.8  # how often a difference is to be told that is there
@@ -204,28 +204,40 @@ def adjusted(values: Sequence[float], covariates: Sequence[Sequence[float]],
     count = len(values)
     if count < 3:
         return None
-    mean = mean_of(values)
-    rest = [value - mean for value in values]
-    there, room, used = mean, 1.0 / count, 0
-    earlier: List[Tuple[List[float], float, float]] = []  # their parts, sums of squares and places
-    for covariate, place in zip(covariates, at):
-        if used == max(1, count // UNITS):
-            break
-        middle = mean_of(covariate)
-        part, place = [value - middle for value in covariate], place - middle
-        for other, squares, other_place in earlier:
-            share = math.fsum(x * y for x, y in zip(part, other)) / squares
-            part = [x - share * y for x, y in zip(part, other)]
-            place -= share * other_place
-        squares = math.fsum(x * x for x in part)
-        if squares <= 1e-9 * math.fsum(max(1.0, value * value) for value in covariate):
-            continue
-        slope = math.fsum(x * y for x, y in zip(part, rest)) / squares
-        rest = [y - slope * x for x, y in zip(part, rest)]
-        there, room, used = there + slope * place, room + place * place / squares, used + 1
-        earlier.append((part, squares, place))
-    if not used:
+    axes = _axes(covariates, at, max(1, count // UNITS))
+    if not axes:
         return None
-    freedom = count - 1 - used
+    mean = mean_of(values)
+    rest, there, room = [value - mean for value in values], mean, 1.0 / count
+    for axis in axes:
+        slope = math.fsum(x * y for x, y in zip(axis.parts, rest)) / axis.squares
+        rest = [y - slope * x for x, y in zip(axis.parts, rest)]
+        there, room = there + slope * axis.place, room + axis.place * axis.place / axis.squares
+    freedom = count - 1 - len(axes)
     error = math.sqrt(math.fsum(y * y for y in rest) / freedom * room)
     return Estimate(there, student_quantile(freedom) * error, count)
+
+
+class _Axis(NamedTuple):
+    """A covariate about its mean, at right angles to those before it: its values, the sum of their
+    squares, and where the mean is told."""
+
+    parts: List[float]
+    squares: float
+    place: float
+
+
+def _axes(covariates: Sequence[Sequence[float]], at: Sequence[float], most: int) -> List[_Axis]:
+    """The first covariates, at most so many, without those that tell nothing more."""
+    axes: List[_Axis] = []
+    for covariate, place in zip(covariates, at):
+        middle = mean_of(covariate)
+        parts, place = [value - middle for value in covariate], place - middle
+        for axis in axes:
+            share = math.fsum(x * y for x, y in zip(parts, axis.parts)) / axis.squares
+            parts = [x - share * y for x, y in zip(parts, axis.parts)]
+            place -= share * axis.place
+        squares = math.fsum(x * x for x in parts)
+        if squares > 1e-9 * math.fsum(max(1.0, value * value) for value in covariate):
+            axes.append(_Axis(parts, squares, place))
+    return axes[:most]
