@@ -13,7 +13,7 @@ from geesefuton.processes import Output
 from geesefuton.records.tables import csv_of
 from tests.helpers import TOP, refusal
 
-SETTINGS = "agents=mine,planner rotations=2 turns=40 rooms=16..16"
+SETTINGS = "agents=mine+planner rotations=2 turns=40 rooms=16..16"
 
 
 def source(name: str, *deals: int, seats: int = 4, **more: Any) -> Source:
@@ -44,7 +44,7 @@ class Differences(unittest.TestCase):
     def test_settings(self) -> None:
         self.told("turns is 20 and not 40",
                   source("b.csv", 3, settings=SETTINGS.replace("turns=40", "turns=20")))
-        self.told("agents is mine,planner*7 and not mine,planner",
+        self.told("agents is mine+planner*7 and not mine+planner",
                   source("b.csv", 3, settings=SETTINGS.replace("planner", "planner*7")))
         self.told("the settings of one of them are not known, as in files of earlier versions",
                   source("b.csv", 3, settings=""))
@@ -79,7 +79,7 @@ class Differences(unittest.TestCase):
 
 class Pools(unittest.TestCase):
     def test_each_pool_has_its_name_and_common_deals_are_compared(self) -> None:
-        mixed = SETTINGS.replace("agents=mine,", "agents=mine*7,")
+        mixed = SETTINGS.replace("agents=mine+", "agents=mine*7+")
         first, other = source("p/one.csv", 1, 2), source("p/seven.csv", 1, 2, seats=7,
                                                          settings=mixed)
         rows, refused = pooled([first, source("p/more.csv", 3), other])

@@ -27,7 +27,7 @@ class Settings(unittest.TestCase):
 
     def test_games_by_the_clock_and_in_turns(self) -> None:
         digests = {"tac": digest_of(Path(self.tac))[:12], "package": package_digest()[:12]}
-        shared = {"agents": "sh,cat", "rotations": "2", "rooms": "16..16", "live": "false",
+        shared = {"agents": "sh+cat", "rotations": "2", "rooms": "16..16", "live": "false",
                   "form": "words", "start": "20"}
         self.assertEqual(self.settings(), {**shared, "pace": "100", "after": "5", **digests})
         self.assertEqual(self.settings("--turns", "40"), {

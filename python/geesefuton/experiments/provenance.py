@@ -108,14 +108,14 @@ def _imported(file: Path) -> List[Path]:
 
 
 def names_text(names: Sequence[str]) -> str:
-    """The names of agents in their order, each quoted, with how often in a row."""
+    """The names of agents in their order, each as in an address, with how often in a row."""
     runs: List[List[Any]] = []
     for name in names:
         if runs and runs[-1][0] == name:
             runs[-1][1] += 1
         else:
             runs.append([name, 1])
-    return ",".join(quote(name, safe="") + (f"*{count}" if count > 1 else "")
+    return "+".join(quote(name, safe="") + (f"*{count}" if count > 1 else "")
                     for name, count in runs)
 
 
