@@ -2,7 +2,8 @@ import unittest
 from collections import Counter
 
 from geesefuton.records.games import SEATS, TICKS
-from geesefuton.records.order import order_of_turn
+from geesefuton.records.order import first_seat, order_of_turn
+from tests.helpers import served_game
 
 
 class Order(unittest.TestCase):
@@ -33,6 +34,21 @@ class Order(unittest.TestCase):
             after = [order_of_turn(tick, turn)[0] for tick in range(6, 54, 6)]
             self.assertEqual(sorted(before), list(range(SEATS)))
             self.assertEqual(sorted(after), list(range(SEATS)))
+
+    def test_the_first_seat_of_a_game_shifts_all_turns(self) -> None:
+        for first in range(SEATS):
+            for tick, turn in ((0, 0), (5, 7), (54, 3)):
+                self.assertEqual(order_of_turn(tick, turn, first),
+                                 [(seat + first) % SEATS for seat in order_of_turn(tick, turn)])
+
+    def test_the_first_seat_is_another_from_game_to_game_and_the_same_with_other_words(self) -> None:
+        game = served_game()
+        text = game.text()
+        self.assertEqual(first_seat(game.named([f"other{seat}" for seat in range(SEATS)]).text()),
+                         first_seat(text))
+        counts = Counter(first_seat(text + f"flight 0 {number}\n") for number in range(800))
+        self.assertEqual(sorted(counts), list(range(SEATS)))
+        self.assertTrue(all(60 <= count <= 140 for count in counts.values()), counts)
 
 
 if __name__ == "__main__":

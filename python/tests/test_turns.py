@@ -21,11 +21,12 @@ from geesefuton.hosting.events import End, Event
 from geesefuton.hosting.lobby import Lobby
 from geesefuton.hosting.settings import LobbySettings
 from geesefuton.link import Link
-from geesefuton.records.games import TICKS
-from geesefuton.records.order import order_of_turn
+from geesefuton.records.games import TICKS, read_game
+from geesefuton.records.order import first_seat, order_of_turn
 from tests.helpers import TOP, needs_step, run
 
 GAME = TOP / "examples" / "first.game"
+FIRST = first_seat(read_game(GAME.read_text()).text())  # the seat that is asked first
 FAKE = Path(__file__).resolve().parent / "fake_tac.py"
 WORDS = [f"seat{number}" for number in range(8)]
 MOST = 200.0  # seconds that anything may take, on a machine that is busy with other work
@@ -122,7 +123,7 @@ def due(count: int, *lines: Sequence[str]) -> List[str]:
     longest = max(map(len, lines))
     for place in range(max(longest, count * TICKS)):
         turn = place - count * tick
-        script += [f"{seat} {lines[seat][place]}" for seat in order_of_turn(tick, turn)
+        script += [f"{seat} {lines[seat][place]}" for seat in order_of_turn(tick, turn, FIRST)
                    if place < len(lines[seat])]
         if turn == count - 1 and tick < TICKS:
             script, tick = [*script, "tick"], tick + 1
@@ -135,8 +136,9 @@ class Turns(Case):
         self.agents(host, *[["own 1"] * 4 + ["quit"]] * 8)
         self.assertEqual(host.end(), [End.LEFT] * 8)
         asked = " ".join(line.split(" ")[0] for line in host.asked()[:34])
-        self.assertEqual(asked, "0 1 2 3 4 5 6 7 1 2 3 4 5 6 7 0 tick "
-                                "1 2 3 4 5 6 7 0 2 3 4 5 6 7 0 1 tick")
+        self.assertEqual(FIRST, 7)
+        self.assertEqual(asked, "7 0 1 2 3 4 5 6 0 1 2 3 4 5 6 7 tick "
+                                "0 1 2 3 4 5 6 7 1 2 3 4 5 6 7 0 tick")
 
     def test_one_request_of_each_in_a_turn(self) -> None:
         for count in (1, 3):
@@ -310,11 +312,11 @@ class Ends(Case):
 
     def test_an_interrupt(self) -> None:
         host = Host(self.folder)
-        agents = self.agents(host, ["own 1"], *[[]] * 7)
-        self.assertEqual([agents[0].line() for _ in range(11)][10], "@1 own 0 ()")
+        agents = self.agents(host, *[["own 1"] if seat == FIRST else [] for seat in range(8)])
+        self.assertEqual([agents[FIRST].line() for _ in range(11)][10], "@1 own 0 ()")
         host.lobby.interrupt()
         host.end()
-        self.assertEqual((host.status, agents[0].rest(), host.log.exists()), (130, [], False))
+        self.assertEqual((host.status, agents[FIRST].rest(), host.log.exists()), (130, [], False))
 
 
 class Wanderer(threading.Thread):

@@ -1,8 +1,8 @@
 """A game in turns: agents, unchanged ones over the same protocol, are answered one after another.
 
 There is no clock, and no server at a port. In a turn one request of each agent is asked, one after
-the other, and each turn begins one seat later (`order`); there are so many of them between two
-ticks. One process of `tac step` answers them all. An agent that takes its time is waited for: only
+the other, and each turn begins one seat later (`records.order`); there are so many of them between
+two ticks. One process of `tac step` answers them all. An agent that takes its time is waited for: only
 if it says nothing for very long, `patience`, is it passed over, and so at each turn until it speaks
 again.
 
@@ -24,7 +24,7 @@ from geesefuton.hosting.sessions import Session
 from geesefuton.learning.stepping import Stepped
 from geesefuton.records.dialects import MOST_LINE, said_in, words_for
 from geesefuton.records.games import TICKS
-from geesefuton.records.order import order_of_turn
+from geesefuton.records.order import first_seat, order_of_turn
 
 MOST_TURNS = 1000  # between two ticks, so that the 65,536 lines of a session last
 LAST_TURNS = 1024  # of each agent after the last tick
@@ -87,6 +87,7 @@ class TurnServer:
     def __init__(self, turns: int, patience: float) -> None:
         self._turns, self._patience = turns, patience
         self._turners: List[Turner] = []
+        self._first = 0  # the seat that is asked first
 
     @property
     def passed(self) -> List[int]:
@@ -109,6 +110,7 @@ class TurnServer:
                 sessions.append(Session(seat, ours))
                 self._turners.append(Turner(seat.number, theirs))
             game.relay.begin(sessions)
+            self._first = first_seat(game.text)
             game.control.phase = Phase.PLAYING
             for turner in self._turners:
                 turner.say(welcome(game.text, turner.seat))
@@ -139,7 +141,7 @@ class TurnServer:
     def _take_turns(self, game: HostedGame, table: Stepped, tick: int, turns: range) -> None:
         """Gives each agent these turns after a tick."""
         for turn in turns:
-            for seat in order_of_turn(tick, turn):
+            for seat in order_of_turn(tick, turn, self._first):
                 turner = self._turners[seat]
                 line = None if turner.is_over else self._wait(game, turner)
                 if game.is_stopped:

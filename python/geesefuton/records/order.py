@@ -6,8 +6,12 @@ sixth tick, and six is even, so the first turn after such a tick begins one seat
 otherwise only every other seat would ever be first before a closing. Whichever turn between two
 ticks an agent acts in, over the first 48 ticks each seat is first in it six times, and once among
 the turns before the eight closings.
+
+What counts most may happen in the first turns, which come once in a game. So another seat is first
+there from game to game, and the same one in all games of a deal.
 """
 
+import hashlib
 from typing import List
 
 from geesefuton.records.games import SEATS
@@ -15,12 +19,23 @@ from geesefuton.records.games import SEATS
 CLOSING = 6  # ticks from one closing of a hotel to the next
 
 
-def order_of_turn(tick: int, turn: int) -> List[int]:
+def first_seat(text: str) -> int:
+    """The seat that is asked first in a game, as if it were drawn.
+
+    Args:
+        text: The canonical text of the game file; its line of words does not count.
+    """
+    lines = [line for line in text.split("\n") if not line.startswith("words ")]
+    return hashlib.sha256("\n".join(lines).encode("ascii")).digest()[0] % SEATS
+
+
+def order_of_turn(tick: int, turn: int, first: int = 0) -> List[int]:
     """The eight seats in the order in which they are asked.
 
     Args:
         tick: How many ticks have come, 0 to 54.
         turn: Which of the turns since then it is, from 0.
+        first: The seat that is asked first in the game.
     """
-    first = tick + tick // CLOSING + turn
-    return [(first + place) % SEATS for place in range(SEATS)]
+    start = first + tick + tick // CLOSING + turn
+    return [(start + place) % SEATS for place in range(SEATS)]
