@@ -1,3 +1,4 @@
+import json
 import os
 import signal
 import sys
@@ -135,6 +136,11 @@ class Matches(unittest.TestCase):
         with Children() as children:
             return Match(job, children, self.sent.append).play()
 
+    def events_of(self, kind: str) -> List[Any]:
+        """The events of a kind in the file that has them."""
+        told = map(json.loads, (self.place / "7.0.events").read_text("ascii").splitlines())
+        return [event for event in told if event["event"] == kind]
+
     def notes(self) -> str:
         return "\n".join(message.text for message in self.sent if isinstance(message, Note))
 
@@ -145,7 +151,9 @@ class Matches(unittest.TestCase):
         self.assertEqual(self.notes(), "")
         self.assertEqual((self.place / "7.0.game").read_text(), SERVED_GAME.read_text())
         self.assertEqual((self.place / "7.0.log").read_bytes(), SERVED_LOG.read_bytes())
-        self.assertEqual((self.place / "7.0.events").read_text().count("Ended("), 8)
+        self.assertEqual(self.events_of("ended"),
+                         [json.loads(events.json_of(message)) for message in self.sent
+                          if isinstance(message, events.Ended)])
         self.assertEqual(sum(isinstance(message, events.Ended) for message in self.sent), 8)
 
     def test_the_lobby_gets_what_the_job_says(self) -> None:
@@ -192,7 +200,7 @@ class Matches(unittest.TestCase):
         self.assertEqual((result.fault, len(result.scores)), ("", 8))
         self.assertEqual((self.place / "7.0.game").read_text(), SERVED_GAME.read_text())
         self.assertEqual((self.place / "7.0.log").read_bytes(), SERVED_LOG.read_bytes())
-        self.assertEqual((self.place / "7.0.events").read_text().count("Ended("), 8)
+        self.assertEqual(len(self.events_of("ended")), 8)
         for name in names:
             self.assertEqual((self.place / f"7.0.out.{name}").read_text(), f"printed by {name}\n")
 
@@ -274,7 +282,7 @@ class Matches(unittest.TestCase):
                          [False, True, False, True, False, True, False, False])
         self.assertEqual([told for told in self.sent if isinstance(told, events.Ticked)],
                          self.lobby.lines)
-        self.assertEqual((self.place / "7.0.events").read_text().count("Ticked("), 3)
+        self.assertEqual([told["tick"] for told in self.events_of("ticked")], [36, 37, 54])
         self.assertIn("agent1 at seat 1 (red1) did not quit in time, and its link was ended",
                       self.notes())
 

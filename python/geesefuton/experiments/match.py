@@ -170,7 +170,7 @@ class Match:
         self._lines: Dict[int, Tuple[int, ...]] = {}  # that agents had sent, by tick
         self._game = job.folder / f"{job.name}.game"
         self._log = job.folder / f"{job.name}.log"
-        self._events = (job.folder / f"{job.name}.events").open("w", encoding="utf-8")
+        self._events = (job.folder / f"{job.name}.events").open("w", encoding="ascii")
 
     def play(self) -> Result:
         """Plays the game.
@@ -213,7 +213,7 @@ class Match:
             self._lines[event.tick] = event.lines
         if isinstance(event, events.Departed) and event.seat in self._exits:
             self._order(f"without {event.word}")  # an earlier one came while it was still here
-        self._events.write(f"{event}\n")
+        self._events.write(events.json_of(event) + "\n")
         self._send(event)
 
     def _start_agents(self, port: int) -> None:
