@@ -305,12 +305,11 @@ class Keeping(unittest.TestCase):
         self.assertEqual(len(self.warned), 1)
 
     def test_a_closed_journal_holds_no_file(self) -> None:
+        before = len(os.listdir("/dev/fd"))
         journal = Journal(self.file, self.fail)
-        number = journal._number
-        assert number is not None
+        self.assertEqual(len(os.listdir("/dev/fd")), before + 1)
         journal.close()
-        with self.assertRaises(OSError):
-            os.fstat(number)
+        self.assertEqual(len(os.listdir("/dev/fd")), before)
 
 
 class Meaning(unittest.TestCase):
