@@ -1,4 +1,4 @@
-import importlib
+import importlib.util
 import re
 import subprocess
 import sys
@@ -56,3 +56,13 @@ class Examples(unittest.TestCase):
         self.assertEqual(first, again)
         self.assertNotEqual(first[0], other[0])
         self.assertRegex(first[-1], "^2 games that it has not seen: -?[0-9]+ dollars a game more")
+
+
+@unittest.skipUnless(importlib.util.find_spec("numpy"), "numpy is not installed")
+@needs_program
+class InNumbers(unittest.TestCase):
+    def test_the_learner_in_numbers_draws_from_its_seed_alone(self) -> None:
+        words = ["--games", "1", "--unseen", "2", "--seed"]
+        first, again = (ran("learn_numeric.py", *words, "5") for _ in range(2))
+        self.assertEqual(first, again)
+        self.assertRegex(first[-1], "^2 games that it has not seen: -?[0-9]+ dollars a game, the")
