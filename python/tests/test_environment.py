@@ -18,7 +18,7 @@ from geesefuton.learning.rivals import SeatLink, maker_of, scores_of
 from geesefuton.program import ProgramError
 from geesefuton.records.drawing import drawn_rooms
 from geesefuton.records.games import FLIGHTS, HOTELS, TICKS, Game, GameError, read_game
-from geesefuton.records.order import order_of_turn
+from geesefuton.records.order import first_seat, order_of_turn
 from geesefuton.records.rules import prices_of
 from tests import fake_gymnasium
 from tests.helpers import SERVED_GAME, TOP, fake_program, needs_program
@@ -419,7 +419,8 @@ class Games(unittest.TestCase):
                 environment.step(dict.fromkeys(reversed(environment.agents), ["cash"]))
             ticks = environment.script.split("tick\n")[:TICKS]
             orders = [[int(line[0]) for line in each.splitlines()] for each in ticks]
-            self.assertEqual(orders, [order_of_turn(tick, 0) for tick in range(TICKS)])
+            first = first_seat(environment.game)
+            self.assertEqual(orders, [order_of_turn(tick, 0, first) for tick in range(TICKS)])
             firsts = Counter(order[0] for order in orders)
             self.assertEqual((len(firsts), min(firsts.values())), (8, 6))
 

@@ -8,7 +8,8 @@
 
 An action is a list of request lines as in docs/PROTOCOL.md; an agent without an action asks
 nothing. In each step the requests are asked seat by seat, and then a tick comes. No seat gains by
-its place: each step begins one seat later (`geesefuton.records.order`). An observation has
+its place: each step begins one seat later, and a game with a seat that is as if drawn
+(`geesefuton.records.order`). An observation has
 
     tick        how many ticks have passed, 0 to 54
     round       the round in this tick; with several rounds a tick, the tick comes after the last
@@ -303,7 +304,7 @@ class Environment(ParallelEnv):  # type: ignore[misc]
         if not asked and not self._rivals:
             return replies
         before = market.changes
-        for seat in [*order_of_turn(self.tick, self.round), None]:
+        for seat in [*order_of_turn(self.tick, self.round, market.first), None]:
             if seat is not None and seat not in self._rivals:
                 waiting += [(seat, line) for line in asked.get(seat, ())]
                 continue

@@ -11,6 +11,7 @@ from geesefuton.learning.stepping import Stepped
 from geesefuton.records.dialects import MOST_LINE
 from geesefuton.records.games import SEATS, TICKS, Game
 from geesefuton.records.logs import MOST_BYTES
+from geesefuton.records.order import first_seat
 from geesefuton.records.replies import read_points
 
 MOST_LINES = 65_536  # of an agent in a game
@@ -28,6 +29,7 @@ class Market:
     Attributes:
         game: The game.
         text: Its canonical text.
+        first: The seat that is asked first.
         books: What stands, is held and was paid.
         changes: How many bids and withdrawals were answered by an auction.
 
@@ -43,6 +45,7 @@ class Market:
     def __init__(self, game: Game, text: str = "") -> None:
         self.game, self.books = game, Books(game)
         self.text = text or game.text()
+        self.first = first_seat(self.text)
         self._process = Stepped(self.text.encode())
         self._script: List[bytes] = []
         self._waiting = b""  # ticks that the process was not told yet

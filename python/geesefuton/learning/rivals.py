@@ -159,7 +159,7 @@ def scores_of(game: Game, makers: Mapping[int, Maker], seed: int) -> List[int]:
     try:
         players = Players(market, makers, seed)
         for tick in range(TICKS):
-            for seat in order_of_turn(tick, 0):
+            for seat in order_of_turn(tick, 0, market.first):
                 if seat in makers:
                     players.act(seat)
             market.advance()
