@@ -4,4 +4,4 @@ Nothing here is proved. The package starts the program `tac` and reads what it w
 Python 3.9 or later on Linux or macOS, and nothing else.
 """
 
-__version__ = "1.0.0"  # of the program and the package; also in CITATION.cff and CHANGELOG.md
+__version__ = "1.1.0"  # of the program and the package; also in CITATION.cff and CHANGELOG.md

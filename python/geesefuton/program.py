@@ -1,9 +1,10 @@
 """The file of tac, and its commands as calls.
 
-The file is the one that the environment variable TAC names, and otherwise crates/tacd/out/tacd of
-the clone that this package stands in.
+The file is the one that the environment variable TAC names. Without it, it is the one that a
+release has in the package, or crates/tacd/out/tacd of the clone that the package stands in.
 """
 
+import errno
 import os
 import shutil
 import subprocess
@@ -11,14 +12,16 @@ from pathlib import Path
 from typing import Any, Dict, List, Optional, Sequence, Tuple, Union
 
 __all__ = [
-    "INPUT", "MEANINGS", "OK", "CLOCK", "UNSOUND", "ProgramError", "audit", "ended", "find", "make",
-    "play", "run", "served_words", "show", "solve", "table", "top", "upgrade", "worth",
+    "INPUT", "MEANINGS", "OK", "CLOCK", "UNSOUND", "ProgramError", "audit", "ended", "examples",
+    "find", "make", "play", "run", "served_words", "show", "solve", "table", "top", "upgrade",
+    "why_not_run", "worth",
 ]
 
 Word = Union[str, int, "os.PathLike[str]"]
 
 OK, CLOCK, UNSOUND = 0, 6, 9  # exit statuses
 INPUT = "/dev/stdin"  # the file that has what a command is given
+BUNDLED = Path(__file__).resolve().parent / "bin" / "tac"  # in a release
 MEANINGS = {
     1: "the words are no command",
     2: "the game file is refused",
@@ -52,6 +55,20 @@ def top() -> Optional[Path]:
     return folder if (folder / "crates" / "tacd").is_dir() else None
 
 
+def examples() -> Path:
+    """The folder of the example agents and games, of a clone, a release or the package.
+
+    Raises:
+        ProgramError: There is none.
+    """
+    package = Path(__file__).resolve().parent
+    for folder in (package.parents[1] / "examples", package / "examples"):
+        if (folder / "agents").is_dir():
+            return folder
+    raise ProgramError("there is no folder of examples: install the package again, or run it from "
+                       "a clone")
+
+
 def find() -> str:
     """The file of tac.
 
@@ -59,6 +76,8 @@ def find() -> str:
         ProgramError: There is no such file, or it is no program.
     """
     name = os.environ.get("TAC")
+    if not name and BUNDLED.exists():
+        name = str(BUNDLED)
     if not name:
         clone = top()
         name = str(clone / "crates" / "tacd" / "out" / "tacd") if clone else None
@@ -95,11 +114,20 @@ def run(command: str, *words: Word, given: bytes = b"", allowed: Sequence[int] =
     except subprocess.TimeoutExpired:
         raise ProgramError(f"tac {command} took longer than {timeout:g} seconds") from None
     except OSError as fault:
-        raise ProgramError(f"the file of tac cannot be run: {fault.strerror}") from None
+        raise ProgramError(why_not_run(find(), fault)) from None
     text: str = done.stdout.decode("ascii", "replace")
     if done.returncode not in allowed:
         raise ended(command, done.returncode, text.split("\n", 1)[0])
     return text
+
+
+def why_not_run(file: str, fault: OSError) -> str:
+    """Why the system cannot run the file of tac, and what to do."""
+    if fault.errno == errno.ENOEXEC:
+        return f"{file} is no program of this system: tac runs on x86-64 Linux; set TAC to its file"
+    if fault.errno == errno.ENOENT and os.path.exists(file):
+        return f"{file} needs the GNU C library (glibc), which this system does not have"
+    return f"{file} cannot be run: {fault.strerror}"
 
 
 def ended(command: str, status: int, line: str) -> ProgramError:
@@ -110,6 +138,9 @@ def ended(command: str, status: int, line: str) -> ProgramError:
         status: Its exit status, negative for a signal.
         line: The line of its output that says why; "" if there is none.
     """
+    if status == 1 and not line:  # words that are no command are answered by a line
+        return ProgramError(f"tac {command} did not start: it needs glibc 2.34 or later "
+                            "(`ldd --version` tells yours), or TAC names another program", status)
     told = ": ".join(part for part in (MEANINGS.get(status, ""), line[:100]) if part)
     return ProgramError(f"tac {command} ended with exit status {status}"
                         + (f" ({told})" if told else ""), status, line)

@@ -1,0 +1,14 @@
+# Completion of geesefuton's words for bash.
+_geesefuton() {
+    local word=${COMP_WORDS[COMP_CWORD]}
+    local programs="doctor live lobby quickstart recover report tac tournament version"
+    local commands="audit hotel make play serve show solve step table trial upgrade worth"
+    if [ "$COMP_CWORD" -eq 1 ]; then
+        mapfile -t COMPREPLY < <(compgen -W "$programs --help" -- "$word")
+    elif [ "$COMP_CWORD" -eq 2 ] && [ "${COMP_WORDS[1]}" = tac ]; then
+        mapfile -t COMPREPLY < <(compgen -W "$commands" -- "$word")
+    else
+        mapfile -t COMPREPLY < <(compgen -f -- "$word")
+    fi
+}
+complete -o filenames -F _geesefuton geesefuton

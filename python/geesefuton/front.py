@@ -1,0 +1,80 @@
+"""The command `geesefuton`: every program of the package under one word.
+
+`geesefuton WORD --help` tells about one of them. `geesefuton tac` passes its words to the proved
+program, and ends as that does.
+"""
+
+import importlib
+import os
+import sys
+from typing import Dict, List, NamedTuple
+
+from geesefuton import program
+from geesefuton.arguments import Parser
+from geesefuton.processes import command, tell
+
+
+class Program(NamedTuple):
+    """A program of the package.
+
+    Attributes:
+        module: The module whose `main` runs it.
+        does: What it does, in a few words.
+    """
+
+    module: str
+    does: str
+
+
+PROGRAMS: Dict[str, Program] = {
+    "quickstart": Program("geesefuton.quickstart", "plays a first game of eight small agents"),
+    "lobby": Program("geesefuton.hosting.lobby_command", "hosts a game for agents on other machines"),
+    "live": Program("geesefuton.hosting.live", "shows a hosted game on a page"),
+    "recover": Program("geesefuton.hosting.recovery", "makes a log of a lobby's journal"),
+    "report": Program("geesefuton.records.report", "makes a page of a game and its log"),
+    "tournament": Program("geesefuton.experiments.tournament", "plays many games of some agents"),
+    "doctor": Program("geesefuton.doctor", "says what is at hand on this machine"),
+    "version": Program("geesefuton.doctor", "tells the version, the program and its hash"),
+}
+TAC = "passes its words to the proved program"
+
+
+def _epilog() -> str:
+    lines = [f"  {word:<12}{each.does}" for word, each in sorted(PROGRAMS.items())]
+    return "\n".join(["programs:", *lines, f"  {'tac':<12}{TAC}"])
+
+
+def _run_tac(words: List[str]) -> int:
+    """Becomes the program, so that its output and its exit status are untouched."""
+    file = program.find()
+    try:
+        os.execv(file, [file, *words])
+    except OSError as fault:
+        raise program.ProgramError(program.why_not_run(file, fault)) from None
+
+
+def main() -> int:
+    """The command `geesefuton`."""
+    return command("geesefuton", _main)
+
+
+def _main() -> int:
+    parser = Parser("geesefuton", __doc__)
+    parser.epilog = _epilog()
+    parser.add_argument("word", nargs="?", help="one of the programs below")
+    parser.add_argument("words", nargs="...", help="what it is given")
+    if len(sys.argv) < 2 or sys.argv[1] in ("-h", "--help"):
+        parser.print_help()
+        return 0
+    word, words = sys.argv[1], sys.argv[2:]
+    if word == "tac":
+        return _run_tac(words)
+    if word == "--version":
+        word = "version"
+    if word not in PROGRAMS:
+        tell(f"geesefuton: there is no program {word!r} (--help lists them)")
+        return 2
+    sys.argv = [word, *words]
+    status: int = getattr(importlib.import_module(PROGRAMS[word].module),
+                          "version" if word == "version" else "main")()
+    return status

@@ -1,0 +1,122 @@
+"""Plays a game of eight small agents over links, and shows their output and the scores.
+
+It uses the proved program if it is built, or the file that the variable TAC names, and otherwise
+the toolchain's quick run.
+"""
+
+import os
+import shutil
+import subprocess
+import sys
+import time
+from pathlib import Path
+from typing import Tuple
+
+from geesefuton import program
+from geesefuton.arguments import Parser
+from geesefuton.processes import Children, Output, command, free_port, tell
+from geesefuton.records.logs import LogError, read_scores
+
+PACE = 150  # milliseconds between the 54 ticks
+AGENTS = ["planner"] * 4 + ["trader"] * 3 + ["watcher"]
+MISSING = """. To build it, or to run it at once, takes the toolchain, Rattle, and there is no \
+command `rt` in PATH (its page is START-HERE.md in its folder, looked for in /opt/rattle); with a \
+program that was built elsewhere: TAC=/path/to/tac ./quickstart"""
+PROVED = """That was the program {}: one file that stands alone. While it is there, ./quickstart \
+runs it."""
+QUICK = """That was a quick run, which proves nothing. The proved program: \
+(cd crates/tacd && rt run -- make 42), and then ./quickstart again."""
+
+
+def start_server(children: Children, place: Path, port: int,
+                 out: Output) -> Tuple["subprocess.Popen[bytes]", int, str]:
+    """The server, the seconds that it may take, and what is printed about it in the end.
+
+    Raises:
+        ProgramError: There is neither a program nor the toolchain.
+    """
+    game = place / "my.game"
+    log = (place / "log").open("wb")
+    try:
+        file = program.find()
+    except program.ProgramError as fault:
+        if os.environ.get("TAC"):
+            raise
+        clone = program.top()
+        if clone is None or not shutil.which("rt"):
+            raise program.ProgramError(f"{fault}{MISSING}") from None
+        out.write("The server is built for a quick run; it takes a minute or so, and longer on a "
+                  "busy machine.\n")
+        first = program.examples() / "first.game"
+        game.write_text("".join(line for line in first.open() if not line.startswith("#")))
+        crate = clone / "crates" / "tacd"
+        words = ["rt", "try", "--seconds", "300", "--", "serve", game, str(port), str(PACE)]
+        told = (place / "told").open("wb")
+        quick = children.start(words, stdout=log, stderr=told, cwd=crate)
+        return quick, 600, QUICK
+    game.write_text(program.make(42))
+    served = children.start(program.served_words(game, port, PACE), stdout=log)
+    return served, 120, PROVED.format(file)
+
+
+def listens(port: int) -> bool:
+    """Whether a program listens on a port, as far as the system's tables say."""
+    tables = [Path(f"/proc/net/{name}") for name in ("tcp", "tcp6")]
+    lines = [line.split() for table in tables if table.exists()
+             for line in table.read_text().splitlines()]
+    # A line has the local address with the port in base 16, the remote one, and the state, which
+    # is 0A for a listening port.
+    return not lines or any(words[3] == "0A" and words[1].endswith(f":{port:04X}")
+                            for words in lines)
+
+
+def play(children: Children, out: Output) -> int:
+    """Plays the game, and gives the exit status."""
+    port, place = free_port(), children.folder("quickstart")
+    server, most, told = start_server(children, place, port, out)
+    while server.poll() is None and not listens(port):
+        time.sleep(0.05)  # a quick run is built first
+    for seat, agent in enumerate(AGENTS):
+        file = program.examples() / "agents" / f"{agent}.py"
+        words = [sys.executable, file, "localhost", str(port), f"seat{seat}", "--pause", "0.1"]
+        with (place / f"agent{seat}").open("wb") as printed:
+            children.start(words, stdout=printed)
+    try:
+        status = f"with exit status {server.wait(most)}"
+    except subprocess.TimeoutExpired:
+        status = "only because it was out of time"
+    log = (place / "log").read_bytes()
+    try:
+        read_scores(log)
+    except LogError:
+        tell((log[:200] + ((place / "told").read_bytes() if (place / "told").exists() else b""))
+             .decode("utf-8", "replace").rstrip())
+        tell(f"quickstart: the server ended {status}, and there are no scores")
+        return 1
+    time.sleep(0.5)  # the agents print their last lines
+    out.write("What the agents say:\n")
+    for seat in range(len(AGENTS)):
+        out.write((place / f"agent{seat}").read_bytes())
+    out.write("The scores (agent, best total, cash, tickets short, score):\n")
+    for line in log.splitlines(keepends=True):
+        if line.startswith(b"score "):
+            out.write(line)
+    out.write(f"{told}\n")
+    return 0
+
+
+def main() -> int:
+    """The command `quickstart`."""
+    return command("quickstart", _main)
+
+
+def _main() -> int:
+    Parser("quickstart", __doc__).parse_args()
+    out = Output(1)
+    with Children() as children:
+        status = play(children, out)
+    if out.fault is not None:
+        tell(f"quickstart: {out.name}: {out.fault}")
+        return 1
+    return status
+
