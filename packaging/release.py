@@ -229,7 +229,8 @@ def check(folder: Path, program: Path, is_clean: bool) -> int:
     """Builds a release again and compares; gives the exit status."""
     release = gather(program, told_in(folder), is_clean)
     with tempfile.TemporaryDirectory() as place:
-        lines = differences(folder, make(release, Path(place)))
+        has_debian = any(folder.glob("*.deb"))
+        lines = differences(folder, make(release, Path(place), has_debian))
     for line in lines:
         tell(f"release: {line}")
     if not lines:
@@ -244,6 +245,7 @@ def _main() -> int:
     add("--out", type=Path, metavar="FOLDER", help="a new folder; release/VERSION")
     add("--check", type=Path, metavar="FOLDER", help="build again, and compare with that release")
     add("--program", type=Path, default=PROGRAM, metavar="FILE", help="the program's file")
+    add("--no-deb", action="store_true", help="without the Debian package")
     add("--changed", action="store_true", help="also from a clone with changes, to try it")
     given = parser.parse_args()
     try:
@@ -255,7 +257,7 @@ def _main() -> int:
         place.mkdir(parents=True)
         with contextlib.ExitStack() as stack:
             undo = stack.callback(shutil.rmtree, place, ignore_errors=True)
-            for file in make(release, place):
+            for file in make(release, place, not given.no_deb):
                 print(f"{file.stat().st_size:>9} {file}")
             stack.pop_all()
             del undo
