@@ -5,6 +5,7 @@ import hashlib
 import os
 import subprocess
 import tempfile
+import textwrap
 from email.utils import formatdate
 from pathlib import Path
 from typing import Dict, Tuple
@@ -13,6 +14,10 @@ INSTALLED = Path("usr/lib/python3/dist-packages")
 DOCUMENTS = Path("usr/share/doc/geesefuton")
 MAINTAINER = "The Geesefuton maintainers <maintainers@geesefuton.invalid>"
 RUN = (".py", ".game", ".script", ".account")  # examples that the package itself uses
+OVERRIDES = Path("usr/share/lintian/overrides/geesefuton")
+OVERRIDE = """# The program is the one that was proved, byte by byte, so nothing is taken out of it.
+geesefuton: unstripped-binary-or-object *
+"""
 # Python may have written its own files there as root.
 REMOVE = """#!/bin/sh
 set -e
@@ -56,8 +61,9 @@ def _packed(text: bytes) -> bytes:
 def _changelog(version: str, epoch: int, text: str) -> bytes:
     """The changelog of a native package: its last entry is this version's."""
     part = text.split(f"## {version}\n", 1)[-1].split("\n## ", 1)[0]
-    items = "\n".join("  " + line for line in part.strip().split("\n") if line.strip())
-    items = items.replace("  - ", "  * ")
+    points = [" ".join(point.split()) for point in part.strip().split("- ") if point.strip()]
+    items = "\n".join(textwrap.fill(point, 76, initial_indent="  * ", subsequent_indent="    ")
+                      for point in points)
     return (f"geesefuton ({version}) stable; urgency=low\n\n{items}\n\n -- {MAINTAINER}  "
             f"{formatdate(epoch)}\n").encode()
 
@@ -91,6 +97,7 @@ def lay_out(place: Path, version: str, epoch: int, files: Dict[str, Tuple[bytes,
     for name, data in documents.items():
         put(DOCUMENTS / name, data)
     licence = _licence((top / "LICENSE").read_text())
+    put(OVERRIDES, OVERRIDE.encode())
     year = formatdate(epoch).split()[3]
     put(DOCUMENTS / "copyright", COPYRIGHT.format(year=year, text=licence).encode())
     put(DOCUMENTS / "changelog.gz",

@@ -82,7 +82,7 @@ def git(*words: str) -> str:
 def version_of() -> str:
     """The package's version."""
     text = (TOP / PACKAGE / "__init__.py").read_text()
-    found = re.search(r'^__version__ = "([0-9.]+)"$', text, re.M)
+    found = re.search(r'^__version__ = "([0-9.]+)"', text, re.M)
     if not found:
         raise ReleaseError("the package has no version")
     return found[1]
@@ -124,8 +124,8 @@ def gather(program: Path, provenance: Dict[str, str], is_clean: bool) -> Release
     try:
         data = program.read_bytes()
     except OSError as fault:
-        raise ReleaseError(f"{program}: {fault.strerror}; build it first: (cd crates/tacd && rt run "
-                           "-- make 42)") from None
+        raise ReleaseError(f"{program}: {fault.strerror}; build it first: "
+                           "(cd crates/tacd && rt run -- make 42)") from None
     told = {"commit": git("rev-parse", "HEAD"), "sha256": hashlib.sha256(data).hexdigest(),
             **provenance}
     files = [file for file in git("ls-files", *TREE).split("\n") if (TOP / file).is_file()]
@@ -234,7 +234,8 @@ def check(folder: Path, program: Path, is_clean: bool) -> int:
     for line in lines:
         tell(f"release: {line}")
     if not lines:
-        print(f"{folder}: the same, byte by byte, as this clone's at {release.provenance['commit']}")
+        commit = release.provenance["commit"]
+        print(f"{folder}: the same, byte by byte, as this clone's at {commit}")
     return int(bool(lines))
 
 

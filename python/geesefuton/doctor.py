@@ -133,7 +133,7 @@ def _runs() -> Finding:
         return False, f"program runs: no: {fault}"
     is_due = made.startswith("tac 1\n")
     return is_due, ("program runs: yes" if is_due else
-                    "program runs: no: it makes no game; is it GNU's tac? set TAC to the right file")
+                    "program runs: no: it makes no game; is it GNU's tac? Set TAC to the right one")
 
 
 def _hash() -> Finding:

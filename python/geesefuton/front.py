@@ -28,9 +28,10 @@ class Program(NamedTuple):
 
 PROGRAMS: Dict[str, Program] = {
     "quickstart": Program("geesefuton.quickstart", "plays a first game of eight small agents"),
-    "lobby": Program("geesefuton.hosting.lobby_command", "hosts a game for agents on other machines"),
+    "lobby": Program("geesefuton.hosting.lobby_command",
+                     "hosts a game for agents on other machines"),
     "live": Program("geesefuton.hosting.live", "shows a hosted game on a page"),
-    "recover": Program("geesefuton.hosting.recovery", "makes a log of a lobby's journal"),
+    "recover": Program("geesefuton.hosting.recover_command", "makes a log of a lobby's journal"),
     "report": Program("geesefuton.records.report", "makes a page of a game and its log"),
     "tournament": Program("geesefuton.experiments.tournament", "plays many games of some agents"),
     "doctor": Program("geesefuton.doctor", "says what is at hand on this machine"),

@@ -78,7 +78,7 @@ def play(children: Children, out: Output) -> int:
         time.sleep(0.05)  # a quick run is built first
     for seat, agent in enumerate(AGENTS):
         file = program.examples() / "agents" / f"{agent}.py"
-        words = [sys.executable, file, "localhost", str(port), f"seat{seat}", "--pause", "0.1"]
+        words = [sys.executable, file, "127.0.0.1", str(port), f"seat{seat}", "--pause", "0.1"]
         with (place / f"agent{seat}").open("wb") as printed:
             children.start(words, stdout=printed)
     try:
