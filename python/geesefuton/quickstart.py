@@ -50,7 +50,7 @@ def start_server(children: Children, place: Path, port: int,
         first = program.examples() / "first.game"
         game.write_text("".join(line for line in first.open() if not line.startswith("#")))
         crate = clone / "crates" / "tacd"
-        words = ["rt", "try", "--seconds", "300", "--", "serve", game, str(port), str(PACE)]
+        words = ["rt", "try", "--seconds", "300", "--", "serve", str(game), str(port), str(PACE)]
         told = (place / "told").open("wb")
         quick = children.start(words, stdout=log, stderr=told, cwd=crate)
         return quick, 600, QUICK
@@ -78,7 +78,7 @@ def play(children: Children, out: Output) -> int:
         time.sleep(0.05)  # a quick run is built first
     for seat, agent in enumerate(AGENTS):
         file = program.examples() / "agents" / f"{agent}.py"
-        words = [sys.executable, file, "127.0.0.1", str(port), f"seat{seat}", "--pause", "0.1"]
+        words = [sys.executable, str(file), "127.0.0.1", str(port), f"seat{seat}", "--pause", "0.1"]
         with (place / f"agent{seat}").open("wb") as printed:
             children.start(words, stdout=printed)
     try:

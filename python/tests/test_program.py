@@ -112,7 +112,8 @@ class Commands(unittest.TestCase):
         file.write_bytes(b"\x00\x01\x02")
         file.chmod(0o755)
         self.set({"TAC": str(file)})
-        self.assertIn("cannot be run: Exec format error", str(self.refused("make", 1)))
+        self.assertIn("bad is no program of this system: tac runs on x86-64 Linux",
+                      str(self.refused("make", 1)))
 
     def test_the_file_is_that_of_the_variable_and_holds_in_any_folder(self) -> None:
         file = fake_program(self.place, "exit")
