@@ -15,7 +15,7 @@ from typing import Iterator, List
 
 ROOT = os.path.dirname(os.path.dirname(os.path.abspath(__file__)))
 FOLDERS = ("crates/", "docs/", "examples/", "checks/", "bench/", "tools/", "python/")
-MADE = ("crates/tacd/out",)  # made by the toolchain, and in no clone
+MADE = ("crates/tacd/out", "python/geesefuton/bin/")  # made, and in no clone
 WIDTH = 100
 
 
