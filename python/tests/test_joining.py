@@ -1,3 +1,4 @@
+import itertools
 import os
 import tempfile
 import unittest
@@ -93,9 +94,13 @@ class Pools(unittest.TestCase):
         self.assertEqual(counts, {2, 3})
 
     def test_deals_that_are_made_otherwise_are_not_compared(self) -> None:
-        few = SETTINGS.replace("16..16", "3..6")
-        rows, _ = pooled([source("one.csv", 1, 2), source("few.csv", 1, 2, settings=few)])
-        self.assertEqual({row.deal for row in rows}, {"1", "2", "few:1", "few:2"})
+        start = SETTINGS.replace("rooms=16..16", "")
+        makings = ("rooms=16..16 live=false", "rooms=3..6 live=false", "rooms=16..16 live=true",
+                   "game=0123abcd", "game=4567cdef")
+        for one, other in itertools.permutations(makings, 2):
+            rows, _ = pooled([source("one.csv", 1, 2, settings=start + one),
+                              source("other.csv", 1, 2, settings=start + other)])
+            self.assertEqual({row.deal for row in rows}, {"1", "2", "other:1", "other:2"})
 
     def test_names_that_are_alike_are_told_whole(self) -> None:
         other = SETTINGS.replace("turns=40", "turns=20")

@@ -576,6 +576,16 @@ class Strangers(Case):
         event, = self.of(events.Warned)
         self.assertIn("seat0 has not read what it was sent", event.text)
 
+    def test_one_that_has_read_all_is_not_told_of(self) -> None:
+        link = self.relay._links[0]
+        link.held += b"x" * (8 << 20)  # more than the system keeps
+        self.relay._watch(link)
+        self.turns()
+        self.assertIsNotNone(link.stuck)
+        self.turn_until(self.agents[0], b"x" * (8 << 20))
+        self.relay.pass_time(time.monotonic() + UNREAD + 1)
+        self.assertEqual(self.of(events.Warned), [])
+
     def test_a_seat_is_told_of_before_its_lines_are_used_up(self) -> None:
         self.assertEqual(NEAR_MOST, 60000)
         with mock.patch("geesefuton.hosting.relay.NEAR_MOST", 3):

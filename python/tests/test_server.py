@@ -137,6 +137,21 @@ class Strangers(Case):
         self.assertIn("did not have all eight seats of the server, but 0 1 2 5 6 7", warned.text)
 
 
+class Ticks(Case):
+    """What the host is told at each tick."""
+
+    def test_lines_that_wait_for_the_reply_before_are_counted(self) -> None:
+        host = Host(self.folder, start=None, pace=300)
+        agent = self.agents(host, *WORDS)[0]
+        agent.welcome()
+        agent.send(b"bid 8 ((1 1))\n" * 5)  # each is answered after a while
+        self.assertEqual([agent.line() for _ in range(5)], ["@8 taken 0 0"] * 5)
+        host.hurry()
+        host.end()
+        counts = [event.lines[0] for event in host.of(events.Ticked)]
+        self.assertEqual(set(counts) - {0}, {5}, counts)
+
+
 class Heads(unittest.TestCase):
     def test_what_is_wrong_with_a_head(self) -> None:
         def head(*lines: str) -> bytes:

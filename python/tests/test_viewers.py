@@ -275,6 +275,15 @@ class Telling(unittest.TestCase):
             faults.tell("tick 101", "no disk")
         self.assertEqual(told, ["tick 0: no disk", "tick 100: no file", "tick 101: no disk"])
 
+    def test_one_that_comes_each_second_is_told_again_each_minute(self) -> None:
+        told: List[str] = []
+        faults = Faults(told.append)
+        with mock.patch("time.monotonic", return_value=5.0) as clock:
+            for second in range(150):
+                faults.tell(f"second {second}", "no disk")
+                clock.return_value += 1.0
+        self.assertEqual(told, ["second 0: no disk", "second 60: no disk", "second 120: no disk"])
+
 
 if __name__ == "__main__":
     unittest.main()
