@@ -359,14 +359,19 @@ def program() -> Optional[str]:
         return None
 
 
-def solve(holdings: Sequence[int], clients: Sequence[Client]) -> Optional[int]:
-    """The best total of 28 holdings for the clients, in dollars; None if there is no program."""
+def account(holdings: Sequence[int], clients: Sequence[Client]) -> bytes:
+    """The account file of 28 holdings and eight clients."""
     lines = ["account", " ".join(["hold", *map(str, holdings)])]
     for number, client in enumerate(clients):
         numbers = [number, client.arrive, client.depart, client.premium, *client.values]
         lines.append(" ".join(["client", *map(str, numbers)]))
+    return "\n".join([*lines, "end", ""]).encode("ascii")
+
+
+def solve(holdings: Sequence[int], clients: Sequence[Client]) -> Optional[int]:
+    """The best total of 28 holdings for the clients, in dollars; None if there is no program."""
     try:
-        solved = tac.solve("\n".join([*lines, "end", ""]).encode("ascii"))
+        solved = tac.solve(account(holdings, clients))
     except tac.ProgramError:
         return None
     return int(solved.split()[1])

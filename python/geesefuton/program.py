@@ -185,8 +185,10 @@ def solve(account: Union[Word, bytes]) -> str:
     return run("solve", account)
 
 
-def worth(account: Word) -> str:
-    """What one unit more and one less of each good of an account file changes."""
+def worth(account: Union[Word, bytes]) -> str:
+    """What one unit more and one less of each good of an account, a file or its bytes, changes."""
+    if isinstance(account, bytes):
+        return run("worth", INPUT, given=account)
     return run("worth", account)
 
 

@@ -1,0 +1,1 @@
+"""A seat for a person: an agent whose decisions come from a browser."""

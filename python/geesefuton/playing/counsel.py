@@ -1,0 +1,39 @@
+"""What the proved solver says of a seat: the best trips with what it holds, and what one unit more
+of each good is worth."""
+
+from __future__ import annotations
+
+from typing import Any, Dict, List, Sequence
+
+from geesefuton import program
+from geesefuton.link import account
+from geesefuton.records.games import Client
+
+OWED = 200  # dollars for each ticket that is sold and not held
+
+
+def counsel(holdings: Sequence[int], clients: Sequence[Client]) -> Dict[str, Any]:
+    """What the solver says of 28 holdings.
+
+    Returns:
+        `total`, the best total in dollars; `penalty`, what is lost for tickets that are owed;
+        `trips`, for each client its hotel, its days and its tickets' nights, or nothing; `more`,
+        for each good what one unit more adds in dollars, a spared penalty included.
+
+    Raises:
+        ProgramError: There is no program, or it failed.
+    """
+    lines = program.worth(account(holdings, clients)).split("\n")
+    place = lines.index("base")
+    solved = lines[place + 2:place + 10]  # after `base` and `total`
+    more = [int(line.split()[2]) for line in lines[1:place]]
+    return {
+        "total": int(lines[0].split()[1]),
+        "penalty": OWED * sum(-units for units in holdings if units < 0),
+        "trips": [_trip(line) for line in solved],
+        "more": [worth + OWED * (units < 0) for worth, units in zip(more, holdings)]}
+
+
+def _trip(line: str) -> List[int]:
+    words = line.split()[2:]
+    return [] if words == ["none"] else [int(word) for word in words]

@@ -1,0 +1,82 @@
+"""The time of a game, as far as quotes tell it (docs/PROTOCOL.md, "How an agent knows the time")."""
+
+from __future__ import annotations
+
+from typing import NamedTuple, Optional
+
+from geesefuton.records.games import TICKS
+from geesefuton.records.rules import MINUTE
+
+
+class Mark(NamedTuple):
+    """A moment at which a tick came, in seconds, and the tick."""
+
+    moment: float
+    tick: int
+
+
+class GameClock:
+    """The tick of a game. Flights change their prices at each tick, and each closing of a hotel
+    tells the tick exactly.
+
+    Args:
+        pace: The seconds from tick to tick, if they were told; None to measure them.
+
+    Attributes:
+        tick: The last tick that was seen.
+        pace: The seconds from tick to tick; None while they are not known.
+        is_exact: Whether the number of the tick is known, and not just the least that it can be.
+    """
+
+    def __init__(self, pace: Optional[float] = None) -> None:
+        self.tick, self.pace, self.is_exact = 0, pace, False
+        self._is_told = pace is not None
+        self._mark: Optional[Mark] = None
+
+    def begin(self, now: float, closed: int, is_fresh: bool) -> None:
+        """The first look at the quotes.
+
+        Args:
+            now: When the welcome came.
+            closed: How many hotel nights are closed.
+            is_fresh: Whether the game began with the welcome, which otherwise came in it.
+        """
+        self.tick, self.is_exact = MINUTE * closed, is_fresh
+        self._mark = Mark(now, 0) if is_fresh else None
+
+    def move(self, now: float) -> None:
+        """The flights have new prices.
+
+        Args:
+            now: When that happened.
+        """
+        if self._mark is None:
+            self.tick += 1
+            self._mark = Mark(now, self.tick)
+            return
+        passed, least = now - self._mark.moment, self.tick + 1 - self._mark.tick
+        count = max(least, round(passed / self.pace)) if self.pace else least
+        self.tick = self._mark.tick + count
+        if not self._is_told:
+            self.pace = passed / count
+
+    def close(self, now: float, closed: int) -> None:
+        """A hotel night has closed, which tells the tick.
+
+        Args:
+            now: When that happened.
+            closed: How many of them are closed.
+        """
+        if not self.is_exact:
+            mark = self._mark or Mark(now, self.tick)
+            self._mark = Mark(mark.moment, mark.tick + MINUTE * closed - self.tick)
+        self.tick, self.is_exact = MINUTE * closed, True
+
+    def now(self, now: float) -> Mark:
+        """The tick at a moment, and when it came. A tick that is due but was not seen yet counts,
+        and the one after it does not."""
+        if self._mark is None or not self.pace:
+            return Mark(self._mark.moment if self._mark else now, self.tick)
+        due = self._mark.tick + int((now - self._mark.moment) / self.pace)
+        tick = min(max(self.tick, due), self.tick + 1, TICKS)
+        return Mark(self._mark.moment + (tick - self._mark.tick) * self.pace, tick)

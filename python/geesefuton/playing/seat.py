@@ -1,0 +1,315 @@
+"""A seat for a person: what an agent knows of its game, and the bids that somebody else decides.
+
+A thread of its own speaks over the link. It takes orders, and between them it looks at all quotes.
+It asks `own` only where its units stand and the quote says that something was called since, and
+`cash` only after its holdings have changed: these calls are counted, and a quote is not.
+"""
+
+from __future__ import annotations
+
+import queue
+import threading
+import time
+from collections import deque
+from dataclasses import dataclass, field
+from typing import Any, Callable, Deque, Dict, List, Optional, Tuple
+
+from geesefuton.link import Link, LinkError, Unanswered
+from geesefuton.playing.answers import Answer, answer_of, asked_in_words
+from geesefuton.playing.game_clock import GameClock
+from geesefuton.records.games import FLIGHTS, GOODS, HOTELS, TICKETS, Client
+from geesefuton.records.replies import Cash, Own, Points, Quote, Reply, Request
+
+LOOK = 1.0  # seconds from one look at the quotes to the next, while the pace is not known
+LOOKS = 5  # looks in a tick, so that a session's 65,536 lines last
+LEAST = 0.2  # seconds from one look to the next
+FRESH = 1.5  # seconds of waiting for the welcome after which it came as the game began
+READINGS = 2  # of the cash after a change: another caller's trade may be missing for a moment
+KEPT = 40  # answers that are kept
+# Flights move before the hotel of their tick closes: so who saw it closed then sees them moved.
+ORDER = (*HOTELS, *FLIGHTS, *TICKETS)
+LATE = 20.0  # seconds until a browser is told that its order was not answered yet
+NOT_YET = Answer(False, "The server has not answered yet: what it answers will be listed below.")
+NOT_NOW = Answer(False, "There is no game now in which this could be asked.")
+
+
+@dataclass
+class Holding:
+    """What a seat knows of a good: its units, what stands there, the position of that reading, and
+    the board."""
+
+    units: int = 0
+    points: Points = ()
+    at: int = -1
+    quote: Optional[Quote] = None
+
+    def is_due(self, good: int) -> bool:
+        """Whether what stood may have been traded since the last reading."""
+        if self.quote is None or not self.points or self.quote.count <= self.at + 1:
+            return False
+        return good not in HOTELS or self.quote.closed
+
+
+@dataclass
+class Order:
+    """A bid or a withdrawal, and its answer."""
+
+    request: Request
+    done: threading.Event = field(default_factory=threading.Event)
+    answer: Answer = NOT_YET
+
+
+class Seat:
+    """A seat that a person plays.
+
+    Args:
+        greet: Takes the seat, and waits until the game begins.
+        pace: The seconds from tick to tick, if they are known.
+
+    Attributes:
+        clients: The seat's clients, once the game has begun.
+    """
+
+    def __init__(self, greet: Callable[[], Link], pace: Optional[float] = None) -> None:
+        self._greet, self._pace = greet, pace
+        self._changed = threading.Condition()
+        self._version = 0
+        self._state: Dict[str, Any] = {"phase": "idle"}
+        self._asked: Optional[float] = None  # since when a reply is waited for
+        self._thread: Optional[threading.Thread] = None
+        self._reset()
+
+    def _reset(self) -> None:
+        self.clients: List[Client] = []
+        self._phase, self._fault = "waiting", ""
+        self._goods = [Holding() for _ in GOODS]
+        self._clock, self._clock_closed = GameClock(self._pace), 0
+        self._closed: List[Tuple[int, int]] = []  # hotel nights that closed, and their prices
+        self._moves = [0] * len(FLIGHTS)  # how often each flight's price was seen to change
+        self._cash, self._readings = 0, READINGS
+        self._calls: Deque[Dict[str, Any]] = deque(maxlen=KEPT)
+        self._number = 0
+        self._orders: "queue.Queue[Order]" = queue.Queue()
+        self._looked = 0.0
+
+    def begin(self) -> None:
+        """Takes the seat, unless it is taken already. After a game it is taken for the next."""
+        with self._changed:
+            if self._thread is not None and self._thread.is_alive():
+                return
+            self._reset()
+            self._thread = threading.Thread(target=self._play, daemon=True)
+            self._thread.start()
+        self.publish()
+
+    @property
+    def phase(self) -> str:
+        """`idle`, `waiting` for the game, `running`, `over`, or `failed`."""
+        phase: str = self._state["phase"]
+        return phase
+
+    def holdings(self, with_standing: bool = False) -> List[int]:
+        """What the seat holds of each good.
+
+        Args:
+            with_standing: As if all that stands were traded.
+        """
+        return [units + (sum(count for count, _ in points) if with_standing else 0)
+                for units, points in self._state["goods"]]
+
+    def order(self, request: Request) -> Answer:
+        """Asks a bid or a withdrawal, and waits for what comes of it."""
+        if self.phase != "running":
+            return NOT_NOW
+        order = Order(request)
+        self._orders.put(order)
+        order.done.wait(LATE)
+        return order.answer
+
+    def state(self, after: int, wait: float) -> Dict[str, Any]:
+        """What there is to show.
+
+        Args:
+            after: The version that is known; a later one is waited for.
+            wait: The seconds for which it is waited for at most.
+        """
+        with self._changed:
+            self._changed.wait_for(lambda: self._version != after, wait)
+            state, version, now = self._state, self._version, time.monotonic()
+        mark = self._clock.now(now)
+        asked = self._asked
+        return {**state, "version": version, "tick": mark.tick, "since": now - mark.moment,
+                "pace": self._clock.pace, "exact": self._clock.is_exact,
+                "silent": now - asked if asked is not None else 0}
+
+    def publish(self) -> None:
+        """Makes what is known now the state, and wakes those who wait for it."""
+        goods = [[each.units, each.points] for each in self._goods]
+        quotes = [each.quote and [each.quote.bid, each.quote.ask, each.quote.closed]
+                  for each in self._goods]
+        clients = [[each.arrive, each.depart, each.premium, *each.values] for each in self.clients]
+        with self._changed:
+            self._state = {
+                "phase": self._phase, "fault": self._fault, "clients": clients, "goods": goods,
+                "quotes": quotes, "cash": self._cash, "closed": list(self._closed),
+                "calls": list(self._calls)}
+            self._version += 1
+            self._changed.notify_all()
+
+    # What the thread does.
+
+    def _play(self) -> None:
+        """Plays a game, from its welcome to its end."""
+        begun = time.monotonic()
+        try:
+            with self._greet() as link:
+                self._take(link, time.monotonic() - begun > FRESH)
+                while not all(each.quote and each.quote.closed for each in self._goods):
+                    self._wait(link)
+                    self._look(link)
+                self._settle(link)
+                link.quit()
+            self._phase = "over"
+        except LinkError as fault:
+            self._phase, self._fault = "failed", str(fault)
+        finally:
+            self._asked = None
+            self.publish()
+            self._refuse_rest()
+
+    def _refuse_rest(self) -> None:
+        while True:
+            try:
+                order = self._orders.get_nowait()
+            except queue.Empty:
+                return
+            order.answer = NOT_NOW
+            order.done.set()
+
+    def _send(self, link: Link, request: Request) -> Reply:
+        self._asked = time.monotonic()
+        try:
+            return link.send(request)
+        finally:
+            self._asked = None
+
+    def _take(self, link: Link, is_fresh: bool) -> None:
+        """The first look: what a program that was started anew has bought is read as well."""
+        now = time.monotonic()
+        self.clients = link.clients
+        for good in GOODS:
+            self._see(link, good)
+        counts = [each.quote.count for each in self._goods[:8] if each.quote]
+        self._clock.begin(now, len(self._closed), is_fresh or min(counts) == 0)
+        self._clock_closed = len(self._closed)
+        for good in GOODS:
+            self._read(link, good)
+        self._read_cash(link)
+        self._looked = time.monotonic()
+        self._phase = "running"
+        self.publish()
+
+    def _wait(self, link: Link) -> None:
+        """Takes orders until the next look is due."""
+        pace = self._clock.pace
+        due = self._looked + (max(LEAST, pace / LOOKS) if pace else LOOK)
+        while True:
+            try:
+                self._obey(link, self._orders.get(timeout=max(0, due - time.monotonic())))
+            except queue.Empty:
+                return
+
+    def _look(self, link: Link) -> None:
+        """Looks at all quotes, and reads what may have changed. Orders do not wait for its end."""
+        begun, moves, closed = self._looked, max(self._moves), self._clock_closed
+        for good in ORDER:
+            if not self._orders.empty():
+                self._obey(link, self._orders.get())
+            before = self._goods[good].quote
+            if before is None or not before.closed:
+                now = self._see(link, good)
+                if good in FLIGHTS and before is not None and before.ask != now.ask:
+                    self._moves[good] += 1
+        self._looked = time.monotonic()
+        middle = (begun + self._looked) / 2
+        if max(self._moves) > moves:
+            self._clock.move(middle)
+        if len(self._closed) > closed:
+            self._clock.close(middle, len(self._closed))
+            self._clock_closed = len(self._closed)
+        for good in GOODS:
+            if self._goods[good].is_due(good):
+                self._read(link, good)
+        if self._readings:
+            self._read_cash(link)
+        self.publish()
+
+    def _see(self, link: Link, good: int) -> Quote:
+        """Looks at a quote."""
+        quote = self._send(link, Request("quote", good))
+        if not isinstance(quote, Quote):
+            raise LinkError(f"{link.word}: the quote of auction {good} is none")
+        if quote.closed and good in HOTELS:
+            self._closed.append((good, quote.ask))
+        self._goods[good].quote = quote
+        return quote
+
+    def _read(self, link: Link, good: int) -> Optional[Own]:
+        """Reads what the seat holds and what stands; None if all of its calls there are used up."""
+        own = self._send(link, Request("own", good))
+        if not isinstance(own, Own):
+            return None
+        each = self._goods[good]
+        if own.holding != each.units:
+            self._readings = READINGS
+        each.units, each.points, each.at = own.holding, own.points, own.at or 0
+        return own
+
+    def _read_cash(self, link: Link) -> None:
+        cash = self._send(link, Request("cash"))
+        self._readings -= 1
+        if isinstance(cash, Cash):
+            self._cash = cash.dollars
+
+    def _obey(self, link: Link, order: Order) -> None:
+        """Asks what an order says, and tells what came of it."""
+        request = order.request
+        assert request.auction is not None
+        try:
+            reply = self._send(link, request)
+            own = self._read(link, request.auction)
+            self._see_open(link, request.auction)
+            answer = answer_of(request, reply, own)
+        except Unanswered:
+            own = self._read(link, request.auction)
+            answer = Answer(False, "The link was lost before this was answered, and is back: look "
+                                   "at what stands there, and ask again if it is missing.")
+        except LinkError:
+            order.answer = Answer(False, "The link is lost.")
+            order.done.set()
+            raise
+        if self._readings:
+            self._read_cash(link)
+        self._number += 1
+        self._calls.append({"number": self._number, "tick": self._clock.now(time.monotonic()).tick,
+                            "what": asked_in_words(request), "text": answer.text,
+                            "done": answer.is_done})
+        order.answer = answer
+        self.publish()
+        order.done.set()
+
+    def _see_open(self, link: Link, good: int) -> None:
+        """Looks at a hotel's or a ticket's quote after a bid, which may have moved it."""
+        quote = self._goods[good].quote
+        if good not in FLIGHTS and (quote is None or not quote.closed):
+            self._see(link, good)
+
+    def _settle(self, link: Link) -> None:
+        """Reads the last trades and the cash once all is closed."""
+        for good in GOODS:
+            if self._goods[good].points:
+                self._read(link, good)
+        before: Optional[int] = None
+        while before != self._cash:
+            before = self._cash
+            self._read_cash(link)
