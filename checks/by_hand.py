@@ -31,6 +31,8 @@ from geesefuton.records.replies import Taken
 PACE = 1500  # milliseconds
 LIMIT = 200.0  # seconds that all of it may take
 WORDS = [f"seat{number}" for number in range(8)]
+DUE = ("a ticket is offered", "an offer is taken back", "the solver is asked",
+       "a refusal says why", "the score is shown")  # what each seat has to see
 # The middle of the first element of some kind that is seen and has a text; null if there is none.
 FIND = """(() => {
   const found = [...document.querySelectorAll(%s)].find(each => !each.disabled
@@ -165,7 +167,7 @@ class Player:
         step, self._step = self._step, self._step + 1
         first, other = 1 + self._number % 4, 1 + (self._number + 1) % 4
         if step == 0:
-            self._note("tickets are offered", self.tab.bid(f"Museum, night {first}", "sell", True))
+            self._note("a ticket is offered", self.tab.bid(f"Museum, night {first}", "sell", True))
         elif step == 1:
             self.tab.tap("button.tile", f"Museum, night {first}")
             self._note("an offer is taken back", self.tab.tap("dialog button", "Withdraw"))
@@ -180,11 +182,10 @@ class Player:
             self.tab.bid(wants, "Buy") or self.tab.bid("Towers, night .* wanted$", "Bid to buy")
 
     def _refused(self, night: int) -> None:
-        """A bid of one dollar where a price has been published, or for 17 units."""
+        """A bid for 17 units, which is more than the buttons allow."""
         self.tab.tap("button.tile", f"Towers, night {night}")
-        for _ in range(16):
-            self.tab.tap("dialog button", "one unit more")
-        self.tab.value("document.getElementById('units').value = 17")
+        self.tab.tap("dialog input", "^$")
+        self.tab.call("Input.insertText", text="7")
         self.tab.tap("dialog button.main", "uy")
         until = time.monotonic() + 3
         while not self.tab.sees("16 units at most") and time.monotonic() < until:
@@ -226,9 +227,9 @@ def play(children: Children, folder: Path) -> List[Player]:
     until = time.monotonic() + LIMIT
     while lobby.poll() is None and time.monotonic() < until:
         for player in players:
-            if player.tab.sees("Tick [0-9]"):
+            if player.tab.sees("[0-9] of 54"):
                 player.play()
-            elif player.tab.sees("The game is over"):
+            elif player.tab.sees("Game over"):
                 player.seen["the score is shown"] = player.tab.sees("Your score is")
         time.sleep(0.1)
     if lobby.poll() is None:
@@ -239,7 +240,7 @@ def play(children: Children, folder: Path) -> List[Player]:
 def faults_of(players: List[Player], log: Log) -> List[str]:
     """What is missing."""
     faults = [f"seat{number}: not seen: {what}" for number, player in enumerate(players)
-              for what, is_seen in player.seen.items() if not is_seen]
+              for what in DUE if not player.seen.get(what)]
     for number in range(8):
         taken = sum(entry.caller == number and isinstance(entry.reply, Taken)
                     for history in log.histories for entry in history)

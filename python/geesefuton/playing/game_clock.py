@@ -54,11 +54,12 @@ class GameClock:
             self.tick += 1
             self._mark = Mark(now, self.tick)
             return
-        passed, least = now - self._mark.moment, self.tick + 1 - self._mark.tick
-        count = max(least, round(passed / self.pace)) if self.pace else least
-        self.tick = self._mark.tick + count
-        if not self._is_told:
+        passed, count = now - self._mark.moment, self.tick + 1 - self._mark.tick
+        if self._is_told and self.pace:
+            count = max(count, round(passed / self.pace))
+        else:
             self.pace = passed / count
+        self.tick = self._mark.tick + count
 
     def close(self, now: float, closed: int) -> None:
         """A hotel night has closed, which tells the tick.
@@ -67,10 +68,12 @@ class GameClock:
             now: When that happened.
             closed: How many of them are closed.
         """
+        mark, tick = self._mark or Mark(now, self.tick), MINUTE * closed
         if not self.is_exact:
-            mark = self._mark or Mark(now, self.tick)
-            self._mark = Mark(mark.moment, mark.tick + MINUTE * closed - self.tick)
-        self.tick, self.is_exact = MINUTE * closed, True
+            self._mark = Mark(mark.moment, mark.tick + tick - self.tick)
+        elif not self._is_told and tick > mark.tick:
+            self.pace = (now - mark.moment) / (tick - mark.tick)
+        self.tick, self.is_exact = tick, True
 
     def now(self, now: float) -> Mark:
         """The tick at a moment, and when it came. A tick that is due but was not seen yet counts,

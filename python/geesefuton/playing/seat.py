@@ -20,7 +20,7 @@ from geesefuton.playing.game_clock import GameClock
 from geesefuton.records.games import FLIGHTS, GOODS, HOTELS, TICKETS, Client
 from geesefuton.records.replies import Cash, Own, Points, Quote, Reply, Request
 
-LOOK = 1.0  # seconds from one look at the quotes to the next, while the pace is not known
+LOOK = 0.25  # seconds from one look at the quotes to the next, while the pace is not known
 LOOKS = 5  # looks in a tick, so that a session's 65,536 lines last
 LEAST = 0.2  # seconds from one look to the next
 FRESH = 1.5  # seconds of waiting for the welcome after which it came as the game began

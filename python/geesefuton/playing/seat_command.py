@@ -31,6 +31,7 @@ from geesefuton.processes import command, tell, why
 
 LOOK = 0.1  # seconds between two looks at whether all games are over
 LINGER = 10.0  # seconds after the end for pages that were not told of it
+GRACE = 1.0  # seconds for the other pages of a seat, and for what is being sent
 
 
 def _arguments() -> argparse.Namespace:
@@ -87,6 +88,7 @@ def _wait(tables: List[Table], until_over: bool) -> None:
     deadline = time.monotonic() + LINGER
     for table in begun:
         table.is_told.wait(max(0, deadline - time.monotonic()))
+    time.sleep(GRACE)
 
 
 def _table(given: argparse.Namespace, word: str) -> Table:
@@ -110,7 +112,10 @@ def _main() -> int:
         addresses = [f"http://{host}:{port}/{table.token}/" for table in tables]
         for line in _lines(given.words, addresses, given.listen != "127.0.0.1"):
             print(line, flush=True)
-        _wait(tables, given.until_over)
+        try:
+            _wait(tables, given.until_over)
+        finally:
+            site.shutdown()
     return 0
 
 

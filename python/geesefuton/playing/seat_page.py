@@ -147,9 +147,12 @@ class Table:
     def _state(self, page: str, given: Dict[str, Any]) -> Dict[str, Any]:
         after = given.get("after")
         state = self.seat.state(after if isinstance(after, int) else -1, WAIT)
+        told = {**state, "plays": self.pages.plays(page), "advice": self.has_advice}
         if state["phase"] == "over":
             self.is_told.set()
-        return {**state, "plays": self.pages.plays(page), "advice": self.has_advice}
+            with contextlib.suppress(Refused):
+                told["result"] = self._advice({})
+        return told
 
     def _ask(self, what: str, given: Dict[str, Any]) -> Dict[str, Any]:
         if what == "again":
