@@ -123,6 +123,8 @@ class Seat:
             return NOT_NOW
         order = Order(request)
         self._orders.put(order)
+        if self.phase != "running":  # the game has ended meanwhile
+            self._refuse_rest()
         order.done.wait(LATE)
         return order.answer
 

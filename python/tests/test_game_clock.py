@@ -1,0 +1,63 @@
+import unittest
+
+from geesefuton.playing.game_clock import GameClock
+
+
+class GameClocks(unittest.TestCase):
+    def test_a_told_pace_from_the_start(self) -> None:
+        clock = GameClock(2.0)
+        clock.begin(100.0, 0, True)
+        self.assertTrue(clock.is_exact)
+        self.assertEqual(clock.now(101.9), (100.0, 0))
+        self.assertEqual(clock.now(102.5), (102.0, 1))
+        clock.move(102.4)
+        clock.move(106.3)  # a tick between was not seen
+        self.assertEqual((clock.tick, clock.pace), (3, 2.0))
+        self.assertEqual(clock.now(107.0), (106.0, 3))
+
+    def test_a_tick_that_is_late_is_not_counted_twice(self) -> None:
+        clock = GameClock(2.0)
+        clock.begin(100.0, 0, True)
+        self.assertEqual(clock.now(105.0).tick, 1)
+        clock.move(102.1)
+        self.assertEqual(clock.now(110.0).tick, 2)
+
+    def test_the_pace_is_measured(self) -> None:
+        clock = GameClock()
+        clock.begin(100.0, 0, True)
+        self.assertEqual(clock.now(101.0), (100.0, 0))
+        clock.move(103.0)
+        self.assertEqual((clock.tick, clock.pace), (1, 3.0))
+        clock.move(105.0)
+        self.assertEqual((clock.tick, clock.pace), (2, 2.5))
+        clock.close(112.0, 1)
+        self.assertEqual((clock.tick, clock.pace), (6, 2.0))
+        self.assertEqual(clock.now(113.0), (112.0, 6))
+
+    def test_a_seat_that_comes_in_the_game_waits_for_a_closing(self) -> None:
+        clock = GameClock()
+        clock.begin(100.0, 2, False)
+        self.assertEqual((clock.tick, clock.is_exact, clock.now(101.0).tick), (12, False, 12))
+        clock.move(101.0)
+        clock.move(103.0)
+        self.assertEqual((clock.tick, clock.pace, clock.is_exact), (14, 2.0, False))
+        clock.move(105.0)
+        clock.close(105.0, 3)
+        self.assertEqual((clock.tick, clock.pace, clock.is_exact), (18, 2.0, True))
+        self.assertEqual(clock.now(106.0), (105.0, 18))
+
+    def test_a_closing_as_the_first_thing_that_is_seen(self) -> None:
+        clock = GameClock(1.0)
+        clock.begin(100.0, 0, False)
+        clock.close(100.5, 1)
+        self.assertEqual(clock.now(100.6), (100.5, 6))
+
+    def test_there_are_54_ticks(self) -> None:
+        clock = GameClock(1.0)
+        clock.begin(0.0, 0, True)
+        clock.move(54.0)
+        self.assertEqual(clock.now(60.0).tick, 54)
+
+
+if __name__ == "__main__":
+    unittest.main()

@@ -1,0 +1,173 @@
+import threading
+import time
+import unittest
+from typing import Any, Callable, Dict
+from unittest import mock
+
+from geesefuton.link import Link
+from geesefuton.playing.answers import Answer
+from geesefuton.playing.seat import Seat
+from geesefuton.records.replies import Request
+from tests.seat_server import SeatServer
+
+
+class Case(unittest.TestCase):
+    """A seat before a stand-in of the server."""
+
+    def setUp(self) -> None:
+        self.server = SeatServer()
+        self.addCleanup(self.server.close)
+        self.addCleanup(self.end)
+        for name, value in (("LOOK", 0.02), ("LEAST", 0.02)):
+            patch = mock.patch(f"geesefuton.playing.seat.{name}", value)
+            patch.start()
+            self.addCleanup(patch.stop)
+        patch = mock.patch("geesefuton.link.tell")
+        patch.start()
+        self.addCleanup(patch.stop)
+        self.seat = Seat(lambda: Link.greet("127.0.0.1", self.server.port, "red", limit=5))
+
+    def end(self) -> None:
+        """All closes, so the seat says `quit`."""
+        self.server.closed = list(range(28))
+        if self.seat.phase != "idle":
+            self.wait(lambda state: state["phase"] in ("over", "failed"))
+
+    def wait(self, holds: Callable[[Dict[str, Any]], bool]) -> Dict[str, Any]:
+        """The first state that is so."""
+        version, until = -1, time.monotonic() + 10
+        while time.monotonic() < until:
+            state = self.seat.state(version, 1)
+            version = state["version"]
+            if holds(state):
+                return state
+        raise AssertionError(f"no such state: {state}")
+
+    def begin(self) -> Dict[str, Any]:
+        """The seat is taken."""
+        self.seat.begin()
+        return self.wait(lambda state: state["phase"] == "running")
+
+    def bid(self, good: int, *points: Any) -> Answer:
+        """A bid, and its answer."""
+        return self.seat.order(Request("bid", good, points))
+
+
+class Seats(Case):
+    def test_a_seat_is_taken_once_it_is_begun(self) -> None:
+        self.assertEqual(self.seat.phase, "idle")
+        self.assertEqual(self.server.heard, [])
+        self.server.units[20] = 2
+        self.server.standing[20] = "((-1 90))"
+        state = self.begin()
+        self.assertEqual(state["clients"][0], [1, 5, 50, 1, 2, 0])
+        self.assertEqual(state["goods"][20], [2, ((-1, 90),)])
+        self.assertEqual(state["quotes"][0], [0, 300, False])
+        self.seat.begin()
+        self.assertEqual([line for line in self.server.heard if "hello" in line], ["hello red"])
+
+    def test_a_bid_stands_and_is_listed(self) -> None:
+        self.begin()
+        answer = self.bid(9, (2, 70))
+        self.assertTrue(answer.is_done)
+        self.assertEqual(answer.text, "Your bid stands: buy 2 at 70; it is decided at the closing.")
+        state = self.wait(lambda state: bool(state["calls"]))
+        self.assertEqual(state["goods"][9][1], ((2, 70),))
+        self.assertEqual(state["calls"][0]["what"], "Shoreline Shanties, night 2: buy 2 at 70")
+        self.assertEqual(self.seat.holdings(), [0] * 28)
+        self.assertEqual(self.seat.holdings(with_standing=True)[9], 2)
+
+    def test_a_withdrawal(self) -> None:
+        self.begin()
+        self.bid(20, (-1, 70))
+        self.assertTrue(self.seat.order(Request("withdraw", 20)).is_done)
+        self.wait(lambda state: state["goods"][20][1] == ())
+
+    def test_a_refusal_says_what_would_be_right(self) -> None:
+        self.begin()
+        self.server.refusals["bid 8"] = "@4 no belowquote 3 101 2"
+        answer = self.bid(8, (2, 120))
+        self.assertEqual((answer.is_done, answer.fix), (False, (3, 101)))
+        self.assertIn("3 rooms at 101 dollars or more", answer.text)
+
+    def test_what_stands_is_read_again_only_after_another_call(self) -> None:
+        self.begin()
+        self.bid(20, (1, 70))
+        looks = len(self.server.heard)
+        self.wait(lambda _: self.server.heard[looks:].count("quote 20") > 2)
+        self.assertNotIn("own 20", self.server.heard[looks:])
+        self.server.units[20], self.server.standing[20], self.server.cash = 1, "()", -60
+        self.server.call(20)
+        state = self.wait(lambda state: state["goods"][20][0] == 1 and state["cash"] == -60)
+        self.assertEqual(state["goods"][20], [1, ()])
+        self.assertEqual(self.server.heard[looks:].count("own 20"), 1)
+
+    def test_calls_of_a_hotel_are_kept_until_it_closes(self) -> None:
+        self.begin()
+        self.bid(8, (1, 70))
+        looks = len(self.server.heard)
+        self.server.call(8)
+        self.wait(lambda _: self.server.heard[looks:].count("quote 8") > 2)
+        self.assertNotIn("own 8", self.server.heard[looks:])
+        self.server.units[8], self.server.standing[8], self.server.cash = 1, "()", -40
+        self.server.call(8)
+        self.server.quotes[8][1] = 40
+        self.server.closed.append(8)
+        state = self.wait(lambda state: state["goods"][8][0] == 1)
+        self.assertEqual(state["closed"], [(8, 40)])
+        self.assertEqual((state["tick"], state["exact"]), (6, True))
+
+    def test_a_price_that_moves_is_a_tick(self) -> None:
+        self.assertEqual(self.begin()["tick"], 0)
+        for tick in (1, 2):
+            self.server.quotes[3][1] += 7
+            self.wait(lambda state: state["tick"] == tick and state["pace"])
+
+    def test_a_lost_link_is_connected_again(self) -> None:
+        self.begin()
+        self.server.refusals["quote 5"] = ""
+        self.wait(lambda _: self.server.heard.count("hello red") == 2)
+        self.assertTrue(self.bid(0, (1, 400)).is_done)
+
+    def test_a_bid_on_a_lost_link_may_have_been_admitted(self) -> None:
+        self.begin()
+        self.server.refusals["bid 9"] = ""
+        answer = self.bid(9, (1, 50))
+        self.assertFalse(answer.is_done)
+        self.assertIn("The link was lost before this was answered", answer.text)
+        self.assertEqual(self.seat.phase, "running")
+
+    def test_a_refused_word_is_told_and_may_be_tried_again(self) -> None:
+        self.server.refusals["hello"] = "refused wrongword"
+        self.seat.begin()
+        state = self.wait(lambda state: state["phase"] == "failed")
+        self.assertEqual(state["fault"], "red: refused wrongword")
+        self.assertFalse(self.bid(0, (1, 400)).is_done)
+        self.begin()
+
+    def test_the_game_ends_with_quit(self) -> None:
+        self.begin()
+        self.bid(20, (-1, 70))
+        self.server.units[20], self.server.standing[20], self.server.cash = -1, "()", 70
+        self.end()
+        state = self.seat.state(-1, 0)
+        self.assertEqual((state["phase"], state["cash"], state["goods"][20][0]), ("over", 70, -1))
+        self.assertEqual(self.server.heard[-1], "quit")
+        self.assertFalse(self.bid(20, (1, 70)).is_done)
+
+    def test_an_order_that_comes_at_the_end_is_answered(self) -> None:
+        self.begin()
+        answers = []
+        self.server.refusals["own 8"] = ""
+        threads = [threading.Thread(target=lambda: answers.append(self.bid(20, (1, 70))))
+                   for _ in range(4)]
+        for thread in threads:
+            thread.start()
+        self.end()
+        for thread in threads:
+            thread.join(5)
+        self.assertEqual(len(answers), 4)
+
+
+if __name__ == "__main__":
+    unittest.main()
