@@ -32,6 +32,7 @@ PROGRAMS: Dict[str, Program] = {
                      "hosts a game for agents on other machines"),
     "live": Program("geesefuton.hosting.live", "shows a hosted game on a page"),
     "recover": Program("geesefuton.hosting.recover_command", "makes a log of a lobby's journal"),
+    "seat": Program("geesefuton.playing.seat_command", "lets a person play a seat in a browser"),
     "report": Program("geesefuton.records.report", "makes a page of a game and its log"),
     "tournament": Program("geesefuton.experiments.tournament", "plays many games of some agents"),
     "doctor": Program("geesefuton.doctor", "says what is at hand on this machine"),

@@ -54,7 +54,7 @@ def _arguments() -> argparse.Namespace:
     return parser.parse_args()
 
 
-def _host_of(address: str) -> str:
+def host_of(address: str) -> str:
     """What browsers call an address at which the page listens."""
     if address not in ("0.0.0.0", "::"):
         return f"[{address}]" if ":" in address else address
@@ -108,7 +108,7 @@ def _main() -> int:
         return 1
     with site:
         threading.Thread(target=site.serve_forever, daemon=True).start()
-        host, port = _host_of(given.listen), site.server_address[1]
+        host, port = host_of(given.listen), site.server_address[1]
         addresses = [f"http://{host}:{port}/{table.token}/" for table in tables]
         for line in _lines(given.words, addresses, given.listen != "127.0.0.1"):
             print(line, flush=True)
