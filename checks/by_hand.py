@@ -1,6 +1,6 @@
 #!/usr/bin/env python3
-"""Plays a game of eight seats by hand: headless Chromium opens the eight pages of `tools/seat`, and
-only what a person sees there is tapped.
+"""Plays a game of eight seats by hand: headless Chromium opens the eight pages that `tools/lobby
+--by-hand` offers, and only what a person sees there is tapped.
 
     checks/by_hand.py
 
@@ -25,12 +25,12 @@ from trying import TOP, Parser, ProgramError
 
 from geesefuton import program
 from geesefuton.processes import Children, command, free_port
+from geesefuton.records.games import SEATS
 from geesefuton.records.logs import Log, read_log
 from geesefuton.records.replies import Taken
 
 PACE = 1500  # milliseconds
 LIMIT = 200.0  # seconds that all of it may take
-WORDS = [f"seat{number}" for number in range(8)]
 DUE = ("a ticket is offered", "an offer is taken back", "the solver is asked",
        "a refusal says why", "the score is shown")  # what each seat has to see
 # The middle of the first element of some kind that is seen and has a text; null if there is none.
@@ -197,17 +197,16 @@ class Player:
         self.seen[what] = is_seen
 
 
-def addresses(process: "subprocess.Popen[bytes]") -> List[str]:
-    """The addresses that `tools/seat` prints."""
-    assert process.stdout is not None
-    found = []
-    while len(found) < len(WORDS):
-        line = process.stdout.readline().decode()
+def addresses(lobby: "subprocess.Popen[bytes]") -> List[str]:
+    """The addresses that the lobby shows, as this machine itself reaches them."""
+    assert lobby.stderr is not None
+    found: List[str] = []
+    while len(found) < SEATS:
+        line = lobby.stderr.readline().decode()
         if not line:
-            raise ByHandError("tools/seat has ended")
-        if "http://" in line:
-            found.append(line.split()[1])
-    return found
+            raise ByHandError("the lobby has ended")
+        found += re.findall(r"http://[^ ]*(:[0-9]+/[a-z0-9]+/)", line)
+    return [f"http://127.0.0.1{address}" for address in found]
 
 
 def play(children: Children, folder: Path) -> List[Player]:
@@ -216,14 +215,12 @@ def play(children: Children, folder: Path) -> List[Player]:
     game.write_text(program.make(42))
     with (folder / "by_hand.log").open("wb") as log:
         lobby = children.start([sys.executable, str(TOP / "tools" / "lobby"), str(game), str(port),
-                                str(PACE), "--journal", str(folder / "by_hand.journal")],
-                               stdin=subprocess.DEVNULL, stdout=log, stderr=subprocess.DEVNULL)
-    seats = children.start([sys.executable, str(TOP / "tools" / "seat"), "127.0.0.1", str(port),
-                            *WORDS, "--pace", str(PACE), "--until-over"],
-                           stdin=subprocess.DEVNULL, stdout=subprocess.PIPE)
+                                str(PACE), "--journal", str(folder / "by_hand.journal"),
+                                "--by-hand", str(free_port())],
+                               stdin=subprocess.DEVNULL, stdout=log, stderr=subprocess.PIPE)
     browser = Browser(children)
     players = [Player(Tab(browser, address), number)
-               for number, address in enumerate(addresses(seats))]
+               for number, address in enumerate(addresses(lobby))]
     until = time.monotonic() + LIMIT
     while lobby.poll() is None and time.monotonic() < until:
         for player in players:
@@ -241,7 +238,7 @@ def faults_of(players: List[Player], log: Log) -> List[str]:
     """What is missing."""
     faults = [f"seat{number}: not seen: {what}" for number, player in enumerate(players)
               for what in DUE if not player.seen.get(what)]
-    for number in range(8):
+    for number in range(SEATS):
         taken = sum(entry.caller == number and isinstance(entry.reply, Taken)
                     for history in log.histories for entry in history)
         if taken < 5:

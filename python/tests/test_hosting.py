@@ -19,7 +19,7 @@ from unittest import mock
 from geesefuton.hosting import lobby, lobby_command
 from geesefuton.hosting.control import STOPPED, Control, Phase
 from geesefuton.hosting.lobby import Lobby, LobbyError
-from geesefuton.hosting.page_process import PageProcess, page_words
+from geesefuton.hosting.page_process import PageProcess, page_words, seats_words
 from geesefuton.hosting.settings import LobbySettings
 from geesefuton.processes import free_port
 from tests.helpers import TOP, python, variables
@@ -310,6 +310,16 @@ class Pages(Case):
             "--until-over"])
         self.assertEqual(page_words(self.settings(late=0, names=True), Path("j"))[5:],
                          ["--late", "0", "--until-over", "--names"])
+
+    def test_the_words_of_the_page_for_playing_by_hand(self) -> None:
+        settings = self.settings(by_hand=7090)
+        words = [sys.executable, "-m", "geesefuton.playing.seat_command", "127.0.0.1", "7000",
+                 "red", "blue", "--page", "7090", "--listen", "0.0.0.0", "--pace",
+                 str(settings.pace), "--until-over"]
+        self.assertEqual(seats_words(settings, ["red", "blue"], 7000), words)
+        settings = self.settings(by_hand=7090, form="json", advice=False)
+        self.assertEqual(seats_words(settings, ["red", "blue"], 7000),
+                         [*words, "--json", "--no-advice"])
 
     def test_it_finds_the_package_and_knows_when_the_game_is_over(self) -> None:
         page = self.page()

@@ -15,7 +15,7 @@ from geesefuton.hosting import events
 from geesefuton.hosting.control import Control, Phase
 from geesefuton.hosting.events import Event
 from geesefuton.hosting.orders import Orders
-from geesefuton.hosting.page_process import PageProcess
+from geesefuton.hosting.page_process import SideProcess
 from geesefuton.hosting.relay import Relay
 from geesefuton.hosting.settings import LobbySettings
 from geesefuton.processes import Children
@@ -37,6 +37,7 @@ class HostedGame:
         emit: Is told each event.
         log: The pieces of the log so far.
         page: The live page, if there is one.
+        by_hand: The page by which persons play seats, if there is one.
     """
 
     def __init__(self, settings: LobbySettings, text: str, control: Control, children: Children,
@@ -44,7 +45,8 @@ class HostedGame:
         self.settings, self.text, self.control = settings, text, control
         self.children, self.folder, self.relay, self.emit = children, folder, relay, emit
         self.log: List[bytes] = []
-        self.page: Optional[PageProcess] = None
+        self.page: Optional[SideProcess] = None
+        self.by_hand: Optional[SideProcess] = None
         self._lines: Deque[str] = deque()
         self._orders = Orders(settings.orders, self._lines)
         self._orders.look(relay)
@@ -69,9 +71,10 @@ class HostedGame:
             self._looked = now
             self.relay.pass_time(now)
             self._orders.look(self.relay)
-            fault = self.page.fault() if self.page else ""
-            if fault:
-                self.warn(fault)
+            for each in (self.page, self.by_hand):
+                fault = each.fault() if each else ""
+                if fault:
+                    self.warn(fault)
         self._obey()
 
     def tick(self, number: int, lines: List[int]) -> None:

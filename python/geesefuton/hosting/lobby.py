@@ -20,7 +20,7 @@ from geesefuton.hosting.control import STOPPED, Control, Phase
 from geesefuton.hosting.events import Event
 from geesefuton.hosting.hosted_game import LOOK, HostedGame, Serving
 from geesefuton.hosting.journal import Journal
-from geesefuton.hosting.page_process import PageProcess
+from geesefuton.hosting.page_process import PageProcess, SeatsProcess
 from geesefuton.hosting.relay import Relay
 from geesefuton.hosting.seats import State
 from geesefuton.hosting.server import ClockServer
@@ -30,6 +30,7 @@ from geesefuton.processes import Children, why
 FULL = 4  # the exit status if the output takes no more
 ENDING = 1.0  # seconds that links have to end after the server
 SHOWING = 60.0  # seconds that the page has to show the last scores
+TELLING = 5.0  # seconds that the page for playing by hand has to show the last results
 
 
 class LobbyError(Exception):
@@ -57,10 +58,7 @@ class Lobby:
         self._serving = serving or ClockServer()
         self._text = program.show(settings.game)
         self.words = self._text.split("\n")[1].split()[1:]
-        if settings.page is not None:
-            if settings.page == settings.port:
-                raise LobbyError(f"port {settings.page}: the page needs another port than the game")
-            _listen(settings.page).close()  # tells whether the port is free
+        _check_pages(settings)
         self._listener = _listen(settings.port)
         self.port: int = self._listener.getsockname()[1]
         self._control = Control()
@@ -105,10 +103,14 @@ class Lobby:
             if journal and self.settings.page is not None:
                 game.page = PageProcess(children, self.settings, journal.file)
                 stack.callback(game.page.end)
+            if self.settings.by_hand is not None:
+                game.by_hand = SeatsProcess(children, self.settings, self.words, self.port)
+                stack.callback(game.by_hand.end)
             self._game = game
             status = self._host(game)
-            if game.page and not game.is_stopped:
-                game.page.wait(SHOWING, self._control)
+            for page, limit in ((game.page, SHOWING), (game.by_hand, TELLING)):
+                if page and not game.is_stopped:
+                    page.wait(limit, self._control)
         return status
 
     def interrupt(self) -> None:
@@ -206,6 +208,22 @@ class Lobby:
         file = str(kept.file) if kept.file else None
         game.emit(events.Finished(time.time(), status, file))
         return status
+
+
+def _check_pages(settings: LobbySettings) -> None:
+    """Looks whether the ports of the pages are free.
+
+    Raises:
+        LobbyError: One is not, or two things are to have the same port.
+    """
+    taken = {settings.port}
+    for port in (settings.page, settings.by_hand):
+        if port is not None:
+            if port in taken:
+                other = "game" if port == settings.port else "other page"
+                raise LobbyError(f"port {port}: the page needs another port than the {other}")
+            taken.add(port)
+            _listen(port).close()
 
 
 def _listen(port: int) -> socket.socket:

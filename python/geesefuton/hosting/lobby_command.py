@@ -60,6 +60,12 @@ def _arguments() -> argparse.Namespace:
         help="the journal, a new file; by default GAME-DATE.journal beside the log")
     add("--page", type=whole(1, 65535), metavar="PORT",
         help="show the game on a page at this port, for a projector")
+    add("--by-hand", type=whole(1, 65535), metavar="PORT",
+        help="let persons play in their browsers: show addresses of pages at this port, one for "
+             "each seat, as text, and as QR codes if `qrencode` is installed; an agent may take "
+             "any seat whose page nobody has opened")
+    add("--no-advice", action="store_true",
+        help="the pages of --by-hand cannot ask the solver")
     add("--late", type=whole(0, TICKS), default=6, metavar="TICKS",
         help="how many ticks later the page shows what agents cannot ask: scores, trades, standing "
              "bids; 6, and 54 is after the game, 0 at once")
@@ -165,7 +171,7 @@ def _main() -> int:
         log=sys.stdout.buffer if has_output and sys.stdout else None, start=given.start,
         linger=given.after, patience=given.patience, silence=given.silence,
         journal=given.journal, page=given.page, late=given.late, names=given.names,
-        orders=sys.stdin)
+        by_hand=given.by_hand, advice=not given.no_advice, orders=sys.stdin)
     try:
         lobby = Lobby(settings)
         teller = Teller(lobby.words)

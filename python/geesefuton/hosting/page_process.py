@@ -20,28 +20,29 @@ from geesefuton.processes import Children
 LOOK = 0.1  # seconds between two looks at whether the page has ended
 
 
-class PageProcess:
-    """The live page of a game, a process of its own.
+class SideProcess:
+    """A process beside the game, which goes on without it.
 
     Args:
         children: By which it is started.
-        settings: What the lobby was told.
-        journal: The file that it shows.
+        name: What it is called in messages.
+        words: The words that start it.
+        output: Where its standard output goes.
     """
 
-    def __init__(self, children: Children, settings: LobbySettings, journal: Path) -> None:
+    def __init__(self, children: Children, name: str, words: List[str], output: int) -> None:
         path = [str(Path(__file__).resolve().parents[2]), os.environ.get("PYTHONPATH", "")]
         self._process = children.start(
-            page_words(settings, journal), stdin=subprocess.PIPE, stdout=subprocess.DEVNULL,
+            words, stdin=subprocess.PIPE, stdout=output,
             env={**os.environ, "PYTHONPATH": os.pathsep.join(filter(None, path))})
-        self._children, self._is_told = children, False
+        self._children, self._name, self._is_told = children, name, False
 
     def fault(self) -> str:
-        """What the host is to be told of a page that has ended, once; else ""."""
+        """What the host is to be told of a process that has ended, once; else ""."""
         if self._is_told or self._process.poll() is None:
             return ""
         self._is_told = True
-        return (f"the page has ended, exit status {self._process.returncode}; "
+        return (f"{self._name} has ended, exit status {self._process.returncode}; "
                 "the game goes on without it")
 
     def is_running(self) -> bool:
@@ -66,7 +67,44 @@ class PageProcess:
             time.sleep(LOOK)
 
 
+class PageProcess(SideProcess):
+    """The live page of a game.
+
+    Args:
+        children: By which it is started.
+        settings: What the lobby was told.
+        journal: The file that it shows.
+    """
+
+    def __init__(self, children: Children, settings: LobbySettings, journal: Path) -> None:
+        super().__init__(children, "the page", page_words(settings, journal), subprocess.DEVNULL)
+
+
+class SeatsProcess(SideProcess):
+    """The page by which persons play seats. The host is shown its addresses.
+
+    Args:
+        children: By which it is started.
+        settings: What the lobby was told.
+        words: The seat words.
+        port: The lobby's port for agents.
+    """
+
+    def __init__(self, children: Children, settings: LobbySettings, words: List[str],
+                 port: int) -> None:
+        super().__init__(children, "the page for playing by hand",
+                         seats_words(settings, words, port), 2)
+
+
 def page_words(settings: LobbySettings, journal: Path) -> List[str]:
     """The words that start the page."""
     return [sys.executable, "-m", "geesefuton.hosting.live", str(journal), str(settings.page),
             "--late", str(settings.late), "--until-over"] + ["--names"] * settings.names
+
+
+def seats_words(settings: LobbySettings, words: List[str], port: int) -> List[str]:
+    """The words that start the page by which persons play seats."""
+    return [sys.executable, "-m", "geesefuton.playing.seat_command", "127.0.0.1", str(port), *words,
+            "--page", str(settings.by_hand), "--listen", "0.0.0.0", "--pace", str(settings.pace),
+            "--until-over"] + ["--json"] * (settings.form == "json") \
+        + ["--no-advice"] * (not settings.advice)

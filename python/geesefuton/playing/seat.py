@@ -21,7 +21,7 @@ from geesefuton.records.games import FLIGHTS, GOODS, HOTELS, TICKETS, Client
 from geesefuton.records.replies import Cash, Own, Points, Quote, Reply, Request
 
 LOOK = 0.25  # seconds from one look at the quotes to the next, while the pace is not known
-LOOKS = 5  # looks in a tick, so that a session's 65,536 lines last
+LOOKS = 4  # looks in a tick, so that a session's 65,536 lines last
 LEAST = 0.2  # seconds from one look to the next
 FRESH = 1.5  # seconds of waiting for the welcome after which it came as the game began
 READINGS = 2  # of the cash after a change: another caller's trade may be missing for a moment
@@ -90,7 +90,7 @@ class Seat:
         self._calls: Deque[Dict[str, Any]] = deque(maxlen=KEPT)
         self._number = 0
         self._orders: "queue.Queue[Order]" = queue.Queue()
-        self._looked = 0.0
+        self._looked, self._took = 0.0, 0.0  # when the last look ended, and its seconds
 
     def begin(self) -> None:
         """Takes the seat, unless it is taken already. After a game it is taken for the next."""
@@ -214,7 +214,8 @@ class Seat:
     def _wait(self, link: Link) -> None:
         """Takes orders until the next look is due."""
         pace = self._clock.pace
-        due = self._looked + (max(LEAST, pace / LOOKS) if pace else LOOK)
+        pause = max(LEAST, pace / LOOKS) if pace else LOOK
+        due = self._looked + max(pause, self._took)  # so that a slow link is not always busy
         while True:
             try:
                 self._obey(link, self._orders.get(timeout=max(0, due - time.monotonic())))
@@ -223,7 +224,8 @@ class Seat:
 
     def _look(self, link: Link) -> None:
         """Looks at all quotes, and reads what may have changed. Orders do not wait for its end."""
-        begun, moves, closed = self._looked, max(self._moves), self._clock_closed
+        last, begun = self._looked, time.monotonic()
+        moves, closed = max(self._moves), self._clock_closed
         for good in ORDER:
             if not self._orders.empty():
                 self._obey(link, self._orders.get())
@@ -233,7 +235,7 @@ class Seat:
                 if good in FLIGHTS and before is not None and before.ask != now.ask:
                     self._moves[good] += 1
         self._looked = time.monotonic()
-        middle = (begun + self._looked) / 2
+        self._took, middle = self._looked - begun, (last + self._looked) / 2
         if max(self._moves) > moves:
             self._clock.move(middle)
         if len(self._closed) > closed:

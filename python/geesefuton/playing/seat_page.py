@@ -147,7 +147,7 @@ class Table:
     def _state(self, page: str, given: Dict[str, Any]) -> Dict[str, Any]:
         after = given.get("after")
         state = self.seat.state(after if isinstance(after, int) else -1, WAIT)
-        told = {**state, "plays": self.pages.plays(page), "advice": self.has_advice}
+        told: Dict[str, Any] = {**state, "plays": self.pages.plays(page), "advice": self.has_advice}
         if state["phase"] == "over":
             self.is_told.set()
             with contextlib.suppress(Refused):
