@@ -6,7 +6,7 @@
 
 Each seat buys its flights, bids for rooms, offers a ticket and takes it back, asks the solver, and
 is refused once. In the end the log has to be sound, with bids of all eight agents that were
-admitted. It takes some two minutes. It ends with 0 if all that was seen, with 1 if not, and is
+admitted. It takes some four minutes. It ends with 0 if all that was seen, with 1 if not, and is
 skipped, with 0, if there is no Chromium or no program.
 """
 
@@ -29,8 +29,8 @@ from geesefuton.records.games import SEATS
 from geesefuton.records.logs import Log, read_log
 from geesefuton.records.replies import Taken
 
-PACE = 1500  # milliseconds
-LIMIT = 200.0  # seconds that all of it may take
+PACE = 3000  # milliseconds
+LIMIT = 400.0  # seconds that all of it may take
 DUE = ("a ticket is offered", "an offer is taken back", "the solver is asked",
        "a refusal says why", "the score is shown")  # what each seat has to see
 # The middle of the first element of some kind that is seen and has a text; null if there is none.
