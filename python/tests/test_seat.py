@@ -121,7 +121,7 @@ class Seats(Case):
         self.assertEqual(self.begin()["tick"], 0)
         for tick in (1, 2):
             self.server.quotes[3][1] += 7
-            self.wait(lambda state: state["tick"] == tick and state["pace"])
+            self.wait(lambda state: state["tick"] >= tick and state["pace"])
 
     def test_a_lost_link_is_connected_again(self) -> None:
         self.begin()
