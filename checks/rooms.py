@@ -5,8 +5,8 @@
 
 It fails if a module of python/geesefuton imports from a room above its own or beside it, if it uses
 a private member that another module defines, be it by a class that it extends, if it has 500 lines
-or more, or if the map in python/README.md does not name it. The rooms are listed below, the lowest first; those of one line stand beside each
-other.
+or more, or if the map in python/README.md does not name it. The rooms are listed below, the lowest
+first; those of one line stand beside each other.
 """
 
 import ast

@@ -1,8 +1,8 @@
 #!/usr/bin/env python3
 """A small game in steps: one agent buys seats and bids for rooms, and sees what that is worth.
 
-An agent that learns is made of the same calls, which
-`geesefuton.learning.environment` tells; `learner.py` is one. What stands here is for the first client of a made game.
+An agent that learns is made of the same calls, which `geesefuton.learning.environment` tells;
+`learner.py` is one. What stands here is for the first client of a made game.
 """
 
 import sys

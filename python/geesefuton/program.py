@@ -4,12 +4,15 @@ The file is the one that the environment variable TAC names. Without it, it is t
 release has in the package, or crates/tacd/out/tacd of the clone that the package stands in.
 """
 
+import contextlib
 import errno
 import os
 import shutil
+import signal
 import subprocess
+import threading
 from pathlib import Path
-from typing import Any, Dict, List, Optional, Sequence, Tuple, Union
+from typing import Iterator, List, Optional, Sequence, Tuple, Union
 
 __all__ = [
     "INPUT", "MEANINGS", "OK", "CLOCK", "UNSOUND", "ProgramError", "audit", "ended", "examples",
@@ -22,6 +25,7 @@ Word = Union[str, int, "os.PathLike[str]"]
 OK, CLOCK, UNSOUND = 0, 6, 9  # exit statuses
 INPUT = "/dev/stdin"  # the file that has what a command is given
 BUNDLED = Path(__file__).resolve().parent / "bin" / "tac"  # in a release
+STOPPING = (signal.SIGINT, signal.SIGTERM, signal.SIGHUP)
 MEANINGS = {
     1: "the words are no command",
     2: "the game file is refused",
@@ -107,18 +111,46 @@ def run(command: str, *words: Word, given: bytes = b"", allowed: Sequence[int] =
     Raises:
         ProgramError: There is no program, it ended with another status, or took too long.
     """
-    how: Dict[str, Any] = {"input": given} if given else {"stdin": subprocess.DEVNULL}
+    file = find()
+    child: "Optional[subprocess.Popen[bytes]]" = None
     try:
-        done = subprocess.run([find(), command, *map(str, words)], stdout=subprocess.PIPE,
-                              timeout=timeout, check=False, **how)
+        with _held_signals():
+            child = subprocess.Popen([file, command, *map(str, words)], stdout=subprocess.PIPE,
+                                     stdin=subprocess.PIPE if given else subprocess.DEVNULL)
+        data, _ = child.communicate(given or None, timeout)
     except subprocess.TimeoutExpired:
         raise ProgramError(f"tac {command} took longer than {timeout:g} seconds") from None
     except OSError as fault:
-        raise ProgramError(why_not_run(find(), fault)) from None
-    text: str = done.stdout.decode("ascii", "replace")
-    if done.returncode not in allowed:
-        raise ended(command, done.returncode, text.split("\n", 1)[0])
+        raise ProgramError(why_not_run(file, fault)) from None
+    finally:
+        if child is not None:
+            child.kill()  # does nothing if it has ended
+            child.__exit__(None, None, None)
+    text = data.decode("ascii", "replace")
+    if child.returncode not in allowed:
+        raise ended(command, child.returncode, text.split("\n", 1)[0])
     return text
+
+
+@contextlib.contextmanager
+def _held_signals() -> Iterator[None]:
+    """Lets signals that Python handles wait: one that stops the script while it makes a process
+    would leave that process behind."""
+    if threading.current_thread() is not threading.main_thread():
+        yield  # signals are handled in the main thread alone
+        return
+    came: List[int] = []
+    former = {number: signal.getsignal(number) for number in STOPPING}
+    handled = {number: handler for number, handler in former.items() if callable(handler)}
+    for number in handled:
+        signal.signal(number, lambda number, _: came.append(number))
+    try:
+        yield
+    finally:
+        for number, handler in handled.items():
+            signal.signal(number, handler)
+        for each in came:
+            signal.raise_signal(each)
 
 
 def why_not_run(file: str, fault: OSError) -> str:

@@ -102,6 +102,14 @@ class Pools(unittest.TestCase):
                               source("other.csv", 1, 2, settings=start + other)])
             self.assertEqual({row.deal for row in rows}, {"1", "2", "other:1", "other:2"})
 
+    def test_later_pools_whose_deals_are_made_alike_are_compared(self) -> None:
+        few = SETTINGS.replace("rooms=16..16", "rooms=3..6")
+        rows, _ = pooled([source("one.csv", 1), source("two.csv", 1, settings=few),
+                          source("three.csv", 1, settings=few.replace("turns=40", "turns=20"))])
+        self.assertEqual({(row.deal, row.agent) for row in rows if row.seat == 0},
+                         {("1", "mine in one"), ("two:1", "mine in two"),
+                          ("two:1", "mine in three")})
+
     def test_names_that_are_alike_are_told_whole(self) -> None:
         other = SETTINGS.replace("turns=40", "turns=20")
         rows, _ = pooled([source("x/scores.csv", 1), source("y/scores.csv", 1, settings=other)])

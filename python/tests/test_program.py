@@ -1,8 +1,10 @@
 import os
+import signal
+import subprocess
 import tempfile
 import unittest
 from pathlib import Path
-from typing import Dict
+from typing import Any, Dict, List
 from unittest import mock
 
 from geesefuton import program
@@ -114,6 +116,29 @@ class Commands(unittest.TestCase):
         self.set({"TAC": str(file)})
         self.assertIn("bad is no program of this system: tac runs on x86-64 Linux",
                       str(self.refused("make", 1)))
+
+    def test_a_signal_while_the_process_is_made_leaves_none_behind(self) -> None:
+        class Interrupted(BaseException):
+            """What the handler raises."""
+
+        def interrupt(number: int, _: object) -> None:
+            raise Interrupted
+
+        former = signal.signal(signal.SIGINT, interrupt)
+        self.addCleanup(signal.signal, signal.SIGINT, former)
+        made: List[Any] = []
+        make = subprocess.Popen
+
+        def slow(*words: Any, **how: Any) -> Any:
+            made.append(make(*words, **how))
+            signal.raise_signal(signal.SIGINT)  # comes before the caller has the process
+            return made[0]
+
+        self.set({"TAC": fake_program(self.place, "exec sleep 60")})
+        with mock.patch("subprocess.Popen", slow), self.assertRaises(Interrupted):
+            program.make(1)
+        self.assertIs(signal.getsignal(signal.SIGINT), interrupt)
+        self.assertEqual(made[0].returncode, -signal.SIGKILL)
 
     def test_the_file_is_that_of_the_variable_and_holds_in_any_folder(self) -> None:
         file = fake_program(self.place, "exit")

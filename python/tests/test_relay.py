@@ -586,6 +586,17 @@ class Strangers(Case):
         self.relay.pass_time(time.monotonic() + UNREAD + 1)
         self.assertEqual(self.of(events.Warned), [])
 
+    def test_one_that_stops_reading_again_is_told_of_again(self) -> None:
+        link = self.relay._links[0]
+        for count in (1, 2):
+            link.held += b"x" * (8 << 20)  # more than the system keeps
+            self.relay._watch(link)
+            self.turns()
+            self.relay.pass_time(time.monotonic() + UNREAD + 1)
+            self.relay.pass_time(time.monotonic() + UNREAD + 2)
+            self.assertEqual(len(self.of(events.Warned)), count)
+            self.turn_until(self.agents[0], b"x" * (8 << 20))
+
     def test_a_seat_is_told_of_before_its_lines_are_used_up(self) -> None:
         self.assertEqual(NEAR_MOST, 60000)
         with mock.patch("geesefuton.hosting.relay.NEAR_MOST", 3):

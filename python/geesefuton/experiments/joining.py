@@ -166,7 +166,8 @@ def pooled(sources: Sequence[Source]) -> Tuple[List[Row], List[str]]:
     makings = [_making(read_settings(pool[0].rows[0].settings)) for pool in pools]
     rows: List[Row] = []
     for pool, label, making in zip(pools, labels, makings):
-        mark = "" if making == makings[0] else f"{label}:"
+        first = makings.index(making)
+        mark = f"{labels[first]}:" if first else ""
         rows += [replace(row, agent=f"{row.agent} in {label}", deal=mark + row.deal)
                  for source in pool for row in source.rows]
     return rows, [line for pool in pools for line in twice(pool)]

@@ -2,7 +2,8 @@
 
 The process is started with the number of a connection's file: it is sent a `Job` there, and sends
 back events of the lobby, notes, and in the end a `Result`. It hosts the game with a `Lobby`, in
-turns by a `TurnServer`, and starts the agents, each in a process group of its own that ends with it.
+turns by a `TurnServer`, and starts the agents, each in a process group of its own that ends with
+it.
 """
 
 import hashlib

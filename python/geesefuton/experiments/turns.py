@@ -2,9 +2,9 @@
 
 There is no clock, and no server at a port. In a turn one request of each agent is asked, one after
 the other, and each turn begins one seat later (`records.order`); there are so many of them between
-two ticks. One process of `tac step` answers them all. An agent that takes its time is waited for: only
-if it says nothing for very long, `patience`, is it passed over, and so at each turn until it speaks
-again.
+two ticks. One process of `tac step` answers them all. An agent that takes its time is waited for:
+only if it says nothing for very long, `patience`, is it passed over, and so at each turn until it
+speaks again.
 
 So agents whose requests follow from what they were sent play the same game on any machine, busy or
 not, as long as nobody is passed over.

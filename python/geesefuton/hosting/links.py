@@ -75,7 +75,7 @@ class OuterLink:
         try:
             while self.held:
                 del self.held[:self.socket.send(self.held)]
-                self.stuck = None
+                self.stuck, self.is_told = None, False
         except BlockingIOError:
             self.stuck = self.stuck or time.monotonic()
 

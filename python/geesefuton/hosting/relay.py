@@ -20,7 +20,7 @@ from geesefuton.hosting import events
 from geesefuton.hosting.events import End, Event
 from geesefuton.hosting.journal import Journal
 from geesefuton.hosting.links import OuterLink
-from geesefuton.hosting.seats import Action, Close, Give, Over, Refuse, Seat, Seats, State
+from geesefuton.hosting.seats import Action, Give, Over, Refuse, Seat, Seats, State
 from geesefuton.hosting.sessions import ADMISSION, Session
 from geesefuton.records.dialects import MOST_LINE, is_bye, is_refusal
 

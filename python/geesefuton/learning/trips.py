@@ -1,7 +1,7 @@
 """Trips at given prices: what a seat still has to buy for its clients, and what that is worth.
 
-The choice is greedy: each client in turn takes the trip that gains most, where what is held and left
-by those before it costs nothing. So it is quick, and often not the best one.
+The choice is greedy: each client in turn takes the trip that gains most, where what is held and
+left by those before it costs nothing. So it is quick, and often not the best one.
 """
 
 from typing import List, NamedTuple, Sequence, Tuple

@@ -250,8 +250,8 @@ def _teams(game: Game, names: Sequence[str], log: Log,
     for number, score in enumerate(_order(log)):
         yield (f'<details{"" if number else " open"}><summary>'
                f"<b>{html.escape(names[score.agent])}</b>: trips worth {score.best}, "
-               f"cash {score.cash}, score {score.score}</summary><h3>What each client wanted, and got on which nights"
-               f"</h3>{table(clients, _client_rows(game, score), (6,))}<h3>Trades</h3>"
+               f"cash {score.cash}, score {score.score}</summary>"
+               f"<h3>What each client wanted, and got on which nights</h3>{table(clients, _client_rows(game, score), (6,))}<h3>Trades</h3>"
                f"{table(trades, _trade_rows(events, score.agent), (0,))}</details>")
 
 
