@@ -105,7 +105,10 @@ class Tab:
 
     def __init__(self, browser: Browser, address: str, width: int = 390, height: int = 844) -> None:
         self._browser = browser
-        target = browser.call("Target.createTarget", url="about:blank", newWindow=True)["targetId"]
+        # A context has links of its own, as a browser on another machine would.
+        context = browser.call("Target.createBrowserContext")["browserContextId"]
+        target = browser.call("Target.createTarget", url="about:blank", newWindow=True,
+                              browserContextId=context)["targetId"]
         self._session: str = browser.call("Target.attachToTarget", targetId=target,
                                           flatten=True)["sessionId"]
         self.call("Emulation.setDeviceMetricsOverride", width=width, height=height,

@@ -165,6 +165,8 @@ class Served(Case):
             self.end()
             self.assertEqual(self.state(page)["result"], {"total": 7})
         self.assertTrue(self.table.is_told.is_set())
+        page = self.ask("open", page=page)[1]["page"]
+        self.assertEqual(self.seat.phase, "over")
         self.assertFalse(self.ask("bid", page=page, good=9, points=[[1, 70]])[1]["done"])
 
     def test_links_of_one_address_are_limited(self) -> None:

@@ -21,8 +21,8 @@ from geesefuton.records.games import FLIGHTS, GOODS, HOTELS, TICKETS, Client
 from geesefuton.records.replies import Cash, Own, Points, Quote, Reply, Request
 
 LOOK = 0.25  # seconds from one look at the quotes to the next, while the pace is not known
-LOOKS = 4  # looks in a tick, so that a session's 65,536 lines last
-LEAST = 0.2  # seconds from one look to the next
+LOOKS = 4  # looks in a tick, and readings of what stands in an auction, of which there are 1024
+LEAST, MOST = 0.2, 2.0  # seconds from one look to the next; so a session's 65,536 lines last
 FRESH = 1.5  # seconds of waiting for the welcome after which it came as the game began
 READINGS = 2  # of the cash after a change: another caller's trade may be missing for a moment
 KEPT = 40  # answers that are kept
@@ -35,19 +35,22 @@ NOT_NOW = Answer(False, "There is no game now in which this could be asked.")
 
 @dataclass
 class Holding:
-    """What a seat knows of a good: its units, what stands there, the position of that reading, and
-    the board."""
+    """What a seat knows of a good: its units, what stands there, the position of that reading, the
+    board, and when what stands may be read again."""
 
     units: int = 0
     points: Points = ()
     at: int = -1
     quote: Optional[Quote] = None
+    due: float = 0.0
 
     def is_due(self, good: int) -> bool:
         """Whether what stood may have been traded since the last reading."""
         if self.quote is None or not self.points or self.quote.count <= self.at + 1:
             return False
-        return good not in HOTELS or self.quote.closed
+        if self.quote.closed:
+            return True
+        return good not in HOTELS and time.monotonic() >= self.due
 
 
 @dataclass
@@ -146,15 +149,15 @@ class Seat:
 
     def publish(self) -> None:
         """Makes what is known now the state, and wakes those who wait for it."""
-        goods = [[each.units, each.points] for each in self._goods]
-        quotes = [each.quote and [each.quote.bid, each.quote.ask, each.quote.closed]
-                  for each in self._goods]
-        clients = [[each.arrive, each.depart, each.premium, *each.values] for each in self.clients]
         with self._changed:
             self._state = {
-                "phase": self._phase, "fault": self._fault, "clients": clients, "goods": goods,
-                "quotes": quotes, "cash": self._cash, "closed": list(self._closed),
-                "calls": list(self._calls)}
+                "phase": self._phase, "fault": self._fault,
+                "clients": [[each.arrive, each.depart, each.premium, *each.values]
+                            for each in self.clients],
+                "goods": [[each.units, each.points] for each in self._goods],
+                "quotes": [each.quote and [each.quote.bid, each.quote.ask, each.quote.closed]
+                           for each in self._goods],
+                "cash": self._cash, "closed": list(self._closed), "calls": list(self._calls)}
             self._version += 1
             self._changed.notify_all()
 
@@ -214,7 +217,7 @@ class Seat:
     def _wait(self, link: Link) -> None:
         """Takes orders until the next look is due."""
         pace = self._clock.pace
-        pause = max(LEAST, pace / LOOKS) if pace else LOOK
+        pause = min(MOST, max(LEAST, pace / LOOKS)) if pace else LOOK
         due = self._looked + max(pause, self._took)  # so that a slow link is not always busy
         while True:
             try:
@@ -267,6 +270,7 @@ class Seat:
         if own.holding != each.units:
             self._readings = READINGS
         each.units, each.points, each.at = own.holding, own.points, own.at or 0
+        each.due = time.monotonic() + (self._clock.pace or 0) / LOOKS
         return own
 
     def _read_cash(self, link: Link) -> None:

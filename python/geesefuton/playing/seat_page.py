@@ -28,7 +28,7 @@ from geesefuton.records.replies import Points, Request
 
 LETTERS = "abcdefghjkmnpqrstuvwxyz23456789"  # none that is taken for another one
 TOKEN = 10  # letters
-WAIT = 4.0  # seconds that a page's question for news is kept
+WAIT = 1.0  # seconds that a page's question for news is kept: browsers keep few for one host
 QUIET = 9.0  # seconds without a question after which another page may play without asking
 MOST_PAGES = 50  # of a seat that are known
 MOST_LINKS, MOST_EACH = 96, 24  # links at a time, and those of one address
@@ -125,7 +125,8 @@ class Table:
             Refused: It is none, or may not be asked.
         """
         if what == "open":
-            self.seat.begin()
+            if self.seat.phase == "idle":
+                self.seat.begin()
             return {"page": self.pages.open(_text(given, "page"))}
         page = _text(given, "page")
         if not self.pages.hear(page):
