@@ -12,7 +12,6 @@ from geesefuton.records.games import AUCTIONS, FLIGHTS, HOTELS, SEATS, TICKETS, 
 from geesefuton.records.replies import Points
 from geesefuton.records.rules import MINUTE, prices_of
 
-PENALTY = 200  # dollars for each ticket that an agent owes at the end
 Board = Tuple[int, int, bool]  # the bid, the ask, and whether the auction is closed
 Trade = Tuple[int, int, int]  # an agent, its units (below 0: sold), and the dollars for each
 

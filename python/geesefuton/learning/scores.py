@@ -3,9 +3,10 @@
 from typing import Dict, List, Tuple
 
 from geesefuton import program
-from geesefuton.learning.books import PENALTY, Books
+from geesefuton.learning.books import Books
 from geesefuton.link import solve
 from geesefuton.records.games import TICKS, Game
+from geesefuton.records.rules import PENALTY
 
 
 class Scorer:

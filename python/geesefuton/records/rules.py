@@ -9,6 +9,7 @@ from geesefuton.records.games import FLIGHTS, HOTELS, TICKS, Flight, Game
 from geesefuton.records.replies import Points
 
 LOWEST, HIGHEST = 150, 800  # dollars of a flight
+PENALTY = 200  # dollars for each ticket that an agent owes at the end
 MINUTE = 6  # ticks from one call of the clock in a hotel to the next
 
 
