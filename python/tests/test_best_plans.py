@@ -8,8 +8,8 @@ from geesefuton import program
 from geesefuton.link import solve
 from geesefuton.records import best_plans
 from geesefuton.records.best_plans import best_plan
-from geesefuton.records.games import (GOODS, PACKAGES, Client, inbound, outbound, read_game,
-                                      room, ticket)
+from geesefuton.records.games import (GOODS, PACKAGES, Client, inbound, outbound, read_game, room,
+                                      ticket)
 from tests.helpers import needs_program, served_game
 
 Prices = List[Optional[int]]

@@ -47,7 +47,8 @@ class Page(unittest.TestCase):
 
 
 def projection(tick: int) -> Projection:
-    return Projection(tick, [[tick, 0, 0, tick]] * 8, [], [], [tick] * 8, [], [])
+    return Projection(tick, [[tick, 0, 0]] * 8, [[tick, 0, 0, tick]] * 8, [], [], [tick] * 8, [],
+                      [])
 
 
 class Lateness(unittest.TestCase):
@@ -146,10 +147,10 @@ class Following(unittest.TestCase):
         asked: List[Any] = []
         rest = iter(LINES[TICK_9 + 1:])
 
-        def project(reader: Any, nights: Any, player: Any, true_file: bool) -> Projection:
+        def project(reader: Any, nights: Any, player: Any) -> Projection:
             self.assertIsNot(reader, made._reader)  # more is added meanwhile
             self.assertEqual(nights, nights_of(reader))
-            asked.append((reader.tick, player is made._player, true_file))
+            asked.append((reader.tick, player is made._player))
             fault = faults[len(asked) - 1] if len(asked) <= len(faults) else None
             made._read("\n".join(next(rest) for _ in range(60)) if len(asked) < 3
                        else "\n".join(rest))
@@ -166,8 +167,7 @@ class Following(unittest.TestCase):
         for late in (0, 6):
             made = self.live(late, *LINES[:TICK_9 + 1])
             asked = self.projected(made)
-            self.assertEqual([entry[1:] for entry in asked],
-                             [(True, not late)] * 3 + [(True, True)])
+            self.assertEqual([entry[1:] for entry in asked], [(True,)] * 4)
             self.assertEqual((asked[0][0], asked[-1][0], self.told), (9, 54, []))
             states = self.shown(made)
             self.assertEqual((states[-1]["phase"], states[-1]["agents"][0]["score"]),
@@ -257,7 +257,6 @@ class Following(unittest.TestCase):
                 self.assertEqual((state["phase"], state["tick"], state["status"]),
                                  ("over", 9, None))
                 self.assertEqual(state["agents"][0]["score"], [9, 0, 0, 9])
-                self.assertTrue(project.call_args[0][3])  # nobody plays it any more
 
     def test_a_game_that_ends_before_it_begins(self) -> None:
         made = self.live(0, LINES[0], '{"over":5}')

@@ -10,7 +10,7 @@ from typing import Any, Dict, List, Optional, Tuple
 from unittest import mock
 
 from geesefuton.hosting.journal import JournalReader
-from geesefuton.hosting.projection import Projection, View, project, without_future
+from geesefuton.hosting.projection import Projection, View, project
 from geesefuton.hosting.recovery import Player, RecoveryError
 from geesefuton.records.games import DRAWS
 from geesefuton.records.logs import read_log
@@ -22,10 +22,10 @@ from tests.journals import BEGIN, GAME, HEAD, LINES, asked, begun, nights_of, of
 class Projecting(unittest.TestCase):
     """A projection, with a player that counts positions."""
 
-    def project(self, reader: JournalReader, true_file: bool = True) -> Projection:
+    def project(self, reader: JournalReader) -> Projection:
         self.player = CountingPlayer()
         player: Any = self.player
-        return project(reader, nights_of(reader), player, true_file)
+        return project(reader, nights_of(reader), player)
 
     def test_scores_are_best_cash_short_and_score(self) -> None:
         sheet = [f"score {agent} {100 + agent} {-7 * agent} {agent} {100 - 206 * agent}"
@@ -34,9 +34,11 @@ class Projecting(unittest.TestCase):
         for agent, line in enumerate(sheet):
             text = text.replace(f"score {agent} 0 0 0 0", line)
         player = mock.Mock(play=mock.Mock(return_value=([], text)))
-        self.assertEqual(project(begun(), nights_of(begun()), player, True).scores,
+        over = begun({"over": 0, "t": 100}, tick=54)
+        self.assertEqual(project(over, nights_of(over), player).scores,
                          [[100 + agent, -7 * agent, agent, 100 - 206 * agent]
                           for agent in range(8)])
+        self.assertEqual(project(begun(), nights_of(begun()), player).scores, [])
 
     def test_what_was_asked_until_then(self) -> None:
         reader = begun(*asked(1, "bid 20 ((1 5))", "@0 taken 0 0", 10),
@@ -45,20 +47,8 @@ class Projecting(unittest.TestCase):
                        {"a": 3, "q": "bid 21 ((1 5))"}, tick=4)
         made = self.project(reader)
         self.assertEqual((made.tick, made.asked, made.refused), (4, [0, 3, 1, 1, 0, 0, 0, 0], [2]))
-        self.assertEqual(made.scores, [[0, -1, 0, -1] if agent == 1 else [0] * 4
-                                       for agent in range(8)])
         self.assertEqual(self.player.given, [(GAME.text(), "1 bid 20 ((1 5))\n")])
         self.assertEqual(made.asks, [night.asks for night in nights_of(reader)])
-
-    def test_the_game_that_is_played_knows_no_more_than_may_be_told(self) -> None:
-        reader = begun(tick=20)
-        self.project(reader, true_file=False)
-        self.assertEqual(self.player.given[0][0], without_future(GAME, 20).text())
-        self.assertNotEqual(self.player.given[0][0], GAME.text())
-        self.project(reader)
-        self.assertEqual(self.player.given[0][0], GAME.text())
-        self.project(begun({"over": 0, "t": 100}, tick=20), true_file=False)
-        self.assertEqual(self.player.given[0][0], GAME.text())
 
     def test_what_is_about_to_come_waits_until_the_game_is_over(self) -> None:
         lines = [{"a": 1, "q": "bid 20 ((1 5))"}, *asked(2, "own 20", "@1 own 0 ()", 10)]
@@ -89,7 +79,7 @@ class Projecting(unittest.TestCase):
         reader = JournalReader()
         reader.read("\n".join(LINES))
         text = (DATA / "lobby.log").read_text()
-        made = project(reader, [], mock.Mock(play=mock.Mock(return_value=([], text))), True)
+        made = project(reader, [], mock.Mock(play=mock.Mock(return_value=([], text))))
         times, due = replies_to_bids(), []
         for good in range(16, 28):
             for position, entry in enumerate(log.histories[good]):
@@ -108,7 +98,7 @@ class Projecting(unittest.TestCase):
             bid = f"{agent} bid ((1 {price})) = taken 0 0\n"
             self.assertIn(bid, text)
             text = text.replace(bid, f"{bid}trade {agent} 1 1 5\n")
-        made = project(begun(*lines), [], mock.Mock(play=mock.Mock(return_value=([], text))), True)
+        made = project(begun(*lines), [], mock.Mock(play=mock.Mock(return_value=([], text))))
         self.assertEqual(made.trades, [[3.1, 20, 2, 1, 5], [3.1, 20, 3, 1, 5]])
 
 
@@ -133,7 +123,8 @@ class Views(unittest.TestCase):
         return View(late, by_word).state(reader, nights, secret, is_final)
 
     def secret(self, **more: Any) -> Projection:
-        return Projection(**{"tick": 3, "scores": [[agent, 0, 0, agent] for agent in range(8)],
+        return Projection(**{"tick": 3, "plans": [[9, agent, 0] for agent in range(8)],
+                             "scores": [[agent, 0, 0, agent] for agent in range(8)],
                              "asks": [night.asks for night in nights_of(begun())],
                              "trades": [], "asked": list(range(8)),
                              "silent": [], "refused": [], **more})
@@ -183,8 +174,9 @@ class Views(unittest.TestCase):
         self.assertEqual((state["shown"], state["traded"]), (3, 402))
         self.assertEqual(state["trades"], trades[2:])
         self.assertEqual(state["asks"], asks)
-        self.assertEqual([(agent["score"], agent["asked"]) for agent in state["agents"]],
-                         [([agent, 0, 0, agent], agent) for agent in range(8)])
+        self.assertEqual([(agent["plan"], agent["score"], agent["asked"])
+                          for agent in state["agents"]],
+                         [([9, agent, 0], [agent, 0, 0, agent], agent) for agent in range(8)])
         plain = self.state(begun(tick=9))
         self.assertEqual([set(agent) for agent in plain["agents"]], [{"name", "here"}] * 8)
         self.assertFalse({"asks", "trades", "traded"} & set(plain))
@@ -221,27 +213,16 @@ class Views(unittest.TestCase):
 
 
 class Showing(unittest.TestCase):
-    def test_no_future(self) -> None:
-        for tick in (0, 1, 23, 48, 54):
-            game = without_future(GAME, tick)
-            for flight, other in zip(GAME.flights, game.flights):
-                prices, still = prices_of(flight), prices_of(other)
-                self.assertEqual(prices[:tick + 1], still[:tick + 1])
-                self.assertEqual(set(still[tick:]) - {still[min(tick, DRAWS)]}, set())
-            self.assertEqual(game.closing[:tick // 6], GAME.closing[:tick // 6])
-            self.assertEqual(sorted(game.closing), sorted(GAME.closing))
-            self.assertEqual(list(game.closing[tick // 6:]), sorted(game.closing[tick // 6:]))
-
     def test_what_is_shown_later(self) -> None:
         reader = of_text(LINES[:next(place for place, line in enumerate(LINES)
                                      if line.startswith('{"tick":20,'))])
         nights = nights_of(reader)
-        made = Projection(9, [[5, -3, 1, -198]] * 8, [], [[3.0, 20, 1, 2, 70]] * 401,
+        made = Projection(9, [[4000, -3, 70]] * 8, [], [], [[3.0, 20, 1, 2, 70]] * 401,
                           [7] * 8, [1, 5], [4])
         early = View(6, False).state(reader, nights, None, False)
         late = View(6, False).state(reader, nights, made, False)
         self.assertFalse({"asks", "trades", "traded"} & set(early))
-        self.assertFalse({"score", "asked", "doing"} & {
+        self.assertFalse({"plan", "asked", "doing"} & {
             key for agent in early["agents"] for key in agent})
         self.assertEqual((early["phase"], early["tick"], early["shown"], late["shown"]),
                          ("running", 19, None, 9))
@@ -255,7 +236,8 @@ class Showing(unittest.TestCase):
         self.assertEqual(late["agents"][4]["doing"], "refused")
         self.assertEqual(late["agents"][1].get("doing"), "silent" if reader.agents[1].is_here
                          else None)
-        self.assertEqual(late["agents"][0]["score"], [5, -3, 1, -198])
+        self.assertEqual(late["agents"][0]["plan"], [4000, -3, 70])
+        self.assertNotIn("score", late["agents"][0])
         at_once = View(0, False).state(reader, nights, made, False)
         self.assertEqual([len(night["closed"]) for night in at_once["hotels"] if night["closed"]],
                          [3] * 3)
@@ -294,7 +276,7 @@ class WithTheProgram(unittest.TestCase):
         for agent, line, reply in ((0, "buy", "no syntax"), (0, "cash", "@0 cash 0"),
                                    (1, "buy", "no syntax")):
             lines += [f'{{"a":{agent},"q":"{line}"}}', f'{{"a":{agent},"r":"{reply}","t":1}}']
-        shown = project(of_text(lines), [], self.player, true_file=True)
+        shown = project(of_text(lines), [], self.player)
         self.assertEqual(shown.refused, [1])
 
     def test_a_projection_does_not_tell_the_future(self) -> None:
@@ -313,7 +295,7 @@ class WithTheProgram(unittest.TestCase):
                 head = json.dumps({**json.loads(LINES[0]), "game": game.text()})
                 reader = of_text([head, *LINES[1:place + 1]])
                 nights = nights_of(reader)
-                made = project(reader, nights, self.player, true_file=False)
+                made = project(reader, nights, self.player)
                 states.add(json.dumps(View(6, False).state(reader, nights, made, False)))
             self.assertEqual(len(states), 1)
 

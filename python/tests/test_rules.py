@@ -3,7 +3,7 @@
 import unittest
 
 from geesefuton.records.games import GOODS, TICKS, Flight
-from geesefuton.records.rules import Rooms, clock_ticks, next_price, prices_of, still_draw
+from geesefuton.records.rules import Rooms, clock_ticks, next_price, prices_of
 from tests.helpers import served_game
 
 
@@ -31,12 +31,6 @@ class Flights(unittest.TestCase):
                 moved = prices[-1] + low + flight.draws[number] % (high - low + 1)
                 prices.append(min(800, max(150, moved)))
             self.assertEqual(prices_of(flight), prices)
-
-    def test_a_price_that_stays(self) -> None:
-        for bound in range(-10, 31):
-            flight = Flight(300, bound, (0,) * 53)
-            for tick in range(1, TICKS + 1):
-                self.assertEqual(next_price(flight, 300, tick, still_draw(flight, tick)), 300)
 
 
 class Clock(unittest.TestCase):

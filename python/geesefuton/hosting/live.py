@@ -2,15 +2,15 @@
 to any number of viewers.
 
 The lobby starts it for `--page PORT`. It is a process of its own, reads only the journal, and runs
-at a lower priority, so neither it nor a viewer slows the game. Once a second at most it lets
-`tac play` play the game so far: the scores on the page are what they would be if nobody did
-anything more. When the game is over all viewers are sent the last scores, and keep them.
+at a lower priority, so neither it nor a viewer slows the game. Once a tick, and once a second at
+most, it lets `tac play` play the game so far, and finds what each agent's best plan is worth: with
+what it holds, what is still to be bought at the prices of that time, and what it has paid. When the
+game is over all viewers are sent the scores, and keep them.
 
 With --late TICKS the page shows at once only what each agent can ask itself: prices that are
 published, what is closed, the time, and who is here. Scores, trades, numbers of requests and
-standing bids are shown as they were TICKS before, or after the game if TICKS is 54; and the scores
-are then those of a game whose flights keep their price. With --late 0 all is shown at once: then
-no agent may see the page. Seat words are passwords: an agent is called by the letters before the
+standing bids are shown as they were TICKS before, or after the game if TICKS is 54. With --late 0
+all is shown at once: then no agent may see the page. Seat words are passwords: an agent is called by the letters before the
 digits of its word, if these differ, or by its number, and with --names by its word.
 """
 
@@ -41,7 +41,7 @@ from geesefuton.records.games import TICKS
 from geesefuton.records.logs import LogError
 
 LOOK = 0.2  # seconds between looks at the journal
-EACH = 1.0  # seconds between projections, at least
+EACH = 1.0  # seconds between projections, at least; less if ticks are shorter
 SHARE = 2  # projections may take one part of so many of the time
 PIECE = 1 << 18  # bytes of the journal that are read at once
 STALL = 3.0  # seconds by which a tick may be late until the page says that the journal has stopped
@@ -105,25 +105,25 @@ class Live:
             now = self._reader.lines, is_over
             if self._is_due(is_over) and known != now:
                 known, start = now, time.monotonic()
-                await self._make_projection(is_over)
+                await self._make_projection()
                 took = time.monotonic() - start
             self._is_final = is_over
             await self.show()
-            due = time.monotonic() + max(EACH - took, (SHARE - 1) * took)
+            each = min(EACH, self._reader.pace / 1000 or EACH)
+            due = time.monotonic() + max(each - took, (SHARE - 1) * took)
             while time.monotonic() < due and not self.is_over():
-                await asyncio.sleep(0.1)
+                await asyncio.sleep(min(0.1, each))
 
     def _is_due(self, is_over: bool) -> bool:
         """Whether a projection would be shown, now or later."""
         return self._reader.has_begun and (is_over or self._view.late < TICKS)
 
-    async def _make_projection(self, is_over: bool) -> None:
+    async def _make_projection(self) -> None:
         """Makes a projection, unless something fails: then the page goes on with what it has."""
         assert self._nights is not None
         reader, nights = self._reader.copy(), self._nights.now()
         try:
-            self._add(await asyncio.to_thread(project, reader, nights, self._player,
-                                              is_over or not self._view.late))
+            self._add(await asyncio.to_thread(project, reader, nights, self._player))
         except (RecoveryError, LogError) as fault:
             self._faults.tell(f"live: no scores at tick {reader.tick}", str(fault))
         except OSError as fault:  # such as too many open files

@@ -1,23 +1,23 @@
-"""What the live page shows of a game: what the log says if nobody does anything more, and how much
-of it agents may see.
+"""What the live page shows of a game: what each agent's best plan is worth at the prices of that
+time, the trades and who asks; and how much of it agents may see.
 
-A projection on the true game file tells the future: a standing bid that a later drop of a price
-fills changes a score now, and so does the order in which hotels will close. So a page that agents
-can fetch while they play projects on a file whose flights keep the price that they have, and whose
-open hotels close by their numbers; and what only one agent can know is shown some ticks later.
+A plan counts what an agent holds, what is still to be bought for its trips at the prices that it
+is shown, and what it has paid. It knows nothing of later prices and closings. What only one agent
+can know is shown some ticks later.
 """
 
 from __future__ import annotations
 
-from dataclasses import dataclass, replace
-from typing import Any, Dict, List, Optional, Tuple
+from dataclasses import dataclass
+from typing import Any, Dict, List, Optional
 
 from geesefuton.hosting.journal import JournalReader
 from geesefuton.hosting.nights import Night, PriceSteps, tick_of
 from geesefuton.hosting.recovery import Player, Recovery
-from geesefuton.records.games import DRAWS, SEATS, TICKETS, Flight, Game
+from geesefuton.records.accounts import Accounts
+from geesefuton.records.games import CLOCK, DRAWS, GOODS, SEATS, TICKETS
 from geesefuton.records.logs import Log, read_log
-from geesefuton.records.rules import prices_of, still_draw
+from geesefuton.records.rules import prices_of
 from geesefuton.records.seat_names import names_of
 
 SILENT = 9  # ticks without a line after which an agent is shown as silent
@@ -29,7 +29,10 @@ class Projection:
 
     Attributes:
         tick: The last tick.
-        scores: For each agent its best total, its cash, its tickets short, and its score.
+        plans: For each agent what its best plan is worth with its cash, its cash, and what is
+            still to be bought for the plan, in dollars.
+        scores: After the game for each agent its best total, its cash, its tickets short, and its
+            score; before it nothing.
         asks: For each of the hotel nights 8 to 15 ticks, and the ask from then on.
         trades: Tick, good, buyer, seller and dollars of each trade of a ticket.
         asked: For each agent how many lines it has sent.
@@ -38,6 +41,7 @@ class Projection:
     """
 
     tick: int
+    plans: List[List[int]]
     scores: List[List[int]]
     asks: List[PriceSteps]
     trades: List[List[float]]
@@ -46,30 +50,13 @@ class Projection:
     refused: List[int]
 
 
-def without_future(game: Game, tick: int) -> Game:
-    """The game whose flights keep their prices after a tick, and whose hotels close in the order of
-    their numbers, but for those that are closed."""
-    done = game.closing[:tick // 6]
-    rest = sorted(good for good in game.closing if good not in done)
-    flights = tuple(replace(flight, draws=flight.draws[:tick] + _still(flight, tick))
-                    for flight in game.flights)
-    return replace(game, flights=flights, closing=(*done, *rest))
-
-
-def _still(flight: Flight, tick: int) -> Tuple[int, ...]:
-    """The draws after a tick by which the price stays."""
-    return tuple(still_draw(flight, later) for later in range(tick + 1, DRAWS + 1))
-
-
-def project(reader: JournalReader, nights: List[Night], player: Player,
-            true_file: bool) -> Projection:
-    """Plays the game so far, as if nobody did anything more.
+def project(reader: JournalReader, nights: List[Night], player: Player) -> Projection:
+    """What the log of the game so far says.
 
     Args:
         reader: The journal; it is not changed meanwhile.
         nights: The hotel nights so far.
         player: Plays scripts.
-        true_file: Whether the later draws and closings are those of the game file.
 
     Raises:
         RecoveryError: The replies so far are not those of a game.
@@ -79,13 +66,13 @@ def project(reader: JournalReader, nights: List[Night], player: Player,
     game, is_over = reader.game, reader.status is not None
     assert game is not None
     recovery = Recovery(reader, player, live=not is_over)
-    played = game if is_over or true_file else without_future(game, reader.tick)
-    _, text = player.play(played.text(), recovery.script(quotes=False).text)
+    _, text = player.play(game.text(), recovery.script(quotes=False).text)
     log = read_log(text)
     agents = reader.agents
     return Projection(
         reader.tick,
-        [[row.best, row.cash, row.short, row.score] for row in log.scores],
+        _plans(log, reader),
+        [[row.best, row.cash, row.short, row.score] for row in log.scores] if is_over else [],
         [night.asks for night in nights],
         _trades(log, reader),
         [agent.asked for agent in agents],
@@ -93,6 +80,26 @@ def project(reader: JournalReader, nights: List[Night], player: Player,
          if agent.is_here and agent.end is None and reader.tick - agent.last >= SILENT],
         [number for number, agent in enumerate(agents)
          if agent.refused and agent.refused == agent.answered])
+
+
+def _plans(log: Log, reader: JournalReader) -> List[List[int]]:
+    """What the plans of the agents are worth now. Of the log, which goes on to the end of the game,
+    the clock's calls after the last tick do not count, and what they sell neither."""
+    assert reader.game is not None and reader.schedule is not None
+    accounts = Accounts(reader.game)
+    for good in GOODS:
+        clocks = reader.schedule.most(good, reader.tick)
+        for entry in log.histories[good]:
+            clocks -= entry.caller == CLOCK
+            if clocks < 0:
+                break
+            accounts.take(good, entry)
+    plans = []
+    for agent, cash in enumerate(accounts.cash):
+        plan, prices = accounts.plan(agent), accounts.prices_for(agent)
+        to_buy = sum(units * (price or 0) for units, price in zip(plan.missing, prices))
+        plans.append([cash + plan.value, cash, to_buy])
+    return plans
 
 
 def _trades(log: Log, reader: JournalReader) -> List[List[float]]:
@@ -115,8 +122,8 @@ class View:
     """What a page may show.
 
     Attributes:
-        late: By how many ticks what agents cannot ask is shown later; 0 is at once, on the true
-            game file, and 54 after the game.
+        late: By how many ticks what agents cannot ask is shown later; 0 is at once, and 54 after
+            the game.
         by_word: Whether agents are called by their seat words.
     """
 
@@ -160,7 +167,9 @@ class View:
                secret: Optional[Projection]) -> Dict[str, Any]:
         agent: Dict[str, Any] = {"name": name, "here": _presence(reader, number)}
         if secret is not None:
-            agent["score"] = secret.scores[number]
+            agent["plan"] = secret.plans[number]
+            if secret.scores:
+                agent["score"] = secret.scores[number]
             agent["asked"] = secret.asked[number]
             if number in secret.refused:
                 agent["doing"] = "refused"

@@ -33,11 +33,6 @@ def prices_of(flight: Flight) -> List[int]:
     return prices
 
 
-def still_draw(flight: Flight, tick: int) -> int:
-    """The draw by which a flight keeps its price at a tick."""
-    return -_moves(flight, tick)[0]
-
-
 def clock_ticks(game: Game, good: int) -> List[int]:
     """The ticks at which the clock calls an auction."""
     if good in HOTELS:
