@@ -309,9 +309,10 @@ class Pages(Case):
     def test_its_words(self) -> None:
         self.assertEqual(page_words(self.settings(), Path("my.journal")), [
             sys.executable, "-m", "geesefuton.hosting.live", "my.journal", "8000", "--late", "6",
-            "--until-over"])
+            "--until-over", "--agents", "0"])
         self.assertEqual(page_words(self.settings(late=0, names=True), Path("j"))[5:],
-                         ["--late", "0", "--until-over", "--names"])
+                         ["--late", "0", "--until-over", "--agents", "0", "--names"])
+        self.assertEqual(page_words(self.settings(start=20.0), Path("j"))[-2:], ["--start", "20.0"])
 
     def test_the_words_of_the_page_for_playing_by_hand(self) -> None:
         settings = self.settings(by_hand=7090)

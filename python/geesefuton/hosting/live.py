@@ -27,10 +27,11 @@ import stat
 import sys
 import time
 from collections import deque
+from importlib.util import find_spec
 from pathlib import Path
-from typing import BinaryIO, Callable, Deque, List, Optional, Tuple
+from typing import Any, BinaryIO, Callable, Deque, Dict, List, Optional, Tuple
 
-from geesefuton.arguments import Parser, whole
+from geesefuton.arguments import Parser, seconds, whole
 from geesefuton.hosting.journal import JournalError, JournalReader
 from geesefuton.hosting.nights import Nights
 from geesefuton.hosting.projection import Projection, View, project
@@ -50,10 +51,17 @@ NICE = 5  # by how much the priority is lower
 
 
 class Live:
-    """Follows a journal, and shows what it says."""
+    """Follows a journal, and shows what it says.
+
+    Args:
+        joining: What a screen says before the game of how agents join it.
+        begins: When the game begins without those who are missing, by `time.monotonic`.
+    """
 
     def __init__(self, journal: BinaryIO, view: View, player: Player, viewers: Viewers,
-                 faults: Faults) -> None:
+                 faults: Faults, joining: Optional[Dict[str, Any]] = None,
+                 begins: Optional[float] = None) -> None:
+        self._joining, self._begins = joining or {}, begins
         self._journal, self._view, self._player, self._viewers = journal, view, player, viewers
         self._faults, self._reader = faults, JournalReader()
         self._newest: Optional[Projection] = None
@@ -159,14 +167,35 @@ class Live:
         else:
             state = self._view.state(self._reader, self._nights.now() if self._nights else None,
                                      self._secret(), self._is_final)
-            text = json.dumps({**state, "stalled": self._is_stalled()}, separators=(",", ":"))
+            joining = self._joining if state["phase"] == "waiting" else {}
+            text = json.dumps({**state, **joining, "stalled": self._is_stalled()},
+                              separators=(",", ":"))
         if text == self._shown:
             return
         self._shown = text
         if self._zero is not None:
             elapsed = int((time.monotonic() - self._zero) * 1000)
             text = f'{text[:-1]},"elapsed":{elapsed}}}'
+        elif self._begins is not None:
+            begins = int((self._begins - time.monotonic()) * 1000)
+            text = f'{text[:-1]},"begins":{begins}}}'
         await self._viewers.show(text.encode("ascii"), self._is_final)
+
+
+def _joining(port: Optional[int]) -> Dict[str, Any]:
+    """What is to be known of a port for agents: the host's address, as others may reach it, and
+    whether the package has seats that are played by hand."""
+    if port is None:
+        return {}
+    with socket.socket(socket.AF_INET, socket.SOCK_DGRAM) as link, contextlib.suppress(OSError):
+        link.connect(("192.0.2.1", 9))  # an address of documents: nothing is sent to it
+        address = link.getsockname()[0]
+        return {"port": port, "address": address, "seat": _has_seats()}
+    return {"port": port, "seat": _has_seats()}
+
+
+def _has_seats() -> bool:
+    return find_spec("geesefuton.playing") is not None
 
 
 def _listen(port: int) -> socket.socket:
@@ -194,7 +223,9 @@ def _watch_standard_input(cut: Callable[[], None]) -> None:
 async def _run(given: argparse.Namespace, journal: BinaryIO, player: Player) -> None:
     faults = Faults(tell)
     viewers = Viewers((Path(__file__).resolve().parent / "live.html").read_bytes(), faults)
-    live = Live(journal, View(given.late, given.names), player, viewers, faults)
+    begins = None if given.start is None else time.monotonic() + given.start
+    live = Live(journal, View(given.late, given.names), player, viewers, faults,
+                _joining(given.agents), begins)
     with contextlib.closing(_listen(given.port)) as listener:
         serving = asyncio.ensure_future(viewers.accept(listener))
         if given.until_over:
@@ -237,6 +268,10 @@ def _arguments() -> argparse.Namespace:
              "at once")
     add("--names", action="store_true",
         help="call agents by their seat words, which are passwords")
+    add("--agents", type=whole(1, 65535), metavar="PORT",
+        help="the port for agents, which the page tells before the game")
+    add("--start", type=seconds, metavar="SECONDS",
+        help="the time until the game begins by itself, which the page counts down")
     add("--until-over", action="store_true",
         help="end once the game is over, or a pipe at standard input is closed, and viewers have "
              "the scores; otherwise the page stays until ctrl-C")

@@ -99,7 +99,9 @@ class SeatsProcess(SideProcess):
 def page_words(settings: LobbySettings, journal: Path) -> List[str]:
     """The words that start the page."""
     return [sys.executable, "-m", "geesefuton.hosting.live", str(journal), str(settings.page),
-            "--late", str(settings.late), "--until-over"] + ["--names"] * settings.names
+            "--late", str(settings.late), "--until-over", "--agents", str(settings.port)] \
+        + (["--start", str(settings.start)] if settings.start is not None else []) \
+        + ["--names"] * settings.names
 
 
 def seats_words(settings: LobbySettings, words: List[str], port: int) -> List[str]:
