@@ -90,9 +90,10 @@ class Accounts:
         """What a unit more of each of the 28 goods costs an agent; None if there is none."""
         return self.prices + [self._offers[good].ask(agent) for good in TICKETS]
 
-    def plan(self, agent: int) -> Plan:
-        """An agent's best plan at these prices."""
-        return best_plan(self._game.clients[agent], self.held[agent], self.prices_for(agent))
+    def plan(self, agent: int, before: Optional[Plan] = None) -> Plan:
+        """An agent's best plan at these prices, with its plan of a moment ago, if that is known."""
+        return best_plan(self._game.clients[agent], self.held[agent], self.prices_for(agent),
+                         before)
 
 
 def ticks_of(game: Game, log: Log) -> List[List[int]]:

@@ -8,7 +8,7 @@ bound is low. Then all plans that could still be better than the best one known 
 client has few trips left that cost no more than the distance between the two.
 """
 
-from dataclasses import dataclass
+from dataclasses import dataclass, field
 from functools import lru_cache
 from itertools import count
 from operator import add, itemgetter, sub
@@ -48,12 +48,14 @@ class Plan:
         packages: The trip of each client; None for staying at home.
         missing: How many units of each good are still to be bought for the trips.
         bound: No plan is worth more; `value` where the search was exact.
+        prices: Those of what is held, by which the bound was found.
     """
 
     value: int
     packages: Tuple[Optional[Package], ...]
     missing: Tuple[int, ...]
     bound: int
+    prices: Tuple[float, ...] = field(compare=False, repr=False)
 
 
 @lru_cache(maxsize=1024)
@@ -70,25 +72,29 @@ def _costs(prices: Sequence[float]) -> List[float]:
     return list(map(add, _stay_of_each(stays), _tickets_of_each(tickets)))
 
 
-def best_plan(clients: Sequence[Client], held: Sequence[int],
-              prices: Sequence[Optional[int]]) -> Plan:
+def best_plan(clients: Sequence[Client], held: Sequence[int], prices: Sequence[Optional[int]],
+              before: Optional[Plan] = None) -> Plan:
     """The best plan of a seat.
 
     Args:
         clients: Its clients.
         held: Its units of the 28 goods; tickets may be below 0.
         prices: What a unit more of each good costs in dollars; None if there is none to be had.
+        before: A plan of these clients from which the search begins, as one of a moment ago: it
+            makes the search faster, and changes no value.
     """
     costs = [NEVER if price is None else min(price, NEVER) for price in prices]
     owed = sum(-held[good] * min(costs[good], PENALTY) for good in TICKETS if held[good] < 0)
     search = _Search(clients, [max(0, units) for units in held], costs)
+    if before is not None:
+        search.begin(before)
     search.lower_bound()
     is_exact = search.try_all()
     bound = search.best if is_exact else int(search.bound + CLOSE)
     need = search.need(search.trips)
     missing = tuple(max(0, need[good] - search.held[good]) for good in GOODS)
     return Plan(search.best - owed, tuple(_TRIPS[trip] for trip in search.trips), missing,
-                bound - owed)
+                bound - owed, tuple(search.prices))
 
 
 class _Search:
@@ -96,7 +102,7 @@ class _Search:
 
     Attributes:
         best: What the best trips known are worth, and `trips` what they are.
-        bound: No trips are worth more.
+        bound: No trips are worth more, and `prices` those by which that was found.
     """
 
     def __init__(self, clients: Sequence[Client], held: Sequence[int],
@@ -106,11 +112,16 @@ class _Search:
         self._free = [good for good in GOODS if 0 < held[good] < len(clients) and costs[good]]
         self.best, self.trips = 0, [0] * len(clients)
         self.bound = float("inf")
-        # The prices of the lowest bound.
-        self._low: List[float] = [0 if held[good] >= len(clients) else costs[good]
+        self.prices: List[float] = [0 if held[good] >= len(clients) else costs[good]
                                   for good in GOODS]
         for good in self._free:
-            self._low[good] = min(START, costs[good])
+            self.prices[good] = min(START, costs[good])
+
+    def begin(self, plan: Plan) -> None:
+        """Begins with an earlier plan."""
+        self._improve([_TRIPS.index(trip) for trip in plan.packages])
+        for good in self._free:
+            self.prices[good] = min(plan.prices[good], self._costs[good])
 
     def need(self, trips: Sequence[int]) -> List[int]:
         """How many units of each good trips use."""
@@ -123,12 +134,12 @@ class _Search:
     def lower_bound(self) -> None:
         """Moves the prices of what is held until the bound is low."""
         self._improve([0] * len(self._worths))
-        step, helpless, prices, slopes = 1.0, 0, self._low, dict.fromkeys(self._free, 0.0)
+        step, helpless, prices, slopes = 1.0, 0, self.prices, dict.fromkeys(self._free, 0.0)
         for number in range(ROUNDS):
             value, trips = self._at(prices)
             helpless += 1
             if value < self.bound - CLOSE:
-                self.bound, self._low, helpless = value, prices, 0
+                self.bound, self.prices, helpless = value, prices, 0
             elif helpless == PATIENCE:
                 step, helpless = step * SHORTER, 0
             if number % EACH == 0:
@@ -139,7 +150,7 @@ class _Search:
             slopes = {good: need[good] - self.held[good] + KEPT * slope
                       for good, slope in slopes.items()}
             prices = self._moved(prices, slopes, step * max(1.0, value - self.best))
-        self._improve(self._at(self._low)[1])
+        self._improve(self._at(self.prices)[1])
 
     def _moved(self, prices: List[float], slopes: Dict[int, float], gain: float) -> List[float]:
         """Other prices, which along the slopes would gain so much."""
@@ -189,7 +200,7 @@ class _Search:
 
     def try_all(self) -> bool:
         """Tries all trips that may be better than the best known; whether it came to the end."""
-        costs = _costs(self._low)
+        costs = _costs(self.prices)
         choices: List[Tuple[int, List[Tuple[float, int]]]] = []
         for client, worths in enumerate(self._worths):
             gains = list(map(sub, worths, costs))
@@ -198,7 +209,7 @@ class _Search:
             choices.append((client, sorted((most - gain, trip) for trip, gain in enumerate(gains)
                                            if most - gain <= room)))
         choices.sort(key=lambda choice: len(choice[1]))
-        return _Trial(self, choices, self._low).run()
+        return _Trial(self, choices, self.prices).run()
 
     def take(self, trips: Sequence[int]) -> None:
         """Keeps trips that are better than the best known."""

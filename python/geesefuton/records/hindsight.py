@@ -1,0 +1,169 @@
+"""Why a team got its score: what it held, wanted and bid at each tick, what its best plan then was
+worth, and which of its decisions cost most.
+
+A plan is what `accounts` finds at the prices of a time; with the cash it is worth what the team
+would get if it bought at once what is missing. So what lowers it tells what a decision cost: a
+trade, rooms that were wanted and not won at a closing, flights that got dearer while they were
+waited with.
+"""
+
+from typing import Dict, Iterable, List, NamedTuple, Tuple
+
+from geesefuton.records.accounts import Accounts, entries_by_tick
+from geesefuton.records.best_plans import Plan
+from geesefuton.records.games import CLOCK, FLIGHTS, HOTELS, SEATS, TICKETS, Game, name_of
+from geesefuton.records.logs import Entry, Log
+from geesefuton.records.replies import No
+
+MOST = 3  # decisions that are told of a team
+Placed = Tuple[int, int, Entry]  # good, position and entry
+
+
+class Moment(NamedTuple):
+    """A team after a tick.
+
+    Attributes:
+        worth: What its best plan is worth with its cash, in dollars.
+        cash: What it was paid less what it paid.
+        held: Its units of the 28 goods.
+        wanted: The units that are missing for its best plan.
+        bids: What stands of its bids for flights and rooms, by goods, such as `2 at 130`.
+    """
+
+    worth: int
+    cash: int
+    held: Tuple[int, ...]
+    wanted: Tuple[int, ...]
+    bids: Dict[int, str]
+
+
+class Decision(NamedTuple):
+    """What a team did or did not do: what it cost in dollars, and a sentence that tells it."""
+
+    cost: int
+    text: str
+
+
+class Story(NamedTuple):
+    """A team's game: its moments from tick 0 to 54, and the decisions that cost most."""
+
+    moments: List[Moment]
+    decisions: List[Decision]
+
+
+def stories(game: Game, log: Log) -> List[Story]:
+    """The story of each of the eight teams."""
+    accounts = Accounts(game)
+    teams = [_Team(accounts, agent) for agent in range(SEATS)]
+    for tick, entries in enumerate(entries_by_tick(game, log)):
+        for part in _parts(entries):
+            for entry in part:
+                accounts.take(entry[0], entry[2])
+            for team in teams:
+                team.follow(tick, part)
+        for team in teams:
+            team.end_tick()
+    return [team.story() for team in teams]
+
+
+def _parts(entries: List[Placed]) -> List[List[Placed]]:
+    """The entries of a tick, in parts whose effects are told apart: the flights' prices, the
+    closing of a hotel night, the prices of the others, and what the agents did."""
+    clock = [entry for entry in entries if entry[2].caller == CLOCK]
+    closing = [entry for entry in clock if entry[0] in HOTELS and entry[2].call.do == "close"]
+    others = [entry for entry in clock if entry[0] in HOTELS and entry not in closing]
+    agents = [entry for entry in entries if entry[2].caller != CLOCK]
+    return [part for part in ([entry for entry in clock if entry[0] not in HOTELS], closing, others,
+                              agents) if part]
+
+
+class _Team:
+    """Follows one team."""
+
+    def __init__(self, accounts: Accounts, agent: int) -> None:
+        self._accounts, self._agent = accounts, agent
+        self._plan = accounts.plan(agent)
+        self._cash = accounts.cash[agent]
+        self._bids: Dict[int, List[List[int]]] = {}
+        self._moments: List[Moment] = []
+        self._decisions: List[Decision] = []
+        self._waited, self._until = 0, 0
+
+    def follow(self, tick: int, part: List[Placed]) -> None:
+        """A part of a tick's entries has been worked through."""
+        before, worth = self._plan, self._worth()
+        for good, _, entry in part:
+            self._take_bid(good, entry)
+        trades = [(good, sign * trade.units, trade.price) for good, _, entry in part
+                  for trade in entry.trades
+                  for party, sign in ((trade.buyer, 1), (trade.seller, -1)) if party == self._agent]
+        is_agents = part[0][2].caller != CLOCK
+        if is_agents and not trades:
+            return  # others' offers of tickets count from the next tick on
+        self._plan = self._accounts.plan(self._agent, before)
+        self._cash = self._accounts.cash[self._agent]
+        cost = worth - self._worth()
+        good, _, first = part[0]
+        if is_agents:
+            self._decide(cost, f"Tick {tick}: {_told(trades)}")
+        elif good in HOTELS and first.call.do == "close":
+            self._decide(cost, self._closed(tick, good, trades, before))
+        elif good in FLIGHTS and any(before.missing[flight] for flight in FLIGHTS):
+            self._waited, self._until = self._waited + cost, tick
+
+    def end_tick(self) -> None:
+        """The tick is over."""
+        accounts, agent = self._accounts, self._agent
+        bids = {good: ", ".join(f"{units} at {price}" for units, price in points)
+                for good, points in self._bids.items() if points and good < TICKETS.start}
+        self._moments.append(Moment(self._worth(), accounts.cash[agent],
+                                    tuple(accounts.held[agent]), self._plan.missing, bids))
+
+    def story(self) -> Story:
+        """What was seen."""
+        self._decide(self._waited, f"Until tick {self._until}: waited with flights that its plans "
+                                   "wanted, and their prices moved meanwhile")
+        return Story(self._moments, sorted(self._decisions, reverse=True)[:MOST])
+
+    def _worth(self) -> int:
+        return self._cash + self._plan.value
+
+    def _decide(self, cost: int, text: str) -> None:
+        if cost > 0:
+            self._decisions.append(Decision(cost, f"{text}. Its best plan was worth {cost:,} less "
+                                                  "afterwards."))
+
+    def _closed(self, tick: int, good: int, trades: List[Tuple[int, int, int]],
+                before: Plan) -> str:
+        won, wanted = sum(units for _, units, _ in trades), before.missing[good]
+        price = next((price for _, _, price in trades), None)
+        at = "" if price is None else f" at {price}"
+        return (f"Tick {tick}: {name_of(good)} closed, and it won {_units(won, 'room')}{at} where "
+                f"its best plan wanted {wanted}")
+
+    def _take_bid(self, good: int, entry: Entry) -> None:
+        """What stands of the team's bids."""
+        if entry.call.do == "close":
+            self._bids.pop(good, None)
+        elif entry.caller == self._agent and not isinstance(entry.reply, No):
+            if entry.call.do == "bid":
+                self._bids[good] = [list(point) for point in entry.call.points]
+            elif entry.call.do == "withdraw":
+                self._bids.pop(good, None)
+        if good in FLIGHTS and any(trade.buyer == self._agent for trade in entry.trades):
+            price = entry.trades[0].price
+            self._bids[good] = [point for point in self._bids.get(good, []) if point[1] < price]
+
+
+def _units(count: int, what: str) -> str:
+    return f"{count or 'no'} {what}{'' if count == 1 else 's'}"
+
+
+def _told(trades: Iterable[Tuple[int, int, int]]) -> str:
+    """Trades of one team in a tick, in words."""
+    sums: Dict[Tuple[int, int, bool], int] = {}
+    for good, units, price in trades:
+        key = good, price, units > 0
+        sums[key] = sums.get(key, 0) + abs(units)
+    return ", ".join(f"{'bought' if is_bought else 'sold'} {units} of {name_of(good)} at {price}"
+                     for (good, price, is_bought), units in sums.items())
