@@ -122,7 +122,7 @@ class _Team:
     def story(self) -> Story:
         """What was seen."""
         self._decide(self._waited, f"Until tick {self._until}: waited with flights that its plans "
-                                   "wanted, and their prices moved meanwhile")
+                                   "wanted, which became dearer or closed meanwhile")
         return Story(self._moments, sorted(self._decisions, reverse=True)[:MOST])
 
     def _worth(self) -> int:

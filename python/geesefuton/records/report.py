@@ -1,11 +1,16 @@
 """Shows a played game: scores, what was paid, prices over the ticks, trips, and trades.
 
     report my.game my.log > page.html          a page that stands alone, for a projector
+    report --why my.game my.log > page.html    with what each team held, wanted and bid over the
+                                               ticks, and what cost it most
     report --csv my.game my.log > rows.csv     lines `what,tick,good,position,agent,units,dollars`
 
 The log is that of `tac serve` or `tac play`, whose reply lines may stand before it. It is audited
 first, and if it is not sound the report says why and makes no page. With --unaudited it makes one
 all the same, which says so.
+
+With --why the page has a slider over the ticks for each team, with what its best plan was worth
+then, and its three costliest decisions. That takes some seconds.
 
 Seat words are passwords. So the page calls an agent by the letters before the digits of its word,
 if these differ, or by its number, and with --names by its word.
@@ -25,6 +30,7 @@ from geesefuton import program
 from geesefuton.arguments import Parser
 from geesefuton.processes import Output, command, tell
 from geesefuton.records.games import Game, GameError, read_game
+from geesefuton.records.hindsight import stories
 from geesefuton.records.logs import Log, LogError, read_log
 from geesefuton.records.prices import MarketEvent, all_events
 from geesefuton.records.report_page import Heading, page
@@ -92,6 +98,8 @@ def csv_text(game: Game, log: Log) -> str:
 def _main() -> int:
     parser = Parser("report", __doc__)
     parser.add_argument("--csv", action="store_true", help="write CSV in place of the page")
+    parser.add_argument("--why", action="store_true",
+                        help="show each team over the ticks, and what cost it most")
     parser.add_argument("--unaudited", action="store_true",
                         help="show a log that is not sound, or was not audited, too")
     parser.add_argument("--names", action="store_true",
@@ -122,7 +130,8 @@ def _main() -> int:
         written = time.strftime("%Y-%m-%d at %H:%M", time.localtime(given.log.stat().st_mtime))
         heading = Heading(given.game.name, written, warning)
         names = names_of(game.words, given.names)
-        out.write(page(game, log, all_events(game, log), heading, names))
+        told = stories(game, log) if given.why else []
+        out.write(page(game, log, all_events(game, log), heading, names, told))
     if out.fault is not None:
         tell(f"report: {out.name}: {out.fault}")
         return 1

@@ -8,6 +8,8 @@ from typing import Dict, Iterable, Iterator, List, Optional, Sequence, Tuple, Un
 
 from geesefuton.records.games import (AUCTIONS, CLIENTS, FLIGHTS, GOODS, HOTELS, ROOMS, TICKETS,
                                       TICKS, Game, Package, name_of)
+from geesefuton.records.hindsight import Story
+from geesefuton.records.hindsight_page import SCRIPT, story_html
 from geesefuton.records.logs import Log, Score, trades_of
 from geesefuton.records.prices import MarketEvent
 
@@ -242,16 +244,18 @@ def _trade_rows(events: Sequence[MarketEvent], agent: int) -> Iterator[List[Cell
                    earned if sold else "", earned - paid]
 
 
-def _teams(game: Game, names: Sequence[str], log: Log,
-           events: Sequence[MarketEvent]) -> Iterator[str]:
+def _teams(game: Game, names: Sequence[str], log: Log, events: Sequence[MarketEvent],
+           stories: Sequence[Story]) -> Iterator[str]:
     clients = ["client", "days", "Towers", "alligators", "park", "museum", "got", "days",
                "alligators", "park", "museum", "worth"]
     trades = ["good", "bought", "for", "sold", "for", "cash"]
     for number, score in enumerate(_order(log)):
+        story = story_html(stories[score.agent]) if stories else ""
         yield (f'<details{"" if number else " open"}><summary>'
                f"<b>{html.escape(names[score.agent])}</b>: trips worth {score.best}, "
-               f"cash {score.cash}, score {score.score}</summary>"
-               f"<h3>What each client wanted, and got on which nights</h3>{table(clients, _client_rows(game, score), (6,))}<h3>Trades</h3>"
+               f"cash {score.cash}, score {score.score}</summary>{story}"
+               "<h3>What each client wanted, and got on which nights</h3>"
+               f"{table(clients, _client_rows(game, score), (6,))}<h3>Trades</h3>"
                f"{table(trades, _trade_rows(events, score.agent), (0,))}</details>")
 
 
@@ -268,7 +272,7 @@ def _head(game: Game, log: Log, heading: Heading) -> str:
 
 
 def page(game: Game, log: Log, events: Sequence[MarketEvent], heading: Heading,
-         names: Sequence[str]) -> str:
+         names: Sequence[str], stories: Sequence[Story] = ()) -> str:
     """The page of a game.
 
     Args:
@@ -277,6 +281,7 @@ def page(game: Game, log: Log, events: Sequence[MarketEvent], heading: Heading,
         events: The prices and trades of all auctions (`prices.all_events`).
         heading: What stands at its head.
         names: How the eight agents are called (`seat_names.names_of`).
+        stories: Those of the eight agents (`hindsight.stories`), or none.
     """
     title = html.escape(", ".join(names))
     parts = ['<!doctype html><html lang="en"><meta charset="utf-8">'
@@ -284,5 +289,6 @@ def page(game: Game, log: Log, events: Sequence[MarketEvent], heading: Heading,
              f"<title>A game of {title}</title><style>{STYLE.read_text(encoding='ascii')}</style>",
              _head(game, log, heading), _scores(names, log, events),
              _spending(names, log, events), _prices(game, events), _tickets(events),
-             "<h2>Teams</h2>", *_teams(game, names, log, events)]
+             "<h2>Teams</h2>", *_teams(game, names, log, events, stories),
+             *([SCRIPT] if stories else [])]
     return "\n".join(parts) + "</html>\n"
