@@ -273,7 +273,8 @@ class Words(unittest.TestCase):
             with mock.patch("sys.argv", ["live", "my.journal", "7080", *words]):
                 self.assertEqual(vars(_arguments()), {
                     "journal": Path("my.journal"), "port": 7080, "late": late, "names": names,
-                    "until_over": until_over, "agents": None, "start": None})
+                    "until_over": until_over, "agents": None, "start": None,
+                    "stay": False})
         for words in (["0"], ["65536"], ["7080", "--late", "-1"], ["7080", "--until"]):
             with mock.patch("sys.argv", ["live", "my.journal", *words]), \
                     mock.patch("geesefuton.arguments.tell"), self.assertRaises(SystemExit):

@@ -231,7 +231,7 @@ async def _run(given: argparse.Namespace, journal: BinaryIO, player: Player) -> 
         if given.until_over:
             _watch_standard_input(live.cut)
         await asyncio.gather(live.follow(), live.project())
-        if not given.until_over:
+        if given.stay or not given.until_over:
             await serving
         serving.cancel()
         await asyncio.wait([serving])
@@ -275,6 +275,8 @@ def _arguments() -> argparse.Namespace:
     add("--until-over", action="store_true",
         help="end once the game is over, or a pipe at standard input is closed, and viewers have "
              "the scores; otherwise the page stays until ctrl-C")
+    add("--stay", action="store_true",
+        help="with --until-over: read no more once the game is over, and stay until ctrl-C")
     return parser.parse_args()
 
 

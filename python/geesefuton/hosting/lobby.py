@@ -108,7 +108,8 @@ class Lobby:
                 stack.callback(game.by_hand.end)
             self._game = game
             status = self._host(game)
-            for page, limit in ((game.page, SHOWING), (game.by_hand, TELLING)):
+            showing = float("inf") if self.settings.stays else SHOWING
+            for page, limit in ((game.page, showing), (game.by_hand, TELLING)):
                 if page and not game.is_stopped:
                     page.wait(limit, self._control)
         return status

@@ -171,6 +171,7 @@ def _main() -> int:
         log=sys.stdout.buffer if has_output and sys.stdout else None, start=given.start,
         linger=given.after, patience=given.patience, silence=given.silence,
         journal=given.journal, page=given.page, late=given.late, names=given.names,
+        stays=given.page is not None and bool(sys.stdin and sys.stdin.isatty()),
         by_hand=given.by_hand, advice=not given.no_advice, orders=sys.stdin)
     try:
         lobby = Lobby(settings)
@@ -178,6 +179,8 @@ def _main() -> int:
         settings.journal = settings.journal or _default_journal(given.game, teller)
         signals = _Signals(lobby, teller)
         where = f"the journal is {settings.journal}" if settings.journal else "there is no journal"
+        if settings.stays:
+            where += "; after the game the page stays until ctrl-C"
         teller.say(f"waiting at port {lobby.port} for {' '.join(lobby.words)}; {where}")
         try:
             status = lobby.run(teller.tell)

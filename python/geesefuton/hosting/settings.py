@@ -29,6 +29,7 @@ class LobbySettings:
         page: The port of the live page; None for no page.
         late: By how many ticks the page shows later what agents cannot ask.
         names: Whether the page calls agents by their seat words, which are passwords.
+        stays: Whether the live page stays after the game until the host stops it.
         by_hand: The port of a page by which persons play seats; None for no such page.
         advice: Whether that page may ask the solver.
         orders: The host's commands.
@@ -47,6 +48,7 @@ class LobbySettings:
     page: Optional[int] = None
     late: int = 6
     names: bool = False
+    stays: bool = False
     by_hand: Optional[int] = None
     advice: bool = True
     orders: Optional[TextIO] = None
