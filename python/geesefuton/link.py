@@ -34,9 +34,9 @@ from geesefuton.records.replies import (Cash, No, Own, Quote, Reply, ReplyError,
                                         text_of_points, words_of)
 
 __all__ = [
-    "FLIGHTS", "HOTELS", "INBOUND", "OUTBOUND", "TICKETS", "Client", "Link", "LinkError", "Quote",
-    "Reply", "Unanswered", "arguments", "inbound", "outbound", "program", "room", "run", "solve",
-    "ticket",
+    "FLIGHTS", "HOTELS", "INBOUND", "OUTBOUND", "TICKETS", "Client", "Hopeless", "Link",
+    "LinkError", "Quote", "Reply", "Unanswered", "arguments", "inbound", "outbound", "program",
+    "room", "run", "solve", "ticket",
 ]
 
 PATIENCE = 120  # seconds that a server which does not listen yet is tried for
@@ -44,6 +44,7 @@ LIMIT = 10.0  # seconds that a reply may take
 # Seconds in which a lost link is connected again. The lobby waits two ticks, of a minute at most,
 # until it takes a link for lost that has not ended.
 REJOIN = 150.0
+NEXT = 1.0  # seconds between two requests for a seat in the next game
 TRY, BETWEEN = 15.0, 0.5  # seconds that one try of these takes at most, and to the next one
 KEEPALIVE = {"TCP_KEEPIDLE": 5, "TCP_KEEPINTVL": 3, "TCP_KEEPCNT": 3}  # seconds, seconds, probes
 Point = Tuple[int, int]  # units, below 0 for selling, and dollars for each
@@ -55,6 +56,10 @@ class LinkError(Exception):
 
 class Unanswered(LinkError):
     """The link was lost before a bid was answered, and is back: `own` tells what came of it."""
+
+
+class Hopeless(LinkError):
+    """There is no server, or it does not know the word: to ask again is no use."""
 
 
 class _Lost(LinkError):
@@ -133,7 +138,8 @@ class Link:
         _prepare(self.stream, limit)
         first = self._exchange(f"hello {self.word}").split()
         if first[:1] != ["welcome"]:
-            raise LinkError(f"{self.word}: {' '.join(first)}")
+            kind = LinkError if first == ["refused", "taken"] else Hopeless
+            raise kind(f"{self.word}: {' '.join(first)}")
         self.agent = int(first[1])
         self.endow = [int(units) for units in self.line().split()[2:]]
         self.clients = []
@@ -189,6 +195,8 @@ class Link:
         try:
             self.rejoin(REJOIN)
         except LinkError as fault:
+            if isinstance(fault, Hopeless):
+                raise
             is_over = isinstance(fault.__context__, ConnectionRefusedError)
             raise LinkError(str(lost if is_over or self.address is None else fault)) from None
         tell(f"{lost}; connected again after {time.monotonic() - begun:.1f} seconds")
@@ -340,14 +348,14 @@ def _no_link(host: str, port: int, fault: OSError) -> str:
 def _connect(host: str, port: int) -> socket.socket:
     """A connection to the server, which may still be starting."""
     if not 1 <= port <= 65535:  # otherwise the system takes the rest of a division by 65536
-        raise LinkError(f"no link to {host} at port {port}: ports are 1 to 65535")
+        raise Hopeless(f"no link to {host} at port {port}: ports are 1 to 65535")
     deadline = time.monotonic() + PATIENCE
     while True:
         try:
             return socket.create_connection((host, port))
         except OSError as fault:
             if not isinstance(fault, ConnectionRefusedError) or time.monotonic() > deadline:
-                raise LinkError(_no_link(host, port, fault)) from None
+                raise Hopeless(_no_link(host, port, fault)) from None
         time.sleep(0.2)
 
 
@@ -385,6 +393,10 @@ def arguments(what: str) -> Tuple[str, int, str, float]:
     Args:
         what: What the agent does, for its help text.
     """
+    return _begin(_parser(what).parse_args())
+
+
+def _parser(what: str) -> argparse.ArgumentParser:
     raw = argparse.RawDescriptionHelpFormatter
     parser = argparse.ArgumentParser(description=what, formatter_class=raw)
     parser.add_argument("host")
@@ -396,7 +408,10 @@ def arguments(what: str) -> Tuple[str, int, str, float]:
     parser.add_argument("--seed", type=int, default=os.environ.get("AGENT_SEED"),
                         help="the number from which the agent draws, if it draws; default: the "
                              "variable AGENT_SEED, and without it anew each time")
-    given = parser.parse_args()
+    return parser
+
+
+def _begin(given: argparse.Namespace) -> Tuple[str, int, str, float]:
     if given.seed is not None:
         random.seed(given.seed)
     return given.host, given.port, given.word, given.pause
@@ -404,22 +419,43 @@ def arguments(what: str) -> Tuple[str, int, str, float]:
 
 def run(what: str, play: Callable[[Link, float], None]) -> None:
     """Runs an agent: it takes its seat by the words of its command line, plays, and quits. If its
-    link is lost for good it ends with a line that says so, and status 1.
+    link is lost for good it ends with a line that says so, and status 1. With `--again` it then
+    asks for a seat in the next game, as in a practice room, until there is no server.
 
     Args:
         what: What the agent does, for its help text.
         play: Plays a game with a link and a pause in seconds. It is called again after a lost bid,
             so it should begin with `own`.
     """
-    host, port, word, pause = arguments(what)
-    try:
-        with Link.greet(host, port, word) as link:
-            while True:
-                try:
-                    play(link, pause)
-                    break
-                except Unanswered:
-                    continue
-            link.quit()
-    except LinkError as fault:
-        sys.exit(str(fault))
+    parser = _parser(what)
+    parser.add_argument("--again", action="store_true",
+                        help="ask for a seat in the next game after each, until there is no server "
+                             f"for {PATIENCE} seconds")
+    given = parser.parse_args()
+    host, port, word, pause = _begin(given)
+    told = ""
+    while True:
+        try:
+            with Link.greet(host, port, word) as link:
+                told = ""
+                _play(link, pause, play)
+                link.quit()
+        except LinkError as fault:
+            if not given.again or isinstance(fault, Hopeless):
+                sys.exit(str(fault))
+            if str(fault) != told:
+                told = str(fault)
+                tell(f"{told}; a seat in the next game is asked for")
+        if not given.again:
+            return
+        time.sleep(NEXT)
+
+
+def _play(link: Link, pause: float, play: Callable[[Link, float], None]) -> None:
+    """Plays a game to its end, whatever bids are lost."""
+    while True:
+        try:
+            play(link, pause)
+            return
+        except Unanswered:
+            continue

@@ -28,6 +28,8 @@ ROWS = [
     (events.Finished(AT, 0, None), {"event": "finished", "at": AT, "status": 0, "log": None}),
     (events.Warned(AT, "the page has ended"),
      {"event": "warned", "at": AT, "text": "the page has ended"}),
+    (events.Answered(AT, "seat3 is missing"),
+     {"event": "answered", "at": AT, "text": "seat3 is missing"}),
 ]
 
 

@@ -347,8 +347,8 @@ class Lost(unittest.TestCase):
 
 
 class Running(unittest.TestCase):
-    def ran(self, server: Server, play: Callable[[Link, float], None]) -> None:
-        words = ["mine.py", "127.0.0.1", str(server.port), "red", "--pause", "0.5"]
+    def ran(self, server: Server, play: Callable[[Link, float], None], *more: str) -> None:
+        words = ["mine.py", "127.0.0.1", str(server.port), "red", "--pause", "0.5", *more]
         with mock.patch("sys.argv", words), mock.patch.object(link, "tell"):
             link.run("what", play)
 
@@ -371,6 +371,23 @@ class Running(unittest.TestCase):
         server.join()
         self.assertEqual(server.heard[1:], ["hello red\n", "own 8\n", "bid 8 ((1 50))\n",
                                             "quit\n"])
+
+    def test_it_asks_again_for_the_next_game_until_its_word_is_refused(self) -> None:
+        played: List[int] = []
+        server = Server([WELCOME, ["bye"]], [["refused taken"]], [["refused taken"]],
+                        [WELCOME, ["bye"]], [["refused wrongword"]])
+        with mock.patch.object(link, "NEXT", 0.01), self.assertRaises(SystemExit) as caught:
+            self.ran(server, lambda agent, _: played.append(agent.agent), "--again")
+        server.join()
+        self.assertEqual((played, caught.exception.code), ([3, 3], "red: refused wrongword"))
+        self.assertEqual(server.heard.count("hello red\n"), 5)
+
+    def test_it_asks_again_once_the_server_of_a_game_is_gone(self) -> None:
+        server = Server([WELCOME], [["refused wrongword"]])
+        with mock.patch.object(link, "NEXT", 0.01), self.assertRaises(SystemExit) as caught:
+            self.ran(server, lambda agent, _: print(agent.cash()), "--again")
+        server.join()
+        self.assertEqual(caught.exception.code, "red: refused wrongword")
 
     def test_a_link_that_fails_ends_it_with_a_line(self) -> None:
         for links in ([["refused wrongword"]], [WELCOME]):

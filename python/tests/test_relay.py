@@ -148,7 +148,7 @@ class Passing(Case):
         agent, server = self.agents[0], self.servers[0]
         agent.sendall(b"own 5\n")
         self.turn_until(server, b"own 5\n")
-        link = next(iter(self.relay._links.values()))
+        link = next(iter(self.relay.links.values()))
         link.held += b"@4 own 0 ()\n"  # as if the link had taken no more of it until now
         self.relay._watch(link)
         server.sendall(b"@5 own 0 ()\n")
@@ -164,7 +164,7 @@ class Passing(Case):
         self.turn_until(agent, b"@4 own 0 ()\n@5 own 0 ()\n")
 
     def test_a_line_that_is_too_long_may_come_in_pieces(self) -> None:
-        link, lines = next(iter(self.relay._links.values())), list[bytes]()
+        link, lines = next(iter(self.relay.links.values())), list[bytes]()
         for piece in (b"own 4\n" + b"x" * (MOST_LINE + 9), b"x" * 9, b"x\nown 5\n",
                       b"y" * (MOST_LINE + 9), b"\nown"):
             link.feed(piece)
@@ -195,7 +195,7 @@ class Passing(Case):
 
     def test_nothing_is_asked_for_one_that_does_not_read(self) -> None:
         agent, server = self.agents[0], self.servers[0]
-        link = self.relay._links[0]
+        link = self.relay.links[0]
         link.held += b"x" * (8 << 20)  # more than the system keeps
         self.relay._watch(link)
         self.turns()
@@ -210,7 +210,7 @@ class Passing(Case):
         self.agents[0].sendall(line * count)
         self.turn_until(self.servers[0], line)
         self.turns()
-        self.assertLess(len(self.relay._links[0].said), 2 * MOST_SAID + 1)
+        self.assertLess(len(self.relay.links[0].said), 2 * MOST_SAID + 1)
         for _ in range(count - 1):
             self.servers[0].sendall(b"no syntax\n")
             self.turn_until(self.servers[0], line)
@@ -392,14 +392,14 @@ class Faults(Case):
     def test_a_link_that_is_gone_is_no_fault_of_the_game(self) -> None:
         second = self.connect(b"hello seat0\n")
         self.turns()
-        self.relay._drop(self.relay._links[0])  # as if its end had been missed
+        self.relay._drop(self.relay.links[0])  # as if its end had been missed
         self.relay.pass_time(time.monotonic() + MOST + 1)
         self.turn_until(second, b"w\n" * ADMISSION)
         third = self.connect(b"hello seat1\n")
         self.turns()
         heir = self.relay.seats.seats[1].heir
         assert heir is not None
-        self.relay._drop(self.relay._links[heir])
+        self.relay._drop(self.relay.links[heir])
         self.relay.pass_time(time.monotonic() + MOST + 1)
         self.assertTrue(self.has_ended(third))
         self.assertIs(self.relay.seats.seats[1].state, State.FREE)
@@ -449,11 +449,11 @@ class Strangers(Case):
         link.setblocking(True)
         link.sendall(b"hello seat2\n")  # it is not read any further
         self.turns()
-        self.assertEqual((len(self.of(events.Arrived)), len(self.relay._links)), (2, 3))
+        self.assertEqual((len(self.of(events.Arrived)), len(self.relay.links)), (2, 3))
         self.relay.pass_time(time.monotonic() + PARTING - 0.5)
-        self.assertEqual(len(self.relay._links), 3)
+        self.assertEqual(len(self.relay.links), 3)
         self.relay.pass_time(time.monotonic() + PARTING + 0.1)
-        self.assertEqual(len(self.relay._links), 2)
+        self.assertEqual(len(self.relay.links), 2)
         self.assertEqual(self.of(events.Warned), [])
 
     def test_one_that_is_refused_and_goes(self) -> None:
@@ -461,7 +461,7 @@ class Strangers(Case):
         self.turn_until(link, b"refused wrongword\n")
         link.close()
         self.turns()
-        self.assertEqual((len(self.relay._links), self.of(events.Warned)), (2, []))
+        self.assertEqual((len(self.relay.links), self.of(events.Warned)), (2, []))
 
     def test_a_word_that_is_taken(self) -> None:
         self.agents[1].close()
@@ -550,7 +550,7 @@ class Strangers(Case):
         self.ask(0, b"own 1\n", b"@0 own 0 ()\n")
 
     def test_a_machine_that_has_gone_is_noticed_after_some_ten_seconds(self) -> None:
-        link = self.relay._links[0].socket
+        link = self.relay.links[0].socket
         self.assertTrue(link.getsockopt(socket.SOL_SOCKET, socket.SO_KEEPALIVE))
         self.assertTrue(link.getsockopt(socket.IPPROTO_TCP, socket.TCP_NODELAY))
         if hasattr(socket, "TCP_KEEPIDLE"):
@@ -560,12 +560,12 @@ class Strangers(Case):
 
     @unittest.skipUnless(hasattr(socket, "TCP_USER_TIMEOUT"), "the system has no such time")
     def test_and_so_is_one_to_which_something_is_on_its_way(self) -> None:
-        link = self.relay._links[0].socket
+        link = self.relay.links[0].socket
         self.assertTrue(8000 <= link.getsockopt(socket.IPPROTO_TCP, socket.TCP_USER_TIMEOUT)
                         <= 15000)
 
     def test_an_agent_that_does_not_read_is_told_of_in_the_game(self) -> None:
-        link = self.relay._links[0]
+        link = self.relay.links[0]
         link.held += b"x" * (8 << 20)  # more than the system keeps
         self.relay._watch(link)
         self.turns()

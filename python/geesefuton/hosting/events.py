@@ -119,8 +119,17 @@ class Warned:
     text: str
 
 
+@dataclass(frozen=True)
+class Answered:
+    """What the host is told of a command."""
+
+    at: float
+    text: str
+
+
 Event = Union[
-    Arrived, Departed, Refused, Lost, Waived, Began, Ticked, Rejoined, Ended, Finished, Warned
+    Answered, Arrived, Departed, Refused, Lost, Waived, Began, Ticked, Rejoined, Ended, Finished,
+    Warned
 ]
 
 

@@ -12,6 +12,7 @@ from pathlib import Path
 from typing import Callable, Deque, List, Optional, Protocol
 
 from geesefuton.hosting import events
+from geesefuton.hosting.console import Console, NotDone
 from geesefuton.hosting.control import Control, Phase
 from geesefuton.hosting.events import Event
 from geesefuton.hosting.orders import Orders
@@ -20,7 +21,6 @@ from geesefuton.hosting.relay import Relay
 from geesefuton.hosting.settings import LobbySettings
 from geesefuton.processes import Children
 
-HINT = "an empty line begins the game, and `without WORD` waits for that agent no longer"
 LOOK = 0.2  # seconds between two looks at what has waited too long
 
 
@@ -50,6 +50,7 @@ class HostedGame:
         self._lines: Deque[str] = deque()
         self._orders = Orders(settings.orders, self._lines)
         self._orders.look(relay)
+        self._console = Console(relay, control)
         self._looked = self._last = 0.0
         control.wake_by(relay)
 
@@ -71,6 +72,7 @@ class HostedGame:
             self._looked = now
             self.relay.pass_time(now)
             self._orders.look(self.relay)
+            self._console.note_homes()
             for each in (self.page, self.by_hand):
                 fault = each.fault() if each else ""
                 if fault:
@@ -95,11 +97,11 @@ class HostedGame:
     def _obey(self) -> None:
         """Does what the host asks for."""
         while self._lines:
-            order = self._lines.popleft().split()
-            if not order:
-                self.control.go_on()
-            elif order[0] != "without" or len(order) != 2 or not self.relay.waive(order[1]):
-                self.warn(HINT)
+            try:
+                for text in self._console.obey(self._lines.popleft()).splitlines():
+                    self.emit(events.Answered(time.time(), text))
+            except NotDone as fault:
+                self.warn(str(fault))
 
 
 class Serving(Protocol):

@@ -98,6 +98,7 @@ class Lobby:
             relay = Relay(self.words, self._listener, on_event, journal, self.settings.patience,
                           self.settings.longest_silence())
             stack.callback(relay.close)
+            relay.seats.keys = self.settings.keys or relay.seats.keys
             game = HostedGame(self.settings, self._text, self._control, children, folder, relay,
                               on_event)
             if journal and self.settings.page is not None:
@@ -167,13 +168,19 @@ class Lobby:
 
     def _gather(self, game: HostedGame) -> None:
         """Waits until the game may begin."""
-        start = self.settings.start
-        deadline = float("inf") if start is None else time.monotonic() + start
+        given, never = self.settings, float("inf")
+        deadline = never if given.start is None else time.monotonic() + given.start
+        guest_deadline = never
         while game.relay.seats.missing() and not self._control.is_begin_asked:
             now = time.monotonic()
-            if game.is_stopped or now >= deadline:
+            if not game.relay.seats.is_anybody_here():
+                guest_deadline = never
+            elif guest_deadline == never and given.wait is not None:
+                guest_deadline = now + given.wait
+            left = min(deadline, guest_deadline) - now
+            if game.is_stopped or left <= 0:
                 break
-            game.turn(min(LOOK, deadline - now))
+            game.turn(min(LOOK, left))
 
     def _end_all(self, game: HostedGame) -> None:
         """Sends to agents what they still get, for a while."""

@@ -14,7 +14,7 @@ import itertools
 import selectors
 import socket
 import time
-from typing import Any, Callable, Dict, Optional, Sequence
+from typing import Any, Callable, Dict, Optional, Sequence, Set
 
 from geesefuton.hosting import events
 from geesefuton.hosting.events import End, Event
@@ -30,6 +30,7 @@ MOST_STRANGERS = 200  # links that have not sent a first line
 MOST_LINES = 65536  # of a seat that the server answers
 NEAR_MOST = 60000  # lines of a seat of which the host is told
 UNREAD = 5.0  # seconds after which the host is told of an agent that does not read
+OWN = "the house"  # where the links of the host's own agents come from
 PARTING = 1.0  # seconds that a link has to end its side after it was sent its last line
 
 
@@ -46,6 +47,8 @@ class Relay:
 
     Attributes:
         started: When the welcome came, by `time.monotonic`.
+        links: The links from outside, by their numbers.
+        banned: The addresses from which no link is taken.
     """
 
     def __init__(self, words: Sequence[str], listener: socket.socket,
@@ -53,8 +56,9 @@ class Relay:
                  patience: float, silence: float) -> None:
         self.seats, self.sessions = Seats(words, silence), list[Session]()
         self.started: Optional[float] = None
+        self.banned: Set[str] = set()
         self._emit, self.journal, self._patience = emit, journal, patience
-        self._links: Dict[int, OuterLink] = {}
+        self.links: Dict[int, OuterLink] = {}
         self._numbers = itertools.count()
         self._due: Dict[int, OuterLink] = {}
         self._select = selectors.DefaultSelector()
@@ -90,7 +94,7 @@ class Relay:
                     self._read(link)
             except Exception as fault:  # it costs one agent its link, and not all of them the game
                 self._warn(f"a link is ended after an error: {fault!r}")
-                self._fail(link)
+                self.fail(link)
         self._deliver()
 
     def pass_time(self, now: float) -> None:
@@ -102,7 +106,7 @@ class Relay:
             self.attend(self._listener, self._accept)
         for seat in self.seats.seats:
             self._do(seat, seat.wait(now))
-        for link in list(self._links.values()):
+        for link in list(self.links.values()):
             if link.parting is not None and now > link.parting:
                 self._drop(link)
             elif link.is_stranger() and now - link.since > self._patience:
@@ -145,14 +149,17 @@ class Relay:
             self.forget(self._listener)
             self._deaf_until = time.monotonic() + 0.5
             return None
-        strangers = [other for other in self._links.values() if other.is_stranger()]
+        source = str(where[0]).removeprefix("::ffff:")
+        if source in self.banned:
+            return link.close()
+        strangers = [other for other in self.links.values() if other.is_stranger()]
         if len(strangers) >= MOST_STRANGERS:
             self._lose(strangers[0], f"{MOST_STRANGERS} links have sent no line")
         try:
-            guest = OuterLink(next(self._numbers), link, str(where[0]).removeprefix("::ffff:"))
+            guest = OuterLink(next(self._numbers), link, source)
         except OSError:  # it has gone already
             return link.close()
-        self._links[guest.number] = guest
+        self.links[guest.number] = guest
         return self._watch(guest)
 
     def _read(self, link: OuterLink | Session) -> None:
@@ -165,7 +172,7 @@ class Relay:
         except BlockingIOError:
             return None
         except OSError:
-            return self._fail(link)
+            return self.fail(link)
         if not data:
             return self._end_side(link)
         if link.parting is not None:
@@ -185,7 +192,7 @@ class Relay:
         seat, answer = self.seats.admit(line) if is_line else (None, "syntax")
         if seat is None:
             return self._refuse(link, answer, line)
-        link.seat = seat
+        link.seat, link.source = seat, OWN if self.seats.is_own(line) else link.source
         return self._do(seat, seat.come(link.number, time.monotonic()))
 
     def _hear(self, link: OuterLink, lines: int) -> None:
@@ -208,10 +215,10 @@ class Relay:
         if seat.holder == link.number and (link.has_line() or link.owed or link.held):
             self._do(seat, seat.stop(time.monotonic()))
             return self._watch(link)
-        return self._fail(link)
+        return self.fail(link)
 
-    def _fail(self, link: OuterLink | Session) -> None:
-        """A link has ended, or failed."""
+    def fail(self, link: OuterLink | Session) -> None:
+        """A link has ended, or failed, or the host ends it."""
         if isinstance(link, Session):
             return self._end_session(link)
         if not link.is_open:
@@ -235,7 +242,7 @@ class Relay:
             if link.wants:
                 self._select.unregister(link.socket)
             link.socket.close()
-            del self._links[link.number]
+            del self.links[link.number]
             self._due.pop(link.number, None)
 
     def _lose(self, link: OuterLink, why: str) -> None:
@@ -261,13 +268,13 @@ class Relay:
     def _do(self, seat: Seat, actions: Sequence[Action]) -> None:
         """Does what a seat asks for. A fault costs the link that it is about, and no other seat."""
         for action in actions:
-            link = None if isinstance(action, Over) else self._links.get(action.link)
+            link = None if isinstance(action, Over) else self.links.get(action.link)
             try:
                 self._act(seat, action, link)
             except Exception as fault:
                 self._warn(f"an error about {seat.word}: {fault!r}")
                 if link is not None:
-                    self._fail(link)
+                    self.fail(link)
 
     def _act(self, seat: Seat, action: Action, link: Optional[OuterLink]) -> None:
         """Does one thing that a seat asks for; `link` is the one that it is about, if there is."""
@@ -312,7 +319,7 @@ class Relay:
                     self._write(link)
                 except Exception as fault:
                     self._warn(f"a link is ended after an error: {fault!r}")
-                    self._fail(link)
+                    self.fail(link)
 
     def _write(self, link: OuterLink | Session) -> None:
         if isinstance(link, OuterLink) and not link.is_open:
@@ -320,14 +327,14 @@ class Relay:
         try:
             link.send()
         except OSError:
-            return self._fail(link)
+            return self.fail(link)
         if isinstance(link, OuterLink) and not link.held:
             if link.parting is not None:
                 return self._shut(link)
             if link.seat is not None and link.seat.holder == link.number and self.sessions:
                 self._pass_on(self.sessions[link.seat.number])
                 if link.has_ended and not (link.owed or link.has_line()):
-                    return self._fail(link)
+                    return self.fail(link)
         return self._watch(link)
 
     def _shut(self, link: OuterLink) -> None:
@@ -373,7 +380,7 @@ class Relay:
         """Ends all links."""
         for seat in self.seats.seats:
             self._do(seat, seat.finish())
-        for link in list(self._links.values()):
+        for link in list(self.links.values()):
             self._part(link)
         self._deliver()
 
@@ -385,11 +392,11 @@ class Relay:
 
     def is_done(self) -> bool:
         """Whether no link is left, to agents or to the server."""
-        return not self._links and all(session.has_ended for session in self.sessions)
+        return not self.links and all(session.has_ended for session in self.sessions)
 
     def close(self) -> None:
         """Closes all that is open."""
-        for link in list(self._links.values()):
+        for link in list(self.links.values()):
             self._drop(link)
         for session in self.sessions:
             session.socket.close()
@@ -486,7 +493,7 @@ class Relay:
             self._part(link)
 
     def _holder(self, seat: Seat) -> Optional[OuterLink]:
-        return None if seat.holder is None else self._links.get(seat.holder)
+        return None if seat.holder is None else self.links.get(seat.holder)
 
     def _warn(self, text: str) -> None:
         self._emit(events.Warned(time.time(), text))

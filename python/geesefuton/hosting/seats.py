@@ -19,7 +19,7 @@ from __future__ import annotations
 import enum
 import re
 from dataclasses import dataclass, field
-from typing import List, Optional, Sequence, Tuple, Union
+from typing import Dict, List, Optional, Sequence, Tuple, Union
 
 from geesefuton.hosting.events import End
 
@@ -220,15 +220,25 @@ class Seat:
 
 @dataclass
 class Seats:
-    """The eight seats of a game, in the order of their agents."""
+    """The eight seats of a game, in the order of their agents.
+
+    Attributes:
+        words: The words of the game file.
+        keys: The words that agents say for their seats, each with the number of its seat; by
+            default those of the game file.
+        own: The same for words that are known to the host's own agents alone.
+    """
 
     words: Sequence[str]
     silence: float = SILENCE
+    keys: Dict[str, int] = field(default_factory=dict)
+    own: Dict[str, int] = field(default_factory=dict)
     seats: List[Seat] = field(init=False)
 
     def __post_init__(self) -> None:
         self.seats = [Seat(number, word, self.silence)
                       for number, word in enumerate(self.words)]
+        self.keys = self.keys or {word: number for number, word in enumerate(self.words)}
 
     def admit(self, line: bytes) -> Tuple[Optional[Seat], str]:
         """The seat that a first line asks for, or None and the refusal that is due."""
@@ -236,12 +246,27 @@ class Seats:
         if not greeting:
             return None, "syntax"
         word = greeting[1].decode("ascii")
-        seat = self.by_word(word)
-        return (seat, "") if seat else (None, "wrongword")
+        number = self.own.get(word, self.keys.get(word))
+        return (None, "wrongword") if number is None else (self.seats[number], "")
+
+    def is_own(self, line: bytes) -> bool:
+        """Whether a first line that was admitted is that of one of the host's own agents."""
+        greeting = GREETING.fullmatch(line)
+        return greeting is not None and greeting[1].decode("ascii") in self.own
+
+    def change_word(self, number: int, word: str) -> None:
+        """The word that led to a seat leads there no longer, and another does."""
+        for key in [key for key, seat in self.keys.items() if seat == number]:
+            del self.keys[key]
+        self.keys[word] = number
 
     def by_word(self, word: str) -> Optional[Seat]:
         """The seat of a word, or None."""
         return next((seat for seat in self.seats if seat.word == word), None)
+
+    def is_anybody_here(self) -> bool:
+        """Whether a link has a seat."""
+        return any(seat.holder is not None for seat in self.seats)
 
     def missing(self) -> List[str]:
         """The words of those that the game waits for."""

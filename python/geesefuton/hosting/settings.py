@@ -4,7 +4,7 @@ from __future__ import annotations
 
 from dataclasses import dataclass
 from pathlib import Path
-from typing import Optional, TextIO
+from typing import Dict, Optional, TextIO
 
 from geesefuton.hosting import log_files
 from geesefuton.hosting.seats import SILENCE
@@ -21,6 +21,9 @@ class LobbySettings:
         log: Where the log goes; None if there is nowhere, which counts as an output that fails.
         form: What agents speak, `words` or `json`.
         start: The seconds until the game begins without those who are missing; None waits.
+        wait: The same, from when the first agent is here on; None waits.
+        keys: The words that agents say for their seats, each with the number of its seat, which the
+            host may change; None for those of the game file.
         linger: The seconds after the last tick until the links that are left are ended.
         patience: The seconds that a link has for its first line.
         silence: The seconds without a word after which an agent's link gives way to another one
@@ -41,6 +44,8 @@ class LobbySettings:
     log: log_files.Target
     form: str = "words"
     start: Optional[float] = None
+    wait: Optional[float] = None
+    keys: Optional[Dict[str, int]] = None
     linger: float = 30.0
     patience: float = 30.0
     silence: float = SILENCE

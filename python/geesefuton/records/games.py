@@ -261,7 +261,8 @@ class _Lines:
             raise GameError(self.number, "two of the words are equal")
 
 
-def _is_seat_word(word: str) -> bool:
+def is_seat_word(word: str) -> bool:
+    """Whether a word may be that of a seat: 1 to 16 of `a` to `z` and `0` to `9`."""
     letters = set("abcdefghijklmnopqrstuvwxyz0123456789")
     return 1 <= len(word) <= 16 and set(word) <= letters
 
@@ -280,7 +281,7 @@ def read_game(text: str) -> Game:
         raise GameError(lines.number, f"version {version[:20]!r} is neither 1 nor 2")
     words = lines.take("words", 8)
     for word in words:
-        if not _is_seat_word(word):
+        if not is_seat_word(word):
             raise GameError(lines.number, f"{word[:40]!r} is no seat word")
     lines.different(words)
     flights = [_read_flight(lines, good) for good in FLIGHTS]

@@ -1,0 +1,101 @@
+"""The host's commands, before a relay whose agents have begun to play."""
+
+import time
+import unittest
+from unittest import mock
+
+from geesefuton.hosting import events
+from geesefuton.hosting.console import Console, NotDone
+from geesefuton.hosting.control import Control, Phase
+from geesefuton.hosting.seats import State
+from tests import test_relay
+
+
+class Commands(test_relay.Case):
+    def setUp(self) -> None:
+        super().setUp()
+        self.control = Control()
+        self.addCleanup(self.control.close)
+        self.console = Console(self.relay, self.control)
+        self.console.note_homes()
+
+    def who(self, number: int) -> str:
+        return self.console.obey("who").split("\n")[number]
+
+    def test_help_lists_each_command(self) -> None:
+        lines = self.console.obey("help").split("\n")
+        names = [line.split(":")[0].split()[0] for line in lines]
+        self.assertEqual(names, ["who", "begin", "without", "end", "ban", "allow", "word", "finish",
+                                 "stop", "help"])
+
+    def test_who_is_here_and_who_is_silent(self) -> None:
+        self.assertEqual((self.who(0), self.who(2)),
+                         ("seat0 is here from 127.0.0.1", "seat2 is missing"))
+        now = time.monotonic()
+        with mock.patch("time.monotonic", lambda: now + 25.5):
+            self.assertRegex(self.who(0), "silent for 2[56] s$")
+
+    def test_who_came_from_another_address(self) -> None:
+        link = self.relay.links[0]
+        link.source = "10.0.0.9"
+        self.assertIn("from 10.0.0.9, another address than 127.0.0.1", self.who(0))
+
+    def test_a_link_that_is_ended_may_reconnect(self) -> None:
+        self.assertEqual(self.console.obey("end seat1"), "the link of seat1 is ended")
+        self.assertTrue(self.has_ended(self.agents[1]))
+        self.connect(b"hello seat1\n")
+        self.turn_until_told(events.Rejoined)
+
+    def test_an_address_that_is_banned(self) -> None:
+        self.assertEqual(self.console.obey("ban 127.0.0.1"),
+                         "no link from 127.0.0.1 is taken; 2 ended")
+        self.assertTrue(self.has_ended(self.connect(b"hello seat1\n")))
+        self.assertEqual(self.of(events.Rejoined), [])
+        self.console.obey("allow 127.0.0.1")
+        self.connect(b"hello seat1\n")
+        self.turn_until_told(events.Rejoined)
+
+    def test_a_new_word(self) -> None:
+        self.console.obey("word 1 red7k")
+        self.console.obey("end seat1")
+        old, _ = self.connect(b"hello seat1\n"), self.turns()
+        self.assertEqual(self.turn_until_told(events.Refused)[0].answer, "wrongword")
+        self.turn_until(old, b"refused wrongword\n")
+        self.connect(b"hello red7k\n")
+        self.turn_until_told(events.Rejoined)
+
+    def test_what_cannot_be_done(self) -> None:
+        for line, told in (("dance", "'dance' is no command; `help` tells them"),
+                           ("end", "`end SEAT` is due"), ("end 9", "no seat is called 9"),
+                           ("end seat4", "no link has a seat that is called seat4"),
+                           ("word seat1 seat2", "seat2 is the word of another seat"),
+                           ("word 1 R", "R is no seat word: 1 to 16 of a to z and 0 to 9 are due"),
+                           ("allow 10.0.0.1", "10.0.0.1 is not banned; banned are: none")):
+            with self.assertRaisesRegex(NotDone, "^" + told.replace("|", ".") + "$"):
+                self.console.obey(line)
+
+    def test_begin_and_stop(self) -> None:
+        self.assertEqual(self.console.obey("without 5"), "")
+        self.assertIs(self.relay.seats.seats[5].state, State.OVER)
+        for line in ("", "begin"):
+            self.control.is_begin_asked = False
+            self.console.obey(line)
+            self.assertTrue(self.control.is_begin_asked)
+        self.control.phase = Phase.ENDING
+        self.console.obey("")
+        self.assertTrue(self.control.is_end_asked)
+        self.console.obey("stop")
+        self.assertTrue(self.control.is_stopped)
+
+
+class OwnAgents(test_relay.Case):
+    def test_a_word_of_the_host_alone(self) -> None:
+        self.relay.seats.own["k3x9"] = 4
+        self.connect(b"hello k3x9\n")
+        self.assertEqual(self.turn_until_told(events.Arrived, 3)[2].source, "the house")
+        self.connect(b"hello seat5\n")
+        self.assertEqual(self.turn_until_told(events.Arrived, 4)[3].source, "127.0.0.1")
+
+
+if __name__ == "__main__":
+    unittest.main()
