@@ -87,12 +87,12 @@ class Viewers:
     misses those between.
 
     Args:
-        page: The page.
+        page: The page, which may be replaced.
         faults: Is told what fails.
     """
 
     def __init__(self, page: bytes, faults: Faults) -> None:
-        self._page, self._faults, self._most = page, faults, most_viewers()
+        self.page, self._faults, self._most = page, faults, most_viewers()
         self._state, self._number, self._is_final = b"{}", 0, False
         self._changed = asyncio.Condition()
         self._links: List[_Link] = []  # the eldest first
@@ -171,7 +171,7 @@ class Viewers:
             await _send(writer, f"503 Service Unavailable\r\nRefresh: {REFRESH}", "text/plain",
                         b"too many viewers; this asks again by itself\n")
         elif words[0] == b"GET" and path == b"/":
-            await _send(writer, "200 OK", "text/html; charset=utf-8", self._page)
+            await _send(writer, "200 OK", "text/html; charset=utf-8", self.page)
         elif words[0] == b"GET" and path == b"/state":
             await _send(writer, "200 OK", "application/json", self._state)
         elif words[0] == b"GET" and path == b"/events":

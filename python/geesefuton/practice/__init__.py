@@ -1,0 +1,1 @@
+"""The practice room: games one after the other, and their standings."""

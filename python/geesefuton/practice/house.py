@@ -1,0 +1,102 @@
+"""House agents: they take the seats that are empty when a game is to begin, and then it is served.
+
+Each takes its seat by a word that is made for it, so a guest with the seat's own word is never
+taken for it. Its process ends with the game.
+"""
+
+from __future__ import annotations
+
+import subprocess
+import time
+from pathlib import Path
+from typing import List, NamedTuple, Sequence
+
+from geesefuton import program
+from geesefuton.experiments.entrants import Entrant, environment
+from geesefuton.hosting.control import STOPPED
+from geesefuton.hosting.hosted_game import HostedGame
+from geesefuton.hosting.seats import Seat
+from geesefuton.hosting.server import ClockServer
+from geesefuton.practice.teams import made_word
+
+COMING = 15.0  # seconds that house agents have to take their seats
+LOOK = 0.05  # seconds between two looks at them
+MOST_PRINTED = 2048  # blocks of 512 bytes that one may print, as `ulimit -f` counts
+LIMITED = ["sh", "-c", f'ulimit -f {MOST_PRINTED}; exec "$@"', "agent"]
+
+
+class _Started(NamedTuple):
+    """A house agent that was started: its process, its seat, and the file that it prints to."""
+
+    process: "subprocess.Popen[bytes]"
+    seat: Seat
+    name: str
+    printed: Path
+
+
+class HouseServer:
+    """Fills the empty seats with house agents, and serves the game by its clock.
+
+    Args:
+        house: The agents, of which each next seat gets the next one; none for no house.
+
+    Attributes:
+        port: The port of the lobby.
+    """
+
+    def __init__(self, house: Sequence[Entrant]) -> None:
+        self._house, self.port = house, 0
+
+    def name_at(self, seat: int) -> str:
+        """Who plays a seat for the house."""
+        return f"house {self._house[seat % len(self._house)].name}"
+
+    def play(self, game: HostedGame) -> int:
+        """Plays the game, as a lobby's `Serving`."""
+        started = self._fill(game)
+        self._wait(game, started)
+        return STOPPED if game.is_stopped else ClockServer().play(game)
+
+    def _fill(self, game: HostedGame) -> List[_Started]:
+        if not self._house:
+            return []
+        variables = environment(program.find(), game.folder)
+        started = []
+        for seat in game.relay.seats.seats:
+            if seat.holder is not None:
+                continue
+            word = made_word()
+            game.relay.seats.own[word] = seat.number
+            entrant = self._house[seat.number % len(self._house)]
+            printed = game.folder / f"out.{seat.number}"
+            with printed.open("wb") as out:
+                process = game.children.start(
+                    [*LIMITED, *entrant.words, "localhost", str(self.port), word, "--pause",
+                     str(game.settings.pace / 1000)],
+                    stdin=subprocess.DEVNULL, stdout=out, stderr=subprocess.STDOUT, env=variables)
+            started.append(_Started(process, seat, entrant.name, printed))
+        return started
+
+    def _wait(self, game: HostedGame, started: List[_Started]) -> None:
+        """Waits until each has its seat, or has ended, for a while."""
+        deadline = time.monotonic() + COMING
+        left = started
+        while left and not game.is_stopped:
+            game.turn(LOOK)
+            for agent in left:
+                if agent.seat.holder is None and agent.process.poll() is not None:
+                    game.warn(f"the house agent {agent.name} did not come for {agent.seat.word}: "
+                              + (_last_line(agent.printed) or "it said nothing"))
+            left = [agent for agent in left
+                    if agent.seat.holder is None and agent.process.poll() is None]
+            if time.monotonic() > deadline:
+                for agent in left:
+                    game.warn(f"the house agent {agent.name} did not come for {agent.seat.word} "
+                              f"within {COMING:g} seconds")
+                return
+
+
+def _last_line(file: Path) -> str:
+    """The end of the last line that an agent printed."""
+    text = file.read_bytes()[-2000:].decode("utf-8", "replace").strip()
+    return text.split("\n")[-1][:120]

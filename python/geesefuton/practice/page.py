@@ -1,0 +1,170 @@
+"""The page of a practice room: its standings between games, and each game while it runs.
+
+It reads a file that the room replaces (`board.py`), and stays at one port from game to game. A
+screen that is sent a state that its page does not show asks for the page again, so all follow by
+themselves. A game's final scores stay for a while, unless the next one begins.
+"""
+
+from __future__ import annotations
+
+import argparse
+import asyncio
+import contextlib
+import json
+import os
+import socket
+import sys
+import time
+from pathlib import Path
+from typing import Any, Dict, List, Optional, Sequence
+
+from geesefuton.arguments import Parser, whole
+from geesefuton.hosting.journal import JournalError
+from geesefuton.hosting.live import NICE, Live
+from geesefuton.hosting.projection import View
+from geesefuton.hosting.recovery import Player
+from geesefuton.hosting.viewers import Faults, Viewers
+from geesefuton.processes import Children, command, tell, why
+from geesefuton.records.games import TICKS
+
+LOOK = 0.25  # seconds between two looks at what the room shows
+STAY = 20.0  # seconds for which final scores stay
+STOPPED = 3.0  # seconds for which a game stays that was stopped
+
+HERE = Path(__file__).resolve().parent
+
+
+class Screens(Viewers):
+    """The screens of a room. No state is the last one, and seats are called by their players."""
+
+    names: List[str] = []
+
+    async def show(self, state: bytes, is_final: bool) -> None:
+        """Sends a new state to all screens."""
+        what = json.loads(state)
+        for agent, name in zip(what.get("agents", ()), self.names):
+            agent["name"] = name
+        await super().show(json.dumps(what, separators=(",", ":")).encode("ascii"), False)
+
+
+class RoomPage:
+    """What the screens of a room are sent.
+
+    Args:
+        file: What the room shows.
+        screens: The screens.
+        player: By which the scores of a game so far are made.
+        late: By how many ticks what agents cannot ask is shown later.
+        faults: Is told what fails.
+    """
+
+    def __init__(self, file: Path, screens: Screens, player: Player, late: int,
+                 faults: Faults) -> None:
+        self._file, self._screens, self._player, self._late = file, screens, player, late
+        self._faults = faults
+        self._room = (HERE / "room.html").read_bytes()
+        self._live = (HERE.parent / "hosting" / "live.html").read_bytes()
+        self._shown = b""
+
+    async def follow(self) -> None:
+        """Shows what the room says, until it is cancelled."""
+        shown: Optional[str] = None  # the journal that was shown last
+        while True:
+            what = self._read()
+            if what is not None and what["journal"] not in (None, shown):
+                shown = what["journal"]
+                await self._play(what)
+            elif what is not None:
+                await self._show_room(what)
+            await asyncio.sleep(LOOK)
+
+    def _read(self) -> Optional[Dict[str, Any]]:
+        try:
+            what: Dict[str, Any] = json.loads(self._file.read_bytes())
+        except OSError as fault:
+            self._faults.tell("room: the page cannot be made", why(fault))
+            return None
+        return what
+
+    async def _show_room(self, what: Dict[str, Any]) -> None:
+        """Shows the room, with the seconds until its game begins."""
+        room, begins = what["room"], what["room"]["begins"]
+        left = None if begins is None else max(0, round(begins - time.time()))
+        text = json.dumps({**room, "left": left}).encode("ascii")
+        if text != self._shown:
+            self._shown, self._screens.page = text, self._room
+            await self._screens.show(text, False)
+
+    async def _play(self, what: Dict[str, Any]) -> None:
+        """Shows a game, until a while after its end, or until the room shows another one."""
+        journal, screens = what["journal"], self._screens
+        screens.page, self._shown = self._live, b""
+        try:
+            with open(journal, "rb") as opened:
+                live = Live(opened, View(self._late, True), self._player, screens, self._faults)
+                tasks = [asyncio.ensure_future(live.follow()),
+                         asyncio.ensure_future(live.project())]
+                last = time.monotonic()  # when the game was going on
+                while what["journal"] in (None, journal):
+                    if what["journal"] is not None:
+                        screens.names = what["names"]
+                    if what["journal"] is not None and not live.is_over():
+                        last = time.monotonic()
+                    if time.monotonic() > last + (STAY if live.is_over() else STOPPED):
+                        break
+                    if tasks[0].done() and not live.is_over():
+                        break  # its journal is none
+                    await asyncio.sleep(LOOK)
+                    what = self._read() or what
+                await _end(tasks)
+        except (JournalError, OSError) as fault:
+            text = why(fault) if isinstance(fault, OSError) else str(fault)
+            self._faults.tell(f"room: {journal} cannot be shown", text)
+
+
+async def _end(tasks: "Sequence[asyncio.Future[None]]") -> None:
+    """Cancels what is left of tasks, and raises what has failed.
+
+    Raises:
+        JournalError: The journal is none.
+    """
+    for task in tasks:
+        task.cancel()
+    for told in await asyncio.gather(*tasks, return_exceptions=True):
+        if isinstance(told, JournalError):
+            raise told
+
+
+def _listen(port: int) -> socket.socket:
+    both = socket.has_dualstack_ipv6()
+    return socket.create_server(("", port), family=socket.AF_INET6 if both else socket.AF_INET,
+                                dualstack_ipv6=both, backlog=128)
+
+
+async def _run(given: argparse.Namespace, player: Player) -> None:
+    faults = Faults(tell)
+    screens = Screens(b"", faults)
+    page = RoomPage(given.board, screens, player, given.late, faults)
+    with contextlib.closing(_listen(given.port)) as listener:
+        await asyncio.gather(screens.accept(listener), page.follow())
+
+
+def _main() -> int:
+    parser = Parser("page", __doc__)
+    parser.add_argument("board", type=Path)
+    parser.add_argument("port", type=whole(1, 65535))
+    parser.add_argument("--late", type=whole(0, TICKS), default=6)
+    given = parser.parse_args()
+    os.nice(NICE)
+    with Children() as children:
+        asyncio.run(_run(given, Player(children.folder("page"))))
+    return 0
+
+
+def main() -> int:
+    """The page's process."""
+    return command("page", _main)
+
+
+if __name__ == "__main__":
+    sys.exit(main())

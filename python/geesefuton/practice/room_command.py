@@ -1,0 +1,174 @@
+"""The command `room`: a practice room, which plays game after game at one port.
+
+Each game begins some seconds after its first guest; house agents take the seats that are empty. A
+guest that comes later, or whose seat the house plays, is refused as `taken`, and plays the next
+game if it asks again, as `--agent-- HOST PORT WORD --again` does. A game counts once its log was
+audited and its manifest is in the folder. Stopped at any moment, also by `kill -9`, the same
+command goes on with the next game.
+
+The page shows the standings between games, and each game while it runs. ctrl-C closes the room
+after the game that runs, a second one at once. `help` on the terminal lists commands.
+"""
+
+from __future__ import annotations
+
+import argparse
+import contextlib
+import os
+import signal
+import socket
+import sys
+import time
+from pathlib import Path
+from types import FrameType
+from typing import List, Optional
+
+from geesefuton import program
+from geesefuton.arguments import Parser, seconds, whole
+from geesefuton.experiments.entrants import Entrant, EntrantError, read_entrants
+from geesefuton.hosting.lobby import LobbyError
+from geesefuton.practice.board import Board
+from geesefuton.practice.folder import Folder, FolderError, write_whole
+from geesefuton.practice.room import Room, RoomSettings
+from geesefuton.practice.teams import Team, TeamsError, keep_words, read_teams, slips_of
+from geesefuton.processes import Children, command, tell, why
+from geesefuton.records.games import TICKS
+
+USUAL = "planner.py"  # of the examples
+
+
+def _arguments() -> argparse.Namespace:
+    parser = Parser("room", __doc__.replace("--agent--", "python3 mine.py"))
+    add = parser.add_argument
+    add("--port", type=whole(1, 65535), default=7000, help="the port for agents; 7000")
+    add("--page", type=whole(1, 65535), metavar="PORT", help="the port of the page, for a projector")
+    add("--pace", type=whole(1, 60000), default=1000, metavar="MILLISECONDS",
+        help="the time from tick to tick; 1000")
+    add("--wait", type=seconds, default=30.0, metavar="SECONDS",
+        help="how long after its first guest a game begins; 30")
+    add("--after", type=seconds, default=10.0, metavar="SECONDS",
+        help="how long after the last tick links are ended; 10")
+    add("--house", action="append", metavar="AGENT",
+        help="an agent for empty seats, in several options several in turn, and '' for none; "
+             f"default: {USUAL} of the examples")
+    add("--folder", type=Path, default=Path("room"), help="where the games are kept; room")
+    add("--seed", type=whole(0), metavar="NUMBER",
+        help="the seed of the first game of a new folder; 1")
+    add("--games", type=whole(1), metavar="NUMBER", help="end after so many games")
+    add("--teams", type=Path, metavar="FILE",
+        help="the teams, a CSV file of lines NAME or NAME,WORD; words are made and kept")
+    add("--slips", type=Path, metavar="FILE",
+        help="write a slip for each team, with its word, as text or .html")
+    add("--address", help="the host's address on the slips and the page; default: this machine's")
+    add("--late", type=whole(0, TICKS), default=6, metavar="TICKS",
+        help="how many ticks later the page shows what agents cannot ask; 6")
+    given = parser.parse_args()
+    if given.slips and not given.teams:
+        parser.error("--slips needs --teams")
+    if given.page == given.port:
+        parser.error(f"port {given.page}: the page needs another port than the games")
+    return given
+
+
+def _own_address() -> str:
+    """The address that this machine has in its network, as far as it knows."""
+    with contextlib.suppress(OSError), socket.socket(socket.AF_INET, socket.SOCK_DGRAM) as probe:
+        probe.connect(("192.0.2.1", 9))  # sends nothing
+        return str(probe.getsockname()[0])
+    return socket.gethostname()
+
+
+def _check_port(page: Optional[int]) -> None:
+    """Tells whether the page's port is free.
+
+    Raises:
+        LobbyError: It is not.
+    """
+    if page is None:
+        return
+    try:
+        socket.create_server(("", page)).close()
+    except OSError as fault:
+        raise LobbyError(f"port {page}: {why(fault)}") from None
+
+
+def _house(commands: Optional[List[str]]) -> List[Entrant]:
+    """The house agents. A name of the examples may stand for its file.
+
+    Raises:
+        EntrantError: One of them cannot be run.
+    """
+    clone = program.top()
+    if commands is None and clone is None:
+        return []
+    found = []
+    for name in [USUAL] if commands is None else [name for name in commands if name]:
+        example = clone / "examples" / "agents" / name if clone else Path()
+        found.append(str(example) if not os.path.exists(name) and example.is_file() else name)
+    return read_entrants(found)
+
+
+def _say(text: str) -> None:
+    tell(f"{time.strftime('%H:%M:%S')} {text}")
+
+
+def _make_teams(given: argparse.Namespace, address: str) -> List[Team]:
+    """The teams, with their words kept and their slips written."""
+    if given.teams is None:
+        return []
+    teams = read_teams(given.teams, given.folder)
+    keep_words(given.folder, teams)
+    if given.slips:
+        text = slips_of(teams, address, given.port, given.slips.suffix in (".html", ".htm"))
+        write_whole(given.slips, text.encode())
+    return teams
+
+
+class _Signals:
+    """What signals do: ctrl-C closes the room after its game, a second one and others at once."""
+
+    def __init__(self, room: Room) -> None:
+        self._room, self._is_asked = room, False
+        self.number = 0
+        for number in (signal.SIGINT, signal.SIGTERM, signal.SIGHUP):
+            if signal.getsignal(number) is not signal.SIG_IGN:
+                signal.signal(number, self._take)
+
+    def _take(self, number: int, _: Optional[FrameType]) -> None:
+        self.number = number
+        text = self._room.close(number != signal.SIGINT or self._is_asked)
+        self._is_asked = True
+        if text:
+            _say(f"ctrl-C: {text}")
+
+
+def _main() -> int:
+    given = _arguments()
+    program.find()
+    try:
+        house = _house(given.house)
+        with contextlib.closing(Folder(given.folder, given.seed)) as folder, \
+                Children() as children:
+            _check_port(given.page)
+            address = given.address or _own_address()
+            teams = _make_teams(given, address)
+            room = Room(RoomSettings(given.port, given.pace, given.wait, given.after, given.games,
+                                     house, teams, sys.stdin), folder,
+                        Board(children, given.page, given.late, address), _say)
+            signals = _Signals(room)
+            if not house:
+                _say("there is no house agent: empty seats stay empty")
+            room.run()
+    except (EntrantError, FolderError, LobbyError, TeamsError) as fault:
+        tell(f"room: {fault}")
+        return 1
+    return 128 + signals.number if signals.number else 0
+
+
+def main() -> int:
+    """The command `room`."""
+    return command("room", _main)
+
+
+if __name__ == "__main__":
+    sys.exit(main())

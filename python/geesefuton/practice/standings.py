@@ -1,0 +1,56 @@
+"""The standings of a practice room: averages in exact fractions, and ranks by them."""
+
+from __future__ import annotations
+
+from dataclasses import dataclass
+from fractions import Fraction
+from typing import Dict, List, Optional, Sequence
+
+from geesefuton.experiments.comparisons import estimate
+from geesefuton.practice.folder import Finished
+
+
+@dataclass(frozen=True)
+class Standing:
+    """What a player came to, as `tac table` has it for a seat word.
+
+    Attributes:
+        name: Who it is.
+        games: How many seats count for it. The house may have several in a game.
+        total: The sum of their scores, in dollars.
+        average: The total over the games.
+        rank: 1 plus the number of players with a greater average.
+        half: Half the width of the 95 % interval of the average; None where there is none, as for
+            several seats in a game, whose scores are alike.
+        last: The score of its last seat.
+        best: Its best score.
+    """
+
+    name: str
+    games: int
+    total: int
+    average: Fraction
+    rank: int
+    half: Optional[float]
+    last: int
+    best: int
+
+
+def standings_of(games: Sequence[Finished]) -> List[Standing]:
+    """The standings over games, in the order of their ranks and then of their names."""
+    scores: Dict[str, List[int]] = {}
+    seats: Dict[str, List[int]] = {}  # the games of each player's seats
+    for game in games:
+        for player, score in zip(game.players, game.scores):
+            if player:
+                scores.setdefault(player, []).append(score)
+                seats.setdefault(player, []).append(game.number)
+    averages = {name: Fraction(sum(own), len(own)) for name, own in scores.items()}
+    rows = []
+    for name, own in scores.items():
+        has_one_each = len(set(seats[name])) == len(own)
+        rank = 1 + sum(other > averages[name] for other in averages.values())
+        half = estimate(own).half if has_one_each else None
+        rows.append(Standing(name, len(own), sum(own), averages[name], rank, half, own[-1],
+                             max(own)))
+    return sorted(rows, key=lambda row: (row.rank, row.name))

@@ -1,0 +1,111 @@
+"""The teams of a class: their names, which all may see, and their words, which are passwords."""
+
+from __future__ import annotations
+
+import csv
+import html
+import json
+import re
+import secrets
+from dataclasses import dataclass
+from pathlib import Path
+from typing import Dict, List, Sequence
+
+from geesefuton.practice.folder import write_whole
+from geesefuton.records.games import SEATS, is_seat_word
+
+LETTERS = "abcdefghijkmnpqrstuvwxyz23456789"  # without those that look like others
+LENGTH = 9  # letters of a word that is made
+WORDS = "words.json"
+
+
+class TeamsError(Exception):
+    """A file that has no teams."""
+
+
+@dataclass
+class Team:
+    """A team.
+
+    Attributes:
+        name: As it is shown.
+        key: The name as a seat word of game files and logs, which anybody may see.
+        word: The word by which its agent takes its seat.
+    """
+
+    name: str
+    key: str
+    word: str
+
+
+def made_word() -> str:
+    """A word that nobody guesses."""
+    return "".join(secrets.choice(LETTERS) for _ in range(LENGTH))
+
+
+def read_teams(file: Path, folder: Path) -> List[Team]:
+    """The teams of a CSV file of lines `name` or `name,word`. A team without a word keeps that of
+    the room's folder, or gets a new one.
+
+    Raises:
+        TeamsError: The file has no teams, too many, or a name or word that cannot be one.
+        OSError: It cannot be read.
+    """
+    known = _known_words(folder)
+    teams: List[Team] = []
+    try:
+        rows = [row for row in csv.reader(file.read_text("utf-8-sig").splitlines()) if any(row)]
+    except (UnicodeDecodeError, csv.Error):
+        raise TeamsError(f"{file} is no CSV in UTF-8") from None
+    if rows and [cell.strip().lower() for cell in rows[0]] in (["name"], ["name", "word"]):
+        del rows[0]
+    for row in rows:
+        name, word = row[0].strip(), row[1].strip() if len(row) > 1 else ""
+        key = re.sub("[^a-z0-9]", "", name.lower())[:16]
+        if len(row) > 2 or not key or word and not is_seat_word(word):
+            raise TeamsError(f"{file}: {','.join(row)!r} is no team: a name with letters of a to z "
+                             "or digits, and perhaps a word of 1 to 16 of these, are due")
+        teams.append(Team(name, key, word or known.get(key) or made_word()))
+    if not 1 <= len(teams) <= SEATS:
+        raise TeamsError(f"{file} has {len(teams)} teams, and a game has 1 to {SEATS}")
+    for what, values in (("name", [team.key for team in teams]),
+                         ("word", [team.word for team in teams])):
+        if len(set(values)) < len(values):
+            raise TeamsError(f"{file}: two teams have the same {what}")
+    return teams
+
+
+def keep_words(folder: Path, teams: Sequence[Team]) -> None:
+    """Keeps the words, also of teams that are not here this time, for when the room starts again.
+
+    Raises:
+        OSError: The disk takes no more, for instance.
+    """
+    words = {**_known_words(folder), **{team.key: team.word for team in teams}}
+    write_whole(folder / WORDS, json.dumps(words, indent=1).encode("ascii") + b"\n")
+
+
+def _known_words(folder: Path) -> Dict[str, str]:
+    try:
+        words: Dict[str, str] = json.loads((folder / WORDS).read_bytes())
+    except FileNotFoundError:
+        return {}
+    except ValueError:
+        raise TeamsError(f"{folder / WORDS} has no words of teams") from None
+    return words
+
+
+def slips_of(teams: Sequence[Team], address: str, port: int, is_html: bool) -> str:
+    """A slip for each team, to be printed and cut, as text or HTML."""
+    slips = [(team.name, f"Your word is {team.word}: it is your password.",
+              f"python3 mine.py {address} {port} {team.word} --again") for team in teams]
+    if not is_html:
+        rule = "- " * 36 + "\n"
+        return rule + rule.join(f"\n{name}\n\n{word}\n\n    {line}\n\n"
+                                for name, word, line in slips) + rule
+    parts = ["<!doctype html><html lang=en><meta charset=utf-8><title>Words of the teams</title>",
+             "<style>body{font:16px sans-serif}section{border-top:1px dashed;padding:1em 0;"
+             "break-inside:avoid}</style>"]
+    parts += [f"<section><h2>{html.escape(name)}</h2><p>{word}<p><code>{html.escape(line)}</code>"
+              "</section>" for name, word, line in slips]
+    return "\n".join([*parts, "</html>", ""])

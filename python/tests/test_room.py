@@ -1,0 +1,373 @@
+"""The practice room: its folder, its standings and its teams by themselves, and whole games."""
+
+import contextlib
+import io
+import json
+import os
+import signal
+import socket
+import subprocess
+import sys
+import tempfile
+import time
+import unittest
+from fractions import Fraction
+from pathlib import Path
+from typing import Any, Callable, Dict, List, Sequence, Tuple
+from unittest import mock
+
+from geesefuton import program
+from geesefuton.hosting.journal import Journal
+from geesefuton.practice import room as room_module
+from geesefuton.practice.board import Board
+from geesefuton.practice.folder import (Finished, Folder, FolderError, digest_of, write_whole)
+from geesefuton.practice.house import HouseServer
+from geesefuton.practice.room import Room, RoomSettings
+from geesefuton.practice.standings import standings_of
+from geesefuton.practice.teams import TeamsError, keep_words, read_teams, slips_of
+from geesefuton.processes import Children, free_port
+from geesefuton.records.logs import read_scores
+from tests.helpers import TOP, needs_program, refusal, variables
+
+FIRST = (TOP / "examples" / "first.game").read_text()
+MOST = 120.0  # seconds that anything may take, on a machine that is busy with other work
+NOBODY = ("",) * 8
+
+
+def game_of(number: int, players: Sequence[str], scores: Sequence[int]) -> Finished:
+    """A finished game of so many seats; the others count for nobody."""
+    free = 8 - len(players)
+    return Finished(number, number, 1000, 1.0, 2.0, (*players, *[""] * free),
+                    (*scores, *[0] * free), "", {"game": "", "log": ""})
+
+
+class Case(unittest.TestCase):
+    def setUp(self) -> None:
+        place = tempfile.TemporaryDirectory()
+        self.addCleanup(place.cleanup)
+        self.place = Path(place.name)
+        self.path = self.place / "room"
+
+    def folder(self, **how: Any) -> Folder:
+        made = Folder(self.path, **how)
+        self.addCleanup(made.close)
+        return made
+
+
+class Folders(Case):
+    def journal(self, folder: Folder, number: int, has_begun: bool) -> None:
+        journal = Journal(folder.file(number, "journal"), self.fail)
+        journal.head(100, "words", FIRST)
+        if has_begun:
+            journal.tell(begin=[])
+            journal.begin_time()
+            journal.tell(tick=0, t=0)
+        journal.close()
+
+    def test_games_are_kept_and_found_again(self) -> None:
+        folder = self.folder(seed=7)
+        games = [game_of(number, ["red", "blue"], [5, -number]) for number in (1, 2)]
+        for game in games:
+            folder.keep(game, b"log")
+        folder.close()
+        again = Folder(self.path)
+        self.addCleanup(again.close)
+        self.assertEqual((again.seed, again.finished, again.next_number()), (7, games, (3, [])))
+        self.assertEqual(again.file(2, "log").read_bytes(), b"log")
+
+    def test_a_game_that_had_begun_has_its_number_and_one_that_had_not_has_none(self) -> None:
+        folder = self.folder()
+        folder.keep(game_of(1, ["red"], [5]), b"log")
+        self.journal(folder, 2, has_begun=True)
+        self.journal(folder, 3, has_begun=False)
+        self.assertEqual(folder.next_number(), (3, [2]))
+        self.assertEqual([folder.file(number, "journal").exists() for number in (2, 3)],
+                         [True, False])
+
+    def test_a_folder_of_another_is_refused(self) -> None:
+        folder = self.folder(seed=3)
+        with self.assertRaisesRegex(FolderError, "another room is using"):
+            Folder(self.path)
+        folder.close()
+        with self.assertRaisesRegex(FolderError, "whose first seed is 3, not 4"):
+            Folder(self.path, 4)
+        (self.path / "0001.json").write_text('{"number": 1}')
+        with self.assertRaisesRegex(FolderError, "0001.json is no manifest"):
+            Folder(self.path)
+        (self.path / "room.json").write_text("runs")
+        with self.assertRaisesRegex(FolderError, "is not as a room writes it"):
+            Folder(self.path)
+        other = self.place / "other"
+        other.mkdir()
+        (other / "run.json").write_text("{}")
+        with self.assertRaisesRegex(FolderError, "has files, and is no folder of a practice room"):
+            Folder(other)
+
+    def test_a_manifest_is_there_whole_or_not_at_all(self) -> None:
+        folder = self.folder()
+        for step in ("fsync", "replace"):
+            with mock.patch(f"os.{step}", side_effect=OSError(28, "No space left on device")), \
+                    self.assertRaises(OSError):
+                folder.keep(game_of(1, ["red"], [5]), b"log")
+            self.assertEqual((sorted(os.listdir(self.path)), folder.finished),
+                             (["lock", "room.json"], []))
+        folder.keep(game_of(1, ["red"], [5]), b"log")
+        self.assertEqual(len(folder.finished), 1)
+
+    def test_the_command_refuses_in_a_line(self) -> None:
+        (self.place / "run.json").write_text("{}")
+        tac = self.place / "tac"
+        tac.write_text("#!/bin/sh\n")
+        tac.chmod(0o755)
+        with mock.patch.dict(os.environ, {"TAC": str(tac)}):
+            for words, told in ((["--folder", self.place], "is no folder of a practice room"),
+                                (["--house", "nobody.py"], "there is no file nobody.py"),
+                                (["--slips", "slips.txt"], "--slips needs --teams"),
+                                (["--page", "7000"], "the page needs another port"),
+                                (["--folder", self.path, "--teams", tac], "is no team")):
+                status, text = refusal("practice.room_command", *words)
+                self.assertEqual((status > 0, text.count("\n")), (True, 1), text)
+                self.assertIn(told, text)
+
+
+class Standings(unittest.TestCase):
+    def test_averages_are_exact_and_ranks_are_those_of_the_table(self) -> None:
+        games = [game_of(1, ["red", "blue", "house", "house"], [10, 10, 1, 2]),
+                 game_of(2, ["blue", "", "red"], [11, 99, 10]), game_of(4, ["blue"], [9])]
+        rows = standings_of(games)
+        self.assertEqual([(row.rank, row.name, row.games, row.total, row.average) for row in rows],
+                         [(1, "blue", 3, 30, Fraction(10)), (1, "red", 2, 20, Fraction(10)),
+                          (3, "house", 2, 3, Fraction(3, 2))])
+        self.assertEqual([(row.last, row.best) for row in rows], [(9, 11), (10, 10), (2, 2)])
+        self.assertAlmostEqual(rows[0].half or 0.0, 4.302652729911275 / 3 ** 0.5)
+        self.assertIsNone(rows[2].half)  # two seats of one game
+
+    def test_a_game_that_was_lost_counts_for_nobody(self) -> None:
+        lost = Finished(3, 3, 100, 1.0, 2.0, ("red",) * 8, (), "exit status 7", {})
+        self.assertEqual(standings_of([lost]), [])
+
+
+class Teams(Case):
+    def read(self, text: str) -> List[Tuple[str, str, str]]:
+        file = self.place / "teams.csv"
+        file.write_text(text)
+        return [(team.name, team.key, team.word) for team in read_teams(file, self.path)]
+
+    def test_words_are_made_and_kept(self) -> None:
+        self.path.mkdir()
+        file = self.place / "teams.csv"
+        file.write_text("name,word\nRed Foxes\nBlau,b4\n\n")
+        teams = read_teams(file, self.path)
+        self.assertEqual([(team.name, team.key) for team in teams],
+                         [("Red Foxes", "redfoxes"), ("Blau", "blau")])
+        self.assertRegex(teams[0].word, "^[a-z2-9]{9}$")
+        keep_words(self.path, teams)
+        self.assertEqual(self.read("Red Foxes\n"), [("Red Foxes", "redfoxes", teams[0].word)])
+        self.assertEqual(self.read("Blau\n"), [("Blau", "blau", "b4")])
+        self.assertEqual(os.stat(self.path / "words.json").st_mode & 0o077, 0)
+
+    def test_what_are_no_teams(self) -> None:
+        for text, told in (("", "0 teams"), ("a\nb\nc\nd\ne\nf\ng\nh\ni\n", "9 teams"),
+                           ("Red\nred\n", "the same name"), ("a,x\nb,x\n", "the same word"),
+                           ("a,Not\n", "is no team"), ("\u00fc\n", "is no team"),
+                           ("a,b,c\n", "is no team")):
+            with self.assertRaisesRegex(TeamsError, told):
+                self.read(text)
+
+    def test_slips(self) -> None:
+        file = self.place / "teams.csv"
+        file.write_text("<Red>,r3d\nBlue,b7\n")
+        teams = read_teams(file, self.path)
+        text = slips_of(teams, "10.0.0.1", 7000, False)
+        self.assertIn("python3 mine.py 10.0.0.1 7000 r3d --again", text)
+        page = slips_of(teams, "10.0.0.1", 7000, True)
+        self.assertEqual((page.count("<section>"), "<Red>" in page, "&lt;Red&gt;" in page),
+                         (2, False, True))
+
+
+# An agent for rooms: it bids once in each round, and then does what its third word says.
+AGENT = """
+import os, sys, time
+from geesefuton.link import run
+def play(link, pause):
+    link.bid(8, (1, 90 + link.agent))
+    what = os.environ.get("WHAT", "")
+    if what == "crash":
+        os._exit(3)
+    if what == "hang":
+        time.sleep(600)
+    link.own(8)
+run(__doc__, play)
+"""
+
+
+@needs_program
+class Games(Case):
+    """Whole games by the real program, at a quick pace."""
+
+    def setUp(self) -> None:
+        super().setUp()
+        self.agent = self.place / "mine.py"
+        self.agent.write_text(AGENT)
+        self.port = free_port()
+        self.started: List["subprocess.Popen[bytes]"] = []
+        self.addCleanup(self.end_all)
+
+    def end_all(self) -> None:
+        for process in self.started:
+            process.kill()
+            process.wait()
+
+    def start(self, words: Sequence[object], **more: str) -> "subprocess.Popen[bytes]":
+        with (self.place / "said").open("ab") as said:
+            process = subprocess.Popen([sys.executable, *map(str, words)], env=variables(more),
+                                       stdin=subprocess.DEVNULL, stdout=said, stderr=said)
+        self.started.append(process)
+        return process
+
+    def room(self, *more: object) -> "subprocess.Popen[bytes]":
+        return self.start([TOP / "tools" / "room", "--port", self.port, "--pace", 10, "--wait", 0.3,
+                           "--after", 0.5, "--house", self.agent, "--folder", self.path, *more])
+
+    def guest(self, word: str, what: str = "") -> "subprocess.Popen[bytes]":
+        return self.start([self.agent, "localhost", self.port, word, "--pause", 0.01, "--again"],
+                          WHAT=what)
+
+    def until(self, is_so: Callable[[], bool]) -> None:
+        deadline = time.monotonic() + MOST
+        while not is_so():
+            self.assertLess(time.monotonic(), deadline, (self.place / "said").read_text()[-3000:])
+            time.sleep(0.02)
+
+    def manifests(self) -> List[Dict[str, Any]]:
+        return [json.loads(file.read_bytes()) for file in sorted(self.path.glob("[0-9]*.json"))]
+
+    def table(self) -> Dict[str, Fraction]:
+        """The averages by a plain computation from the logs, for whom the manifests name."""
+        scores: Dict[str, List[int]] = {}
+        for game in self.manifests():
+            log = (self.path / f"{game['number']:04}.log").read_bytes()
+            self.assertEqual(program.audit(self.path / f"{game['number']:04}.game", log), "sound")
+            self.assertEqual(digest_of(log), game["files"]["log"])
+            for player, score in zip(game["players"], read_scores(log)):
+                scores.setdefault(player, []).append(score.score)
+        return {player: Fraction(sum(own), len(own)) for player, own in scores.items() if player}
+
+    def test_games_in_a_row_whatever_agents_and_a_kill_do(self) -> None:
+        """Five games: agents stay, crash and hang, and the room is killed in its third game."""
+        room = self.room()
+        self.guest("seat3")
+        self.until(lambda: len(self.manifests()) >= 1)
+        crashing, hanging = self.guest("seat4", "crash"), self.guest("seat5", "hang")
+        self.until(lambda: len(self.manifests()) >= 2)
+        kept = self.manifests()
+        self.until(lambda: (self.path / "0003.journal").exists()
+                   and '"tick":9' in (self.path / "0003.journal").read_text("latin-1"))
+        room.kill()
+        room.wait()
+        hanging.kill()
+        self.assertEqual(self.manifests()[:2], kept)
+        before = len(self.manifests())
+        room = self.room("--games", 5 - before)
+        self.until(lambda: room.poll() is not None)
+        games = self.manifests()
+        self.assertEqual((room.returncode, len(games), games[:2]), (0, 5, kept))
+        self.assertEqual([game["seed"] for game in games], [game["number"] for game in games])
+        self.assertEqual({game["fault"] for game in games}, {""})
+        self.assertEqual({game["players"][3] for game in games}, {"seat3"})
+        self.assertEqual({game["players"][0] for game in games}, {"house mine"})
+        self.assertIsNotNone(crashing.poll())
+        with contextlib.closing(Folder(self.path)) as folder:
+            rows = standings_of(folder.finished)
+        self.assertEqual({row.name: row.average for row in rows}, self.table())
+
+    def test_teams_have_their_words_and_their_names(self) -> None:
+        teams, slips = self.place / "teams.csv", self.place / "slips.html"
+        teams.write_text("Red Foxes,r3d\nBlue\n")
+        room = self.room("--games", 2, "--teams", teams, "--slips", slips)
+        self.guest("r3d")
+        self.until(lambda: room.poll() is not None)
+        games = self.manifests()
+        self.assertEqual([sum(name == "redfoxes" for name in game["players"]) for game in games],
+                         [1, 1])
+        self.assertNotEqual(*[game["players"].index("redfoxes") for game in games])
+        for file in self.path.glob("000*"):
+            self.assertNotIn(b"r3d", file.read_bytes(), file)
+        self.assertIn("r3d", slips.read_text())
+
+    def test_a_house_agent_that_fails_is_told_and_its_seat_stays_empty(self) -> None:
+        bad = self.place / "bad.py"
+        bad.write_text("import sys; sys.exit('no luck')")
+        room = self.room("--games", 1, "--house", bad)
+        self.guest("seat0")
+        self.until(lambda: room.poll() is not None)
+        self.assertEqual(self.manifests()[0]["players"],
+                         ["seat0", "", "house mine", "", "house mine", "", "house mine", ""])
+        self.assertIn("bad did not come for seat1: no luck", (self.place / "said").read_text())
+
+    def test_a_disk_that_takes_no_more_loses_no_game(self) -> None:
+        told: List[str] = []
+        with contextlib.closing(Folder(self.path)) as folder, Children() as children, \
+                mock.patch.object(room_module, "AGAIN", 0.05):
+            room = Room(RoomSettings(self.port, 5, 0.1, 0.2, 1), folder,
+                        Board(children, None, 6, "here"), told.append)
+            self.guest("seat2")
+            tries = [OSError(28, "No space left on device")] * 3 + [None]
+
+            def write(file: Path, data: bytes) -> None:
+                fault = tries.pop(0) if len(tries) > 1 else None
+                if fault:
+                    raise fault
+                write_whole(file, data)
+
+            with mock.patch("geesefuton.practice.folder.write_whole", write):
+                room.run()
+            self.assertEqual(len(folder.finished), 1)
+        self.assertEqual(len([text for text in told if "cannot be kept" in text]), 1)
+        self.assertEqual(self.manifests()[0]["players"].count("seat2"), 1)
+
+    def test_the_page_has_the_standings_between_games_and_the_game_while_it_runs(self) -> None:
+        page = free_port()
+        self.room("--page", page, "--games", 2, "--pace", 40)
+        phases: List[str] = []
+
+        def look() -> bool:
+            with contextlib.suppress(OSError, ValueError, IndexError), \
+                    socket.create_connection(("127.0.0.1", page), timeout=MOST) as link:
+                link.sendall(b"GET /state HTTP/1.1\r\n\r\n")
+                state = json.loads(link.makefile("rb").read().split(b"\r\n\r\n", 1)[1])
+                if phases[-1:] != [state.get("phase")]:
+                    phases.append(state.get("phase"))
+                if state.get("phase") == "room" and state["table"]:
+                    self.assertEqual({row[1] for row in state["table"]}, {"seat1", "house mine"})
+                if state.get("phase") == "running":
+                    self.assertIn("seat1", [agent["name"] for agent in state["agents"]])
+            return "over" in phases
+
+        self.until(lambda: look() or phases == ["room"])
+        self.guest("seat1")
+        self.until(look)
+        self.assertEqual([phase for phase in phases if phase], ["room", "running", "over"])
+
+    def test_ctrl_c_closes_the_room_after_its_game(self) -> None:
+        room = self.room("--pace", 30)
+        self.guest("seat1")
+        journal = self.path / "0001.journal"
+        self.until(lambda: journal.exists() and '"tick":3' in journal.read_text("latin-1"))
+        room.send_signal(signal.SIGINT)
+        self.until(lambda: room.poll() is not None)
+        self.assertEqual(len(self.manifests()), 1)
+        self.assertIn("the room closes after this game", (self.place / "said").read_text())
+
+
+class Names(unittest.TestCase):
+    def test_the_house_is_called_by_its_agent(self) -> None:
+        entrants: Any = [mock.Mock(), mock.Mock()]
+        entrants[0].name, entrants[1].name = "planner", "trader"
+        house = HouseServer(entrants)
+        self.assertEqual([house.name_at(seat) for seat in (0, 1, 2)],
+                         ["house planner", "house trader", "house planner"])
+
+
+if __name__ == "__main__":
+    unittest.main()
