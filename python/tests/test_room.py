@@ -1,7 +1,6 @@
 """The practice room: its folder, its standings and its teams by themselves, and whole games."""
 
 import contextlib
-import io
 import json
 import os
 import signal
@@ -20,7 +19,7 @@ from geesefuton import program
 from geesefuton.hosting.journal import Journal
 from geesefuton.practice import room as room_module
 from geesefuton.practice.board import Board
-from geesefuton.practice.folder import (Finished, Folder, FolderError, digest_of, write_whole)
+from geesefuton.practice.folder import Finished, Folder, FolderError, digest_of, write_whole
 from geesefuton.practice.house import HouseServer
 from geesefuton.practice.room import Room, RoomSettings
 from geesefuton.practice.standings import standings_of
@@ -31,7 +30,6 @@ from tests.helpers import TOP, needs_program, refusal, variables
 
 FIRST = (TOP / "examples" / "first.game").read_text()
 MOST = 120.0  # seconds that anything may take, on a machine that is busy with other work
-NOBODY = ("",) * 8
 
 
 def game_of(number: int, players: Sequence[str], scores: Sequence[int]) -> Finished:
@@ -117,7 +115,7 @@ class Folders(Case):
     def test_the_command_refuses_in_a_line(self) -> None:
         (self.place / "run.json").write_text("{}")
         tac = self.place / "tac"
-        tac.write_text("#!/bin/sh\n")
+        tac.write_text("#!\n")
         tac.chmod(0o755)
         with mock.patch.dict(os.environ, {"TAC": str(tac)}):
             for words, told in ((["--folder", self.place], "is no folder of a practice room"),
@@ -253,29 +251,31 @@ class Games(Case):
                 scores.setdefault(player, []).append(score.score)
         return {player: Fraction(sum(own), len(own)) for player, own in scores.items() if player}
 
+    def is_playing(self) -> bool:
+        """Whether a game has begun that is not finished."""
+        last = sorted(self.path.glob("*.journal"))[-1:]
+        return any(not journal.with_suffix(".json").exists()
+                   and '"tick":0' in journal.read_text("latin-1") for journal in last)
+
     def test_games_in_a_row_whatever_agents_and_a_kill_do(self) -> None:
-        """Five games: agents stay, crash and hang, and the room is killed in its third game."""
-        room = self.room()
+        """Five games: agents stay, crash and hang, and the room is killed in a game."""
+        room = self.room("--pace", 25)
         self.guest("seat3")
-        self.until(lambda: len(self.manifests()) >= 1)
-        crashing, hanging = self.guest("seat4", "crash"), self.guest("seat5", "hang")
-        self.until(lambda: len(self.manifests()) >= 2)
-        kept = self.manifests()
-        self.until(lambda: (self.path / "0003.journal").exists()
-                   and '"tick":9' in (self.path / "0003.journal").read_text("latin-1"))
+        hanging, crashing = self.guest("seat5", "hang"), self.guest("seat4", "crash")
+        self.until(lambda: len(self.manifests()) >= 2 and self.is_playing())
         room.kill()
         room.wait()
+        kept = self.manifests()
         hanging.kill()
-        self.assertEqual(self.manifests()[:2], kept)
-        before = len(self.manifests())
-        room = self.room("--games", 5 - before)
-        self.until(lambda: room.poll() is not None)
+        again = self.room("--games", 5 - len(kept))
+        self.until(lambda: again.poll() is not None)
         games = self.manifests()
-        self.assertEqual((room.returncode, len(games), games[:2]), (0, 5, kept))
+        self.assertEqual((again.returncode, len(games), games[:len(kept)]), (0, 5, kept))
         self.assertEqual([game["seed"] for game in games], [game["number"] for game in games])
         self.assertEqual({game["fault"] for game in games}, {""})
         self.assertEqual({game["players"][3] for game in games}, {"seat3"})
         self.assertEqual({game["players"][0] for game in games}, {"house mine"})
+        self.assertTrue({"seat4", "seat5"} <= {name for game in games for name in game["players"]})
         self.assertIsNotNone(crashing.poll())
         with contextlib.closing(Folder(self.path)) as folder:
             rows = standings_of(folder.finished)
@@ -308,6 +308,7 @@ class Games(Case):
     def test_a_disk_that_takes_no_more_loses_no_game(self) -> None:
         told: List[str] = []
         with contextlib.closing(Folder(self.path)) as folder, Children() as children, \
+                mock.patch("geesefuton.hosting.teller.tell"), \
                 mock.patch.object(room_module, "AGAIN", 0.05):
             room = Room(RoomSettings(self.port, 5, 0.1, 0.2, 1), folder,
                         Board(children, None, 6, "here"), told.append)

@@ -28,7 +28,7 @@ from geesefuton.practice.house import HouseServer
 from geesefuton.practice.standings import standings_of
 from geesefuton.practice.teams import Team, keep_words
 from geesefuton.processes import why
-from geesefuton.records.games import SEATS, read_game
+from geesefuton.records.games import SEATS, GameError, read_game
 from geesefuton.records.logs import LogError, read_scores
 
 AGAIN = 5.0  # seconds until what failed is tried again
@@ -164,7 +164,10 @@ class Room:
                 self._tell(f"game {lost} was stopped, and does not count; this makes its log: "
                            f"{recovery_line(self._folder.file(lost, 'journal'))}")
         seed, words, keys = self._folder.seed + number - 1, self._words(number), self._keys(number)
-        game = read_game(program.make(seed)).named(words).text()
+        try:
+            game = read_game(program.make(seed)).named(words).text()
+        except GameError as fault:
+            raise program.ProgramError(f"the program made no game: {fault}") from None
         file = self._folder.file(number, "game")
         file.write_text(game, encoding="ascii")
         log, house = io.BytesIO(), HouseServer(self._given.house)
