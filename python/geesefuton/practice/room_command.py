@@ -41,7 +41,8 @@ def _arguments() -> argparse.Namespace:
     parser = Parser("room", __doc__.replace("--agent--", "python3 mine.py"))
     add = parser.add_argument
     add("--port", type=whole(1, 65535), default=7000, help="the port for agents; 7000")
-    add("--page", type=whole(1, 65535), metavar="PORT", help="the port of the page, for a projector")
+    add("--page", type=whole(1, 65535), metavar="PORT",
+        help="the port of the page, for a projector")
     add("--pace", type=whole(1, 60000), default=1000, metavar="MILLISECONDS",
         help="the time from tick to tick; 1000")
     add("--wait", type=seconds, default=30.0, metavar="SECONDS",
