@@ -30,6 +30,8 @@ PROGRAMS: Dict[str, Program] = {
     "quickstart": Program("geesefuton.quickstart", "plays a first game of eight small agents"),
     "lobby": Program("geesefuton.hosting.lobby_command",
                      "hosts a game for agents on other machines"),
+    "room": Program("geesefuton.practice.room_command",
+                    "a practice room: game after game, with standings"),
     "live": Program("geesefuton.hosting.live", "shows a hosted game on a page"),
     "recover": Program("geesefuton.hosting.recover_command", "makes a log of a lobby's journal"),
     "seat": Program("geesefuton.playing.seat_command", "lets a person play a seat in a browser"),
