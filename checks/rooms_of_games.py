@@ -38,6 +38,7 @@ AGENT = """import os, random, sys, time
 from geesefuton.link import HOTELS, run
 def play(link, pause):
     for round in range(6):
+        link.bid(random.randrange(8), (1, 900))
         for good in HOTELS:
             if not link.quote(good).closed:
                 link.bid(good, (1, 40 + 20 * round + link.agent))

@@ -188,7 +188,7 @@ AGENT = """
 import os, sys, time
 from geesefuton.link import run
 def play(link, pause):
-    link.bid(8, (1, 90 + link.agent))
+    link.bid(link.agent, (1, 900))  # what a flight costs differs from game to game
     what = os.environ.get("WHAT", "")
     if what == "crash":
         os._exit(3)
@@ -280,6 +280,7 @@ class Games(Case):
         with contextlib.closing(Folder(self.path)) as folder:
             rows = standings_of(folder.finished)
         self.assertEqual({row.name: row.average for row in rows}, self.table())
+        self.assertTrue(any(row.average for row in rows))
 
     def test_teams_have_their_words_and_their_names(self) -> None:
         teams, slips = self.place / "teams.csv", self.place / "slips.html"
