@@ -577,7 +577,7 @@ class Strangers(Case):
         self.assertIn("seat0 has not read what it was sent", event.text)
 
     def test_one_that_has_read_all_is_not_told_of(self) -> None:
-        link = self.relay._links[0]
+        link = self.relay.links[0]
         link.held += b"x" * (8 << 20)  # more than the system keeps
         self.relay._watch(link)
         self.turns()

@@ -229,7 +229,7 @@ class Play:
 
     def check(self) -> None:
         """The invariant."""
-        links = self.relay._links
+        links = self.relay.links
         for seat in self.relay.seats.seats:
             for number in (seat.holder, seat.heir):
                 assert number is None or links[number].seat is seat, "a link that knows the seat"
