@@ -10,6 +10,7 @@ what they would score if nobody did anything more; and writes for both the mean 
 (Spearman's) with the final scores, over all games.
 """
 
+import math
 import sys
 from pathlib import Path
 from typing import Dict, List, NamedTuple, Sequence
@@ -44,7 +45,7 @@ def correlation(one: Sequence[float], other: Sequence[float]) -> float:
     """Spearman's; 0 if all values of one are equal."""
     mean = (len(one) + 1) / 2
     first, second = ([rank - mean for rank in ranks(values)] for values in (one, other))
-    scale = (sum(x * x for x in first) * sum(y * y for y in second)) ** 0.5
+    scale = math.sqrt(sum(x * x for x in first) * sum(y * y for y in second))
     return sum(x * y for x, y in zip(first, second)) / scale if scale else 0.0
 
 
