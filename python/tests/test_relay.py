@@ -587,7 +587,7 @@ class Strangers(Case):
         self.assertEqual(self.of(events.Warned), [])
 
     def test_one_that_stops_reading_again_is_told_of_again(self) -> None:
-        link = self.relay._links[0]
+        link = self.relay.links[0]
         for count in (1, 2):
             link.held += b"x" * (8 << 20)  # more than the system keeps
             self.relay._watch(link)
