@@ -487,6 +487,9 @@ class TheEnd(Case):
             self.assertEqual(agent.line(), "")
             self.assertEqual(len(host.end()), 8)
         self.assertEqual(host.status, 7)
+        lines = [json.loads(line) for line in (self.folder / "my.journal").read_text().splitlines()]
+        self.assertEqual(lines[-1], {"over": 7})  # who reads the journal ends there
+        self.assertEqual(sorted(line["end"] for line in lines if "end" in line), list(range(8)))
 
     def test_interrupt(self) -> None:
         host = Host(self.folder, pace=1000, start=0)
