@@ -99,7 +99,10 @@ class Folders(unittest.TestCase):
         second.out.write(text_of(rows_of(("3", 0))))
         second.end(0, 1, [])
         self.assertEqual(read_scores(self.out).rows, rows_of(("1", 0), ("2", 0), ("3", 0)))
-        self.assertEqual([run["run"] for run in self.value()["runs"]], [1, 2])
+        runs = self.value()["runs"]
+        self.assertEqual([(run["run"], run["status"], run["games"]) for run in runs],
+                         [(1, 143, 2), (2, 0, 1)])
+        self.assertNotIn(None, [run["ended"] for run in runs])
 
     def test_what_is_half_written_is_told_and_taken_out(self) -> None:
         self.begin().end(0, 0, [])
