@@ -141,6 +141,15 @@ class Playing(unittest.TestCase):
             made._finish(game)  # two games more, of 29.9 seconds each
         self.assertEqual(self.told[-1], "game 1 of 3 (1.0): lost; 1:00 left")
 
+    def test_a_run_that_goes_on_plays_and_counts_only_what_is_missing(self) -> None:
+        plan = Plan(entrants("a", "b"), Rule(seed=1), 4, 2, 2, 7, 0, 1, "words", 1, 1, None, [])
+        writer = OrderedRows(Output(self.place / "scores.csv"))
+        made = Tournament(plan, writer, {("1", 0), ("1", 1), ("2", 0)}, 2)
+        with mock.patch.dict(os.environ, {"FAULT": "", "GAME": ""}), Children() as children:
+            made.play(children)
+        self.assertEqual({(row.deal, row.rotation, row.run) for row in self.rows()}, {("2", 1, 2)})
+        self.assertEqual(self.told[-1], "game 1 of 1 (2.1): scored; 0:00 left")
+
     def test_what_games_tell_is_passed_on_and_their_settings_reach_them(self) -> None:
         self.play(games=1, rotations=1)
         self.assertIn("game 1.0: b json 7 1.5 2.5", self.told)
