@@ -401,6 +401,20 @@ class Games(unittest.TestCase):
                 self.assertEqual({agent: info["score"] for agent, info in infos.items()},
                                  {**dict.fromkeys(agents, 0), agents[3]: score})
 
+    def test_a_game_has_no_scores_of_the_one_before(self) -> None:
+        with Environment(FIRST, scores=True) as environment:
+            for is_played_on in (False, True):
+                environment.reset()
+                agents = list(environment.agents)
+                infos = environment.step({agents[0]: ["bid 0 ((1 800))"]})[-1]
+                self.assertLess(infos[agents[0]]["score"], 0)
+                if is_played_on:
+                    rest(environment)
+                environment.reset()
+                infos = environment.step({})[-1]
+                self.assertEqual({agent: info["score"] for agent, info in infos.items()},
+                                 dict.fromkeys(agents, 0))
+
     def test_a_game_that_is_closed_can_be_begun_again(self) -> None:
         environment = Environment()
         environment.reset(1)
