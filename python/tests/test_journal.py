@@ -343,6 +343,8 @@ class Meaning(unittest.TestCase):
         self.read({"here": 3, "from": "x"}, {"gone": 1})
         self.assertEqual((agents[3].is_waived, agents[3].is_here, agents[1].is_here),
                          (False, True, False))
+        self.read({"without": 3})
+        self.assertFalse(agents[3].is_waived)  # it is here, so that changes nothing
         self.read({"begin": [3, 5]})
         self.assertEqual([agent.has_played for agent in agents],
                          [False] * 3 + [True, False, True, False, False])

@@ -310,7 +310,8 @@ class JournalReader:
         elif "gone" in what:
             self.agents[what["gone"]].is_here = False
         elif "without" in what:
-            self.agents[what["without"]].is_waived = True
+            agent = self.agents[what["without"]]
+            agent.is_waived = not agent.is_here  # to one that is here it changes nothing
         elif "begin" in what:
             self.is_playing = True
             for number in what["begin"]:
