@@ -59,6 +59,7 @@ impl From<AllocError> for Memory { fn from(_: AllocError) -> Memory { Memory } }
     Split { client: u8, feature: u8, children: Vec<CertNode> },
 }
 pub struct Cert { pub root: CertNode }
+pub struct Solved { pub allocation: [crate::packages::Package; 8], pub total: u32, pub cert: Cert }
 impl CertNode {
     /// The lines and the leaves.
     pub fn count(&self) -> (usize, usize) {

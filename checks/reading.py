@@ -84,7 +84,7 @@ SEEN_AS_VALUES = [
     "auction_core.closed.Closed",
     "game_text.games.Game",
     "trade_ledger.cash_book.CashBook",
-    "score_sheet.scores.Sheet",
+    "settlement.scores.Sheet",
 ]
 LEMMAS = Lemmas()
 # The names behind which the parts beside begin, each with a mark at its place.

@@ -220,15 +220,15 @@ ROWS = [
         "One traveller and seven at home are worth 1000 together"),
     # Scores
     Row(["worked_rows/Logs:goods_and_cash_that_are_left"],
-        ["score_sheet/Settlement.settlement_of", "score_sheet/Settlement.holdings_of",
-         "score_sheet/Settlement.cash_gained"],
+        ["settlement/Settlement.settlement_of", "settlement/Settlement.holdings_of",
+         "settlement/Settlement.cash_gained"],
         ("Agent 0 buys 2 seats at 300. Agent 1, which has 1 ticket, sells 3 at 60: one to "
          "agent 0 and two to agent 2. Left are 2 seats and 1 ticket, none and -2, none and 2; "
          "and -660, 180 and -120 dollars")),
-    Row(["worked_rows/Logs:three_tickets_short"], ["score_sheet/Score.short_of"],
+    Row(["worked_rows/Logs:three_tickets_short"], ["settlement/Score.short_of"],
         ("-2 seats and -1 room count nothing; of the tickets -2, 4 and -1 make the agent short "
          "of 3")),
-    Row(["worked_rows/Logs:ticket_short_costs_200"], ["score_sheet/Score.score_of"],
+    Row(["worked_rows/Logs:ticket_short_costs_200"], ["settlement/Score.score_of"],
         ("Best total 1150, -360 dollars and 2 short: 1150 - 360 - 2 * 200 = 390. Best total 0, "
          "60 dollars and 1 short: -140")),
     # Requests and replies as lines

@@ -1,19 +1,10 @@
--- A best allocation with a certificate, and its text.
-use Rattle.std.specs.Prelude.{◌≡◌, ℕ, List, IsTrue}
+-- The text of a best allocation with a certificate.
+use Rattle.std.specs.Prelude.{◌≡◌, ℕ, List}
 use Rattle.game_text.specs.Accounts.{AccountFile}
 use Rattle.packages.specs.declared.travel_packages.Package.{Package}
-use Rattle.packages.specs.BestTotal.{IsBest, IsFeasible, total_of}
-use Rattle.bound_cert.specs.Certificate.{holds, all_left}
-use Rattle.bound_cert.specs.Trees.{Tree, IsCertificate}
+use Rattle.bound_cert.specs.Solutions.{IsSolution}
+use Rattle.bound_cert.specs.Trees.{Tree}
 use Rattle.allocator.specs.SolvedTexts.{solved_text}
-
--- a feasible allocation that is worth the total, than which none is worth more, and a certificate that holds for the total
-pub record IsSolution (account : AccountFile) (total : ℕ) (allocation : List Package) (tree : Tree) : Type 0 where
-  pub feasible : IsFeasible account allocation
-  pub worth : total_of account.clients allocation ≡ total
-  pub best : IsBest account total
-  pub certificate : IsCertificate tree
-  pub holds : IsTrue (holds account total all_left tree)
 
 -- the text of some solution
 abbrev pub IsSolvedText : AccountFile → List ℕ → Type 0

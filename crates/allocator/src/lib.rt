@@ -8,5 +8,6 @@ mod searching;
 mod solving;
 mod symmetry;
 
+pub use bound_cert::Solved;
 pub use printing::{append_solved, print_solved};
-pub use solving::{Solved, solve};
+pub use solving::solve;

@@ -6,8 +6,7 @@ ghost use Rattle.bound_cert.specs.Texts.{tree_lines};
 ghost use Rattle.bound_cert.specs.Views.{tree_of};
 ghost use Rattle.allocator.specs.SolvedTexts as texts;
 
-use crate::solving::Solved;
-use bound_cert::{Cert, print_cert};
+use bound_cert::{Cert, Solved, print_cert};
 use packages::Package;
 use std::alloc::{AllocError, Global};
 use tac_base::{Memory, Text, print_numeral};

@@ -6,9 +6,8 @@ ghost use Rattle.packages.specs.Prices.{ArePrices};
 ghost use Rattle.packages.specs.Stocks.{stock_of};
 ghost use Rattle.allocator.specs.Scarcity.{scarcity_price};
 
-use dual_bound::is_used_up;
 use game_text::Account;
-use packages::{Package, Prices};
+use packages::{Package, Prices, is_used_up};
 use tac_base::limits::{DUAL_PRICE, GOODS};
 
 /// The price of the good of a number, 0..27, in dollars: the greatest where the packages use it up, and none otherwise.

@@ -10,7 +10,7 @@ ghost use Rattle.allocator.specs.Searching.{IsReached};
 
 use crate::searching::{Attempt, Found, Search, Stop, explore, leaf, offer_near};
 use crate::symmetry::Hint;
-use bound_cert::{Cert, CertNode};
+use bound_cert::{Cert, CertNode, Solved};
 use dual_bound::{Choice, settled_quote};
 use game_text::Account;
 use packages::Package;
@@ -21,16 +21,6 @@ use tac_base::limits::BEST_TOTAL;
 
 /// The last of so many attempts may come to 5 * 10^14 parts, more than any memory has room for.
 const MOST_ATTEMPTS: u32 = 40;
-
-/// A best allocation, and a certificate that no feasible allocation is worth more.
-#[derive(Debug, Drop)]
-pub struct Solved {
-    /// By client 0..7.
-    pub allocation: [Package; 8],
-    /// What the packages are worth to the clients together, 0..14000 dollars.
-    pub total: u32,
-    pub cert: Cert,
-}
 
 /// Searches the whole, for which prices may be enough. Otherwise it searches by one rule and by the other in turn, to more and more parts: a
 /// rule that leaves few parts of one account may leave a hundred times as many of another. It is `AllocError` too if there are more parts than

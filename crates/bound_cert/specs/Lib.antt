@@ -6,6 +6,8 @@ pub mod Faults
 pub mod NodeLines
 pub mod Texts
 pub mod Reading
+pub mod Solutions
+pub mod TreeCodes
 pub use Rattle.bound_cert.specs.Trees.{IsCertificate, Tree, leaf, more, split, tree_count}
 pub use Rattle.bound_cert.specs.Views.{forest_of, tree_of}
 pub use Rattle.bound_cert.specs.Certificate.{BoundsAll, all_hold, all_left, holds, is_within}

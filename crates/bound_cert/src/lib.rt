@@ -1,4 +1,5 @@
-//! Certificates: trees of splits and prices which prove that no feasible allocation is worth more than a claim.
+//! Certificates: trees of splits and prices which prove that no feasible allocation is worth more than a claim; and what a best
+//! allocation with its certificate is.
 #![tactic(auto)]
 
 mod checking;
@@ -6,6 +7,7 @@ mod faults;
 mod node_lines;
 mod printing;
 mod reading;
+mod solved;
 mod trees;
 mod ways;
 
@@ -13,4 +15,5 @@ pub use checking::check;
 pub use faults::CertFault;
 pub use printing::print_cert;
 pub use reading::read_cert;
+pub use solved::Solved;
 pub use trees::{Cert, CertNode};

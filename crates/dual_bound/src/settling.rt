@@ -11,11 +11,10 @@ ghost use Rattle.dual_bound.specs.Settled as settled;
 ghost use Rattle.dual_bound.specs.Ceilings.{IsCeiling};
 ghost use Rattle.dual_bound.specs.Restrictions.{IsNarrowedBy, IsRestricted};
 
-use crate::allocations::{allocation_worth, is_enough};
 use crate::choices::Choice;
 use crate::quotes::Quote;
 use game_text::Account;
-use packages::{Narrowing, Package, Prices, leaf_bound};
+use packages::{Narrowing, Package, Prices, allocation_worth, is_enough, leaf_bound};
 use relaxation::{Relaxation, WorthTable};
 use tac_base::limits::{DUAL_PRICE, GOODS};
 

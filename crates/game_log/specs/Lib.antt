@@ -2,7 +2,7 @@ pub use Rattle.log_text.specs.LogText
 pub use Rattle.log_text.specs.Logged
 pub use Rattle.log_text.specs.SheetText
 pub use Rattle.log_text.specs.LoggedSheet
-pub use Rattle.log_reader.specs.SoundLog
+pub use Rattle.log_text.specs.SoundLog
 pub mod SheetWritten
 pub mod ScoredGames
 pub mod LogRanges

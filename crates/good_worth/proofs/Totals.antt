@@ -1,7 +1,7 @@
 -- The total of a good's solution.
 use Rattle.std.proofs.Common.{◌≡◌, ℕ, ◌<◌, ◌≤◌, List, length, get_or, ◌∙◌, ap, sym, subst, arith}
 use Rattle.std.proofs.lemmas.List.{get_or-map, length-map}
-use Rattle.allocator.specs.declared.solving.Solved.{Solved}
+use Rattle.bound_cert.specs.declared.solved.Solved.{Solved}
 use Rattle.good_worth.specs.Views.{solution_of, solutions_of, worths_of}
 use Rattle.good_worth.specs.Worths.{Solution, no_solution, total_at, AreRanged}
 

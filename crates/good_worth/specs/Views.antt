@@ -1,6 +1,6 @@
 -- The worths as plain values.
 use Rattle.std.specs.Prelude.{List, map}
-use Rattle.allocator.specs.declared.solving.Solved.{Solved}
+use Rattle.bound_cert.specs.declared.solved.Solved.{Solved}
 use Rattle.bound_cert.specs.Views.{tree_of}
 use Rattle.good_worth.specs.Worths.{Solution, Valuation}
 

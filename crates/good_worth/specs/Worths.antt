@@ -4,7 +4,7 @@ use Rattle.tac_base.specs.declared.limits.TheConstants.{GOODS}
 use Rattle.game_text.specs.Accounts.{AccountFile}
 use Rattle.packages.specs.declared.travel_packages.Package.{Package}
 use Rattle.bound_cert.specs.Trees.{Tree, leaf}
-use Rattle.allocator.specs.Solutions.{IsSolution}
+use Rattle.bound_cert.specs.Solutions.{IsSolution}
 use Rattle.good_worth.specs.Worth as worth
 
 -- a best allocation, what it is worth, and a certificate that none is worth more

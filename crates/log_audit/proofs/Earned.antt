@@ -11,7 +11,7 @@ use Rattle.auction_rules.specs.History.{Entry}
 use Rattle.auction_rules.specs.Effects.{nets as nets_of}
 use Rattle.auction_core.specs.Stored.{IsShown}
 use Rattle.log_text.specs.LoggedGames.{LoggedGame}
-use Rattle.log_reader.specs.SoundLog.{logged_history}
+use Rattle.log_text.specs.SoundLog.{logged_history}
 use Rattle.log_audit.specs.{IsEarned, nets_by, AreNets}
 use Rattle.log_audit.proofs.Positions.{same_at}
 

@@ -18,7 +18,7 @@ use Rattle.trade_ledger.specs.declared.cash_calls.CashReply.TheVariants.{Done, C
 use Rattle.trade_ledger.specs.declared.cash_calls.CashEntry.{CashEntry}
 use Rattle.trade_ledger.specs.Posts.{is_post, posts_of, post_for, due_post, Matched}
 use Rattle.log_text.specs.LoggedGames.{LoggedGame, IsLogged, IsLoggedCash, IsLoggedCashEntry}
-use Rattle.log_reader.specs.SoundLog.{logged_history}
+use Rattle.log_text.specs.SoundLog.{logged_history}
 use Rattle.log_audit.specs.Flaws.{names, is_posted, IsEarned, IsDuePost, HasDuePost, HasPost}
 use Rattle.log_audit.proofs.Positions.{found_at, take_at, split_at, all_taken}
 use Rattle.log_audit.proofs.Sums.{naming, named, posts_named, posted_from_named, named_from_posted, post_within, due_least, IsHeavy, due_heavy, due_most}

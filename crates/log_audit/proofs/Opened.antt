@@ -7,7 +7,7 @@ use Rattle.auction_core.specs.Setups.{setup_of}
 use Rattle.auction_core.specs.ClosedGame.{all_goods}
 use Rattle.game_text.specs.Games.{GameFile}
 use Rattle.log_text.specs.LoggedGames.{LoggedGame}
-use Rattle.log_reader.specs.SoundLog.{auctions_in}
+use Rattle.log_text.specs.SoundLog.{auctions_in}
 
 abbrev opened : GameFile → ℕ → List (List Entry) → List AuctionHistory
 opened game n histories = map (λ p. record { setup = setup_of p.0 game; history = p.1 }) (enumerate_from n histories)

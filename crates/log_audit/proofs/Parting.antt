@@ -7,7 +7,7 @@ use Rattle.log_text.specs.LoggedGames.{LoggedGame, IsLogged}
 use Rattle.log_audit.specs.declared.findings.Flaw.{Flaw}
 use Rattle.log_audit.specs.declared.findings.Flaw.TheVariants as flaws
 use Rattle.auction_core.specs.Setups.{setup_of}
-use Rattle.log_reader.specs.SoundLog.{IsSound, logged_history, IsSoundHead}
+use Rattle.log_text.specs.SoundLog.{IsSound, logged_history, IsSoundHead}
 use Rattle.log_audit.specs.declared.findings.Finding.TheVariants as findings
 use Rattle.log_audit.specs.{IsFreeOf, ComesBefore, IsLower, turn_of, place_of, IsFirstFlaw, HasFairEntry, IsOnSchedule, HasTrueReading, HasDuePost, HasPost, HasDueScore, IsLowest, IsLowestBelow, IsLowestPlace, AreUnfair, IsFirstOf, HasNoneFrom, IsFirstFrom}
 use Rattle.log_audit.proofs.Soundness.{sound_from_free, free_from_sound}

@@ -6,7 +6,7 @@ use Rattle.std.proofs.lemmas.List.Elements.{filter-append}
 use Rattle.tac_base.specs.declared.calls.Call.{Call}
 use Rattle.tac_base.specs.Goods.{clock}
 use Rattle.auction_rules.specs.History.{Entry}
-use Rattle.log_reader.specs.SoundLog.{clock_calls_in}
+use Rattle.log_text.specs.SoundLog.{clock_calls_in}
 use Rattle.log_audit.specs.Auditing.{calls_for}
 use Rattle.log_audit.proofs.Positions.{take_at, split_at, next_is}
 

@@ -11,7 +11,7 @@ use Rattle.trade_ledger.specs.declared.cash_calls.CashEntry.{CashEntry}
 use Rattle.auction_core.specs.Setups.{setup_of}
 use Rattle.game_text.specs.Games.{GameFile}
 use Rattle.log_text.specs.LoggedGames.{LoggedGame, IsLogged, IsLoggedCashEntry, AreHistories}
-use Rattle.log_reader.specs.SoundLog.{IsSound, logged_history}
+use Rattle.log_text.specs.SoundLog.{IsSound, logged_history}
 use Rattle.log_audit.specs.declared.findings.Flaw.{Flaw}
 use Rattle.log_audit.specs.declared.findings.Flaw.TheVariants as flaws
 use Rattle.log_audit.specs.Flaws.{IsFreeOf}

@@ -3,7 +3,7 @@ use Rattle.std.proofs.Common.{◌≡◌, ℕ, ◌<◌, inl, inr, sym, subst, ari
 use Rattle.game_text.specs.Games.{GameFile}
 use Rattle.auction_core.specs.Setups.{setup_of}
 use Rattle.log_text.specs.LoggedGames.{LoggedGame}
-use Rattle.log_reader.specs.SoundLog.{logged_history}
+use Rattle.log_text.specs.SoundLog.{logged_history}
 use Rattle.log_audit.specs.{HasFairEntry, IsLower, IsUnfair, AreUnfair}
 
 module _ (game : GameFile) (log : LoggedGame) where

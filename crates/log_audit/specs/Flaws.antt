@@ -14,14 +14,14 @@ use Rattle.trade_ledger.specs.declared.cash_calls.CashCall.TheVariants as cash_c
 use Rattle.trade_ledger.specs.declared.cash_calls.CashEntry.{CashEntry}
 use Rattle.trade_ledger.specs.CashHistory as cash_book
 use Rattle.auction_core.specs.Setups.{setup_of}
-use Rattle.score_sheet.specs.Settlement.{settlement_of}
-use Rattle.score_sheet.specs.Sheets.{Scored, IsDueScore}
+use Rattle.settlement.specs.Settlement.{settlement_of}
+use Rattle.settlement.specs.Sheets.{Scored, IsDueScore}
 use Rattle.log_text.specs.LoggedGames.{LoggedGame}
 use Rattle.log_audit.specs.declared.findings.Flaw.{Flaw}
 use Rattle.log_audit.specs.declared.findings.Flaw.TheVariants as flaws
 use Rattle.log_audit.specs.declared.findings.Finding.{Finding}
 use Rattle.log_audit.specs.declared.findings.Finding.TheVariants as findings
-use Rattle.log_reader.specs.SoundLog.{logged_history, clock_calls_in, auctions_in, IsSoundHead}
+use Rattle.log_text.specs.SoundLog.{logged_history, clock_calls_in, auctions_in, IsSoundHead}
 
 -- ---- entries
 

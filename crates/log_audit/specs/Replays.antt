@@ -9,7 +9,7 @@ use Rattle.game_text.specs.Games.{GameFile}
 use Rattle.auction_core.specs.Auctions.{AuctionHistory}
 use Rattle.auction_core.specs.Setups.{setup_of}
 use Rattle.log_text.specs.LoggedGames.{LoggedGame}
-use Rattle.log_reader.specs.SoundLog.{logged_history, auctions_in}
+use Rattle.log_text.specs.SoundLog.{logged_history, auctions_in}
 use Rattle.log_audit.specs.declared.replaying.Replay.{Replay}
 use Rattle.log_audit.specs.declared.replaying.Replay.TheVariants as one
 use Rattle.log_audit.specs.declared.replaying.Replays.{Replays}

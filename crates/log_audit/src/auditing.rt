@@ -1,9 +1,9 @@
 // The audit of a log, by kinds of flaws.
 ghost use Rattle.std.specs.Prelude.{◌≡◌, ◌↔◌, IfOk};
 ghost use Rattle.game_text.specs.Games.{GameFile};
-ghost use Rattle.score_sheet.specs.Settlement.{settlement_of};
+ghost use Rattle.settlement.specs.Settlement.{settlement_of};
 ghost use Rattle.log_text.specs.LoggedGames.{IsLogged};
-ghost use Rattle.log_reader.specs.SoundLog.{IsSound, auctions_in};
+ghost use Rattle.log_text.specs.SoundLog.{IsSound, auctions_in};
 ghost use Rattle.log_audit.specs.{IsFound, IsFirstFrom, AreNets};
 
 use crate::findings::{Finding, Flaw};
@@ -16,7 +16,7 @@ use crate::scheduling::off_schedule;
 use crate::scores::false_score;
 use game_text::Game;
 use log_reader::Log;
-use score_sheet::{Accounts, settle_auctions};
+use settlement::{Accounts, settle_auctions};
 use std::alloc::Global;
 use tac_base::{Memory, Nets};
 

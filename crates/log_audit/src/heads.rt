@@ -2,7 +2,7 @@
 ghost use Rattle.std.specs.Prelude.{◌≡◌, ◌==◌, ℕ, ◌≤◌, ◌↔◌, map, Some, length, slice_get, IsTrue};
 ghost use Rattle.std.specs.List.{list_any};
 ghost use Rattle.log_audit.specs.Auditing.{IsEndFollowed};
-ghost use Rattle.log_reader.specs.SoundLog.{seatings, logged_seats, HasNoEntry, IsService, IsSoundHead};
+ghost use Rattle.log_text.specs.SoundLog.{seatings, logged_seats, HasNoEntry, IsService, IsSoundHead};
 
 use crate::goods::good_of;
 use line_protocol::{Cause, LogHead, Verdict};

@@ -1,7 +1,7 @@
 ghost use Rattle.std.specs.Prelude.{◌↔◌};
 ghost use Rattle.game_text.specs.Games.{GameFile};
 ghost use Rattle.log_text.specs.LoggedGames.{LoggedGame, IsLogged};
-ghost use Rattle.log_reader.specs.SoundLog.{IsSound};
+ghost use Rattle.log_text.specs.SoundLog.{IsSound};
 ghost use Rattle.log_audit.specs.declared.findings.Flaw.{Flaw};
 ghost use Rattle.log_audit.specs.Flaws.{IsFreeOf};
 

@@ -3,7 +3,7 @@ ghost use Rattle.std.specs.Prelude.{◌≡◌, ℕ, ◌<◌, ◌↔◌, ◌++◌
 ghost use Rattle.auction_rules.specs.History.{Entry as HistoryEntry};
 ghost use Rattle.trade_ledger.specs.declared.cash_calls.CashEntry.{CashEntry};
 ghost use Rattle.log_text.specs.LoggedGames.{IsLogged};
-ghost use Rattle.log_reader.specs.SoundLog.{logged_history};
+ghost use Rattle.log_text.specs.SoundLog.{logged_history};
 ghost use Rattle.log_audit.specs.{IsEarned, IsDuePost, HasDuePost, HasPost, AreNets, AreNamed, IsLowest, IsLowestPlace, HasNamedEntry, nets_by};
 
 use crate::goods::good_of;

@@ -1,7 +1,7 @@
 // The clock's calls of a log, compared with those of the game's schedule.
 ghost use Rattle.std.specs.Prelude.{◌≡◌, ◌↔◌, ◌++◌, [], ◌∷◌, ℕ, ◌≤◌, Some, length, take, slice_get, IfOk, OnOk, OnErr, IsTrue};
 ghost use Rattle.game_text.specs.Schedule.{calls_at, clock_calls};
-ghost use Rattle.log_reader.specs.SoundLog.{clock_calls_in, logged_history};
+ghost use Rattle.log_text.specs.SoundLog.{clock_calls_in, logged_history};
 ghost use Rattle.log_audit.specs.{IsOnSchedule, IsFollowed, IsLowestBelow, calls_for};
 
 use crate::goods::{good_of, tick_after};

@@ -1,18 +1,18 @@
 // The scores of a log, compared with what the histories leave to each agent.
 ghost use Rattle.std.specs.Prelude.{◌≡◌, ◌<◌, ◌↔◌, IsTrue};
-ghost use Rattle.score_sheet.specs.Score as rules;
-ghost use Rattle.score_sheet.specs.Settlement.{settlement_of};
-ghost use Rattle.score_sheet.specs.Sheets.{IsDueScore};
-ghost use Rattle.allocator.specs.Solutions.{IsSolution};
+ghost use Rattle.settlement.specs.Score as rules;
+ghost use Rattle.settlement.specs.Settlement.{settlement_of};
+ghost use Rattle.settlement.specs.Sheets.{IsDueScore};
+ghost use Rattle.bound_cert.specs.Solutions.{IsSolution};
 ghost use Rattle.log_text.specs.LoggedGames.{IsLogged, IsLoggedScore};
-ghost use Rattle.log_reader.specs.SoundLog.{auctions_in};
+ghost use Rattle.log_text.specs.SoundLog.{auctions_in};
 ghost use Rattle.log_audit.specs.{HasDueScore, IsLowest};
 
 use bound_cert::check;
-use dual_bound::{allocation_worth, is_enough};
 use game_text::{Account, Game};
 use log_reader::{Log, ScoreLine};
-use score_sheet::{Accounts, short};
+use packages::{allocation_worth, is_enough};
+use settlement::{Accounts, short};
 use tac_base::Agent;
 
 /// The score that the numbers of a line give.

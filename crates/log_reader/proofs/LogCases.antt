@@ -7,7 +7,7 @@ use Rattle.text_forms.specs.Steps.{repeat}
 use Rattle.auction_rules.specs.History.{Entry}
 use Rattle.trade_ledger.specs.declared.cash_calls.CashEntry.{CashEntry}
 use Rattle.line_protocol.specs.Heads.{Head}
-use Rattle.score_sheet.specs.Sheets.{Scored}
+use Rattle.settlement.specs.Sheets.{Scored}
 use Rattle.log_text.specs.HeadForms.{is_text}
 use Rattle.log_text.specs.LogReading.{line_by, head_in, history_in, cash_in, score_in, log_in}
 

@@ -2,4 +2,3 @@ pub mod Faults
 pub mod Histories
 pub mod Logs
 pub mod Numbers
-pub mod SoundLog

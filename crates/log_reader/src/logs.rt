@@ -25,7 +25,7 @@ pub struct Log {
 impl Model for Log {
     ghost use Rattle.std.specs.Coded.{codes};
     ghost use Rattle.line_protocol.specs.Heads.{head_of};
-    ghost use Rattle.score_sheet.specs.TreeCodes.{tree_code};
+    ghost use Rattle.bound_cert.specs.TreeCodes.{tree_code};
     ghost use Rattle.log_text.specs.LoggedGames.{LoggedGame, IsLogged};
 
     ghost Value = { LoggedGame };

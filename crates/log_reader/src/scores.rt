@@ -36,8 +36,8 @@ pub struct ScoreLine {
 impl Model for ScoreLine {
     ghost use Rattle.std.specs.Coded.{codes};
     ghost use Rattle.bound_cert.specs.Views.{tree_of};
-    ghost use Rattle.score_sheet.specs.Sheets.{Scored};
-    ghost use Rattle.score_sheet.specs.TreeCodes.{tree_code};
+    ghost use Rattle.settlement.specs.Sheets.{Scored};
+    ghost use Rattle.bound_cert.specs.TreeCodes.{tree_code};
 
     ghost Value = { Scored };
 

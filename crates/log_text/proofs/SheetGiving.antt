@@ -18,7 +18,7 @@ use Rattle.packages.specs.Packages.{IsPackage}
 use Rattle.bound_cert.specs.Trees.{Tree, leaf, split, IsCertificate}
 use Rattle.bound_cert.specs.Texts.{tree_lines, cert_text}
 use Rattle.bound_cert.proofs.TreesAgain.{text_again}
-use Rattle.score_sheet.specs.Sheets.{Scored}
+use Rattle.settlement.specs.Sheets.{Scored}
 use Rattle.line_protocol.specs.Heads.{Head}
 use Rattle.line_protocol.proofs.JoinedWords.{lacks}
 use Rattle.log_text.specs.{cash_text, histories_text, first_lines, score_line, package_line, cert_line, agent_lines, sheet_part, is_text, read_score, package_of, LoggedGame, logged_text, IsLoggedScore, IsLogged}

@@ -10,7 +10,7 @@ use Rattle.packages.specs.declared.travel_packages.Package.TheVariants.{None, Tr
 use Rattle.bound_cert.specs.Texts.{tree_lines}
 use Rattle.bound_cert.specs.Trees.{Tree}
 use Rattle.auction_core.specs.ClosedGame.{ClosedGame}
-use Rattle.score_sheet.specs.Sheets.{Scored}
+use Rattle.settlement.specs.Sheets.{Scored}
 use Rattle.line_protocol.specs.Heads.{Head}
 use Rattle.log_text.specs.{IsNumber, IsSigned, IsHead, IsPlayed, HaveOneHistory, IsShownPackage, IsKnownScore, IsShownScore, IsShownSheet, score_line, package_line, cert_line, agent_lines, sheet_lines, sheet_part, log_text}
 use Rattle.log_text.proofs.Cuts.{IsWord, row, row_same, number_word}

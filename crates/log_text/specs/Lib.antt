@@ -7,6 +7,7 @@ pub mod EntryForms
 pub mod LoggedGames
 pub mod SheetForms
 pub mod LogReading
+pub mod SoundLog
 pub use Rattle.log_text.specs.LogText.{auction_line, auction_text, call_text, cash_call_text, cash_entry_line, cash_line, cash_reply_text, cash_text, cause_text, end_line, entry_line, entry_text, first_lines, head_text, histories_of, histories_text, link_line, missed_line, play_part, then_number, then_signed, trade_line, verdict_text}
 pub use Rattle.log_text.specs.Logged.{AreCashNumbers, AreTradeNumbers, FitsCall, HaveOneHistory, IsAuction, IsCashEntry, IsEnd, IsHead, IsNumber, IsPlayed, IsShownCall, IsShownCashReply, IsShownEntry, IsShownReply, IsSigned, IsVerdict}
 pub use Rattle.log_text.specs.SheetText.{agent_lines, cert_line, log_text, package_line, score_line, sheet_lines, sheet_part}

@@ -13,7 +13,7 @@ use Rattle.trade_ledger.specs.declared.cash_calls.CashEntry.{CashEntry}
 use Rattle.packages.specs.Packages.{IsPackage}
 use Rattle.bound_cert.specs.Trees.{IsCertificate}
 use Rattle.bound_cert.specs.Texts.{tree_lines}
-use Rattle.score_sheet.specs.Sheets.{Scored}
+use Rattle.settlement.specs.Sheets.{Scored}
 use Rattle.line_protocol.specs.declared.admission.Verdict.{Verdict}
 use Rattle.line_protocol.specs.declared.admission.Verdict.TheVariants as verdicts
 use Rattle.line_protocol.specs.declared.admission.Cause.{Cause}

@@ -6,7 +6,7 @@ use Rattle.packages.specs.declared.travel_packages.Package.{Package}
 use Rattle.packages.specs.declared.travel_packages.Package.TheVariants.{None, Trip}
 use Rattle.bound_cert.specs.Texts.{tree_lines}
 use Rattle.bound_cert.specs.Trees.{IsCertificate}
-use Rattle.score_sheet.specs.Sheets.{Scored}
+use Rattle.settlement.specs.Sheets.{Scored}
 use Rattle.log_text.specs.Logged.{IsNumber, IsSigned}
 
 -- a night for each of the three ticket types

@@ -6,7 +6,7 @@ use Rattle.text_forms.specs.Steps.{lines_of_parts, one_line}
 use Rattle.packages.specs.declared.travel_packages.Package.{Package}
 use Rattle.packages.specs.declared.travel_packages.Package.TheVariants.{None, Trip}
 use Rattle.bound_cert.specs.Texts.{tree_lines}
-use Rattle.score_sheet.specs.Sheets.{Scored}
+use Rattle.settlement.specs.Sheets.{Scored}
 use Rattle.auction_core.specs.ClosedGame.{ClosedGame}
 use Rattle.line_protocol.specs.Heads.{Head}
 use Rattle.log_text.specs.LogText.{then_number, play_part}

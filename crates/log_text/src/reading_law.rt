@@ -3,7 +3,7 @@ ghost use Rattle.tac_base.specs.declared.limits.TheConstants.{TEXT_BYTES};
 ghost use Rattle.text_forms.specs.Words.{parts_of};
 ghost use Rattle.text_forms.specs.Lines.{lines_from};
 ghost use Rattle.auction_core.specs.ClosedGame.{ClosedGame};
-ghost use Rattle.score_sheet.specs.Sheets.{Scored};
+ghost use Rattle.settlement.specs.Sheets.{Scored};
 ghost use Rattle.line_protocol.specs.Heads.{Head};
 ghost use Rattle.log_text.specs.{histories_of, log_text, LoggedGame, IsLogged, logged_text, log_in};
 

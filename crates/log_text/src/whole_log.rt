@@ -1,6 +1,6 @@
 ghost use Rattle.std.specs.Prelude.{◌≡◌, ◌++◌, ℕ, List};
 ghost use Rattle.auction_core.specs.ClosedGame.{ClosedGame};
-ghost use Rattle.score_sheet.specs.Sheets.{Scored};
+ghost use Rattle.settlement.specs.Sheets.{Scored};
 ghost use Rattle.line_protocol.specs.Heads.{Head};
 ghost use Rattle.log_text.specs.{IsHead, IsPlayed, HaveOneHistory, IsShownSheet, sheet_part, log_text};
 

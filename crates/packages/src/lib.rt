@@ -1,6 +1,8 @@
-//! What a client's trip uses and is worth, all such packages, and what prices say about every allocation of them.
+//! What a client's trip uses and is worth, all such packages, sums over those of eight clients, and what prices say about every
+//! allocation of them.
 #![tactic(auto)]
 
+mod allocations;
 mod bounds;
 mod costs;
 mod features;
@@ -10,6 +12,7 @@ mod prices;
 mod travel_packages;
 mod utilities;
 
+pub use allocations::{allocation_worth, is_enough, is_used_up};
 pub use bounds::{Narrowing, leaf_bound, stock, stock_value};
 pub use costs::cost;
 pub use features::{feature_value, value_count};

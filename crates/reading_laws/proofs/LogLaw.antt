@@ -18,7 +18,7 @@ use Rattle.bound_cert.specs.Trees.{Tree, leaf, split, IsCertificate}
 use Rattle.bound_cert.proofs.RootCases.{long_text}
 use Rattle.bound_cert.proofs.TreeTexts.{cert_printed}
 use Rattle.bound_cert.proofs.TreesAgain.{cert_again}
-use Rattle.score_sheet.specs.Sheets.{Scored}
+use Rattle.settlement.specs.Sheets.{Scored}
 use Rattle.log_text.specs.HeadForms.{formed, is_text}
 use Rattle.log_text.specs.SheetForms.{read_score, package_of, read_count}
 use Rattle.log_text.specs.LogReading.{line_by, head_in, history_in, cash_in, block_by, cert_in, score_in, log_in}

@@ -5,8 +5,8 @@ use Rattle.std.proofs.lemmas.List.{length-map, get_or-map}
 use Rattle.std.proofs.lemmas.Option.{slice_get_within, get_or_from_slice_get}
 use Rattle.tac_base.specs.declared.memory.Memory.{Memory}
 use Rattle.game_text.specs.Games.{GameFile}
-use Rattle.score_sheet.specs.Settlement.{Settlement}
-use Rattle.score_sheet.specs.Sheets.{Scored, IsDueScore, IsSheet}
+use Rattle.settlement.specs.Settlement.{Settlement}
+use Rattle.settlement.specs.Sheets.{Scored, IsDueScore, IsSheet}
 
 pub sheet_of : (game : GameFile) (settlement : Settlement) (found : List (Result Scored Memory)) (scores : List Scored) → map Ok scores ≡ found → length found ≡ 8 →
     ((agent : ℕ) (d : Result Scored Memory) → agent < 8 → IfOk (get_or found agent d) (IsDueScore game settlement agent)) → IsSheet game settlement scores

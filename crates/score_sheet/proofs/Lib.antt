@@ -1,3 +1,1 @@
-mod Filling
-pub mod Dollars
 mod AllDue

@@ -1,5 +1,4 @@
-pub mod TreeCodes
-pub mod Settlement
-pub mod SettledRanges
-pub mod Score
-pub mod Sheets
+pub use Rattle.settlement.specs.Settlement
+pub use Rattle.settlement.specs.SettledRanges
+pub use Rattle.settlement.specs.Score
+pub use Rattle.settlement.specs.Sheets

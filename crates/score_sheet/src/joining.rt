@@ -1,10 +1,10 @@
 // The scores of all agents, computed concurrently.
 ghost use Rattle.std.specs.Prelude.{◌≡◌, ℕ, ◌<◌, Ok, IfOk, map, vec_len, slice_index_or};
-ghost use Rattle.score_sheet.specs.Sheets.{IsDueScore, IsSheet};
+ghost use Rattle.settlement.specs.Sheets.{IsDueScore, IsSheet};
 
-use crate::scores::{AgentScore, Sheet, score_agent};
-use crate::settling::Accounts;
+use crate::scores::score_agent;
 use game_text::Game;
+use settlement::{Accounts, AgentScore, Sheet};
 use std::alloc::{AllocError, Global};
 use std::thread::{Threads, map_indices};
 use tac_base::Memory;

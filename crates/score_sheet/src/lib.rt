@@ -1,11 +1,9 @@
-//! The score sheet of a game: what each agent holds and has gained, and its score with a best allocation of its goods.
+//! The score sheet of a game: the score of each agent, by its accounts and a best allocation of its goods. What a game leaves to
+//! each agent, and what a score is, is given again from `settlement`.
 #![tactic(auto)]
 
-mod gains;
 mod joining;
 mod scores;
-mod settling;
 
 pub use joining::sheet;
-pub use scores::{AgentScore, Sheet, short};
-pub use settling::{Accounts, settle, settle_auctions};
+pub use settlement::{Accounts, AgentScore, Sheet, settle, settle_auctions, short};

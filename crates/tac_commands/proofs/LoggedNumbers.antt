@@ -22,7 +22,7 @@ use Rattle.log_text.specs.Logged as logged
 use Rattle.log_text.specs.Logged.{IsNumber, IsSigned, IsAuction, AreCashNumbers, IsShownCashReply, FitsCall, IsCashEntry, IsVerdict, IsHead}
 use Rattle.log_text.specs.LoggedGames.{LoggedGame, IsLoggedVerdict, IsLoggedEnd, IsLoggedHead, IsLoggedCash, IsLoggedCashEntry, AreHistories}
 use Rattle.log_text.proofs.ShownNumbers.{number_is, auction_is, net_is}
-use Rattle.log_reader.specs.SoundLog.{auctions_in}
+use Rattle.log_text.specs.SoundLog.{auctions_in}
 use Rattle.game_log.specs.LogRanges.{IsRanged}
 
 -- ---- the head

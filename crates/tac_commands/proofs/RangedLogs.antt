@@ -27,7 +27,7 @@ use Rattle.line_protocol.specs.declared.admission.Cause.{Cause}
 use Rattle.line_protocol.specs.Heads.{Head, Play, Serve}
 use Rattle.log_text.specs.LogText.{histories_of}
 use Rattle.log_text.specs.LoggedGames.{LoggedGame, IsLoggedEnd, IsLoggedHead, AreHistories, IsLoggedCash, IsLoggedCashEntry}
-use Rattle.log_reader.specs.SoundLog.{logged_seats, seatings, IsSoundHead}
+use Rattle.log_text.specs.SoundLog.{logged_seats, seatings, IsSoundHead}
 use Rattle.game_log.specs.LogRanges.{IsRanged}
 use Rattle.game_log.specs.ShownGames.{HasSeats, IsShowable}
 use Rattle.game_log.specs.ScoredGames.{IsSheetOf}

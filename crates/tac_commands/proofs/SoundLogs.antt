@@ -18,7 +18,7 @@ use Rattle.line_protocol.specs.Heads.{Head, Play}
 use Rattle.log_text.specs.LogText.{first_lines, histories_of, histories_text, play_part}
 use Rattle.log_text.specs.SheetText.{sheet_part}
 use Rattle.log_text.specs.LoggedGames.{logged_text}
-use Rattle.log_reader.specs.SoundLog.{auctions_in, IsSoundHead, IsSound}
+use Rattle.log_text.specs.SoundLog.{auctions_in, IsSoundHead, IsSound}
 use Rattle.game_log.specs.ShownGames.{IsShowable}
 use Rattle.game_log.proofs.ShortLogs.{short_log}
 use Rattle.game_log.specs.ScoredGames.{IsSheetOf}

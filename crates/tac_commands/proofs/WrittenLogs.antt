@@ -11,7 +11,7 @@ use Rattle.log_text.specs.LogText.{first_lines, histories_text, play_part}
 use Rattle.log_text.specs.SheetText.{sheet_part}
 use Rattle.log_text.specs.Logged.{IsHead, IsPlayed, HaveOneHistory}
 use Rattle.log_text.specs.LoggedGames.{LoggedGame, logged_text}
-use Rattle.log_reader.specs.SoundLog.{IsSound}
+use Rattle.log_text.specs.SoundLog.{IsSound}
 use Rattle.log_reader.proofs.LogTexts.{only_log}
 use Rattle.tac_commands.specs.declared.file_kinds.FileKind.TheVariants.{Log}
 use Rattle.tac_commands.specs.declared.refusals.Refusal.TheVariants.{Memory}

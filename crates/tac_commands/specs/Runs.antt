@@ -6,7 +6,7 @@ use Rattle.tac_io.specs.States.{FilesState}
 use Rattle.tac_io.specs.Known.{known_then}
 use Rattle.game_text.specs.Games.{GameFile}
 use Rattle.log_text.specs.LoggedGames.{LoggedGame}
-use Rattle.log_reader.specs.SoundLog.{IsSound}
+use Rattle.log_text.specs.SoundLog.{IsSound}
 use Rattle.tac_commands.specs.declared.refusals.Refusal.{Refusal}
 use Rattle.tac_commands.specs.declared.refusals.Refusal.TheVariants.{Memory}
 use Rattle.tac_commands.specs.FileKinds.{Value}

@@ -2,7 +2,7 @@
 use Rattle.std.specs.Prelude.{◌≡◌, ◌≢◌, ℕ, ◌⊎◌, [], ◌∷◌, Option, Some, None}
 use Rattle.tac_io.specs.States.{FilesState}
 use Rattle.tac_io.specs.Known.{known_then}
-use Rattle.log_reader.specs.SoundLog.{IsSound}
+use Rattle.log_text.specs.SoundLog.{IsSound}
 use Rattle.tac_commands.specs.declared.file_kinds.FileKind.{FileKind}
 use Rattle.tac_commands.specs.Allowed.{steps_of}
 use Rattle.tac_commands.specs.Commands.{Command}

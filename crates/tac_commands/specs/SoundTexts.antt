@@ -7,7 +7,7 @@ use Rattle.score_sheet.specs.Sheets.{Scored}
 use Rattle.line_protocol.specs.Heads.{Head}
 use Rattle.log_text.specs.LogText.{histories_of}
 use Rattle.log_text.specs.LoggedGames.{LoggedGame, IsLogged, logged_text}
-use Rattle.log_reader.specs.SoundLog.{IsSound}
+use Rattle.log_text.specs.SoundLog.{IsSound}
 use Rattle.game_log.specs.LogRanges.{IsRanged}
 
 -- what the log of a game holds: how it was played, its histories, its cash history, and a sheet of it

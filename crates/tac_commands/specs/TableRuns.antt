@@ -3,7 +3,7 @@ use Rattle.std.specs.Prelude.{◌≡◌, ℕ, List, [], ◌∷◌, ◌++◌, len
 use Rattle.tac_io.specs.States.{FilesState}
 use Rattle.game_text.specs.Games.{GameFile}
 use Rattle.log_text.specs.LoggedGames.{LoggedGame}
-use Rattle.log_reader.specs.SoundLog.{IsSound}
+use Rattle.log_text.specs.SoundLog.{IsSound}
 use Rattle.tourney.specs.Tallies.{Kept, AreStandingsOf}
 use Rattle.tac_commands.specs.declared.file_kinds.FileKind.TheVariants.{Game, Log}
 use Rattle.tac_commands.specs.declared.table_command.TableFault.{TableFault}

@@ -4,7 +4,7 @@ ghost use Rattle.tac_base.specs.declared.limits.TheConstants.{FILE_NAMES, NAME_B
 ghost use Rattle.tac_io.specs.Known.{known_then};
 ghost use Rattle.game_text.specs.Games.{GameFile};
 ghost use Rattle.log_text.specs.LoggedGames.{LoggedGame};
-ghost use Rattle.log_reader.specs.SoundLog.{IsSound};
+ghost use Rattle.log_text.specs.SoundLog.{IsSound};
 ghost use Rattle.tourney.specs.StandingsTexts.{IsPrinted};
 ghost use Rattle.tourney.specs.Tallies.{AreStandingsOf};
 ghost use Rattle.tac_commands.specs.{WritesDue, table_steps, in_pairs, EndsAtPair, TableGoesOn, HasAdded, IsAdded, outcome_of};

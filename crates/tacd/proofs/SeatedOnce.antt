@@ -11,7 +11,7 @@ use Rattle.line_protocol.specs.declared.admission.Verdict.{Verdict}
 use Rattle.line_protocol.specs.declared.admission.Verdict.TheVariants.{Seated, Syntax, WrongWord, Taken, Lost}
 use Rattle.agent_gate.specs.Gates.{Seats, seats_after}
 use Rattle.game_run.specs.Arriving.{HoldsInTurn}
-use Rattle.log_reader.specs.SoundLog.{gives_seat, seatings}
+use Rattle.log_text.specs.SoundLog.{gives_seat, seatings}
 
 -- an agent's seat is taken
 abbrev pub is_taken : Seats → ℕ → Bool

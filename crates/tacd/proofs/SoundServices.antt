@@ -25,8 +25,8 @@ use Rattle.line_protocol.specs.declared.admission.Cause.{Cause}
 use Rattle.line_protocol.specs.declared.admission.Verdict.{Verdict}
 use Rattle.line_protocol.specs.Heads.{Head, Serve, head_of}
 use Rattle.log_text.specs.LoggedGames.{logged_text}
-use Rattle.log_reader.specs.SoundLog as sound
-use Rattle.log_reader.specs.SoundLog.{seatings, IsService, IsSoundHead}
+use Rattle.log_text.specs.SoundLog as sound
+use Rattle.log_text.specs.SoundLog.{seatings, IsService, IsSoundHead}
 use Rattle.clock_events.specs.Clocking.{WaitsForAll}
 use Rattle.game_log.specs.ShownGames.{IsShowable}
 use Rattle.game_log.specs.ScoredGames.{IsSheetOf}

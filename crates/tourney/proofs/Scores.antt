@@ -20,10 +20,10 @@ use Rattle.auction_rules.specs.Effects.{all_trades, dollars}
 use Rattle.trade_ledger.specs.CashKeeping.{IsWithin}
 use Rattle.auction_core.specs.Auctions.{AuctionHistory}
 use Rattle.auction_core.specs.Setups.{setup_of}
-use Rattle.score_sheet.specs.Settlement.{cash_gained}
-use Rattle.score_sheet.specs.Sheets.{Scored}
+use Rattle.settlement.specs.Settlement.{cash_gained}
+use Rattle.settlement.specs.Sheets.{Scored}
 use Rattle.log_text.specs.LoggedGames.{LoggedGame, IsLogged, IsLoggedScore, AreHistories}
-use Rattle.log_reader.specs.SoundLog.{IsSound, auctions_in}
+use Rattle.log_text.specs.SoundLog.{IsSound, auctions_in}
 use Rattle.tourney.specs.Tallies.{most_score}
 use Rattle.tourney.specs.Standings.{result_of}
 use Rattle.tourney.proofs.Words.{cases}

@@ -3,7 +3,7 @@ use Rattle.std.proofs.Common.{◌≡◌, ℕ, ◌+◌, List, [], ◌∷◌, true
 use Rattle.std.specs.List.{list_any}
 use Rattle.std.proofs.lemmas.List.Sums.{sum_by-cons}
 use Rattle.line_protocol.specs.declared.admission.Verdict.{Verdict}
-use Rattle.log_reader.specs.SoundLog.{gives_seat, seatings}
+use Rattle.log_text.specs.SoundLog.{gives_seat, seatings}
 use Rattle.tourney.proofs.Words.{cases}
 
 pub given : (agent : ℕ) (verdicts : List Verdict) → nat_lt 0 (seatings verdicts agent) ≡ list_any (gives_seat agent) verdicts

@@ -2,7 +2,7 @@
 use Rattle.std.proofs.Common.{◌≡◌, ℕ, List, [], ◌∷◌, map, ℤ, pos, negsuc, refl, arith}
 use Rattle.std.proofs.lemmas.Nat.Gcd.{IsGcd-from_mod, IsGcd-from_zero}
 use Rattle.bound_cert.specs.Trees.{leaf}
-use Rattle.score_sheet.specs.Sheets.{Scored}
+use Rattle.settlement.specs.Sheets.{Scored}
 use Rattle.game_text.specs.Games.{GameFile}
 use Rattle.line_protocol.specs.Heads.{Head, Play, Serve}
 use Rattle.line_protocol.specs.declared.admission.Verdict.TheVariants.{Seated, Lost}

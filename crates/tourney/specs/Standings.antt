@@ -6,7 +6,7 @@ use Rattle.tac_base.specs.Goods.{agents}
 use Rattle.game_text.specs.Games.{GameFile}
 use Rattle.line_protocol.specs.Heads.{Head, Play, Serve}
 use Rattle.log_text.specs.LoggedGames.{LoggedGame}
-use Rattle.log_reader.specs.SoundLog.{seatings}
+use Rattle.log_text.specs.SoundLog.{seatings}
 
 -- whether an agent counts in a game: each does if a script was played, and otherwise those that were given their seat
 abbrev pub counts : Head → ℕ → Bool

@@ -2,7 +2,7 @@
 ghost use Rattle.std.specs.Prelude.{◌≡◌};
 ghost use Rattle.std.specs.List.{list_any};
 ghost use Rattle.line_protocol.specs.Heads.{head_of};
-ghost use Rattle.log_reader.specs.SoundLog.{gives_seat};
+ghost use Rattle.log_text.specs.SoundLog.{gives_seat};
 ghost use Rattle.tourney.specs.Standings as standings;
 
 use line_protocol::{LogHead, Verdict};

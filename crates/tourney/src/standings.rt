@@ -4,7 +4,7 @@ ghost use Rattle.std.specs.Option.{option_copied};
 ghost use Rattle.std.specs.List.{All};
 ghost use Rattle.game_text.specs.Games.{GameFile};
 ghost use Rattle.log_text.specs.LoggedGames.{LoggedGame};
-ghost use Rattle.log_reader.specs.SoundLog.{IsSound};
+ghost use Rattle.log_text.specs.SoundLog.{IsSound};
 ghost use Rattle.tourney.specs.Standings as standings;
 ghost use Rattle.tourney.specs.Rows as rows;
 ghost use Rattle.tourney.specs.Tallies as spec;

@@ -9,7 +9,7 @@ ghost use Rattle.log_text.specs.SheetText as texts;
 use crate::printing::lines::push_number;
 use bound_cert::{Cert, print_cert};
 use packages::Package;
-use score_sheet::{AgentScore, Sheet};
+use settlement::{AgentScore, Sheet};
 use std::alloc::{AllocError, Global};
 use tac_base::{Memory, Text};
 use text_forms::{PrintedPart, count_parts, print_parts, print_row};

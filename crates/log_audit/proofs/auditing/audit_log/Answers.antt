@@ -2,7 +2,7 @@ use Rattle.std.proofs.Common.{◌≡◌, ◌∙◌, ℕ, ap, sym, subst, arith, 
 use Rattle.std.proofs.lemmas.List.{length-map}
 use Rattle.auction_core.specs.Auctions.{AuctionHistory}
 use Rattle.auction_core.specs.ClosedGame.{all_goods}
-use Rattle.score_sheet.specs.Settlement.{settlement_of}
+use Rattle.settlement.specs.Settlement.{settlement_of}
 use Rattle.log_audit.specs.declared.findings.Flaw.TheVariants as flaws
 use Rattle.log_audit.specs.{IsFirstFrom, HasNoneFrom, AreReplays, AreReplayed, AreUnfair}
 use Rattle.log_audit.proofs.Opened.{goods_of}

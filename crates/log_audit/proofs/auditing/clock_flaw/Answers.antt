@@ -1,5 +1,5 @@
 use Rattle.std.proofs.Common.{subst}
-use Rattle.log_reader.specs.SoundLog.{logged_history}
+use Rattle.log_text.specs.SoundLog.{logged_history}
 use Rattle.log_audit.specs.{IsOnSchedule, IsLowestBelow}
 use Rattle.log_audit.proofs.Parting.{clock_found, clock_free}
 use Rattle.log_audit.proofs.auditing.clock_flaw.Goals as goal

@@ -3,7 +3,7 @@ use Rattle.std.specs.Prelude.{nat_lt}
 use Rattle.std.proofs.lemmas.List.{length-map}
 use Rattle.std.proofs.lemmas.Option.{slice_get_within}
 use Rattle.line_protocol.specs.declared.admission.Cause.{Cause}
-use Rattle.log_reader.specs.SoundLog.{seatings}
+use Rattle.log_text.specs.SoundLog.{seatings}
 use Rattle.log_audit.proofs.Seated.{agent_is, seated_next, seated_more, seated_same}
 use Rattle.log_audit.proofs.heads.are_ends.Goals as goal
 

@@ -1,5 +1,5 @@
 use Rattle.std.proofs.Common.{◌≡◌, get_or, refl, sym, subst, ap, ◌∙◌, arith, below_more}
-use Rattle.log_reader.specs.SoundLog.{seatings, HasNoEntry}
+use Rattle.log_text.specs.SoundLog.{seatings, HasNoEntry}
 use Rattle.log_audit.proofs.Seated.{agent_is}
 use Rattle.log_audit.proofs.heads.are_others_absent.Goals as goal
 use Rattle.log_audit.proofs.heads.are_others_absent.Goals.{else-count_seats-eq0-via-then-count_seats-eq0+else-not-is_absent, else-count_seats-eq0-via-else-count_seats-eq0}

@@ -1,5 +1,5 @@
 use Rattle.std.proofs.Common.{◌≡◌, ℕ, ◌≤◌, get_or, sym, ◌∙◌, arith, subst, below_more}
-use Rattle.log_reader.specs.SoundLog.{seatings}
+use Rattle.log_text.specs.SoundLog.{seatings}
 use Rattle.log_audit.proofs.Seated.{agent_is}
 use Rattle.log_audit.proofs.heads.do_seats_differ.Goals as goal
 

@@ -1,7 +1,7 @@
 use Rattle.std.proofs.Common.{◌≡◌, ℕ, ◌<◌, false}
 use Rattle.std.specs.Prelude.{◌==◌}
 use Rattle.std.specs.List.{list_any}
-use Rattle.log_reader.specs.SoundLog.{logged_history}
+use Rattle.log_text.specs.SoundLog.{logged_history}
 use Rattle.log_audit.proofs.heads.is_absent.Given as goal
 
 abbrev pub invariant-loop-number : goal.invariant-loop-number

@@ -1,5 +1,5 @@
 use Rattle.std.proofs.Common.{◌≡◌, [], ◌∷◌, ◌++◌, false, refl, sym, ◌∙◌, subst}
-use Rattle.log_reader.specs.SoundLog.{logged_history}
+use Rattle.log_text.specs.SoundLog.{logged_history}
 use Rattle.log_audit.specs.{IsDuePost, is_posted, AreNamed}
 use Rattle.log_audit.proofs.Soundness.{place_within}
 use Rattle.log_audit.proofs.Naming.{post_names}

@@ -9,7 +9,7 @@ use Rattle.tac_base.specs.declared.calls.Nets.{Nets}
 use Rattle.auction_rules.specs.History.{Entry}
 use Rattle.auction_core.specs.Auctions.{AuctionHistory}
 use Rattle.auction_core.specs.Setups.{setup_of}
-use Rattle.log_reader.specs.SoundLog.{logged_history, auctions_in}
+use Rattle.log_text.specs.SoundLog.{logged_history, auctions_in}
 use Rattle.log_audit.specs.{HasFairEntry, nets_by, IsReplay, IsReplayed, IsUnfair}
 use Rattle.log_audit.proofs.Positions.{take_at, all_taken}
 use Rattle.log_audit.proofs.Opened.{auction_at}

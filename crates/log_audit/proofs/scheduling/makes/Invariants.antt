@@ -1,5 +1,5 @@
 use Rattle.std.proofs.Common.{◌≡◌, ◌≤◌, length, take}
-use Rattle.log_reader.specs.SoundLog.{clock_calls_in}
+use Rattle.log_text.specs.SoundLog.{clock_calls_in}
 use Rattle.log_audit.proofs.scheduling.makes.Given as goal
 
 abbrev pub invariant-loop-position : goal.invariant-loop-position

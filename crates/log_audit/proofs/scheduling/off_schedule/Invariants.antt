@@ -1,5 +1,5 @@
 use Rattle.std.proofs.Common.{ℕ, ◌<◌}
-use Rattle.log_reader.specs.SoundLog.{logged_history}
+use Rattle.log_text.specs.SoundLog.{logged_history}
 use Rattle.log_audit.specs.Flaws.{IsOnSchedule}
 use Rattle.log_audit.proofs.scheduling.off_schedule.Given as goal
 

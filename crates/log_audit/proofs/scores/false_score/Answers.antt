@@ -1,8 +1,8 @@
 use Rattle.std.proofs.Common.{◌≡◌, get_or, sym, ◌∙◌, subst, below_more, arith}
 use Rattle.std.proofs.lemmas.Option.{slice_get_within}
-use Rattle.score_sheet.specs.Sheets.{IsDueScore}
-use Rattle.score_sheet.specs.Settlement.{settlement_of}
-use Rattle.log_reader.specs.SoundLog.{auctions_in}
+use Rattle.settlement.specs.Sheets.{IsDueScore}
+use Rattle.settlement.specs.Settlement.{settlement_of}
+use Rattle.log_text.specs.SoundLog.{auctions_in}
 use Rattle.log_audit.specs.Flaws.{HasDueScore}
 use Rattle.log_audit.proofs.Seated.{agent_is}
 use Rattle.log_audit.proofs.Positions.{same_at}

@@ -1,5 +1,5 @@
 use Rattle.std.proofs.Common.{◌≡◌, ◌≤◌, ℤ, unsigned_abs, ap, sym, subst}
-use Rattle.score_sheet.specs.Sheets.{Scored}
+use Rattle.settlement.specs.Sheets.{Scored}
 use Rattle.tourney.specs.Tallies.{most_score}
 use Rattle.tourney.proofs.Scores.{score_small, read_small}
 use Rattle.tourney.proofs.standings.score_of.Goals as goal

@@ -1,0 +1,13 @@
+use Rattle.std.proofs.Common.{◌≡◌, length, take, map}
+use Rattle.std.specs.List.{All}
+use Rattle.tac_base.specs.Goods.{agents}
+use Rattle.settlement.specs.Settlement.{holdings_of}
+use Rattle.settlement.specs.SettledRanges.{AreHoldings}
+use Rattle.settlement.proofs.settling.all_holdings.Given as goal
+
+abbrev pub invariant-loop-number : goal.invariant-loop-number
+invariant-loop-number l = record {
+  count : length l.holdings ≡ 8;
+  filled : take l.number l.holdings ≡ map (holdings_of l.auctions) (take l.number agents);
+  range : All AreHoldings (take l.number l.holdings);
+}

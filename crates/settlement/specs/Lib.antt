@@ -1,0 +1,4 @@
+pub mod Settlement
+pub mod SettledRanges
+pub mod Score
+pub mod Sheets

@@ -1,0 +1,104 @@
+// The score of an agent, and the sheet of all scores.
+ghost use Rattle.std.specs.Prelude.{◌≡◌, ◌≤◌, ◌*◌, unsigned_abs, length, sum_by};
+ghost use Rattle.std.specs.List.{All};
+ghost use Rattle.tac_base.specs.declared.limits.TheConstants.{HOLDING};
+ghost use Rattle.game_text.specs.Accounts.{IsHolding};
+ghost use Rattle.settlement.specs.Score as rules;
+ghost use Rattle.settlement.specs.SettledRanges.{AreHoldings};
+
+use bound_cert::Solved;
+use std::marker::Model;
+use tac_base::limits::GOODS;
+
+/// The score of an agent with its parts.
+#[derive(Debug, Drop)]
+pub struct AgentScore {
+    /// The most that the agent's goods are worth to its clients, in dollars: 0..14000 if `sheet` computed it.
+    pub best: u32,
+    /// What it has earned less what it has paid, in dollars: at most 1000000000000000, gained or lost, if `sheet` computed it.
+    pub cash: i64,
+    /// How many tickets it is short, over all goods 16..27: 0..2400000 if `sheet` computed it.
+    pub short: u32,
+    /// The best total and the cash, less 200 dollars for each ticket short: the penalty is after TAC.
+    pub score: i64,
+    /// An allocation that reaches the best total, which is its total, with its certificate.
+    pub solved: Solved,
+}
+
+impl Model for AgentScore {
+    ghost use Rattle.std.specs.Prelude.{◌≡◌};
+    ghost use Rattle.bound_cert.specs.Views.{tree_of};
+    ghost use Rattle.std.specs.Coded.{codes};
+    ghost use Rattle.settlement.specs.Sheets.{Scored};
+    ghost use Rattle.bound_cert.specs.TreeCodes.{tree_code};
+
+    ghost Value = { Scored };
+
+    ghost coded = { Prim.hlevel (codes, tree_code) };
+
+    ghost view = { λ a. record {
+      best = a.best;
+      cash = a.cash;
+      short = a.short;
+      score = a.score;
+      allocation = a.solved.allocation;
+      tree = tree_of a.solved.cert.root;
+    } };
+
+    ghost invariant = { λ a. a.best ≡ a.solved.total };
+}
+
+/// The scores of the eight agents, in their order.
+#[derive(Debug, Drop)]
+pub struct Sheet {
+    pub agents: Vec<AgentScore>,
+}
+
+impl Model for Sheet {
+    ghost use Rattle.std.specs.Prelude.{◌≡◌, List, length};
+    ghost use Rattle.std.specs.Coded.{codes};
+    ghost use Rattle.settlement.specs.Sheets.{Scored};
+    ghost use Rattle.bound_cert.specs.TreeCodes.{tree_code};
+
+    ghost Value = { List Scored };
+
+    ghost coded = { Prim.hlevel (codes, tree_code) };
+
+    ghost view = { λ s. s.agents.items };
+
+    ghost invariant = { λ s. length s.agents.items ≡ 8 };
+}
+
+/// By how many units a holding is below 0.
+fn lacking(holding: i32) -> u32
+    ensures { result ≡ rules.lacking holding }
+{
+    if holding < 0 {
+        holding.unsigned_abs()
+    } else {
+        0
+    }
+}
+
+/// By how many units all these holdings are below 0.
+fn all_lacking(holdings: &[i32]) -> u32
+    requires few { length holdings.now ≤ 28 }
+    requires range { All IsHolding holdings.now }
+    ensures value { result ≡ sum_by rules.lacking holdings.now }
+    ensures bound { result ≤ GOODS * unsigned_abs HOLDING }
+{
+    let mut units = 0;
+    for holding in holdings {
+        units += lacking(*holding);
+    }
+    units
+}
+
+/// How many entertainment tickets an agent with these holdings of the 28 goods is short of.
+pub fn short(holdings: &[i32]) -> u32
+    requires { AreHoldings holdings.now }
+    ensures value { result ≡ rules.short_of holdings.now }
+    ensures bound { result ≤ GOODS * unsigned_abs HOLDING }
+{
+    all_lacking(&holdings[16..])
+}
