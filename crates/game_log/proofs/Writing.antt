@@ -1,7 +1,7 @@
 -- Pieces of a text that are written one after another.
 use Rattle.std.proofs.Common.{◌≡◌, ℕ, ◌+◌, ◌<◌, ◌≤◌, List, [], ◌∷◌, ◌++◌, length, take, drop, get_or, ap, sym, subst, ◌∙◌, append_assoc, arith, Result, Ok, Err, inl, inr}
 use Rattle.std.proofs.Math.Seq.{take-append-add}
-use Rattle.std.proofs.lemmas.List.{length-append, take-append-le, take_more, take-append-drop, append-nil}
+use Rattle.std.proofs.lemmas.List.{length-append, take-append-le, take_more, take_all, take-append-drop, append-nil}
 use Rattle.std.proofs.lemmas.List.Concat.{flat_map-cons}
 use Rattle.std.proofs.lemmas.Grind.{flat_map-append}
 use Rattle.std.proofs.lemmas.Option.{slice_get_cases}
@@ -15,7 +15,6 @@ use Rattle.tac_io.specs.declared.failed.Failed.{Failed}
 use Rattle.tac_io.proofs.KnownPieces.{known_then-twice}
 use Rattle.tac_io.specs.Taken.{TookWhole, TookPart}
 use Rattle.tac_io.specs.Written.{WritesPiece}
-use Rattle.log_text.proofs.Items.{take_whole}
 
 pub wrote_both : (t0 t1 t2 : Option (List ℕ)) (p q : List ℕ) → t1 ≡ known_then t0 p → t2 ≡ known_then t1 q → t2 ≡ known_then t0 (p ++ q)
 wrote_both t0 t1 t2 p q e f = f ∙ ap (λ (t : Option (List ℕ)). known_then t q) e ∙ known_then-twice t0 p q
@@ -113,7 +112,7 @@ failed_next piece xs i x a s0 s1 s2 (Err failed) lt is e before w h =
 
 -- the pieces of all items were written whole
 pub wrote_all : {A : Type 0} (piece : A → List ℕ) (xs : List A) (i : ℕ) (s0 s1 : SinkState) → length xs ≤ i → WroteUpTo piece xs i s0 s1 → TookWhole s0 s1 (flat_map piece xs)
-wrote_all {A = A} piece xs i s0 s1 past w = (w.taken ∙ ap (λ (ys : List A). known_then s0.taken (flat_map piece ys)) (take_whole xs i past), w.quiet)
+wrote_all {A = A} piece xs i s0 s1 past w = (w.taken ∙ ap (λ (ys : List A). known_then s0.taken (flat_map piece ys)) (take_all i xs past), w.quiet)
 
 -- the item of a list at a place
 pub item_at : {A : Type 0} (xs : List A) (i : ℕ) → i < length xs → (x : A) × (slice_get xs i ≡ Some x) × (get_or xs i x ≡ x)

@@ -1,5 +1,5 @@
-//! The log of a game: its histories, and then the sheet with its scores, are written. How a log is read, and when it is sound,
-//! is given again from `log_reader`.
+//! The log of a game: its histories, and then the sheet with its scores, are written. How a log is read is given again from
+//! `log_reader`, and when it is sound from `log_text`.
 #![tactic(auto)]
 
 mod fault;

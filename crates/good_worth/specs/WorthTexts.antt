@@ -1,11 +1,10 @@
 -- The text of the worths of all goods.
-use Rattle.std.specs.Prelude.{◌≡◌, ℕ, zero, suc, List, [], ◌∷◌, ◌++◌, pos, codes, slice_index_or}
+use Rattle.std.specs.Prelude.{ℕ, zero, suc, List, [], ◌∷◌, ◌++◌, pos, codes, slice_index_or}
 use Rattle.tac_base.specs.declared.limits.TheConstants.{GOODS}
 use Rattle.text_forms.specs.Lines.{text_of}
 use Rattle.text_forms.specs.Rows.{row_text}
-use Rattle.game_text.specs.Accounts.{AccountFile}
 use Rattle.allocator.specs.SolvedTexts.{solved_lines}
-use Rattle.good_worth.specs.Worths.{Solution, Valuation, AreWorths, no_solution, up_at, down_at}
+use Rattle.good_worth.specs.Worths.{Solution, Valuation, no_solution, up_at, down_at}
 
 -- good G UP DOWN
 abbrev pub good_text : Valuation → ℕ → List ℕ
@@ -43,7 +42,3 @@ worth_lines v = head_lines v ++ (base_lines v ++ (lines_below (changed_lines v) 
 -- the one text
 abbrev pub worth_text : Valuation → List ℕ
 worth_text v = text_of (worth_lines v)
-
--- the text of some worths of the account
-abbrev pub IsWorthText : AccountFile → List ℕ → Type 0
-IsWorthText account text = (v : Valuation) × AreWorths account v × (text ≡ worth_text v)

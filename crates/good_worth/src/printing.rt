@@ -1,5 +1,5 @@
 // The text of the worths of all goods.
-ghost use Rattle.std.specs.Prelude.{◌≡◌, ◌++◌, ◌∷◌, [], ◌<◌, OnOk, IfOk, decimal};
+ghost use Rattle.std.specs.Prelude.{◌≡◌, ◌++◌, ◌<◌, OnOk, IfOk};
 ghost use Rattle.text_forms.specs.Lines.{text_of};
 ghost use Rattle.good_worth.specs.Views.{worths_of};
 ghost use Rattle.good_worth.specs.WorthTexts as texts;

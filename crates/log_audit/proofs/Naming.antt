@@ -7,7 +7,7 @@ use mathlib.Core.Logic.{dite}
 use native.Mathlib.Decide.{ℕ_discrete, dec_lt}
 use Rattle.tac_base.specs.declared.calls.Nets.{Nets}
 use Rattle.trade_ledger.specs.declared.cash_calls.CashCall.{CashCall}
-use Rattle.trade_ledger.specs.declared.cash_calls.CashCall.TheVariants.{Post, Read}
+use Rattle.trade_ledger.specs.declared.cash_calls.CashCall.TheVariants.{Post}
 use Rattle.trade_ledger.specs.declared.cash_calls.CashEntry.{CashEntry}
 use Rattle.log_audit.specs.{names, is_posted, AreNamed, place_at}
 
@@ -25,12 +25,6 @@ or_all false = refl
 and_none : (b : Bool) → (b && false) ≡ false
 and_none true = refl
 and_none false = refl
-
--- a reading names no place
-pub reading_names : (before : List CashEntry) (e : CashEntry) (agent : ℕ) (named : List Bool) → e.call ≡ Read agent → AreNamed before named → AreNamed (before ++ e ∷ []) named
-reading_names before e agent named is are good position low few =
-    are good position low few
-    ∙ sym (posted_more before e good position ∙ (ap (λ (call : CashCall). is_posted before good position || (names good position call || false)) is ∙ or_none (is_posted before good position)))
 
 -- a post names one place
 pub post_names : (before : List CashEntry) (e : CashEntry) (g p : ℕ) (nets : Nets) (named : List Bool) → e.call ≡ Post g p nets → length named ≡ 231168 → g < 28 → p < 8256

@@ -120,19 +120,6 @@ module _ (game : GameFile) (log : LoggedGame) where
 
   -- ---- cash
 
-  module _ (position : ℕ) (lowest : IsLowest (HasTrueReading log.cash) (Some position)) where
-    cash_first : (other : Flaw) → 2 ≤ turn_of other → ComesBefore other (flaws.Cash position) → IsFreeOf game log other
-    cash_first (flaws.Entry g p) low before = absurd (omega (arith, low))
-    cash_first (flaws.Clock g) low before = absurd (omega (arith, low))
-    cash_first (flaws.Cash p) low before = lowest.1 p (below p position 0 (same_place (flaws.Cash p) (flaws.Cash position) before (omega arith)))
-    cash_first (flaws.Post p) low before = absurd (omega (arith, before_turn (flaws.Post p) (flaws.Cash position) before))
-    cash_first (flaws.Unposted g p) low before = absurd (omega (arith, before_turn (flaws.Unposted g p) (flaws.Cash position) before))
-    cash_first (flaws.Score a) low before = absurd (omega (arith, before_turn (flaws.Score a) (flaws.Cash position) before))
-    cash_first flaws.Head low before = absurd (omega (arith, before_turn flaws.Head (flaws.Cash position) before))
-
-    pub cash_found : IsFirstOf game log 2 3 (flaws.Cash position)
-    cash_found = record { low = omega arith; high = omega arith; has = lowest.0; first = cash_first }
-
   pub cash_free : IsLowest (HasTrueReading log.cash) None → HasNoneFrom game log 2 3
   cash_free none (flaws.Entry g p) low high = absurd (omega (arith, low))
   cash_free none (flaws.Clock g) low high = absurd (omega (arith, low))

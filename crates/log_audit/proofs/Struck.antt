@@ -50,14 +50,7 @@ module _ (setup : Setup) (history : List Entry) (position : ℕ) (e : Entry) (at
   abbrev before : List Entry
   before = take position history
 
-  -- an entry of a caller that has none left is not fair
-  pub unfair_full : cap e.caller ≤ entries_of before e.caller → entries_of before e.caller ≤ cap e.caller → HasFairEntry setup history position → ⊥
-  unfair_full full few fair = (fair e at).room (omega (arith, full, few))
-
   module _ (after : List Entry) (counts : List ℕ) (trades : List Trade) where
-    abbrev IsSame : Type 0
-    IsSame = (e.reply ≡ reply_of setup (reverse before) e.caller e.call) × (trades ≡ trades_of setup (reverse before) e.caller e.call)
-
     pub struck_as : (found : Option Nets) → trades ≡ e.trades → entries_of before e.caller < cap e.caller → after ≡ before ++ entry_of setup (reverse before) e.caller e.call ∷ [] → AreCounts (before ++ e ∷ []) counts
         → MatchOption found (e.reply ≡ reply_of setup (reverse before) e.caller e.call → trades ≡ trades_of setup (reverse before) e.caller e.call → ⊥)
         (λ nets. (e.reply ≡ reply_of setup (reverse before) e.caller e.call) × (trades ≡ trades_of setup (reverse before) e.caller e.call) × (nets.dollars ≡ nets_of trades))

@@ -1,5 +1,5 @@
 -- A history with one entry more, and the calls of its entries.
-use Rattle.std.proofs.Common.{◌≡◌, ℕ, zero, suc, ◌≤◌, ◌<◌, List, [], ◌∷◌, ◌++◌, Option, Some, None, Result, Ok, Err, length, refl, subst, arith, length-append}
+use Rattle.std.proofs.Common.{◌≡◌, ℕ, zero, suc, ◌≤◌, ◌<◌, List, [], ◌∷◌, ◌++◌, Option, Some, None, Result, Ok, Err, length, subst, arith, length-append}
 use Rattle.std.specs.Prelude.{slice_get, IfSome, OnOk, OnErr}
 use Rattle.std.specs.List.{AllByRecursion}
 use Rattle.std.proofs.lemmas.List.Elements.{All-from_recursion}
@@ -51,10 +51,3 @@ module _ (entries : List StoredEntry) (trades : List Trade) (e : Entry) where
         after : (r : Result (Unit {0}) Memory) → OnOk r (new ≡ entries ++ behind ∷ []) → OnOk r (all ≡ trades ++ e.trades) → OnOk r (stored new all ≡ stored entries trades ++ e ∷ [])
         after (Ok u) a b = rw (a, b) (stored_more entries trades e.trades e.caller e.call e.reply kept.stored)
         after (Err m) a b = tt
-
-    pub same_after : OnErr given (new ≡ entries) → OnErr given (all ≡ trades) → OnErr given (stored new all ≡ stored entries trades)
-    same_after same none = after given same none
-      where
-        after : (r : Result (Unit {0}) Memory) → OnErr r (new ≡ entries) → OnErr r (all ≡ trades) → OnErr r (stored new all ≡ stored entries trades)
-        after (Ok u) c d = tt
-        after (Err m) c d = rw (c, d) refl

@@ -22,7 +22,6 @@ pub(crate) struct ReadEntry {
 }
 
 impl Model for ReadEntry {
-    ghost use Rattle.std.specs.Prelude.{◌≤◌};
     ghost use Rattle.auction_rules.specs.History.{Entry};
     ghost use Rattle.log_reader.specs.Histories.{IsEntryRead};
 

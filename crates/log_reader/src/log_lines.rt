@@ -1,4 +1,4 @@
-ghost use Rattle.std.specs.Prelude.{◌≡◌, ◌≤◌, length, true, false, None, Some, IfOk, MatchOption};
+ghost use Rattle.std.specs.Prelude.{◌≡◌, ◌≤◌, length, false, None, Some, IfOk, MatchOption};
 ghost use Rattle.tac_base.specs.declared.limits.TheConstants.{TEXT_BYTES};
 ghost use Rattle.text_forms.specs.Lines as lines;
 ghost use Rattle.text_forms.specs.Words.{parts_of, words_of};

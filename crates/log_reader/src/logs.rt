@@ -1,4 +1,4 @@
-ghost use Rattle.std.specs.Prelude.{◌≡◌, ◌≤◌, Some, slice_get, length};
+ghost use Rattle.std.specs.Prelude.{◌≡◌, Some, slice_get};
 ghost use Rattle.auction_core.specs.Ranges.{IsHistory};
 ghost use Rattle.line_protocol.specs.Heads.{head_of};
 ghost use Rattle.log_text.specs.LoggedGames.{IsLogged, IsLoggedScore};

@@ -39,9 +39,6 @@ use Rattle.log_text.proofs.Sides.{sides_is, sides_again}
 
 -- ---- the line before the entries of an auction
 
-auction_ranges : List (ℕ × ℕ)
-auction_ranges = (0, 27) ∷ (0, 8256) ∷ []
-
 abbrev pub auction_body : ℕ → ℕ → List ℕ
 auction_body good count = row_text (codes "auction") (pos good ∷ pos count ∷ [])
 

@@ -4,7 +4,6 @@ use Rattle.std.proofs.lemmas.Bool.{le-ltb}
 use Rattle.text_forms.specs.declared.lines.BadLine.{BadLine}
 use Rattle.text_forms.specs.Lines.{reason_number}
 use Rattle.text_forms.proofs.PrintedLines.{left_ahead}
-use Rattle.game_text.specs.declared.fault.GameFault.{GameFault}
 use Rattle.game_text.specs.declared.fault.GameFault.TheVariants.{Line}
 use Rattle.game_text.specs.Faults.{or_game_fault}
 use Rattle.game_text.specs.Games.{GameFile, game_lines, game_in, game_of}
@@ -23,10 +22,6 @@ pub record BadLineOf {A : Type 0} (r : Result A BadLine) (line : ℕ) : Type 0 w
   pub bad : BadLine
   pub is : r ≡ Err bad
   pub at : bad.line ≡ line
-
-abbrev line_in : GameFault → ℕ
-line_in (Line line reason) = line
-line_in fault = 0
 
 pub bad_line_of : {A : Type 0} (r : Result A BadLine) (line reason : ℕ) → or_game_fault r ≡ Err (Line line reason) → BadLineOf r line
 bad_line_of (Ok x) line reason e = absurd cc

@@ -1,11 +1,10 @@
 -- The reader of game files goes from line to line.
-use Rattle.std.proofs.Common.{◌≡◌, ℕ, ◌<◌, Bool, true, false, cond, List, Result, Ok, refl, arith, lit≤}
+use Rattle.std.proofs.Common.{◌≡◌, ℕ, ◌<◌, Bool, true, false, cond, List, Ok, refl, arith, lit≤}
 use Rattle.std.specs.Prelude.{codes, replicate, ◌==◌}
 use Rattle.std.proofs.lemmas.List.Elements.{All-head}
 use Rattle.tac_base.specs.Clients.{IsClient}
 use Rattle.tac_base.specs.Numerals.{numeral}
 use Rattle.text_forms.specs.declared.lines.BadLine.{BadLine}
-use Rattle.text_forms.specs.Lines.{Remaining, nothing_left}
 use Rattle.text_forms.specs.Rows.{row}
 use Rattle.text_forms.specs.Steps.{◌>>=◌, read_by, repeat}
 use Rattle.text_forms.proofs.PrintedLines.{lacks_from}
@@ -17,7 +16,7 @@ use Rattle.game_text.specs.ClientLines.{client_of, client_text}
 use Rattle.game_text.specs.AgentLines.{AreClients, agents_in, agent_part, endow_part, client_part}
 use Rattle.game_text.specs.HotelNights.{nights_in, stated_nights_in, plain_nights, read_rooms, quotes_of}
 use Rattle.game_text.specs.Headers.{header_of, header_text, read_end_line}
-use Rattle.game_text.specs.Games.{GameFile, game_in, flight_part}
+use Rattle.game_text.specs.Games.{game_in, flight_part}
 use Rattle.game_text.specs.Schedule.{hotel_nights}
 use Rattle.game_text.specs.QuietGames.{quiet_client, quiet_flight, quiet_game}
 use Rattle.game_text.proofs.QuietRanges as quiet
@@ -104,9 +103,6 @@ pub end_goes : Goes (λ left. read_by read_end_line left)
 end_goes = line_goes_on any_line Never read_end_line (codes "end") tt (plain 678 _ end_line) refl end_again
 
 -- ---- a whole text
-
-abbrev ends_so : GameFile → Remaining → Result GameFile BadLine
-ends_so game left = nothing_left left >>= λ done. Ok game
 
 pub game_closes : Closes IsBadAt any_line Never game_in
 unfolding game_in

@@ -1,4 +1,4 @@
-ghost use Rattle.std.specs.Prelude.{◌≡◌, ◌≤◌, ◌↔◌, ℕ, List, length};
+ghost use Rattle.std.specs.Prelude.{◌≤◌, ◌↔◌, ℕ, List, length};
 ghost use Rattle.tac_base.specs.declared.limits.TheConstants.{GAME_BYTES, TEXT_BYTES};
 ghost use Rattle.reading_laws.specs.FirstBadLine.{IsFirstBadLine};
 ghost use Rattle.reading_laws.specs.Games.{IsGameText, IsRefusedGameAt, IsTextOfAccount, IsRefusedAccountAt};

@@ -93,9 +93,3 @@ rows_are kept played rows stands are = record {
   count = are.count ∙ ap (λ (es : Entries). length es) stands.tallies ∙ length-map (teams played) (λ (word : List ℕ). (word, tally_of (results played) word));
   each = λ place row at. row_is played kept.tallies place row stands.tallies (are.each place row at);
 }
-
--- the word at a place
-pub word_there : (kept : Kept) (played : List (GameFile × LoggedGame)) (place : ℕ) → AreStandingsOf kept played → option_map (λ (e : List ℕ × Tally). e.0) (slice_get kept.tallies place) ≡ slice_get (teams played) place
-word_there kept played place stands =
-    sym (slice_get-map (λ (e : List ℕ × Tally). e.0) kept.tallies place) ∙ ap (λ (es : Entries). slice_get (word_first es) place) stands.tallies
-    ∙ ap (λ (ws : List (List ℕ)). slice_get ws place) (words_are (tally_of (results played)) (teams played))

@@ -1,5 +1,5 @@
 // The standings.
-ghost use Rattle.std.specs.Prelude.{◌≡◌, ◌<◌, ◌≤◌, ◌++◌, ◌∷◌, [], ◌+◌, ℕ, List, OnOk, IfOk, slice_get, slice_index_or, length, map, pos, unsigned_abs};
+ghost use Rattle.std.specs.Prelude.{◌≡◌, ◌<◌, ◌≤◌, ◌++◌, ◌∷◌, [], ◌+◌, List, OnOk, IfOk, slice_get, slice_index_or, length, map, pos, unsigned_abs};
 ghost use Rattle.std.specs.Option.{option_copied};
 ghost use Rattle.std.specs.List.{All};
 ghost use Rattle.game_text.specs.Games.{GameFile};

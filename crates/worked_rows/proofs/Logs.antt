@@ -17,8 +17,8 @@ use Rattle.trade_ledger.specs.CashHistory.{cash_reply_of, cash_total}
 use Rattle.trade_ledger.specs.Posts.{due_post, Matched}
 use Rattle.packages.specs.declared.travel_packages.Package.TheVariants.{None, Trip}
 use Rattle.bound_cert.specs.Trees.{leaf}
-use Rattle.score_sheet.specs.Score.{short_of, score_of}
-use Rattle.score_sheet.specs.Settlement.{settlement_of}
+use Rattle.settlement.specs.Score.{short_of, score_of}
+use Rattle.settlement.specs.Settlement.{settlement_of}
 use Rattle.line_protocol.specs.declared.admission.Verdict.TheVariants.{Seated, WrongWord, Lost}
 use Rattle.line_protocol.specs.declared.admission.Cause.TheVariants.{Quit, ReadFault}
 use Rattle.line_protocol.specs.Heads.{Play, Serve}

@@ -1,5 +1,5 @@
 // The lines of a log.
-ghost use Rattle.std.specs.Prelude.{◌≡◌, ◌∷◌, ◌+◌, ◌≤◌, ◌++◌, length, decimal};
+ghost use Rattle.std.specs.Prelude.{◌≡◌, ◌+◌, ◌≤◌, ◌++◌, length, decimal};
 ghost use Rattle.std.specs.List.{flat_map};
 ghost use Rattle.tac_base.specs.declared.calls.Call.TheVariants.{Bid};
 ghost use Rattle.log_text.specs.LogText as log;

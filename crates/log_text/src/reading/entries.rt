@@ -1,5 +1,5 @@
 // How the lines of the histories are read.
-ghost use Rattle.std.specs.Prelude.{◌≡◌, ◌≤◌, None, Some, IfSome, MatchOption, length, map, drop, IsTrue};
+ghost use Rattle.std.specs.Prelude.{◌≡◌, ◌≤◌, None, Some, IfSome, MatchOption, length, drop, IsTrue};
 ghost use Rattle.std.specs.List.{list_all};
 ghost use Rattle.tac_base.specs.Goods.{clock};
 ghost use Rattle.text_forms.specs.Rows as rows;
