@@ -2,7 +2,7 @@
 use Rattle.std.specs.Prelude.{◌≡◌, ℕ, ◌<◌, ◌≤◌, ◌⊎◌, List, [], ◌∷◌, ◌++◌, true, false, length, map}
 use Rattle.std.specs.List.{concat}
 use Rattle.tac_base.specs.declared.limits.TheConstants.{SESSION_LINES}
-use Rattle.tac_io.specs.Counts.{Rose}
+use Rattle.tac_io.specs.LinkCalls.{LastReadFails, LastWriteFails, NoReadFails, NoWriteFails}
 use Rattle.tac_io.specs.States.{LinkState}
 use Rattle.tac_io.specs.Known.{known_then, IsAtEnd, TakesSome}
 use Rattle.tac_io.specs.declared.line_got.LineGot.{LineGot}
@@ -62,11 +62,12 @@ EndsBy causes.ReadFault text session = ComesTo gots.End session × SendsAll text
 EndsBy causes.WriteFault text session = IsCutOff text session
 EndsBy causes.Budget text session = (IsUsedUp session ⊎ ComesTo gots.Budget session) × SendsAll text session
 
--- a session ends for a read fault exactly if the count of faults of the link's reads rose, and likewise for writes
+-- A session ends for a read fault exactly if a read failed, and nothing was taken after that; and likewise for a write, after which nothing
+-- was sent.
 abbrev pub HasSessionCause : LinkState → LinkState → Cause → Type 0
-HasSessionCause before after causes.ReadFault = Rose before.reads after.reads × (after.writes ≡ before.writes)
-HasSessionCause before after causes.WriteFault = (after.reads ≡ before.reads) × Rose before.writes after.writes
-HasSessionCause before after cause = (after.reads ≡ before.reads) × (after.writes ≡ before.writes)
+HasSessionCause before after causes.ReadFault = LastReadFails before after × NoWriteFails before after
+HasSessionCause before after causes.WriteFault = NoReadFails before after × LastWriteFails before after
+HasSessionCause before after cause = NoReadFails before after × NoWriteFails before after
 
 -- The turns of a session are what its bytes ask, each answered. `answers` is what the bytes taken give, line by line, after
 -- the lines that were read before the session.

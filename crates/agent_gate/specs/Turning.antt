@@ -3,6 +3,7 @@ use Rattle.std.specs.Prelude.{◌≡◌, ◌≢◌, ℕ, ◌+◌, ◌≤◌, Lis
 use Rattle.tac_base.specs.declared.limits.TheConstants.{LINK_BYTES}
 use Rattle.tac_io.specs.HeldBytes.{Held}
 use Rattle.tac_io.specs.LineAnswers.{Answers}
+use Rattle.tac_io.specs.LinkCalls.{NoReadFails, NoWriteFails}
 use Rattle.tac_io.specs.States.{LinkState}
 use Rattle.tac_io.specs.Known.{known_then, TakesSome}
 use Rattle.tac_io.specs.declared.line_got.LineGot.{LineGot}
@@ -61,9 +62,9 @@ pub record HasTurn {T : Type 0} (dialect : Dialect) (held held' : Held) (link li
   pub within : count' ≤ LINK_BYTES
   pub turned : IsTurned dialect got held'.line before after link link' result
 
--- a turn changes a count of faults only if it ends the session for that fault
+-- a read or a write fails in a turn only if the turn ends the session for that fault
 abbrev pub HasTurnCause : {T : Type 0} → LinkState → LinkState → Result T Cause → Type 0
-HasTurnCause link link' (Ok _) = (link'.reads ≡ link.reads) × (link'.writes ≡ link.writes)
+HasTurnCause link link' (Ok _) = NoReadFails link link' × NoWriteFails link link'
 HasTurnCause link link' (Err cause) = HasSessionCause link link' cause
 
 -- how many replies were sent whole if a session ends so in the turn after this many

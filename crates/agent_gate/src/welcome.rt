@@ -1,8 +1,7 @@
 // What a seated link is sent first.
 ghost use Rattle.std.specs.Prelude.{◌≤◌, OnOk, OnErr, length};
-ghost use Rattle.tac_io.specs.Counts.{HasCause};
 ghost use Rattle.tac_io.specs.Lines.{KeepsPlace, link_of};
-ghost use Rattle.tac_io.specs.LinkCalls.{OnlySends, ReadsNothing};
+ghost use Rattle.tac_io.specs.LinkCalls.{FailsByWrite, OnlySends, ReadsNothing};
 ghost use Rattle.tac_io.specs.Known.{TakesSome};
 ghost use Rattle.agent_gate.specs.Welcome.{MovesOn, welcome_text};
 
@@ -18,7 +17,7 @@ fn send_if_full<L: Link>(text: &mut Text, lines: &mut Lines<L>) -> Result<(), Fa
     ensures moved { OnOk result (MovesOn (L.state (link_of lines.old)) (L.state (link_of lines.new)) text.old text.new) }
     ensures room { OnOk result (length text.new ≤ MOST_BEFORE_A_LINE) }
     ensures failed { OnErr result (TakesSome (L.state (link_of lines.old)).sent (L.state (link_of lines.new)).sent text.old) }
-    ensures cause { HasCause (L.state (link_of lines.old)).writes (L.state (link_of lines.new)).writes result }
+    ensures cause { FailsByWrite (L.state (link_of lines.old)) (L.state (link_of lines.new)) result }
     ensures read { ReadsNothing (L.state (link_of lines.old)) (L.state (link_of lines.new)) }
     ensures place { KeepsPlace lines.old lines.new }
 {

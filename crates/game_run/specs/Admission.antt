@@ -4,8 +4,7 @@ use Rattle.std.specs.List.{count_by, fold}
 use Rattle.tac_base.specs.declared.limits.TheConstants.{AGENTS, LINKS, LINK_BYTES}
 use Rattle.game_text.specs.Games.{GameFile}
 use Rattle.tac_io.specs.AllAnswers.{all_answers}
-use Rattle.tac_io.specs.Counts.{Rose}
-use Rattle.tac_io.specs.LinkCalls.{GaveBytes, SendsNothing}
+use Rattle.tac_io.specs.LinkCalls.{GaveBytes, LastReadFails, LastWriteFails, NoReadFails, NoWriteFails, SendsNothing}
 use Rattle.tac_io.specs.States.{LinkState}
 use Rattle.tac_io.specs.Known.{known_then, IsAtEnd, TakesSome}
 use Rattle.tac_io.specs.declared.line_got.LineGot.{LineGot}
@@ -41,13 +40,13 @@ refusal_line WrongWord = codes "refused wrongword\n"
 refusal_line Taken = codes "refused taken\n"
 refusal_line verdict = []
 
--- the line was sent, or a fault of a write was counted and only its first bytes were sent
+-- the line was sent and no write failed; or a write failed, the last one, and only its first bytes were sent
 abbrev pub IsSentOrCut : List ℕ → LinkState → LinkState → Type 0
 IsSentOrCut line before after =
-    ((after.sent ≡ known_then before.sent line) × (after.writes ≡ before.writes))
-    ⊎ (TakesSome before.sent after.sent line × Rose before.writes after.writes)
+    ((after.sent ≡ known_then before.sent line) × NoWriteFails before after)
+    ⊎ (TakesSome before.sent after.sent line × LastWriteFails before after)
 
--- the bytes that a link gave begin with a line of this verdict
+-- the bytes that a link gave begin with a line of this verdict, and no read failed
 pub record HasFirstLine (seats : Seats) (verdict : Verdict) (before after : LinkState) : Type 0 where
   pub bytes : List ℕ
   pub gave : GaveBytes bytes before after
@@ -55,17 +54,17 @@ pub record HasFirstLine (seats : Seats) (verdict : Verdict) (before after : Link
   pub line : List ℕ
   pub first : (others : List (LineGot × List ℕ)) × (all_answers [] (LINK_BYTES) bytes ≡ (got, line) ∷ others)
   pub due : verdict ≡ first_verdict seats got line
-  pub reads : after.reads ≡ before.reads
+  pub reads : NoReadFails before after
 
 -- A link is lost: its first line has no end within the first 67,108,864 bytes that it had to give, or a read failed before that end was
--- taken. It was sent nothing.
+-- taken, and nothing was taken after that. It was sent nothing.
 pub record IsLost (before after : LinkState) : Type 0 where
   pub bytes : List ℕ
   pub gave : GaveBytes bytes before after
   pub why :
-      ((all_answers [] (LINK_BYTES) bytes ≡ (gots.End, []) ∷ []) × IsAtEnd after.left × (after.reads ≡ before.reads))
-      ⊎ ((all_answers [] (LINK_BYTES) bytes ≡ (gots.Budget, []) ∷ []) × (after.reads ≡ before.reads))
-      ⊎ ((all_answers [] (LINK_BYTES) bytes ≡ (gots.End, []) ∷ []) × Rose before.reads after.reads)
+      ((all_answers [] (LINK_BYTES) bytes ≡ (gots.End, []) ∷ []) × IsAtEnd after.left × NoReadFails before after)
+      ⊎ ((all_answers [] (LINK_BYTES) bytes ≡ (gots.Budget, []) ∷ []) × NoReadFails before after)
+      ⊎ ((all_answers [] (LINK_BYTES) bytes ≡ (gots.End, []) ∷ []) × LastReadFails before after)
   pub quiet : SendsNothing before after
 
 -- what became of a link by its verdict: `Sits` holds of one with a seat, it is lost, or it was refused by its first line

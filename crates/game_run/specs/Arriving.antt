@@ -6,7 +6,7 @@ use Rattle.tac_io.specs.AllAnswers.{all_answers}
 use Rattle.tac_io.specs.LineAnswers.{goes_on}
 use Rattle.tac_io.specs.LineText.{BeginsWithLine}
 use Rattle.tac_io.specs.Lines.{count_of, held_of, last_of, link_of}
-use Rattle.tac_io.specs.LinkCalls.{GaveBytes, ReadsNothing, SendsNothing}
+use Rattle.tac_io.specs.LinkCalls.{GaveBytes, NoReadFails, ReadsNothing, SendsNothing}
 use Rattle.tac_io.specs.States.{LinkState}
 use Rattle.tac_io.specs.Known.{then_known}
 use Rattle.tac_io.specs.declared.line_got.LineGot.{LineGot}
@@ -66,7 +66,7 @@ module _ {L : Type 0} (state : L → LinkState) where
     pub few : count_of lines ≤ LINK_BYTES
     pub seat : verdict_of seats line ≡ Seated agent
     pub quiet : SendsNothing before (state (link_of lines))
-    pub reads : (state (link_of lines)).reads ≡ before.reads
+    pub reads : NoReadFails before (state (link_of lines))
     pub more : goes_on (last_of lines) ≡ true
 
   -- what holds of the lines of a link after its first line, before anything is sent

@@ -18,7 +18,8 @@ use Rattle.game_run.specs.Hosted.{HostedGame}
 use Rattle.game_run.specs.PlayedGame.{PlayedGame}
 
 -- A link was seated by its first line, and then served as the agent, until its session ended. `bytes` are all that it gave. Its turns are
--- what its later lines ask, and are the agent's part of the histories.
+-- what its later lines ask, and are the agent's part of the histories. No read failed but the last one, if the session ended for a read
+-- fault, and likewise for writes: so none failed before the first line's end was taken.
 pub record IsSeated (hosted : HostedGame) (played : PlayedGame) (seats : Seats) (agent : ℕ) (before after : LinkState) : Type 0 where
   pub cause : Cause
   pub ended : Contains played.ends (agent, cause)

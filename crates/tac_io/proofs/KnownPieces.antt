@@ -1,11 +1,12 @@
 -- What is known, piece by piece.
-use Rattle.std.proofs.Common.{◌≡◌, ℕ, ◌+◌, List, ◌++◌, take, drop, [], refl, ap, sym, ◌∙◌, append_assoc, append-nil}
+use Rattle.std.proofs.Common.{subst, ◌≡◌, ℕ, ◌+◌, List, ◌++◌, take, drop, [], refl, ap, sym, ◌∙◌, append_assoc, append-nil}
 use Rattle.std.proofs.Math.Seq.{take-add}
 use Rattle.std.specs.Prelude.{None, Some}
 use Rattle.std.specs.declared.option.Option.{Option}
-use Rattle.tac_io.specs.LinkCalls.{GaveBytes, ReadsNothing}
+use Rattle.tac_io.specs.LinkCalls.{GaveBytes, LastReadFails, LastWriteFails, NoReadFails, NoWriteFails, ReadsNothing, SendsNothing}
 use Rattle.tac_io.specs.States.{LinkState}
-use Rattle.tac_io.specs.Known.{known_then, then_known}
+use Rattle.tac_io.specs.Counts.{Rose}
+use Rattle.tac_io.specs.Known.{failed_at, known_then, then_known}
 
 pub known_then-nothing : {A : Type 0} (known : Option (List A)) → known_then known [] ≡ known
 known_then-nothing None = refl
@@ -41,5 +42,32 @@ gave_twice before now after xs ys one two = (
   one.1 ∙ ap (then_known xs) two.1 ∙ then_known-twice after.left xs ys,
 )
 
+-- ---- no call failed, and then none or the last one
+
+pub no_read_fails_twice : (before now after : LinkState) → NoReadFails before now → NoReadFails now after → NoReadFails before after
+no_read_fails_twice before now after one two = (two.0 ∙ one.0, two.1 ∙ one.1)
+
+pub no_write_fails_twice : (before now after : LinkState) → NoWriteFails before now → NoWriteFails now after → NoWriteFails before after
+no_write_fails_twice before now after one two = (two.0 ∙ one.0, two.1 ∙ one.1)
+
+pub last_read_fails_then : (before now after : LinkState) → NoReadFails before now → LastReadFails now after → LastReadFails before after
+last_read_fails_then before now after one two = (subst (λ n. Rose n after.reads) one.0 two.0, two.1 ∙ ap (failed_at after.taken) one.1)
+
+pub last_write_fails_then : (before now after : LinkState) → NoWriteFails before now → LastWriteFails now after → LastWriteFails before after
+last_write_fails_then before now after one two = (subst (λ n. Rose n after.writes) one.0 two.0, two.1 ∙ ap (failed_at after.sent) one.1)
+
+-- where the last read failed, if nothing was taken then
+pub read_failed_at : (before now after : LinkState) → after.taken ≡ now.taken → after.read_failures ≡ failed_at now.taken now.read_failures → NoReadFails before now
+    → after.read_failures ≡ failed_at after.taken before.read_failures
+read_failed_at before now after same noted quiet = noted ∙ ap (failed_at now.taken) quiet.1 ∙ ap (λ taken. failed_at taken before.read_failures) (sym same)
+
+-- where the last write failed, if nothing was sent then
+pub write_failed_at : (before now after : LinkState) → after.sent ≡ now.sent → after.write_failures ≡ failed_at now.sent now.write_failures → NoWriteFails before now
+    → after.write_failures ≡ failed_at after.sent before.write_failures
+write_failed_at before now after same noted quiet = noted ∙ ap (failed_at now.sent) quiet.1 ∙ ap (λ sent. failed_at sent before.write_failures) (sym same)
+
 pub read_nothing_twice : (before now after : LinkState) → ReadsNothing before now → ReadsNothing now after → ReadsNothing before after
-read_nothing_twice before now after one two = (two.0 ∙ one.0, two.1 ∙ one.1, two.2 ∙ one.2)
+read_nothing_twice before now after one two = (two.0 ∙ one.0, two.1 ∙ one.1, no_read_fails_twice before now after one.2 two.2)
+
+pub send_nothing_twice : (before now after : LinkState) → SendsNothing before now → SendsNothing now after → SendsNothing before after
+send_nothing_twice before now after one two = (two.0 ∙ one.0, no_write_fails_twice before now after one.1 two.1)

@@ -1,5 +1,5 @@
 -- What is known of the content of an object of the outside: None, before and after each call, if it does not show it.
-use Rattle.std.specs.Prelude.{◌≡◌, ℕ, ◌<◌, ◌≤◌, List, [], ◌++◌, length, take, IfSome, Result, MatchResult}
+use Rattle.std.specs.Prelude.{◌≡◌, ℕ, ◌<◌, ◌≤◌, List, [], ◌∷◌, ◌++◌, length, take, None, Some, IfSome, Result, MatchResult}
 use Rattle.std.specs.Option.{option_map}
 use Rattle.std.specs.declared.option.Option.{Option}
 
@@ -27,6 +27,15 @@ abbrev pub Takes : {E : Type 0} → Option (List ℕ) → Option (List ℕ) → 
 Takes before after result piece = MatchResult result
     (λ n. (0 < n) × (n ≤ length piece) × (after ≡ known_then before (take n piece)))
     (λ _. after ≡ before)
+
+-- where calls failed, and one more after these bytes; not known if the bytes are not
+abbrev pub failed_at : Option (List ℕ) → Option (List ℕ) → Option (List ℕ)
+failed_at None failures = None
+failed_at (Some bytes) failures = known_then failures (length bytes ∷ [])
+
+-- A call that failed is noted after these bytes. One that did not fail is not noted.
+abbrev pub NotesFailure : {T E : Type 0} → Option (List ℕ) → Option (List ℕ) → Option (List ℕ) → Result T E → Type 0
+NotesFailure bytes before after result = MatchResult result (λ _. after ≡ before) (λ _. after ≡ failed_at bytes before)
 
 -- The first bytes were taken, but not all.
 pub record TakesSome (before after : Option (List ℕ)) (bytes : List ℕ) : Type 0 where

@@ -2,10 +2,9 @@
 use Rattle.std.specs.Prelude.{◌≡◌, ℕ, ◌+◌, ◌≤◌, ◌<◌, ◌⊎◌, List, ◌++◌, Bool, true, false, length, None, Some}
 use Rattle.std.specs.declared.option.Option.{Option}
 use Rattle.tac_base.specs.declared.limits.TheConstants.{LINE_BYTES, LINK_BYTES}
-use Rattle.tac_io.specs.Counts.{Rose}
 use Rattle.tac_io.specs.HeldBytes.{Held}
 use Rattle.tac_io.specs.LineText.{has_end, BeginsWithLine}
-use Rattle.tac_io.specs.LinkCalls.{GaveBytes}
+use Rattle.tac_io.specs.LinkCalls.{GaveBytes, LastReadFails, NoReadFails}
 use Rattle.tac_io.specs.States.{LinkState}
 use Rattle.tac_io.specs.Known.{IsAtEnd}
 use Rattle.tac_io.specs.declared.line_got.LineGot.{LineGot}
@@ -27,13 +26,13 @@ pub record Answers (held held' : Held) (before after : LinkState) (count count' 
   pub counted : count' ≡ count + length more
   pub next : IsNext got (held.unread ++ more) held' (IsAtEnd after.left) count'
 
--- `Failed` comes exactly where the count of faults rose.
-abbrev pub HasLineCause : ℕ → ℕ → LineGot → Type 0
-HasLineCause before now Failed = Rose before now
-HasLineCause before now Line = now ≡ before
-HasLineCause before now TooLong = now ≡ before
-HasLineCause before now End = now ≡ before
-HasLineCause before now Budget = now ≡ before
+-- `Failed` comes exactly if a read failed, and nothing was taken after that.
+abbrev pub HasLineCause : LinkState → LinkState → LineGot → Type 0
+HasLineCause before after Failed = LastReadFails before after
+HasLineCause before after Line = NoReadFails before after
+HasLineCause before after TooLong = NoReadFails before after
+HasLineCause before after End = NoReadFails before after
+HasLineCause before after Budget = NoReadFails before after
 
 -- the bytes that were taken decide the next answer
 abbrev pub IsDecided : List ℕ → ℕ → Type 0

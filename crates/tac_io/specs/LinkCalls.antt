@@ -1,24 +1,44 @@
 -- What was read of a link, and what it was sent.
 use Rattle.std.specs.Prelude.{◌≡◌, ℕ, List, Result, MatchResult}
-use Rattle.tac_io.specs.Counts.{HasCause}
+use Rattle.tac_io.specs.Counts.{Rose}
 use Rattle.tac_io.specs.States.{LinkState}
-use Rattle.tac_io.specs.Known.{known_then, then_known, TakesSome}
+use Rattle.tac_io.specs.Known.{known_then, then_known, failed_at, TakesSome}
 
 -- the link gave these bytes, the first of those that it had left
 abbrev pub GaveBytes : List ℕ → LinkState → LinkState → Type 0
 GaveBytes bytes before after = (after.taken ≡ known_then before.taken bytes) × (before.left ≡ then_known bytes after.left)
 
+-- no read failed
+abbrev pub NoReadFails : LinkState → LinkState → Type 0
+NoReadFails before after = (after.reads ≡ before.reads) × (after.read_failures ≡ before.read_failures)
+
+-- one read failed, and nothing was taken after it
+abbrev pub LastReadFails : LinkState → LinkState → Type 0
+LastReadFails before after = Rose before.reads after.reads × (after.read_failures ≡ failed_at after.taken before.read_failures)
+
+-- no write failed
+abbrev pub NoWriteFails : LinkState → LinkState → Type 0
+NoWriteFails before after = (after.writes ≡ before.writes) × (after.write_failures ≡ before.write_failures)
+
+-- one write failed, and nothing was sent after it
+abbrev pub LastWriteFails : LinkState → LinkState → Type 0
+LastWriteFails before after = Rose before.writes after.writes × (after.write_failures ≡ failed_at after.sent before.write_failures)
+
+-- the call failed exactly if a write failed, and nothing was sent after that
+abbrev pub FailsByWrite : {T E : Type 0} → LinkState → LinkState → Result T E → Type 0
+FailsByWrite before after result = MatchResult result (λ _. NoWriteFails before after) (λ _. LastWriteFails before after)
+
 -- nothing was sent, and no write failed
 abbrev pub SendsNothing : LinkState → LinkState → Type 0
-SendsNothing before after = (after.sent ≡ before.sent) × (after.writes ≡ before.writes)
+SendsNothing before after = (after.sent ≡ before.sent) × NoWriteFails before after
 
 -- nothing was taken of the link, and no read failed
 abbrev pub ReadsNothing : LinkState → LinkState → Type 0
-ReadsNothing before after = (after.taken ≡ before.taken) × (after.left ≡ before.left) × (after.reads ≡ before.reads)
+ReadsNothing before after = (after.taken ≡ before.taken) × (after.left ≡ before.left) × NoReadFails before after
 
--- These bytes were sent; or a write failed, and some of the first of them were sent, or none, but not all. Nothing was read.
+-- These bytes were sent; or a write failed, the last one, and some of the first of them were sent, or none, but not all. Nothing was read.
 abbrev pub OnlySends : {T E : Type 0} → LinkState → LinkState → List ℕ → Result T E → Type 0
 OnlySends before after bytes result =
     MatchResult result (λ _. after.sent ≡ known_then before.sent bytes) (λ _. TakesSome before.sent after.sent bytes)
-    × HasCause before.writes after.writes result
+    × FailsByWrite before after result
     × ReadsNothing before after

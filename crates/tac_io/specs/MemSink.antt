@@ -19,6 +19,10 @@ sink_most s = s.most_at_once
 abbrev pub sink_calls : MemSink → Calls
 sink_calls s = s.faults
 
+-- how many bytes it had taken at each write that failed
+abbrev pub sink_failures : MemSink → List ℕ
+sink_failures s = s.failures.places
+
 -- how many bytes it takes of so many
 abbrev pub sink_share : MemSink → ℕ → ℕ
 sink_share s many = min many (min (sink_most s) (sink_room s))

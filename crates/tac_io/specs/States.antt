@@ -2,19 +2,24 @@
 use Rattle.std.specs.Prelude.{ℕ, ◌<◌, ◌≤◌, List, length, Bool, Option, IfSome}
 use Rattle.tac_base.specs.declared.limits.TheConstants.{FILE_NAMES, NAME_BYTES}
 
--- Of a link: the bytes that were taken of it, those that it still has to give and those that it was sent, where they are known; and its
--- counts of faults of reads and of writes.
+-- Of a link: the bytes that were taken of it, those that it still has to give and those that it was sent, where they are known; its counts
+-- of faults of reads and of writes; and, where it is known, how many bytes had been taken at each read that failed, and how many it had
+-- been sent at each write that failed, in order.
 pub record LinkState : Type 0 where
   pub taken : Option (List ℕ)
   pub left : Option (List ℕ)
   pub sent : Option (List ℕ)
   pub reads : ℕ
   pub writes : ℕ
+  pub read_failures : Option (List ℕ)
+  pub write_failures : Option (List ℕ)
 
--- Of a sink: the bytes that it took, where they are known, and its count of faults.
+-- Of a sink: the bytes that it took, where they are known; its count of faults; and, where it is known, how many bytes it had taken at
+-- each write that failed, in order.
 pub record SinkState : Type 0 where
   pub taken : Option (List ℕ)
   pub faults : ℕ
+  pub failures : Option (List ℕ)
 
 -- Of files: the bytes of the file of each name, and the names that were selected, in order, where they are known; whether one is selected,
 -- and what is left to read of it, where it is known; and the count of faults.

@@ -2,12 +2,12 @@
 use Rattle.std.specs.Prelude.{◌≡◌, ℕ, List}
 use Rattle.tac_io.specs.Counts.{Rose}
 use Rattle.tac_io.specs.States.{SinkState}
-use Rattle.tac_io.specs.Known.{known_then, TakesSome}
+use Rattle.tac_io.specs.Known.{known_then, failed_at, TakesSome}
 
--- the whole text was taken, and no fault counted
+-- the whole text was taken, and no write failed
 abbrev pub TookWhole : SinkState → SinkState → List ℕ → Type 0
-TookWhole sink sink' text = (sink'.taken ≡ known_then sink.taken text) × (sink'.faults ≡ sink.faults)
+TookWhole sink sink' text = (sink'.taken ≡ known_then sink.taken text) × (sink'.faults ≡ sink.faults) × (sink'.failures ≡ sink.failures)
 
--- a fault was counted, and the first bytes were taken, but not all
+-- One write failed, and nothing was written after it: the first bytes were taken, but not all.
 abbrev pub TookPart : SinkState → SinkState → List ℕ → Type 0
-TookPart sink sink' text = TakesSome sink.taken sink'.taken text × Rose sink.faults sink'.faults
+TookPart sink sink' text = TakesSome sink.taken sink'.taken text × Rose sink.faults sink'.faults × (sink'.failures ≡ failed_at sink'.taken sink.failures)

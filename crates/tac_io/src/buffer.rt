@@ -4,7 +4,7 @@ ghost use Rattle.tac_io.specs.Counts.{HasCause};
 ghost use Rattle.tac_io.specs.HeldBytes.{Fills};
 ghost use Rattle.tac_io.specs.LineText.{has_end, BeginsWithLine};
 ghost use Rattle.tac_io.specs.LinkCalls.{SendsNothing};
-ghost use Rattle.tac_io.specs.Known.{known_then, then_known, IsAtEnd};
+ghost use Rattle.tac_io.specs.Known.{known_then, then_known, IsAtEnd, NotesFailure};
 
 use crate::{Failed, Link};
 use std::marker::Model;
@@ -60,6 +60,7 @@ fn read_at<L: Link>(link: &mut L, bytes: &mut [u8], at: usize, most: usize) -> R
         × (n ≡ 0 → IsAtEnd (L.state link.old).left))
         (λ _. (L.state link.new).left ≡ (L.state link.old).left) }
     ensures cause { HasCause (L.state link.old).reads (L.state link.new).reads result }
+    ensures noted { NotesFailure (L.state link.old).taken (L.state link.old).read_failures (L.state link.new).read_failures result }
     ensures sent { SendsNothing (L.state link.old) (L.state link.new) }
 {
     let room = most.min(bytes.len() - at);
@@ -128,6 +129,7 @@ impl Buffer {
         requires room { length self.old.unread < 1024 }
         ensures bytes { Fills self.old.unread self.new.unread (L.state link.old) (L.state link.new) most result }
         ensures cause { HasCause (L.state link.old).reads (L.state link.new).reads result }
+        ensures noted { NotesFailure (L.state link.old).taken (L.state link.old).read_failures (L.state link.new).read_failures result }
         ensures sent { SendsNothing (L.state link.old) (L.state link.new) }
     {
         let len = self.to - self.from;

@@ -40,7 +40,7 @@ fn next_line<L: Link>(link: &mut L, buffer: &mut Buffer, taken: &mut u32) -> Lin
     ensures answer { Answers buffer.old buffer.new (L.state link.old) (L.state link.new) taken.old taken.new result }
     ensures budget { taken.new ≤ LINK_BYTES }
     ensures decided { IsDecided buffer.old.unread taken.old → link.new ≡ link.old }
-    ensures cause { HasLineCause (L.state link.old).reads (L.state link.new).reads result }
+    ensures cause { HasLineCause (L.state link.old) (L.state link.new) result }
     ensures sent { SendsNothing (L.state link.old) (L.state link.new) }
 {
     let mut long = false;
@@ -107,7 +107,8 @@ impl<L: Link> Lines<L> {
 
     /// Reads on to the next line end, the link's end, a fault, or until 67,108,864 bytes were taken
     /// from the link, and says which came first. After `End`, `Failed` and `Budget` there is no
-    /// next line. Where the bytes taken before decide, the link stays as it was.
+    /// next line. Where the bytes taken before decide, the link stays as it was. After a read that
+    /// failed it does not read again.
     pub fn next(&mut self) -> LineGot
         requires { goes_on (last_of self.old) ≡ true }
         ensures answer { Answers (held_of self.old) (held_of self.new)
@@ -117,7 +118,7 @@ impl<L: Link> Lines<L> {
         ensures last { last_of self.new ≡ Some result }
         ensures budget { count_of self.new ≤ LINK_BYTES }
         ensures decided { IsDecided (held_of self.old).unread (count_of self.old) → link_of self.new ≡ link_of self.old }
-        ensures cause { HasLineCause (L.state (link_of self.old)).reads (L.state (link_of self.new)).reads result }
+        ensures cause { HasLineCause (L.state (link_of self.old)) (L.state (link_of self.new)) result }
         ensures sent { SendsNothing (L.state (link_of self.old)) (L.state (link_of self.new)) }
     {
         let got = next_line(&mut self.link, &mut self.buffer, &mut self.taken);
@@ -135,7 +136,7 @@ impl<L: Link> Lines<L> {
 
     /// Sends all bytes to the link, in as many writes as it asks for, and in none where there are no
     /// bytes. `Failed` comes exactly where the link counted a fault of a write in this call. Then
-    /// some of the first bytes were sent, or none, but not all.
+    /// some of the first bytes were sent, or none, but not all, and nothing was sent after the fault.
     pub fn send(&mut self, bytes: &[u8]) -> Result<(), Failed>
         ensures sends { OnlySends (L.state (link_of self.old)) (L.state (link_of self.new)) bytes.now result }
         ensures place { KeepsPlace self.old self.new }

@@ -3,15 +3,15 @@ ghost use Rattle.std.specs.Prelude.{◌≡◌, ◌<◌, length, take, MatchResul
 ghost use Rattle.tac_io.specs.Counts.{HasCause};
 ghost use Rattle.tac_io.specs.LinkCalls.{ReadsNothing, SendsNothing};
 ghost use Rattle.tac_io.specs.States.{LinkState};
-ghost use Rattle.tac_io.specs.Known.{Reads, Takes, known_then};
+ghost use Rattle.tac_io.specs.Known.{NotesFailure, Reads, Takes, known_then};
 
 use crate::Failed;
 
 /// A connection to an agent, with a count of faults for its reads and one for its writes.
 pub trait Link {
     /// The bytes that were read from it, those that it still has to give and those that it was
-    /// sent, where they are known; and the counts of faults of reads and of writes, which never fall
-    /// and stay at their last value.
+    /// sent, where they are known; the counts of faults of reads and of writes, which never fall and
+    /// stay at their last value; and where its reads and its writes failed, where that is known.
     ghost state: { Self → LinkState };
 
     /// Reads some of the next bytes, and says how many: at least one, or 0 at the end. After a
@@ -23,6 +23,7 @@ pub trait Link {
             (λ n. (state self.new).taken ≡ known_then (state self.old).taken (take n into.new))
             (λ _. (state self.new).taken ≡ (state self.old).taken) }
         ensures cause { HasCause (state self.old).reads (state self.new).reads result }
+        ensures noted { NotesFailure (state self.old).taken (state self.old).read_failures (state self.new).read_failures result }
         ensures sent { SendsNothing (state self.old) (state self.new) };
 
     /// Sends some of the first bytes of a piece, and says how many: at least one. Where none is
@@ -31,6 +32,7 @@ pub trait Link {
         requires { 0 < length piece.now }
         ensures bytes { Takes (state self.old).sent (state self.new).sent result piece.now }
         ensures cause { HasCause (state self.old).writes (state self.new).writes result }
+        ensures noted { NotesFailure (state self.old).sent (state self.old).write_failures (state self.new).write_failures result }
         ensures read { ReadsNothing (state self.old) (state self.new) };
 
     /// How many reads failed so far.

@@ -1,4 +1,5 @@
 //! The objects of the outside in memory.
+mod failures;
 mod faults;
 mod files;
 mod give;

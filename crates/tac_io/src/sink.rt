@@ -2,14 +2,14 @@
 ghost use Rattle.std.specs.Prelude.{◌≡◌, ◌<◌, length};
 ghost use Rattle.tac_io.specs.Counts.{HasCause};
 ghost use Rattle.tac_io.specs.States.{SinkState};
-ghost use Rattle.tac_io.specs.Known.{Takes};
+ghost use Rattle.tac_io.specs.Known.{NotesFailure, Takes};
 
 use crate::Failed;
 
 /// What bytes are written to.
 pub trait Sink {
-    /// The bytes that it took, where they are known, and the count of faults, which never falls and
-    /// stays at its last value.
+    /// The bytes that it took, where they are known; the count of faults, which never falls and
+    /// stays at its last value; and where its writes failed, where that is known.
     ghost state: { Self → SinkState };
 
     /// Writes some of the first bytes of a piece, and says how many: at least one. Where none is
@@ -17,7 +17,8 @@ pub trait Sink {
     fn write(&mut self, piece: &[u8]) -> Result<usize, Failed>
         requires { 0 < length piece.now }
         ensures bytes { Takes (state self.old).taken (state self.new).taken result piece.now }
-        ensures cause { HasCause (state self.old).faults (state self.new).faults result };
+        ensures cause { HasCause (state self.old).faults (state self.new).faults result }
+        ensures noted { NotesFailure (state self.old).taken (state self.old).failures (state self.new).failures result };
 
     /// How many calls failed so far.
     fn faults(&self) -> u64

@@ -2,6 +2,7 @@
 ghost use Rattle.std.specs.Prelude.{◌≡◌, ◌+◌, ◌≤◌, [], IfOk, vec_len, vec_capacity};
 ghost use Rattle.tac_io.specs.Calls.{no_calls_yet};
 
+use crate::memory::failures::Failures;
 use crate::memory::faults::Faults;
 use crate::memory::give::give;
 use crate::{Failed, Link};
@@ -21,6 +22,8 @@ pub struct MemLink {
     // How many more bytes there is room for.
     room: usize,
     writes: Faults,
+    read_failures: Failures,
+    write_failures: Failures,
     ghost within: { at ≤ vec_len bytes },
     ghost reserved: { vec_len sent + room ≤ vec_capacity sent },
 }
@@ -28,7 +31,7 @@ pub struct MemLink {
 impl MemLink {
     ghost use Rattle.std.specs.Prelude.{Err};
     ghost use Rattle.tac_io.specs.Calls.{one_call_more};
-    ghost use Rattle.tac_io.specs.MemLink.{ReadsNext, link_left, link_most, link_reads, link_room, link_sent, link_taken, link_writes};
+    ghost use Rattle.tac_io.specs.MemLink.{ReadsNext, link_left, link_most, link_read_failures, link_reads, link_room, link_sent, link_taken, link_write_failures, link_writes};
 
     /// A link that gives `bytes`, and has room for `room` bytes that it is sent. A read gives at
     /// most `most_at_once` bytes, and at least one where one is left. The reads that are to fail are
@@ -49,6 +52,7 @@ impl MemLink {
         ensures room { IfOk result (λ link. link_room link ≡ room) }
         ensures reads { IfOk result (λ link. link_reads link ≡ no_calls_yet failing_reads.items) }
         ensures writes { IfOk result (λ link. link_writes link ≡ no_calls_yet failing_writes.items) }
+        ensures failures { IfOk result (λ link. (link_read_failures link ≡ []) × (link_write_failures link ≡ [])) }
     {
         Ok(MemLink {
             bytes,
@@ -58,6 +62,8 @@ impl MemLink {
             sent: Vec::with_capacity(alloc, room)?,
             room,
             writes: Faults::new(failing_writes),
+            read_failures: Failures::none(),
+            write_failures: Failures::none(),
         })
     }
 
@@ -73,6 +79,7 @@ impl MemLink {
         ensures { ReadsNext self.old self.new (Err result) [] }
     {
         self.reads.next_fails();
+        self.read_failures = self.read_failures.with(&self.at);
         self.reads.add()
     }
 
@@ -105,6 +112,7 @@ impl Link for MemLink {
         ensures next { ReadsNext self.old self.new result into.new }
     {
         if self.reads.next_fails() {
+            self.read_failures = self.read_failures.with(&self.at);
             return Err(self.reads.add());
         }
         let (_, left) = self.bytes.split_at(self.at);
@@ -119,6 +127,7 @@ impl Link for MemLink {
     {
         let count = piece.len().min(self.room);
         if self.writes.next_fails() || count == 0 {
+            self.write_failures = self.write_failures.with(&self.sent.len());
             return Err(self.writes.add());
         }
         if self.sent.extend_from_slice(&piece[..count]).is_err() {

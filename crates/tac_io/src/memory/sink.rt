@@ -2,6 +2,7 @@
 ghost use Rattle.std.specs.Prelude.{◌≡◌, ◌+◌, ◌≤◌, [], IfOk, vec_len, vec_capacity};
 ghost use Rattle.tac_io.specs.Calls.{no_calls_yet};
 
+use crate::memory::failures::Failures;
 use crate::memory::faults::Faults;
 use crate::{Failed, Sink};
 use std::alloc::{AllocError, Global};
@@ -15,11 +16,12 @@ pub struct MemSink {
     room: usize,
     most_at_once: usize,
     faults: Faults,
+    failures: Failures,
     ghost reserved: { vec_len bytes + room ≤ vec_capacity bytes },
 }
 
 impl MemSink {
-    ghost use Rattle.tac_io.specs.MemSink.{sink_bytes, sink_calls, sink_most, sink_room};
+    ghost use Rattle.tac_io.specs.MemSink.{sink_bytes, sink_calls, sink_failures, sink_most, sink_room};
 
     /// An empty sink with room for `room` bytes. A write takes at most `most_at_once` of them. The
     /// writes that are to fail are listed in `failing`, counted from 1. A write that finds no room
@@ -34,12 +36,14 @@ impl MemSink {
         ensures room { IfOk result (λ sink. sink_room sink ≡ room) }
         ensures most { IfOk result (λ sink. sink_most sink ≡ most_at_once) }
         ensures calls { IfOk result (λ sink. sink_calls sink ≡ no_calls_yet failing.items) }
+        ensures failures { IfOk result (λ sink. sink_failures sink ≡ []) }
     {
         Ok(MemSink {
             bytes: Vec::with_capacity(alloc, room)?,
             room,
             most_at_once,
             faults: Faults::new(failing),
+            failures: Failures::none(),
         })
     }
 
@@ -52,12 +56,12 @@ impl MemSink {
 }
 
 impl Sink for MemSink {
-    ghost use Rattle.std.specs.Prelude.{◌≡◌, ◌+◌, ◌⊎◌, ◌↔◌, ◌<◌, ◌++◌, Some, IsErr, IfOk, OnErr, length, take};
+    ghost use Rattle.std.specs.Prelude.{◌≡◌, ◌+◌, ◌⊎◌, ◌↔◌, ◌<◌, ◌++◌, ◌∷◌, [], Some, IsErr, IfOk, OnErr, length, take};
     ghost use Rattle.tac_io.specs.Calls.{IsNextToFail, after_call};
     ghost use Rattle.tac_io.specs.Counts.{HasCause};
-    ghost use Rattle.tac_io.specs.MemSink.{sink_bytes, sink_calls, sink_most, sink_room, sink_share};
+    ghost use Rattle.tac_io.specs.MemSink.{sink_bytes, sink_calls, sink_failures, sink_most, sink_room, sink_share};
 
-    ghost state = { λ s. record { taken = Some (sink_bytes s); faults = (sink_calls s).faults } };
+    ghost state = { λ s. record { taken = Some (sink_bytes s); faults = (sink_calls s).faults; failures = Some (sink_failures s) } };
 
     fn write(&mut self, piece: &[u8]) -> Result<usize, Failed>
         ensures fails { IsErr result ↔ (IsNextToFail (sink_calls self.old) ⊎ (sink_share self.old (length piece.now) ≡ 0)) }
@@ -69,10 +73,13 @@ impl Sink for MemSink {
         ensures kept_room { OnErr result (sink_room self.new ≡ sink_room self.old) }
         ensures most { sink_most self.new ≡ sink_most self.old }
         ensures calls { sink_calls self.new ≡ after_call (sink_calls self.old) result }
+        ensures unmarked { IfOk result (λ _. sink_failures self.new ≡ sink_failures self.old) }
+        ensures noted { OnErr result (sink_failures self.new ≡ sink_failures self.old ++ length (sink_bytes self.old) ∷ []) }
         ensures cause { HasCause (sink_calls self.old).faults (sink_calls self.new).faults result }
     {
         let count = piece.len().min(self.most_at_once).min(self.room);
         if self.faults.next_fails() || count == 0 {
+            self.failures = self.failures.with(&self.bytes.len());
             return Err(self.faults.add());
         }
         if self.bytes.extend_from_slice(&piece[..count]).is_err() {

@@ -1,6 +1,7 @@
 use Rattle.std.proofs.Common.{◌≡◌, ◌<◌, ◌^◌, refl, arith, ◌∙◌, sym, subst, ap}
 use Rattle.tac_io.specs.Known.{IsAtEnd}
 use Rattle.tac_io.specs.LineText.{has_end}
+use Rattle.tac_io.proofs.KnownPieces.{send_nothing_twice}
 use Rattle.tac_io.proofs.NextLine.{IsGoing, going_skip, going_fill, going_undecided, going_same, nothing_given, answers_line, answers_none}
 use Rattle.tac_io.proofs.lines.next_line.Goals as goal
 
@@ -40,6 +41,6 @@ bytes-preserved g c =
           (ap has_end same ∙ c.in_default.ensures.none.0) c.skips-long.ensures.skips) c.in-Ok.ensures.bytes.2;
       budget = omega (arith, c.in-Ok.ensures.bytes.0, c.bytes.invariant.budget);
       decided = λ given. going_undecided _ _ _ _ _ _ _ c.bytes.invariant.going c.in_default.ensures.none.0 below given;
-      quiet = c.in-Ok.ensures.cause ∙ c.bytes.invariant.quiet;
-      sent = (c.fill.ensures.sent.0 ∙ c.bytes.invariant.sent.0, c.fill.ensures.sent.1 ∙ c.bytes.invariant.sent.1);
+      quiet = (c.in-Ok.ensures.cause ∙ c.bytes.invariant.quiet.0, c.in-Ok.ensures.noted ∙ c.bytes.invariant.quiet.1);
+      sent = send_nothing_twice (g.L.Link.state c.args.link.now) (g.L.Link.state c.bytes.link) (g.L.Link.state c.fill.new.link) c.bytes.invariant.sent c.fill.ensures.sent;
     }

@@ -1,6 +1,6 @@
 use Rattle.std.proofs.Common.{◌≡◌, ◌≤◌, ◌-◌, ◌^◌}
 use Rattle.tac_io.specs.LineAnswers.{IsDecided}
-use Rattle.tac_io.specs.LinkCalls.{SendsNothing}
+use Rattle.tac_io.specs.LinkCalls.{NoReadFails, SendsNothing}
 use Rattle.tac_io.proofs.NextLine.{IsGoing}
 use Rattle.tac_io.proofs.lines.next_line.Given as goal
 
@@ -9,7 +9,7 @@ invariant-bytes g l = record {
   going : IsGoing l.fn.buffer.unread l.fn.taken (g.L.Link.state l.fn.link) l.long l.buffer.unread l.taken (g.L.Link.state l.link);
   budget : l.taken ≤ 2 ^ 26;
   decided : IsDecided l.fn.buffer.unread l.fn.taken → l.link ≡ l.fn.link;
-  quiet : (g.L.Link.state l.link).reads ≡ (g.L.Link.state l.fn.link).reads;
+  quiet : NoReadFails (g.L.Link.state l.fn.link) (g.L.Link.state l.link);
   sent : SendsNothing (g.L.Link.state l.fn.link) (g.L.Link.state l.link);
 }
 

@@ -1,5 +1,5 @@
 use Rattle.std.proofs.Common.{length, ◌-◌, ◌≡◌, ◌≤◌, take}
-use Rattle.tac_io.specs.LinkCalls.{ReadsNothing}
+use Rattle.tac_io.specs.LinkCalls.{NoWriteFails, ReadsNothing}
 use Rattle.tac_io.specs.Known.{known_then}
 use Rattle.tac_io.proofs.lines.send_all.Given as goal
 
@@ -7,7 +7,7 @@ abbrev pub invariant-loop-done : goal.invariant-loop-done
 invariant-loop-done g l = record {
   within : l.done ≤ length l.bytes;
   sent : (g.L.Link.state l.link).sent ≡ known_then (g.L.Link.state l.fn.link).sent (take l.done l.bytes);
-  quiet : (g.L.Link.state l.link).writes ≡ (g.L.Link.state l.fn.link).writes;
+  quiet : NoWriteFails (g.L.Link.state l.fn.link) (g.L.Link.state l.link);
   read : ReadsNothing (g.L.Link.state l.fn.link) (g.L.Link.state l.link);
 }
 

@@ -9,4 +9,5 @@ loop-done-preserved g c = record {
   taken = known_then-take _ _ _ _ _ _ c.loop-done.invariant.taken
       (c.in_ok-done.ensures.bytes.2 ∙ ap (λ rest. known_then (g.K.Sink.state c.loop-done.sink).taken (take c.in_ok-done.field-0 rest)) c.split_at.ensures.back);
   quiet = c.in_ok-done.ensures.cause ∙ c.loop-done.invariant.quiet;
+  unmarked = c.in_ok-done.ensures.noted ∙ c.loop-done.invariant.unmarked;
 }

@@ -7,6 +7,7 @@ invariant-loop-done g l = record {
   within : l.done ≤ length l.bytes;
   taken : (g.K.Sink.state l.sink).taken ≡ known_then (g.K.Sink.state l.fn.sink).taken (take l.done l.bytes);
   quiet : (g.K.Sink.state l.sink).faults ≡ (g.K.Sink.state l.fn.sink).faults;
+  unmarked : (g.K.Sink.state l.sink).failures ≡ (g.K.Sink.state l.fn.sink).failures;
 }
 
 abbrev pub decreases-loop-done : goal.decreases-loop-done
