@@ -5,11 +5,10 @@ use Rattle.std.proofs.Math.Seq.{take-append-add, take-length}
 use Rattle.std.proofs.lemmas.List.{append_assoc, append-nil, take-append-le, take-append-drop, take_more}
 use Rattle.std.proofs.lemmas.Grind.{flat_map-append}
 use Rattle.text_forms.specs.Lines.{text_of}
-use Rattle.tac_io.specs.Counts.{Rose}
-use Rattle.tac_io.specs.LinkCalls.{OnlySends, ReadsNothing}
+use Rattle.tac_io.specs.LinkCalls.{LastWriteFails, NoWriteFails, OnlySends, ReadsNothing}
 use Rattle.tac_io.specs.States.{LinkState}
 use Rattle.tac_io.specs.Known.{known_then, TakesSome}
-use Rattle.tac_io.proofs.KnownPieces.{known_then-twice, read_nothing_twice}
+use Rattle.tac_io.proofs.KnownPieces.{known_then-twice, last_write_fails_then, no_write_fails_twice, read_nothing_twice}
 use Rattle.agent_gate.specs.Welcome.{MovesOn}
 
 -- what was sent of a part, after all that stands before it, was sent of the whole
@@ -69,13 +68,13 @@ module _ (first : List ℕ) (lines : List (List ℕ)) where
       ∙ ap (known_then link.sent) (going.so_far ∙ ap (λ l. (first ++ 10 ∷ []) ++ text_of l) (ap (λ m. take m lines) all ∙ take-length lines))
 
   -- an earlier piece was not sent whole
-  pub greeting_stopped : (T : Type 0) {E : Type 0} (n : ℕ) (text : List ℕ) (link link' link₂ : LinkState) (e : E) → IsGreeting n text link link' → link'.writes ≡ link.writes → ReadsNothing link link'
-      → TakesSome link'.sent link₂.sent text → Rose link'.writes link₂.writes → ReadsNothing link' link₂ → OnlySends {T = T} link link₂ (text_of (first ∷ lines)) (Err e)
-  greeting_stopped T n text link link' link₂ e going quiet read some rose still =
-      (greeting_cut_off n text link link' link₂ going some, subst (λ writes. Rose writes link₂.writes) quiet rose, read_nothing_twice link link' link₂ read still)
+  pub greeting_stopped : (T : Type 0) {E : Type 0} (n : ℕ) (text : List ℕ) (link link' link₂ : LinkState) (e : E) → IsGreeting n text link link' → NoWriteFails link link' → ReadsNothing link link'
+      → TakesSome link'.sent link₂.sent text → LastWriteFails link' link₂ → ReadsNothing link' link₂ → OnlySends {T = T} link link₂ (text_of (first ∷ lines)) (Err e)
+  greeting_stopped T n text link link' link₂ e going quiet read some last still =
+      (greeting_cut_off n text link link' link₂ going some, last_write_fails_then link link' link₂ quiet last, read_nothing_twice link link' link₂ read still)
 
   -- the last piece was sent, whole or not
-  pub greeting_sent : {T E : Type 0} (n : ℕ) (text : List ℕ) (link link' link₂ : LinkState) (result : Result T E) → IsGreeting n text link link' → n ≡ length lines → link'.writes ≡ link.writes → ReadsNothing link link'
+  pub greeting_sent : {T E : Type 0} (n : ℕ) (text : List ℕ) (link link' link₂ : LinkState) (result : Result T E) → IsGreeting n text link link' → n ≡ length lines → NoWriteFails link link' → ReadsNothing link link'
       → OnlySends link' link₂ text result → OnlySends link link₂ (text_of (first ∷ lines)) result
-  greeting_sent n text link link' link₂ (Ok x) going all quiet read sends = (greeting_whole n text link link' link₂ going all sends.0, sends.1 ∙ quiet, read_nothing_twice link link' link₂ read sends.2)
+  greeting_sent n text link link' link₂ (Ok x) going all quiet read sends = (greeting_whole n text link link' link₂ going all sends.0, no_write_fails_twice link link' link₂ quiet sends.1, read_nothing_twice link link' link₂ read sends.2)
   greeting_sent {T} n text link link' link₂ (Err e) going all quiet read sends = greeting_stopped T n text link link' link₂ e going quiet read sends.0 sends.1 sends.2

@@ -33,7 +33,7 @@ use Rattle.agent_gate.proofs.DeskTurns.{HasMade, due_lawful, made_more, all_made
 
 -- a link whose remaining bytes are known, and nothing else of it
 abbrev leaving : List ℕ → LinkState
-leaving left = record { taken = None; left = Some left; sent = None; reads = 0; writes = 0 }
+leaving left = record { taken = None; left = Some left; sent = None; reads = 0; writes = 0; read_failures = None; write_failures = None }
 
 module _ (old new : Held) (link link' : LinkState) (count count' : ℕ) where
   -- an item comes from a line, or from one that is too long

@@ -1,11 +1,12 @@
 use Rattle.std.proofs.Common.{◌≡◌, ◌∙◌, ap, sym, subst, refl, arith}
 use Rattle.std.proofs.lemmas.Result.{IfOk-at_ok}
 use Rattle.tac_io.specs.LineAnswers.{goes_on}
-use Rattle.tac_io.specs.Counts.{Rose}
 use Rattle.tac_io.specs.Lines.{link_of}
 use Rattle.tac_io.specs.Known.{known_then, TakesSome}
-use Rattle.tac_io.proofs.KnownPieces.{gave_nothing}
+use Rattle.tac_io.proofs.KnownPieces.{gave_nothing, no_read_fails_twice, no_write_fails_twice}
+use Rattle.line_protocol.specs.declared.admission.Cause.TheVariants.{WriteFault}
 use Rattle.floor.specs.Desks.{desk_caller}
+use Rattle.agent_gate.specs.Served.{HasSessionCause}
 use Rattle.agent_gate.specs.Welcome.{welcome_text}
 use Rattle.agent_gate.proofs.DeskTurns.{made_none}
 use Rattle.agent_gate.proofs.UnderWay as session
@@ -19,10 +20,8 @@ returns-in_default-clause-session g c =
     (subst (λ a. TakesSome (g.L.Link.state (link_of c.args.lines)).sent (g.L.Link.state (link_of c.welcome.new.lines)).sent (welcome_text c.args.game.now a)) agent c.in_default.ensures.sends.0))
 
 pub returns-in_default-clause-cause : goal.returns-in_default-clause-cause
-returns-in_default-clause-cause g c = (
-  ap (λ l. (g.L.Link.state l).reads) c.into_link.ensures ∙ c.welcome.ensures.sends.2.2,
-  subst (λ l. Rose (g.L.Link.state (link_of c.args.lines)).writes (g.L.Link.state l).writes) (sym c.into_link.ensures) c.in_default.ensures.sends.1,
-)
+returns-in_default-clause-cause g c =
+    subst (λ l. HasSessionCause (g.L.Link.state (link_of c.args.lines)) (g.L.Link.state l) WriteFault) (sym c.into_link.ensures) (c.welcome.ensures.sends.2.2, c.in_default.ensures.sends.1)
 
 pub loop-answered-init : goal.loop-answered-init
 loop-answered-init g c =
@@ -39,8 +38,8 @@ pub loop-answered-preserved : goal.loop-answered-preserved
 loop-answered-preserved g c = record {
   going = session.goes_on _ _ _ _ _ _ _ _ _ _ _ c.loop-answered.invariant.going _ _ _ _ tt c.in_default-turn.ensures.turn c.turn.ensures.same;
   goes_on = c.in_default-turn.ensures.goes_on;
-  quiet = c.in_default-turn.ensures.cause.0 ∙ c.loop-answered.invariant.quiet;
-  write_quiet = c.in_default-turn.ensures.cause.1 ∙ c.loop-answered.invariant.write_quiet;
+  quiet = no_read_fails_twice (g.L.Link.state (link_of c.args.lines)) (g.L.Link.state (link_of c.loop-answered.lines)) (g.L.Link.state (link_of c.turn.new.lines)) c.loop-answered.invariant.quiet c.in_default-turn.ensures.cause.0;
+  write_quiet = no_write_fails_twice (g.L.Link.state (link_of c.args.lines)) (g.L.Link.state (link_of c.loop-answered.lines)) (g.L.Link.state (link_of c.turn.new.lines)) c.loop-answered.invariant.write_quiet c.in_default-turn.ensures.cause.1;
 }
 
 pub returns-in-Err-clause-session : goal.returns-in-Err-clause-session

@@ -1,5 +1,6 @@
 use Rattle.std.proofs.Common.{◌≡◌, true}
 use Rattle.tac_io.specs.LineAnswers.{goes_on}
+use Rattle.tac_io.specs.LinkCalls.{NoReadFails, NoWriteFails}
 use Rattle.tac_io.specs.Lines.{count_of, held_of, last_of, link_of}
 use Rattle.agent_gate.specs.Dialects.{dialect_of}
 use Rattle.agent_gate.proofs.UnderWay.{IsUnderWay}
@@ -11,6 +12,6 @@ invariant-loop-answered g l = record {
       (held_of l.fn.lines) (count_of l.fn.lines) (g.L.Link.state (link_of l.fn.lines)) l.fn.desk
       (held_of l.lines) (count_of l.lines) (g.L.Link.state (link_of l.lines)) l.desk l.answered;
   goes_on : goes_on (last_of l.lines) ≡ true;
-  quiet : (g.L.Link.state (link_of l.lines)).reads ≡ (g.L.Link.state (link_of l.fn.lines)).reads;
-  write_quiet : (g.L.Link.state (link_of l.lines)).writes ≡ (g.L.Link.state (link_of l.fn.lines)).writes;
+  quiet : NoReadFails (g.L.Link.state (link_of l.fn.lines)) (g.L.Link.state (link_of l.lines));
+  write_quiet : NoWriteFails (g.L.Link.state (link_of l.fn.lines)) (g.L.Link.state (link_of l.lines));
 }

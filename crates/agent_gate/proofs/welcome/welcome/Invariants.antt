@@ -2,7 +2,7 @@ use Rattle.std.proofs.Common.{◌≡◌, ◌<◌, length}
 use Rattle.std.specs.Prelude.{◌++◌, codes, decimal}
 use Rattle.game_text.specs.OneAgent.{lines_of_agent}
 use Rattle.tac_io.specs.Lines.{KeepsPlace, link_of}
-use Rattle.tac_io.specs.LinkCalls.{ReadsNothing}
+use Rattle.tac_io.specs.LinkCalls.{NoWriteFails, ReadsNothing}
 use Rattle.agent_gate.proofs.Greeting.{IsGreeting}
 use Rattle.agent_gate.proofs.welcome.welcome.Given as goal
 
@@ -13,7 +13,7 @@ invariant-loop-n g l =
     record {
       greeting : IsGreeting (codes "welcome " ++ decimal l.fn.agent) (lines_of_agent l.fn.game l.fn.agent) l.n l.text before now;
       nine : 0 < l.n → length (lines_of_agent l.fn.game l.fn.agent) ≡ 9;
-      quiet : now.writes ≡ before.writes;
+      quiet : NoWriteFails before now;
       read : ReadsNothing before now;
       place : KeepsPlace l.fn.lines l.lines;
     }
