@@ -4,19 +4,18 @@ use Rattle.std.specs.Prelude.{position, if◌then◌else◌, slice_index_or}
 use Rattle.std.specs.declared.option.Option.{Option}
 use Rattle.std.specs.Str.{bytes_eq}
 use Rattle.tac_io.specs.AllAnswers.{all_answers, ended_line}
-use Rattle.tac_io.specs.Counts.{Rose}
 use Rattle.tac_io.specs.HeldBytes.{Held}
 use Rattle.tac_io.specs.LineAnswers.{Answers, HasLineCause, goes_on}
 use Rattle.tac_io.specs.LineText.{has_end, BeginsWithLine}
 use Rattle.tac_io.specs.Lines.{count_of, held_of, last_of, link_of}
-use Rattle.tac_io.specs.LinkCalls.{GaveBytes, ReadsNothing, SendsNothing}
+use Rattle.tac_io.specs.LinkCalls.{GaveBytes, NoReadFails, ReadsNothing, SendsNothing}
 use Rattle.std.specs.Prelude.{◌⊎◌}
 use Rattle.tac_io.specs.Known.{known_then, then_known, IsAtEnd, TakesSome}
 use Rattle.tac_io.specs.declared.line_got.LineGot.{LineGot}
 use Rattle.tac_io.specs.declared.line_got.LineGot.TheVariants as gots
 use Rattle.tac_io.specs.declared.lines.Lines.{Lines}
 use Rattle.tac_io.proofs.ByBytes.{all_answers-line, all_answers-end, all_answers-budget}
-use Rattle.tac_io.proofs.KnownPieces.{known_then-nothing}
+use Rattle.tac_io.proofs.KnownPieces.{known_then-nothing, last_read_fails_still, last_write_fails_then, no_read_fails_twice, no_write_fails_twice, send_nothing_twice}
 use Rattle.std.proofs.lemmas.Bool.Decides.{nat_tests}
 use Rattle.line_protocol.specs.declared.admission.Verdict.{Verdict}
 use Rattle.line_protocol.specs.declared.admission.Verdict.TheVariants.{Seated, Syntax, WrongWord, Taken, Lost}
@@ -81,7 +80,7 @@ module _ {L : Type 0} (state : L → LinkState) (seats : Seats) (before : LinkSt
     counted = omega (arith, a.counted, zero_count)
 
   pub line_read : (verdict : Verdict) → Answers old (held_of lines) before (state (link_of lines)) count (count_of lines) gots.Line
-      → (state (link_of lines)).reads ≡ before.reads → goes_on (last_of lines) ≡ true → verdict ≡ verdict_of seats (held_of lines).line → IsFirstRead state seats verdict before lines
+      → NoReadFails before (state (link_of lines)) → goes_on (last_of lines) ≡ true → verdict ≡ verdict_of seats (held_of lines).line → IsFirstRead state seats verdict before lines
   line_read verdict a reads more due = by verdict due
     where
       whole : BeginsWithLine a.more (held_of lines).line (held_of lines).unread
@@ -124,7 +123,7 @@ module _ {L : Type 0} (state : L → LinkState) (seats : Seats) (before : LinkSt
       by Lost due = absurd (no_word_lost seats (greeting_of (held_of lines).line) (sym due))
 
   pub long_read : Answers old (held_of lines) before (state (link_of lines)) count (count_of lines) gots.TooLong
-      → (state (link_of lines)).reads ≡ before.reads → IsUnseated seats Syntax before (state (link_of lines))
+      → NoReadFails before (state (link_of lines)) → IsUnseated seats Syntax before (state (link_of lines))
   long_read a reads =
       let whole : BeginsWithLine a.more a.next.0 (held_of lines).unread = subst (λ bytes. BeginsWithLine bytes a.next.0 (held_of lines).unread) (bytes_are gots.TooLong a) a.next.1 in (
         record {
@@ -140,7 +139,7 @@ module _ {L : Type 0} (state : L → LinkState) (seats : Seats) (before : LinkSt
       )
 
   pub none_read : (got : LineGot) → Answers old (held_of lines) before (state (link_of lines)) count (count_of lines) got
-      → HasLineCause before.reads (state (link_of lines)).reads got → got ≢ gots.Line → got ≢ gots.TooLong → IsLost before (state (link_of lines))
+      → HasLineCause before (state (link_of lines)) got → got ≢ gots.Line → got ≢ gots.TooLong → IsLost before (state (link_of lines))
   none_read gots.Line a cause not_line not_long = absurd (not_line refl)
   none_read gots.TooLong a cause not_line not_long = absurd (not_long refl)
   none_read gots.End a cause not_line not_long = record {
@@ -176,6 +175,11 @@ sent_nothing before after (inr h) = absurd (omega (arith, h.0.proper))
 gave_still : (bytes : List ℕ) (before between after : LinkState) → GaveBytes bytes before between → ReadsNothing between after → GaveBytes bytes before after
 gave_still bytes before between after gave read = (read.0 ∙ gave.0, gave.1 ∙ ap (then_known bytes) (sym read.1))
 
+-- what was sent to a link is the same from where nothing was sent before
+sent_from : (line : List ℕ) (before between after : LinkState) → SendsNothing before between → IsSentOrCut line between after → IsSentOrCut line before after
+sent_from line before between after quiet (inl h) = inl (h.0 ∙ ap (λ sent. known_then sent line) quiet.0, no_write_fails_twice before between after quiet.1 h.1)
+sent_from line before between after quiet (inr h) = inr (subst (λ sent. TakesSome sent after.sent line) quiet.0 h.0, last_write_fails_then before between after quiet.1 h.1)
+
 refused : (seats : Seats) (verdict : Verdict) (before between after : LinkState) → IsUnseated seats verdict before between → IsOnlySent (refusal_line verdict) between after → IsRefused seats verdict before after
 refused seats verdict before between after u a = (
   record {
@@ -185,24 +189,25 @@ refused seats verdict before between after u a = (
     line = u.0.line;
     first = u.0.first;
     due = u.0.due;
-    reads = a.read.2 ∙ u.0.reads;
+    reads = no_read_fails_twice before between after u.0.reads a.read.2;
   },
-  subst (λ (w : Option (List ℕ) × ℕ). ((after.sent ≡ known_then w.0 (refusal_line verdict)) × (after.writes ≡ w.1)) ⊎ (TakesSome w.0 after.sent (refusal_line verdict) × Rose w.1 after.writes))
-      (λ i. (u.1.0 i, u.1.1 i)) a.sent,
+  sent_from (refusal_line verdict) before between after u.1 a.sent,
 )
 
 -- what holds of a link still holds after nothing was sent to it
 lost : (before between after : LinkState) → IsLost before between → IsOnlySent [] between after → IsLost before after
-lost before between after l a =
-    let none = sent_nothing between after a.sent in
-    record {
-      bytes = l.bytes;
-      gave = gave_still l.bytes before between after l.gave a.read;
-      why = subst (λ (w : Option (List ℕ) × ℕ). ((all_answers [] (2 ^ 26) l.bytes ≡ (gots.End, []) ∷ []) × IsAtEnd w.0 × (w.1 ≡ before.reads))
-          ⊎ ((all_answers [] (2 ^ 26) l.bytes ≡ (gots.Budget, []) ∷ []) × (w.1 ≡ before.reads))
-          ⊎ ((all_answers [] (2 ^ 26) l.bytes ≡ (gots.End, []) ∷ []) × Rose before.reads w.1)) (λ i. (sym a.read.1 i, sym a.read.2 i)) l.why;
-      quiet = (none.0 ∙ l.quiet.0, none.1 ∙ l.quiet.1);
-    }
+lost before between after l a = record {
+  bytes = l.bytes;
+  gave = gave_still l.bytes before between after l.gave a.read;
+  why = elim l.why [
+    inl ended ↦ inl (ended.0, subst IsAtEnd (sym a.read.1) ended.1, no_read_fails_twice before between after ended.2 a.read.2)
+    | inr other ↦ elim other [
+      inl full ↦ inr (inl (full.0, no_read_fails_twice before between after full.1 a.read.2))
+      | inr failed ↦ inr (inr (failed.0, last_read_fails_still before between after failed.1 a.read))
+    ]
+  ];
+  quiet = send_nothing_twice before between after l.quiet (sent_nothing between after a.sent);
+}
 
 pub turned_away : {L : Type 0} (state : L → LinkState) (seats : Seats) (verdict : Verdict) (before : LinkState) (lines : Lines L) (after : LinkState) → seat_of verdict ≡ None
     → IsFirstRead state seats verdict before lines → IsOnlySent (refusal_line verdict) (state (link_of lines)) after → IsTurnedAway seats verdict before after

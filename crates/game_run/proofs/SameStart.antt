@@ -1,10 +1,11 @@
 -- A session that began later is one from before, if nothing was sent and no call failed in between.
 use Rattle.std.proofs.Common.{◌≡◌, ℕ, List, ◌∙◌, ap, subst}
 use Rattle.std.specs.List.{concat}
-use Rattle.tac_io.specs.Counts.{Rose}
+use Rattle.tac_io.specs.LinkCalls.{NoReadFails, NoWriteFails}
 use Rattle.tac_io.specs.States.{LinkState}
 use Rattle.tac_io.specs.Known.{known_then, TakesSome}
 use Rattle.tac_io.specs.declared.line_got.LineGot.{LineGot}
+use Rattle.tac_io.proofs.KnownPieces.{last_read_fails_then, last_write_fails_then, no_read_fails_twice, no_write_fails_twice}
 use Rattle.line_protocol.specs.declared.saying.Said.{Said}
 use Rattle.line_protocol.specs.declared.admission.Cause.{Cause}
 use Rattle.line_protocol.specs.declared.admission.Cause.TheVariants as causes
@@ -45,9 +46,13 @@ module _ (before now after : LinkState) where
       end = ends_from dialect.text session cause served.end;
     }
 
-  pub caused_from : now.reads ≡ before.reads → now.writes ≡ before.writes → (cause : Cause) → HasSessionCause now after cause → HasSessionCause before after cause
-  caused_from reads writes causes.Quit h = (h.0 ∙ reads, h.1 ∙ writes)
-  caused_from reads writes causes.End h = (h.0 ∙ reads, h.1 ∙ writes)
-  caused_from reads writes causes.ReadFault h = (subst (λ count. Rose count after.reads) reads h.0, h.1 ∙ writes)
-  caused_from reads writes causes.WriteFault h = (h.0 ∙ reads, subst (λ count. Rose count after.writes) writes h.1)
-  caused_from reads writes causes.Budget h = (h.0 ∙ reads, h.1 ∙ writes)
+  module _ (reads : NoReadFails before now) (writes : NoWriteFails before now) where
+    quiet_from : NoReadFails now after × NoWriteFails now after → NoReadFails before after × NoWriteFails before after
+    quiet_from h = (no_read_fails_twice before now after reads h.0, no_write_fails_twice before now after writes h.1)
+
+    pub caused_from : (cause : Cause) → HasSessionCause now after cause → HasSessionCause before after cause
+    caused_from causes.Quit h = quiet_from h
+    caused_from causes.End h = quiet_from h
+    caused_from causes.ReadFault h = (last_read_fails_then before now after reads h.0, no_write_fails_twice before now after writes h.1)
+    caused_from causes.WriteFault h = (no_read_fails_twice before now after reads h.0, last_write_fails_then before now after writes h.1)
+    caused_from causes.Budget h = quiet_from h

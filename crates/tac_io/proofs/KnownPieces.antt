@@ -56,18 +56,12 @@ last_read_fails_then before now after one two = (subst (λ n. Rose n after.reads
 pub last_write_fails_then : (before now after : LinkState) → NoWriteFails before now → LastWriteFails now after → LastWriteFails before after
 last_write_fails_then before now after one two = (subst (λ n. Rose n after.writes) one.0 two.0, two.1 ∙ ap (failed_at after.sent) one.1)
 
--- where the last read failed, if nothing was taken then
-pub read_failed_at : (before now after : LinkState) → after.taken ≡ now.taken → after.read_failures ≡ failed_at now.taken now.read_failures → NoReadFails before now
-    → after.read_failures ≡ failed_at after.taken before.read_failures
-read_failed_at before now after same noted quiet = noted ∙ ap (failed_at now.taken) quiet.1 ∙ ap (λ taken. failed_at taken before.read_failures) (sym same)
-
--- where the last write failed, if nothing was sent then
-pub write_failed_at : (before now after : LinkState) → after.sent ≡ now.sent → after.write_failures ≡ failed_at now.sent now.write_failures → NoWriteFails before now
-    → after.write_failures ≡ failed_at after.sent before.write_failures
-write_failed_at before now after same noted quiet = noted ∙ ap (failed_at now.sent) quiet.1 ∙ ap (λ sent. failed_at sent before.write_failures) (sym same)
-
 pub read_nothing_twice : (before now after : LinkState) → ReadsNothing before now → ReadsNothing now after → ReadsNothing before after
 read_nothing_twice before now after one two = (two.0 ∙ one.0, two.1 ∙ one.1, no_read_fails_twice before now after one.2 two.2)
+
+-- the last read failed, and nothing was read after it
+pub last_read_fails_still : (before now after : LinkState) → LastReadFails before now → ReadsNothing now after → LastReadFails before after
+last_read_fails_still before now after one two = (subst (λ n. Rose before.reads n) (sym two.2.0) one.0, two.2.1 ∙ one.1 ∙ ap (λ taken. failed_at taken before.read_failures) (sym two.0))
 
 pub send_nothing_twice : (before now after : LinkState) → SendsNothing before now → SendsNothing now after → SendsNothing before after
 send_nothing_twice before now after one two = (two.0 ∙ one.0, no_write_fails_twice before now after one.1 two.1)
