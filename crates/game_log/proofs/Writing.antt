@@ -10,7 +10,7 @@ use Rattle.std.specs.List.{flat_map}
 use Rattle.std.specs.declared.option.Option.{Option}
 use Rattle.tac_io.specs.Counts.{Rose}
 use Rattle.tac_io.specs.States.{SinkState}
-use Rattle.tac_io.specs.Known.{known_then, TakesSome}
+use Rattle.tac_io.specs.Known.{known_then, failed_at, TakesSome}
 use Rattle.tac_io.specs.declared.failed.Failed.{Failed}
 use Rattle.tac_io.proofs.KnownPieces.{known_then-twice}
 use Rattle.tac_io.specs.Taken.{TookWhole, TookPart}
@@ -43,22 +43,26 @@ some_after t0 t1 t2 p q e s =
 rose_from : (f0 f1 f2 : ℕ) → f1 ≡ f0 → Rose f1 f2 → Rose f0 f2
 rose_from f0 f1 f2 e r = rw e at r
 
+-- where the one write failed, if none failed before
+failed_from : (s0 s1 s2 : SinkState) → s1.failures ≡ s0.failures → s2.failures ≡ failed_at s2.taken s1.failures → s2.failures ≡ failed_at s2.taken s0.failures
+failed_from s0 s1 s2 same failed = failed ∙ ap (failed_at s2.taken) same
+
 -- two pieces, of which the first was written whole
 pub writes_both : (a b p q : List ℕ) (s0 s1 s2 : SinkState) (r : Result (Unit {0}) Failed) → a ≡ p → b ≡ q → TookWhole s0 s1 a → WritesPiece b s1 s2 r → WritesPiece (p ++ q) s0 s2 r
 writes_both a b p q s0 s1 s2 (Ok done) pa qb v w =
-    (wrote_both s0.taken s1.taken s2.taken p q (v.0 ∙ ap (known_then s0.taken) pa) (w.0 ∙ ap (known_then s1.taken) qb), w.1 ∙ v.1)
+    (wrote_both s0.taken s1.taken s2.taken p q (v.0 ∙ ap (known_then s0.taken) pa) (w.0 ∙ ap (known_then s1.taken) qb), w.1 ∙ v.1, w.2 ∙ v.2)
 writes_both a b p q s0 s1 s2 (Err failed) pa qb v w =
-    (some_after s0.taken s1.taken s2.taken p q (v.0 ∙ ap (known_then s0.taken) pa) (subst (TakesSome s1.taken s2.taken) qb w.0), rose_from s0.faults s1.faults s2.faults v.1 w.1)
+    (some_after s0.taken s1.taken s2.taken p q (v.0 ∙ ap (known_then s0.taken) pa) (subst (TakesSome s1.taken s2.taken) qb w.0), rose_from s0.faults s1.faults s2.faults v.1 w.1, failed_from s0 s1 s2 v.2 w.2)
 
 -- two pieces, of which the first was not written whole
 pub fails_both : (a p q : List ℕ) (s0 s1 : SinkState) → a ≡ p → TookPart s0 s1 a → TookPart s0 s1 (p ++ q)
-fails_both a p q s0 s1 pa w = (some_before s0.taken s1.taken p q (subst (TakesSome s0.taken s1.taken) pa w.0), w.1)
+fails_both a p q s0 s1 pa w = (some_before s0.taken s1.taken p q (subst (TakesSome s0.taken s1.taken) pa w.0), w.1, w.2)
 
 pub then_whole : (p q : List ℕ) (s0 s1 s2 : SinkState) → TookWhole s0 s1 p → TookWhole s1 s2 q → TookWhole s0 s2 (p ++ q)
-then_whole p q s0 s1 s2 v w = (wrote_both s0.taken s1.taken s2.taken p q v.0 w.0, w.1 ∙ v.1)
+then_whole p q s0 s1 s2 v w = (wrote_both s0.taken s1.taken s2.taken p q v.0 w.0, w.1 ∙ v.1, w.2 ∙ v.2)
 
 pub then_some : (p q : List ℕ) (s0 s1 s2 : SinkState) → TookWhole s0 s1 p → TookPart s1 s2 q → TookPart s0 s2 (p ++ q)
-then_some p q s0 s1 s2 v w = (some_after s0.taken s1.taken s2.taken p q v.0 w.0, rose_from s0.faults s1.faults s2.faults v.1 w.1)
+then_some p q s0 s1 s2 v w = (some_after s0.taken s1.taken s2.taken p q v.0 w.0, rose_from s0.faults s1.faults s2.faults v.1 w.1, failed_from s0 s1 s2 v.2 w.2)
 
 -- an answer that is no success
 pub refused : (p : List ℕ) (s0 s1 : SinkState) (r : Result (Unit {0}) Failed) → TookPart s0 s1 p → IsErr r → WritesPiece p s0 s1 r
@@ -88,6 +92,7 @@ pieces_all piece xs i d lt =
 pub record WroteUpTo {A : Type 0} (piece : A → List ℕ) (xs : List A) (i : ℕ) (s0 s1 : SinkState) : Type 0 where
   pub taken : s1.taken ≡ known_then s0.taken (flat_map piece (take i xs))
   pub quiet : s1.faults ≡ s0.faults
+  pub unmarked : s1.failures ≡ s0.failures
 
 -- one more piece was written
 pub wrote_next : {A : Type 0} (piece : A → List ℕ) (xs : List A) (i : ℕ) (x : A) (a : List ℕ) (s0 s1 s2 : SinkState) → i < length xs → get_or xs i x ≡ x → a ≡ piece x → WroteUpTo piece xs i s0 s1 → TookWhole s1 s2 a → WroteUpTo piece xs (i + 1) s0 s2
@@ -95,6 +100,7 @@ wrote_next {A = A} piece xs i x a s0 s1 s2 lt is e before w = record {
   taken = wrote_both s0.taken s1.taken s2.taken (flat_map piece (take i xs)) (piece x) before.taken (w.0 ∙ ap (known_then s1.taken) e)
       ∙ ap (known_then s0.taken) (sym (pieces_more piece xs i x lt ∙ ap (λ (y : A). flat_map piece (take i xs) ++ piece y) is));
   quiet = w.1 ∙ before.quiet;
+  unmarked = w.2 ∙ before.unmarked;
 }
 
 some_next : {A : Type 0} (piece : A → List ℕ) (xs : List A) (i : ℕ) (x : A) (s0 s1 s2 : SinkState) → i < length xs → get_or xs i x ≡ x → WroteUpTo piece xs i s0 s1 → TakesSome s1.taken s2.taken (piece x) → TakesSome s0.taken s2.taken (flat_map piece xs)
@@ -108,11 +114,11 @@ some_next {A = A} piece xs i x s0 s1 s2 lt is before some =
 pub failed_next : {A : Type 0} (piece : A → List ℕ) (xs : List A) (i : ℕ) (x : A) (a : List ℕ) (s0 s1 s2 : SinkState) (r : Result (Unit {0}) Failed) → i < length xs → get_or xs i x ≡ x → a ≡ piece x → WroteUpTo piece xs i s0 s1 → TookPart s1 s2 a → IsErr r → WritesPiece (flat_map piece xs) s0 s2 r
 failed_next piece xs i x a s0 s1 s2 (Ok done) lt is e before w h = absurd cc
 failed_next piece xs i x a s0 s1 s2 (Err failed) lt is e before w h =
-    (some_next piece xs i x s0 s1 s2 lt is before (subst (TakesSome s1.taken s2.taken) e w.0), rose_from s0.faults s1.faults s2.faults before.quiet w.1)
+    (some_next piece xs i x s0 s1 s2 lt is before (subst (TakesSome s1.taken s2.taken) e w.0), rose_from s0.faults s1.faults s2.faults before.quiet w.1, failed_from s0 s1 s2 before.unmarked w.2)
 
 -- the pieces of all items were written whole
 pub wrote_all : {A : Type 0} (piece : A → List ℕ) (xs : List A) (i : ℕ) (s0 s1 : SinkState) → length xs ≤ i → WroteUpTo piece xs i s0 s1 → TookWhole s0 s1 (flat_map piece xs)
-wrote_all {A = A} piece xs i s0 s1 past w = (w.taken ∙ ap (λ (ys : List A). known_then s0.taken (flat_map piece ys)) (take_all i xs past), w.quiet)
+wrote_all {A = A} piece xs i s0 s1 past w = (w.taken ∙ ap (λ (ys : List A). known_then s0.taken (flat_map piece ys)) (take_all i xs past), w.quiet, w.unmarked)
 
 -- the item of a list at a place
 pub item_at : {A : Type 0} (xs : List A) (i : ℕ) → i < length xs → (x : A) × (slice_get xs i ≡ Some x) × (get_or xs i x ≡ x)
