@@ -32,7 +32,7 @@ hears_nothing game files start stepper none s = record {
   given = [];
   count_is = refl;
   within = omega arith;
-  answered = record { written = []; stepping = s; all = all_written game [] [] stepper none s; took = (sym (known_then-nothing start.taken), refl) };
+  answered = record { written = []; stepping = s; all = all_written game [] [] stepper none s; took = (sym (known_then-nothing start.taken), refl, refl) };
   left = sym (then_known-nothing files.left);
   quiet = refl;
 }
