@@ -323,20 +323,27 @@ ROWS = [
          "`quit`, whatever they are, and bytes left: `Budget`, and so after 1 turn where the bytes "
          "that may be taken are used up")),
     Row(["worked_rows/Ends:read_fault_is_counted", "worked_rows/Ends:write_fault_is_counted",
-         "worked_rows/Ends:end_counts_no_fault"],
+         "worked_rows/Ends:end_counts_no_fault",
+         "worked_rows/Ends:no_session_writes_after_a_failed_write"],
         ["agent_gate/Served.HasSessionCause"],
         ("A count of failed reads that rose from 3 to 4 is a `ReadFault`, and no `End`; one of "
-         "failed writes is a `WriteFault`")),
+         "failed writes is a `WriteFault`, but never where bytes were sent after the failure")),
     # A game over links
     Row(["worked_rows/Links:second_greeting_is_taken"], ["game_run/Admission.HasFirstLine"],
         ("The seat of agent 2 is given. A link gives `hello seat2`, and then `hello seat3`: by its "
          "first line it is `Taken`, and no later line counts")),
-    Row(["worked_rows/Links:refusal_is_sent_or_cut"], ["game_run/Admission.IsSentOrCut"],
+    Row(["worked_rows/Links:refusal_is_sent_or_cut",
+         "worked_rows/Links:no_refusal_goes_on_after_a_failed_write"],
+        ["game_run/Admission.IsSentOrCut"],
         ("`refused taken` was sent whole, and no fault counted; or the first 7 bytes of it, "
-         "`refused`, and failed writes rose from 0 to 1")),
-    Row(["worked_rows/Links:lost_at_its_end_or_a_failed_read"], ["game_run/Admission.IsLost"],
+         "`refused`, and failed writes rose from 0 to 1. A write that failed after 4 bytes, and "
+         "then 3 more bytes: never")),
+    Row(["worked_rows/Links:lost_at_its_end_or_a_failed_read",
+         "worked_rows/Links:no_link_is_read_after_a_failed_read"],
+        ["game_run/Admission.IsLost"],
         ("`hello seat2` without a line end, and no more: lost. `hello`, and then a read failed, "
-         "though the rest of the line was still to come: lost. Nothing was sent")),
+         "though the rest of the line was still to come: lost. Nothing was sent. A read that "
+         "failed after 2 bytes, and then 3 more bytes: never")),
     Row(["worked_rows/Links:links_are_taken_up_to_8_seats_or_64_links"],
         ["game_run/Admission.MayGoOn", "game_run/Admission.is_seated"],
         ("After seven seats another link may be taken, and after eight none; after 63 links that "
@@ -377,7 +384,8 @@ ROWS = [
     Row(["worked_rows/CommandLines:text_is_written_with_its_code_or_cut"],
         ["tac_commands/Reporting.Reports", "tac_io/Taken.TookPart"],
         ("The text `ab` of a game with lapsed ticks: all of it, and code 6. Of `ab` only `a`, and "
-         "a fault counted: code 4. Only `a` and code 0: never")),
+         "a fault counted: code 4. Only `a` and code 0: never; and never `a` after a write that "
+         "failed before it")),
     # The command `step`
     Row(["worked_rows/Lines:good_lines_and_a_rest_or_a_bad_line"],
         ["script_run/HeardScripts.heard", "script_run/HeardScripts.heard_from"],

@@ -10,13 +10,13 @@ use Rattle.tac_commands.specs.{Outcome, code_of, Reports}
 abbrev pub IsCoded : SinkState → SinkState → ℕ → Outcome → Type 0
 IsCoded sink sink' code outcome = ((code ≡ 4) × Rose sink.faults sink'.faults) ⊎ (code ≡ code_of outcome)
 
-coded_by : (b : Bool) (sink sink' : SinkState) (code : ℕ) (outcome : Outcome) (P Q : Type 0) → (code == 4) ≡ b → MatchBool b (P × Rose sink.faults sink'.faults) ((code ≡ code_of outcome) × Q) →
+coded_by : (b : Bool) (sink sink' : SinkState) (code : ℕ) (outcome : Outcome) (P Q R : Type 0) → (code == 4) ≡ b → MatchBool b (P × Rose sink.faults sink'.faults × Q) ((code ≡ code_of outcome) × R) →
     IsCoded sink sink' code outcome
-coded_by true sink sink' code outcome P Q e told = inl (eqb-true code 4 e, told.1)
-coded_by false sink sink' code outcome P Q e told = inr told.0
+coded_by true sink sink' code outcome P Q R e told = inl (eqb-true code 4 e, told.1)
+coded_by false sink sink' code outcome P Q R e told = inr told.0
 
 pub coded : (outcome : Outcome) (sink sink' : SinkState) (code : ℕ) → Reports outcome sink sink' code → IsCoded sink sink' code outcome
-coded outcome sink sink' code told = coded_by (code == 4) sink sink' code outcome _ _ refl told
+coded outcome sink sink' code told = coded_by (code == 4) sink sink' code outcome _ _ _ refl told
 
 module _ (sink sink' : SinkState) (code : ℕ) (outcome : Outcome) where
   -- if the outcome has the code only from its cause, so has the program

@@ -2,7 +2,7 @@
 ghost use Rattle.std.specs.Prelude.{◌≡◌, ◌<◌, None, length};
 ghost use Rattle.std.specs.Io.KnownBytes.{WriteAppends};
 ghost use Rattle.tac_io.specs.Counts.{HasCause};
-ghost use Rattle.tac_io.specs.Known.{Takes};
+ghost use Rattle.tac_io.specs.Known.{NotesFailure, Takes};
 
 use std::io::Write;
 use tac_io::{Failed, Sink};
@@ -27,11 +27,12 @@ impl<W: Write> StdSink<W> {
 impl<W: Write> Sink for StdSink<W> {
     ghost use Rattle.std.specs.Prelude.{None};
 
-    ghost state = { λ s. record { taken = None; faults = s.faults } };
+    ghost state = { λ s. record { taken = None; faults = s.faults; failures = None } };
 
     fn write(&mut self, piece: &[u8]) -> Result<usize, Failed>
         ensures bytes { Takes None None result piece.now }
         ensures cause { HasCause self.old.faults self.new.faults result }
+        ensures noted { NotesFailure None None None result }
         ensures passed { WriteAppends (W.contents self.old.writer) (W.contents self.new.writer) result piece.now }
     {
         match self.writer.write(piece) {

@@ -2,7 +2,7 @@
 ghost use Rattle.std.specs.Prelude.{◌≡◌, None, IfOk, IsOk, IsSome};
 ghost use Rattle.std.specs.Io.KnownBytes.{ReadConsumes, WriteAppends};
 ghost use Rattle.tac_io.specs.Counts.{HasCause};
-ghost use Rattle.tac_io.specs.Known.{Reads, Takes};
+ghost use Rattle.tac_io.specs.Known.{NotesFailure, Reads, Takes};
 
 use std::io::{ErrorKind, Read, Write};
 use std::net::{Net, TcpListener, TcpStream};
@@ -34,11 +34,20 @@ impl<S> TcpLink<S> {
 impl<S: Read + Write> Link for TcpLink<S> {
     ghost use Rattle.std.specs.Prelude.{None};
 
-    ghost state = { λ s. record { taken = None; left = None; sent = None; reads = s.faults; writes = s.write_faults } };
+    ghost state = { λ s. record {
+      taken = None;
+      left = None;
+      sent = None;
+      reads = s.faults;
+      writes = s.write_faults;
+      read_failures = None;
+      write_failures = None;
+    } };
 
     fn read(&mut self, into: &mut [u8]) -> Result<usize, Failed>
         ensures bytes { Reads None None result into.new }
         ensures cause { HasCause self.old.faults self.new.faults result }
+        ensures noted { NotesFailure None None None result }
         ensures write_faults { self.new.write_faults ≡ self.old.write_faults }
         ensures passed { ReadConsumes (S.remaining self.old.stream) (S.remaining self.new.stream) result into.new }
     {
@@ -54,6 +63,7 @@ impl<S: Read + Write> Link for TcpLink<S> {
     fn write(&mut self, piece: &[u8]) -> Result<usize, Failed>
         ensures bytes { Takes None None result piece.now }
         ensures cause { HasCause self.old.write_faults self.new.write_faults result }
+        ensures noted { NotesFailure None None None result }
         ensures read_faults { self.new.faults ≡ self.old.faults }
         ensures passed { WriteAppends (S.contents self.old.stream) (S.contents self.new.stream) result piece.now }
     {

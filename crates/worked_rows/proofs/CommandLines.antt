@@ -11,7 +11,7 @@ use Rattle.tac_commands.specs.declared.refusals.Refusal.TheVariants as refusals
 use Rattle.tac_commands.specs.Services.{service_of}
 use Rattle.tac_commands.specs.Outcomes.{Done, Lapsed, Unsound, Stopped, Unwritten, Refused, exit_of}
 use Rattle.tac_commands.specs.Reporting.{Reports}
-use Rattle.worked_rows.proofs.Links.{counts_rise_or_stay}
+use Rattle.worked_rows.proofs.Links.{counts_rise_or_stay, first_known}
 
 -- no service: port 0, port 65536, a leading zero, pace 60001, no pace, and another form
 services_have_a_port_a_pace_and_a_form :
@@ -50,19 +50,22 @@ codes_of_texts_and_refusals : (map exit_of (Done (codes "a") ∷ Lapsed (codes "
 unfolding digits
 codes_of_texts_and_refusals = (refl, refl)
 
-abbrev sink : List ℕ → ℕ → SinkState
-sink taken faults = record { taken = Some taken; faults = faults }
+-- a sink that took some bytes, and whose writes failed after so many bytes
+abbrev sink : List ℕ → List ℕ → SinkState
+sink taken failures = record { taken = Some taken; faults = length failures; failures = Some failures }
 
 -- how many bytes are known
 abbrev count_known : Option (List ℕ) → ℕ
 count_known None = 0
 count_known (Some bytes) = length bytes
 
-text_is_written_with_its_code_or_cut : Reports (Lapsed (codes "ab")) (sink [] 0) (sink (codes "ab") 0) 6
-    × Reports (Done (codes "ab")) (sink [] 0) (sink (codes "a") 1) 4
-    × (Reports (Done (codes "ab")) (sink [] 0) (sink (codes "a") 0) 0 → ⊥)
+text_is_written_with_its_code_or_cut : Reports (Lapsed (codes "ab")) (sink [] []) (sink (codes "ab") []) 6
+    × Reports (Done (codes "ab")) (sink [] []) (sink (codes "a") (1 ∷ [])) 4
+    × (Reports (Done (codes "ab")) (sink [] []) (sink (codes "a") []) 0 → ⊥)
+    × (Reports (Done (codes "ab")) (sink [] []) (sink (codes "a") (0 ∷ [])) 4 → ⊥)
 text_is_written_with_its_code_or_cut = (
-  (refl, (refl, refl)),
-  (record { count = 1; proper = omega arith; taken = refl }, counts_rise_or_stay.0),
+  (refl, (refl, refl, refl)),
+  (record { count = 1; proper = omega arith; taken = refl }, counts_rise_or_stay.0, refl),
   λ written. let e : ◌≡◌ {A = ℕ} 1 2 = ap count_known written.1.0 in omega (arith, e),
+  λ cut. let e : ◌≡◌ {A = ℕ} 0 1 = ap first_known cut.2 in omega (arith, e),
 )

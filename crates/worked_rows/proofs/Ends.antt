@@ -1,6 +1,6 @@
 -- Why a session ends: what was sent, what the link had left, and the counts of its faults.
 use Rattle.std.proofs.Common.{◌≡◌, ◌<◌, inl, inr, ℕ, true, false, List, [], ◌∷◌, length, map, Option, Some, None, refl, ap, arith}
-use Rattle.std.specs.Prelude.{codes}
+use Rattle.std.specs.Prelude.{◌++◌, codes}
 use Rattle.std.specs.List.{concat}
 use Rattle.tac_io.specs.States.{LinkState}
 use Rattle.tac_io.specs.declared.line_got.LineGot.{LineGot}
@@ -9,15 +9,27 @@ use Rattle.line_protocol.specs.declared.admission.Cause.TheVariants as causes
 use Rattle.line_protocol.specs.Replies.{said_text}
 use Rattle.agent_gate.specs.Turns.{Turn, Skipped, Left, has_left}
 use Rattle.agent_gate.specs.Served.{Session, reply_line, EndsBy, HasSessionCause}
-use Rattle.worked_rows.proofs.Links.{counts_rise_or_stay}
+use Rattle.worked_rows.proofs.Links.{counts_rise_or_stay, first_known}
 
--- a link that was sent some bytes, has some left, and had so many faults of reads and of writes
-abbrev link : List ℕ → List ℕ → ℕ → ℕ → LinkState
-link sent left reads writes = record { taken = Some []; left = Some left; sent = Some sent; reads = reads; writes = writes }
+-- a link that was sent some bytes, has some left, and whose reads and writes failed after so many bytes
+abbrev link : List ℕ → List ℕ → List ℕ → List ℕ → LinkState
+link sent left reads writes = record {
+  taken = Some [];
+  left = Some left;
+  sent = Some sent;
+  reads = length reads;
+  writes = length writes;
+  read_failures = Some reads;
+  write_failures = Some writes;
+}
+
+-- three calls failed before, at no byte
+abbrev three : List ℕ
+three = 0 ∷ 0 ∷ 0 ∷ []
 
 -- the welcome is a line `hi`, and the bytes give no further line
 abbrev session : List Turn → List ℕ → List ℕ → Session
-session turns sent left = record { welcome = codes "hi\n"; turns = turns; rest = (gots.End, []) ∷ []; before = link [] (codes "..") 0 0; after = link sent left 0 0 }
+session turns sent left = record { welcome = codes "hi\n"; turns = turns; rest = (gots.End, []) ∷ []; before = link [] (codes "..") [] []; after = link sent left [] [] }
 
 -- how many bytes are known
 abbrev count_known : Option (List ℕ) → ℕ
@@ -66,11 +78,15 @@ budget_after_65536_turns turns stays full = (inl (stays, full), refl)
 budget_with_all_bytes_used_up : EndsBy causes.Budget said_text (record (session (Skipped ∷ []) (codes "hi\nno toolong\n") (codes "x")) { rest = (gots.Budget, []) ∷ [] })
 budget_with_all_bytes_used_up = (inr (refl, one_line, refl), refl)
 
-read_fault_is_counted : HasSessionCause (link [] [] 3 0) (link [] [] 4 0) causes.ReadFault
-read_fault_is_counted = (counts_rise_or_stay.1, refl)
+read_fault_is_counted : HasSessionCause (link [] [] three []) (link [] [] (three ++ 0 ∷ []) []) causes.ReadFault
+read_fault_is_counted = ((counts_rise_or_stay.1, refl), (refl, refl))
 
-write_fault_is_counted : HasSessionCause (link [] [] 0 3) (link [] [] 0 4) causes.WriteFault
-write_fault_is_counted = (refl, counts_rise_or_stay.1)
+write_fault_is_counted : HasSessionCause (link [] [] [] three) (link (codes "hi") [] [] (three ++ 2 ∷ [])) causes.WriteFault
+write_fault_is_counted = ((refl, refl), (counts_rise_or_stay.1, refl))
 
-end_counts_no_fault : HasSessionCause (link [] [] 3 0) (link [] [] 4 0) causes.End → ⊥
-end_counts_no_fault cause = let e : ◌≡◌ {A = ℕ} 4 3 = cause.0 in omega (arith, e)
+end_counts_no_fault : HasSessionCause (link [] [] three []) (link [] [] (three ++ 0 ∷ []) []) causes.End → ⊥
+end_counts_no_fault cause = let e : ◌≡◌ {A = ℕ} 4 3 = cause.0.0 in omega (arith, e)
+
+-- a write failed after no byte, and two were sent then
+no_session_writes_after_a_failed_write : HasSessionCause (link [] [] [] []) (link (codes "hi") [] [] (0 ∷ [])) causes.WriteFault → ⊥
+no_session_writes_after_a_failed_write cause = let e : ◌≡◌ {A = ℕ} 0 2 = ap first_known cause.1.1 in omega (arith, e)

@@ -1,6 +1,6 @@
 -- Links: the lines of their bytes, what is known of these after a call, counts of faults, what the quiet game says to them, verdicts on their
 -- first lines, and what became of those without a seat.
-use Rattle.std.proofs.Common.{◌≡◌, ℕ, ◌<◌, true, false, List, [], ◌∷◌, pos, Some, None, map, take, length, refl, arith, inl, inr}
+use Rattle.std.proofs.Common.{◌≡◌, ℕ, ◌<◌, true, false, List, [], ◌∷◌, pos, Option, Some, None, ap, map, take, length, refl, arith, inl, inr}
 use Rattle.std.specs.Prelude.{◌++◌, ◌-◌, ◌^◌, codes, replicate}
 use Rattle.std.specs.Fmt.{digits}
 use Rattle.auction_rules.specs.declared.rules.Rules.TheVariants.{Hotel as HotelRules, Flight as FlightRules, Tickets as TicketRules}
@@ -77,13 +77,27 @@ one_seat_is_given_and_refused_links_are_told = (refl, refl, refl)
 
 -- ---- links without a seat
 
--- a link that gave some bytes and has some left, was sent some, and had so many faults of reads and of writes
-abbrev link : List ℕ → List ℕ → List ℕ → ℕ → ℕ → LinkState
-link taken left sent reads writes = record { taken = Some taken; left = Some left; sent = Some sent; reads = reads; writes = writes }
+-- a link that gave some bytes and has some left, was sent some, and whose reads and writes failed after so many bytes
+abbrev link : List ℕ → List ℕ → List ℕ → List ℕ → List ℕ → LinkState
+link taken left sent reads writes = record {
+  taken = Some taken;
+  left = Some left;
+  sent = Some sent;
+  reads = length reads;
+  writes = length writes;
+  read_failures = Some reads;
+  write_failures = Some writes;
+}
+
+-- the first of what is known, if there is one
+abbrev pub first_known : Option (List ℕ) → ℕ
+first_known None = 0
+first_known (Some []) = 0
+first_known (Some (place ∷ places)) = place
 
 -- of two lines the first one decides; the seat of agent 2 was given to an earlier link
-second_greeting_is_taken : HasFirstLine (seats_given quiet_game (Seated 2 ∷ [])) Taken (link [] (codes "hello seat2\nhello seat3\n") [] 0 0)
-    (link (codes "hello seat2\nhello seat3\n") [] (codes "refused taken\n") 0 0)
+second_greeting_is_taken : HasFirstLine (seats_given quiet_game (Seated 2 ∷ [])) Taken (link [] (codes "hello seat2\nhello seat3\n") [] [] [])
+    (link (codes "hello seat2\nhello seat3\n") [] (codes "refused taken\n") [] [])
 unfolding quiet_game
 second_greeting_is_taken = record {
   bytes = codes "hello seat2\nhello seat3\n";
@@ -92,20 +106,37 @@ second_greeting_is_taken = record {
   line = codes "hello seat2";
   first = ((Line, codes "hello seat3") ∷ (End, []) ∷ [], refl);
   due = refl;
-  reads = refl;
+  reads = (refl, refl);
 }
 
-refusal_is_sent_or_cut : IsSentOrCut (codes "refused taken\n") (link [] [] [] 0 0) (link [] [] (codes "refused taken\n") 0 0)
-    × IsSentOrCut (codes "refused taken\n") (link [] [] [] 0 0) (link [] [] (codes "refused") 0 1)
-refusal_is_sent_or_cut = (inl (refl, refl), inr (record { count = 7; proper = omega arith; taken = refl }, counts_rise_or_stay.0))
+refusal_is_sent_or_cut : IsSentOrCut (codes "refused taken\n") (link [] [] [] [] []) (link [] [] (codes "refused taken\n") [] [])
+    × IsSentOrCut (codes "refused taken\n") (link [] [] [] [] []) (link [] [] (codes "refused") [] (7 ∷ []))
+refusal_is_sent_or_cut = (inl (refl, refl, refl), inr (record { count = 7; proper = omega arith; taken = refl }, counts_rise_or_stay.0, refl))
+
+-- a write failed after 4 bytes, and 3 more were sent
+no_refusal_goes_on_after_a_failed_write : IsSentOrCut (codes "refused taken\n") (link [] [] [] [] []) (link [] [] (codes "refused") [] (4 ∷ [])) → ⊥
+no_refusal_goes_on_after_a_failed_write told = elim told [
+  | inl whole ↦ let e : ◌≡◌ {A = ℕ} 1 0 = whole.1.0 in omega (arith, e)
+  | inr cut ↦ let e : ◌≡◌ {A = ℕ} 4 7 = ap first_known cut.1.1 in omega (arith, e)
+]
 
 -- no line end, and nothing more
-lost_at_its_end_or_a_failed_read : IsLost (link [] (codes "hello seat2") [] 0 0) (link (codes "hello seat2") [] [] 0 0)
-    × IsLost (link [] (codes "hello seat2\n") [] 0 0) (link (codes "hello") (codes " seat2\n") [] 1 0)
+lost_at_its_end_or_a_failed_read : IsLost (link [] (codes "hello seat2") [] [] []) (link (codes "hello seat2") [] [] [] [])
+    × IsLost (link [] (codes "hello seat2\n") [] [] []) (link (codes "hello") (codes " seat2\n") [] (5 ∷ []) [])
 lost_at_its_end_or_a_failed_read = (
-  record { bytes = codes "hello seat2"; gave = (refl, refl); why = inl (refl, refl, refl); quiet = (refl, refl) },
-  record { bytes = codes "hello"; gave = (refl, refl); why = inr (inr (refl, counts_rise_or_stay.0)); quiet = (refl, refl) },
+  record { bytes = codes "hello seat2"; gave = (refl, refl); why = inl (refl, refl, refl, refl); quiet = (refl, refl, refl) },
+  record { bytes = codes "hello"; gave = (refl, refl); why = inr (inr (refl, counts_rise_or_stay.0, refl)); quiet = (refl, refl, refl) },
 )
+
+-- a read failed after 2 bytes, and 3 more were taken
+no_link_is_read_after_a_failed_read : IsLost (link [] (codes "hello seat2\n") [] [] []) (link (codes "hello") (codes " seat2\n") [] (2 ∷ []) []) → ⊥
+no_link_is_read_after_a_failed_read lost = elim lost.why [
+  | inl ended ↦ let e : ◌≡◌ {A = ℕ} 1 0 = ended.2.0 in omega (arith, e)
+  | inr other ↦ elim other [
+    | inl full ↦ let e : ◌≡◌ {A = ℕ} 1 0 = full.1.0 in omega (arith, e)
+    | inr failed ↦ let e : ◌≡◌ {A = ℕ} 2 5 = ap first_known failed.1.1 in omega (arith, e)
+  ]
+]
 
 abbrev seven : List Verdict
 seven = Seated 0 ∷ Seated 1 ∷ Seated 2 ∷ Seated 3 ∷ Seated 4 ∷ Seated 5 ∷ Seated 6 ∷ []
