@@ -7,11 +7,13 @@ ghost use Rattle.floor.specs.Floors.{floor_ids};
 ghost use Rattle.tac_io.specs.Counts.{Rose};
 ghost use Rattle.tac_io.specs.Known.{known_then};
 ghost use Rattle.clock_events.specs.Clocking.{WaitsForAll};
+ghost use Rattle.clock_events.specs.ClockTurns.{MakesCalls};
 ghost use Rattle.clock_events.specs.MadeCalls.{HasMade};
+ghost use Rattle.clock_events.specs.Steps.{steps_at, all_steps};
 ghost use Rattle.game_text.specs.Schedule as spec;
 ghost use Rattle.game_text.specs.Schedule.{clock_calls};
 
-use crate::{schedule, schedule_law};
+use crate::{ClockSteps, schedule, schedule_law};
 use floor::{Desk, Floor};
 use game_text::Game;
 use std::sync::Wait;
@@ -27,6 +29,8 @@ pub struct ClockEnd {
     pub desk: Desk,
     /// How many of the 54 ticks lapsed.
     pub missed: u8,
+    /// What it did, in order, as clauses show it.
+    pub steps: ClockSteps,
 }
 
 /// Makes the clock's calls of a tick, whose wait `due` shows, in the schedule's order, and no other call. It may wait for turns.
@@ -44,25 +48,50 @@ pub fn clock_tick<R: Wait + Clock, T: Ticker>(
     requires before { HasMade game.now (tick - 1) desk.old }
     ensures calls { desk_calls desk.new ≡ desk_calls desk.old ++ spec.calls_at game.now tick }
     ensures made { HasMade game.now tick desk.new }
+    ensures turns { MakesCalls (spec.calls_at game.now tick) desk.old desk.new }
     ensures boards { boards_of desk.new ≡ boards_of desk.old }
     ensures same { IsSameDesk desk.old desk.new }
 {
-    drop(due);
+    tick_steps::<R, T>(rt, floor, desk, &mut ClockSteps::new(), game, tick, due);
+}
+
+/// Takes the due of a tick, and then makes its calls.
+fn tick_steps<R: Wait + Clock, T: Ticker>(
+    rt: &R,
+    floor: &Floor,
+    desk: &mut Desk,
+    steps: &mut ClockSteps,
+    game: &Game,
+    tick: Tick,
+    due: T::Due,
+)
+    requires due { T.due_tick due ≡ tick }
+    requires own { desk_ids desk.old ≡ floor_ids floor.now }
+    requires clock { desk_caller desk.old ≡ clock }
+    requires before { HasMade game.now (tick - 1) desk.old }
+    ensures steps { steps.new.items ≡ steps.old.items ++ steps_at game.now tick }
+    ensures calls { desk_calls desk.new ≡ desk_calls desk.old ++ spec.calls_at game.now tick }
+    ensures made { HasMade game.now tick desk.new }
+    ensures turns { MakesCalls (spec.calls_at game.now tick) desk.old desk.new }
+    ensures boards { boards_of desk.new ≡ boards_of desk.old }
+    ensures same { IsSameDesk desk.old desk.new }
+{
+    steps.take_due::<T>(tick, due);
     // The conditions of the calls rest on the tick's range and on the laws of the schedule.
     let _number = tick.get();
     schedule_law(game);
     let mut n = 0;
     while let Some((good, call)) = &schedule(game, tick, n) {
-        desk.clock_call(rt, floor, *good, call);
+        steps.make_call(rt, floor, desk, *good, call);
         n += 1;
     }
 }
 
 /// Waits for a tick, and says whether it lapsed. A lapse is taken as due.
 fn wait_for<R: Wait + Clock, T: Ticker>(rt: &R, ticker: &mut T, tick: Tick) -> (T::Due, bool)
-    requires { IfSome (T.state ticker.old).waited (λ ticks. length ticks < TICKS) }
+    requires { IfSome (T.state ticker.old).waited (λ waits. length waits < TICKS) }
     ensures due { T.due_tick result.0 ≡ tick }
-    ensures waited { (T.state ticker.new).waited ≡ known_then (T.state ticker.old).waited ((tick, result.1) ∷ []) }
+    ensures waited { (T.state ticker.new).waited ≡ known_then (T.state ticker.old).waited (record { tick = tick; lapsed = result.1; paced = (T.state ticker.old).paced } ∷ []) }
     ensures paced { (T.state ticker.new).paced ≡ (T.state ticker.old).paced }
     ensures cause { MatchBool result.1 (Rose (T.state ticker.old).faults (T.state ticker.new).faults) ((T.state ticker.new).faults ≡ (T.state ticker.old).faults) }
 {
@@ -73,8 +102,9 @@ fn wait_for<R: Wait + Clock, T: Ticker>(rt: &R, ticker: &mut T, tick: Tick) -> (
 }
 
 /// Waits for each of the 54 ticks in turn, and makes its calls: altogether the schedule of the game from its first call to its last, in
-/// that order across the goods, and no other call. The calls of a tick that lapsed are made at once, and the next one is waited for
-/// again. No clause says that a tick's calls are made before the next wait. It takes no memory.
+/// that order across the goods, and no other call. The due of each tick is taken before its calls and after those of the tick before. The
+/// calls of a tick that lapsed are made at once, and the next one is waited for again. No clause says that a tick's calls are made before
+/// the next wait. It takes no memory.
 pub fn run_clock<R: Wait + Clock, T: Ticker>(
     rt: &R,
     floor: &Floor,
@@ -85,20 +115,27 @@ pub fn run_clock<R: Wait + Clock, T: Ticker>(
     requires own { desk_ids desk ≡ floor_ids floor.now }
     requires clock { desk_caller desk ≡ clock }
     requires no_calls { (desk_entries desk ≡ replicate GOODS []) × (desk_cash desk ≡ []) }
-    requires ticks { IfSome (T.state ticker.old).waited (λ ticks. ticks ≡ []) }
+    requires ticks { IfSome (T.state ticker.old).waited (λ waits. waits ≡ []) }
     ensures calls { desk_calls result.desk ≡ spec.schedule game.now }
     ensures made { HasMade game.now TICKS result.desk }
     ensures whole { (good : ℕ) → good < GOODS → map (λ p. p.1.call) (entries_at result.desk good) ≡ clock_calls game.now good }
+    ensures steps { result.steps.items ≡ all_steps game.now }
+    ensures turns { MakesCalls (spec.schedule game.now) desk result.desk }
     ensures boards { boards_of result.desk ≡ boards_of desk }
     ensures same { IsSameDesk desk result.desk }
     ensures waits { WaitsForAll (T.state ticker.old) (T.state ticker.new) result.missed }
 {
     let mut missed = 0;
+    let mut steps = ClockSteps::new();
     for number in 1..TICKS + 1 {
         let tick = Tick::new(number).unwrap();
         let (due, lapsed) = wait_for(rt, ticker, tick);
-        clock_tick::<R, T>(rt, floor, &mut desk, game, tick, due);
+        tick_steps::<R, T>(rt, floor, &mut desk, &mut steps, game, tick, due);
         missed += u8::from(lapsed);
     }
-    ClockEnd { desk, missed }
+    ClockEnd {
+        desk,
+        missed,
+        steps,
+    }
 }

@@ -4,7 +4,9 @@
 mod calls;
 mod clock;
 mod laws;
+mod steps;
 
 pub use calls::schedule;
 pub use clock::{ClockEnd, clock_tick, run_clock};
 pub use laws::schedule_law;
+pub use steps::ClockSteps;

@@ -25,7 +25,7 @@ use Rattle.game_run.specs.declared.session_ends.SessionEnds.{SessionEnds}
 use Rattle.game_run.specs.declared.play.OpenFloor.{OpenFloor}
 use Rattle.tac_io.specs.States.{LinkState}
 use Rattle.tac_io.specs.declared.line_got.LineGot.{LineGot}
-use Rattle.game_run.specs.PlayedGame.{caller_parts, IsLegalGame, IsAbsent}
+use Rattle.game_run.specs.PlayedGame.{caller_parts, IsLegalGame, IsAbsent, IsClockTranscript}
 use Rattle.agent_gate.specs.Dialects.{Dialect}
 
 -- ---- before the game
@@ -73,3 +73,4 @@ module _ {L : Type 0} (state : L → LinkState) (dialect : Dialect) (game : Game
     pub ended : map (λ end. end.0) ends ≡ filter (λ agent. slice_index_or (map (λ ls. is_some ls) lines) agent false) agents
     pub legal_game : IsLegalGame game closed
     pub scheduled : map (λ calls. map (λ p. p.1.call) calls) (caller_parts closed clock) ≡ map (clock_calls game) all_goods
+    pub clock_transcript : IsClockTranscript game closed

@@ -11,7 +11,8 @@ use Rattle.trade_ledger.specs.CashHistory.{IsLegalCash, cash_total}
 use Rattle.trade_ledger.specs.Posts.{Matched, trades_of_all}
 use Rattle.auction_core.specs.ClosedGame.{ClosedGame, all_goods}
 use Rattle.auction_core.specs.Setups.{setup_of}
-use Rattle.game_text.specs.Schedule.{clock_calls}
+use Rattle.game_text.specs.Schedule.{clock_calls, schedule}
+use Rattle.clock_events.specs.ClockTurns.{ClockTurn, call_made, clock_entries, clock_posts}
 use Rattle.line_protocol.specs.declared.admission.Cause.{Cause}
 use Rattle.line_protocol.specs.declared.admission.Verdict.{Verdict}
 use Rattle.game_run.specs.Admission.{seats_given}
@@ -34,6 +35,15 @@ pub record IsAbsent (closed : ClosedGame) (caller : ℕ) : Type 0 where
   pub calls : caller_parts closed caller ≡ replicate GOODS []
   pub cash : part (λ e. e.caller) closed.cash caller ≡ []
 
+-- The turns of the clock against the histories: in order they make the calls of the schedule. At each good the clock's part of the history is
+-- what its turns made, by position, call and reply. Its part of the cash history is, in the order of the turns, a post for each turn with
+-- trades.
+pub record IsClockTranscript (game : GameFile) (closed : ClosedGame) : Type 0 where
+  pub turns : List ClockTurn
+  pub asked : map call_made turns ≡ schedule game
+  pub calls : caller_parts closed clock ≡ map (λ good. clock_entries good turns) all_goods
+  pub cash : part (λ e. e.caller) closed.cash clock ≡ clock_posts turns
+
 -- What a game over links came to: the verdict on each link, why the session of each seated agent ended, and the histories. A log's head
 -- has the first two, with how many ticks lapsed.
 pub record PlayedGame : Type 0 where
@@ -41,10 +51,11 @@ pub record PlayedGame : Type 0 where
   pub ends : List (ℕ × Cause)
   pub closed : ClosedGame
 
--- Each seated agent has one end, in rising order; an agent without a seat made no call; and the clock's calls of each good are those of
--- the schedule.
+-- Each seated agent has one end, in rising order; an agent without a seat made no call; and the clock's calls are those of the schedule,
+-- of each good and, with its posts, in the order across the goods.
 pub record IsPlayedBy (game : GameFile) (played : PlayedGame) : Type 0 where
   pub legal_game : IsLegalGame game played.closed
   pub each_end : map (λ end. end.0) played.ends ≡ filter (λ agent. slice_index_or (seats_given game played.verdicts).taken agent false) agents
   pub absent : (agent : ℕ) → agent < AGENTS → slice_index_or (seats_given game played.verdicts).taken agent false ≡ false → IsAbsent played.closed agent
   pub scheduled : map (λ calls. map (λ p. p.1.call) calls) (caller_parts played.closed clock) ≡ map (clock_calls game) all_goods
+  pub clock_transcript : IsClockTranscript game played.closed

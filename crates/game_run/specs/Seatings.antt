@@ -13,7 +13,8 @@ use Rattle.tac_io.specs.declared.lines.Lines.{Lines}
 use Rattle.line_protocol.specs.declared.admission.Cause.{Cause}
 use Rattle.floor.specs.declared.desk.Desk.{Desk}
 use Rattle.floor.specs.Desks.{desk_ids, desk_caller, entries_at, desk_entries, desk_cash}
-use Rattle.game_text.specs.Schedule.{clock_calls}
+use Rattle.game_text.specs.Schedule.{clock_calls, schedule}
+use Rattle.clock_events.specs.ClockTurns.{MakesCalls}
 use Rattle.agent_gate.specs.Served.{HasSessionCause}
 use Rattle.agent_gate.specs.Sessions.{IsSession}
 use Rattle.game_run.specs.declared.sessions.Two.{Two}
@@ -67,9 +68,11 @@ AreEightReady ids eight = AreBoth (AreBoth (AreBoth (IsReadySeat ids))) eight
 
 -- ---- after the sessions
 
--- the clock's desk made all calls of the schedule, of each good in order
-pub record HasMadeAll (game : GameFile) (desk : Desk) : Type 0 where
-  pub each : (good : ℕ) → good < GOODS → map (λ p. p.1.call) (entries_at desk good) ≡ clock_calls game good
+-- the clock's desk, which had made no call, made all calls of the schedule: of each good in order and, with its posts, in the order across
+-- the goods
+pub record HasMadeAll (game : GameFile) (before after : Desk) : Type 0 where
+  pub each : (good : ℕ) → good < GOODS → map (λ p. p.1.call) (entries_at after good) ≡ clock_calls game good
+  pub made : MakesCalls (schedule game) before after
 
 module _ {L : Type 0} (state : L → LinkState) (dialect : Dialect) (game : GameFile) where
   -- a session of these lines at this desk left the link and the desk, and ended so

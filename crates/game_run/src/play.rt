@@ -81,7 +81,7 @@ pub(crate) fn play_out<
     requires open_floor { IsOpenFloor game.now open_floor }
     requires wide { vec_len lines ≡ AGENTS }
     requires readable { (agent : ℕ) (ls : Lines _) → slice_get lines.items agent ≡ Some (Some ls) → goes_on (last_of ls) ≡ true }
-    requires ticks { IfSome (T.state ticker.old).waited (λ ticks. ticks ≡ []) }
+    requires ticks { IfSome (T.state ticker.old).waited (λ waits. waits ≡ []) }
     ensures through { IsPlayedThrough L.state
         (dialect_of (D.may_answer dialect.now) (D.text dialect.now)) game.now result.closed lines.items result.links.items result.ends.items }
     ensures waits { WaitsForAll (T.state ticker.old) (T.state ticker.new) result.missed }
@@ -95,7 +95,11 @@ pub(crate) fn play_out<
     let agent_seats = agent_seats(desks, lines);
     let (played, clock) = run_all(rt, &floor, game, dialect, agent_seats, clock, ticker);
     session_ends.add_eight(played);
-    let ClockEnd { desk, missed } = clock;
+    let ClockEnd {
+        desk,
+        missed,
+        steps: _,
+    } = clock;
     let SessionEnds {
         mut desks,
         ends,

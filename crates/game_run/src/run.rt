@@ -130,7 +130,7 @@ pub fn run_game<R: Threads + Sync + Wait + Clock, D: Dialect + Sync, N: Links, T
     ticker: &mut T,
 ) -> Result<GameEnd<N::Link>, RunFault<N::Link>>
     requires ports { IfSome (N.state links.old).ports (λ ports. ports ≡ []) }
-    requires ticks { IfSome (T.state ticker.old).waited (λ ticks. ticks ≡ []) }
+    requires ticks { IfSome (T.state ticker.old).waited (λ waits. waits ≡ []) }
     ensures played { IfOk result (IsGameEnd N.Link.state (hosted_game game.now (dialect_of (D.may_answer dialect.now) (D.text dialect.now)) port)
         (N.state links.old) (N.state links.new)) }
     ensures waits { IfOk result (λ end. WaitsForAll (T.state ticker.old) (T.state ticker.new) (missed_of (head_of end.head))) }

@@ -164,8 +164,8 @@ fn run_ready_clock<R: Wait + Clock, T: Ticker>(
     ticker: &mut T,
 ) -> ClockEnd
     requires ready { IsReadyClock (floor_ids floor.now) desk }
-    requires ticks { IfSome (T.state ticker.old).waited (λ ticks. ticks ≡ []) }
-    ensures made { HasMadeAll game.now result.desk }
+    requires ticks { IfSome (T.state ticker.old).waited (λ waits. waits ≡ []) }
+    ensures made { HasMadeAll game.now desk result.desk }
     ensures same { IsSameDesk desk result.desk }
     ensures waits { WaitsForAll (T.state ticker.old) (T.state ticker.new) result.missed }
 {
@@ -192,10 +192,10 @@ pub(crate) fn run_all<
 ) -> (Eight<PlayedSeat<L>>, ClockEnd)
     requires ready { AreEightReady (floor_ids floor.now) agent_seats }
     requires clock { IsReadyClock (floor_ids floor.now) clock }
-    requires ticks { IfSome (T.state ticker.old).waited (λ ticks. ticks ≡ []) }
+    requires ticks { IfSome (T.state ticker.old).waited (λ waits. waits ≡ []) }
     ensures played { AreTakenPlayed L.state
         (dialect_of (D.may_answer dialect.now) (D.text dialect.now)) game.now (Some agent_seats) result.0 }
-    ensures made { HasMadeAll game.now result.1.desk }
+    ensures made { HasMadeAll game.now clock result.1.desk }
     ensures same { IsSameDesk clock result.1.desk }
     ensures waits { WaitsForAll (T.state ticker.old) (T.state ticker.new) result.1.missed }
 {
@@ -209,7 +209,7 @@ pub(crate) fn run_all<
                 (dialect_of (D.may_answer dialect.entry.now) (D.text dialect.entry.now)) game.entry.now agent_seats.entry result }
         { run_taken(rt, floor, game, dialect, &mut agent_seats) },
         &mut ||
-            requires { IsSomeAnd clock (λ d. IsReadyClock (floor_ids floor.now) d) × IfSome (T.state ticker.now).waited (λ ticks. ticks ≡ []) }
+            requires { IsSomeAnd clock (λ d. IsReadyClock (floor_ids floor.now) d) × IfSome (T.state ticker.now).waited (λ waits. waits ≡ []) }
         { run_ready_clock(rt, floor, game, clock.take().unwrap(), ticker) },
     );
     let_go(agent_seats);

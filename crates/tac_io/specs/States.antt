@@ -42,9 +42,15 @@ pub record LinksState (L : Type 0) : Type 0 where
   pub pending : Option (List L)
   pub faults : ℕ
 
--- Of a ticker: the pace, if one was set, in milliseconds from a tick to the next, and the ticks that were waited for, in order, each with
--- whether it lapsed, where they are known; and the count of faults.
+-- A wait for a tick: whether it lapsed, and the pace that the ticker had then, if one was set, where it is known.
+pub record TickWait : Type 0 where
+  pub tick : ℕ
+  pub lapsed : Bool
+  pub paced : Option (Option ℕ)
+
+-- Of a ticker: the pace, if one was set, in milliseconds from a tick to the next, and the waits for ticks, in order, where they are
+-- known; and the count of faults.
 pub record TickerState : Type 0 where
   pub paced : Option (Option ℕ)
-  pub waited : Option (List (ℕ × Bool))
+  pub waited : Option (List TickWait)
   pub faults : ℕ

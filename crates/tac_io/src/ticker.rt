@@ -25,8 +25,9 @@ pub trait Ticker {
     /// The tick of a lapse.
     ghost lapse_tick: { Self.Lapse → ℕ };
 
-    /// The pace, if one was set, and the ticks that were waited for, each with whether it lapsed,
-    /// where they are known; and the count of faults, which never falls and stays at its last value.
+    /// The pace, if one was set, and the waits for ticks, each with whether it lapsed and the pace
+    /// at that moment, where they are known; and the count of faults, which never falls and stays at
+    /// its last value.
     ghost state: { Self → TickerState };
 
     /// Sets the pace, in milliseconds from a tick to the next.
@@ -37,12 +38,12 @@ pub trait Ticker {
     /// Waits for a tick. A lapse is a fault: the wait failed, and the tick's time may be over or
     /// still to come.
     fn wait<R: Wait + Clock>(&mut self, rt: &R, tick: Tick) -> Result<Self::Due, Self::Lapse>
-        requires { IfSome (state self.old).waited (λ ticks. length ticks < TICKS) }
+        requires { IfSome (state self.old).waited (λ waits. length waits < TICKS) }
         ensures tick { MatchResult result
             (λ due. due_tick due ≡ tick)
             (λ lapse. lapse_tick lapse ≡ tick) }
         ensures waited { (state self.new).waited
-            ≡ known_then (state self.old).waited ((tick, is_err result) ∷ []) }
+            ≡ known_then (state self.old).waited (record { tick = tick; lapsed = is_err result; paced = (state self.old).paced } ∷ []) }
         ensures paced { (state self.new).paced ≡ (state self.old).paced }
         ensures cause { HasCause (state self.old).faults (state self.new).faults result };
 

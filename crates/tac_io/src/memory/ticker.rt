@@ -40,12 +40,28 @@ impl Model for MemLapse {
     ghost view = { λ lapse. lapse.tick };
 }
 
+/// A wait for a tick, with whether it lapsed and the pace at that moment, if one was set.
+#[derive(Drop)]
+struct MemWait {
+    tick: Tick,
+    lapsed: bool,
+    pace: Option<u16>,
+}
+
+impl Model for MemWait {
+    ghost use Rattle.std.specs.Prelude.{Some};
+    ghost use Rattle.tac_io.specs.States.{TickWait};
+
+    ghost Value = { TickWait };
+
+    ghost view = { λ wait. record { tick = wait.tick; lapsed = wait.lapsed; paced = Some wait.pace } };
+}
+
 /// A ticker in memory, with room for 54 ticks. It does not wait, and lapses at stated waits.
 #[derive(Drop)]
 pub struct MemTicker {
     pace: Option<u16>,
-    // Each with whether it lapsed.
-    waited: Vec<(Tick, bool)>,
+    waited: Vec<MemWait>,
     faults: Faults,
     ghost room: { TICKS ≤ vec_capacity waited },
 }
@@ -100,13 +116,18 @@ impl Ticker for MemTicker {
         requires { length (ticker_waited self.old) < TICKS }
         ensures lapses { IsErr result ↔ IsNextToFail (ticker_calls self.old) }
         ensures tick { MatchResult result (λ due. due ≡ tick) (λ lapse. lapse ≡ tick) }
-        ensures waited { ticker_waited self.new ≡ ticker_waited self.old ++ (tick, is_err result) ∷ [] }
+        ensures waited { ticker_waited self.new ≡ ticker_waited self.old ++ record { tick = tick; lapsed = is_err result; paced = Some (ticker_pace self.old) } ∷ [] }
         ensures pace { ticker_pace self.new ≡ ticker_pace self.old }
         ensures calls { ticker_calls self.new ≡ after_call (ticker_calls self.old) result }
         ensures cause { HasCause (ticker_calls self.old).faults (ticker_calls self.new).faults result }
     {
         let lapses = self.faults.next_fails();
-        if self.waited.push((tick, lapses)).is_err() {
+        let wait = MemWait {
+            tick,
+            lapsed: lapses,
+            pace: self.pace,
+        };
+        if self.waited.push(wait).is_err() {
             unreachable!()
         }
         if lapses {
