@@ -1,6 +1,5 @@
 -- Each outcome of a desk's call is that of a turn.
-use Rattle.std.proofs.Common.{◌≡◌, ℕ, ◌+◌, ◌<◌, ◌≤◌, ◌≢◌, List, [], ◌∷◌, ◌++◌, length, get_or, set, Bool, true, false, cond, eqb, Some, None, Ok, Err, refl, sym, ap, ◌∙◌, arith, inl, inr}
-use Rattle.std.specs.List.{cons_option}
+use Rattle.std.proofs.Common.{◌≡◌, ℕ, ◌+◌, ◌<◌, ◌≤◌, ◌≢◌, List, [], ◌∷◌, ◌++◌, length, get_or, set, Bool, cond, eqb, Some, Ok, Err, refl, sym, ap, ◌∙◌, arith, inl, inr}
 use Rattle.std.proofs.lemmas.List.{append-nil, length-map, get_or-set_same, get_or-set_other}
 use Rattle.std.proofs.lemmas.Bool.Decides.{eqb_tells}
 use Rattle.tac_base.specs.declared.calls.Call.{Call}
@@ -17,33 +16,9 @@ use Rattle.floor.specs.declared.outcomes.Outcome.TheVariants as outcomes
 use Rattle.floor.specs.declared.outcomes.CashOutcome.{CashOutcome}
 use Rattle.floor.specs.declared.outcomes.CashOutcome.TheVariants as cash_outcomes
 use Rattle.floor.specs.Answers.{IsOutcome, IsCashOutcome, IsSeen}
+use Rattle.floor.proofs.Rows.{row_more}
 use Rattle.floor.specs.Desks.{desk_caller, desk_entries, entries_at, desk_cash, boards_of, boards_at, seen_of, seen_at}
 use Rattle.agent_gate.specs.{Item, Asks, Overlong, Turn, Called, CallDenied, CashRead, CashDenied, Quoted, Refused, Skipped, Left, asked_call, item_of, made_at, cash_by, boards_shown, shown_length, IsDueTurn, IsMade, TakesTurn, said_of_outcome, said_of_reading}
-
-module _ {A : Type 0} where
-  one_if : (b : Bool) (x : A) → b ≡ true → cons_option (cond b (Some x) None) [] ≡ x ∷ []
-  one_if true x is = refl
-  one_if false x is = absurd (cc)
-
-  none_if : (b : Bool) (x : A) → b ≡ false → cons_option (cond b (Some x) None) [] ≡ []
-  none_if true x is = absurd (cc)
-  none_if false x is = refl
-
-  -- the rows of a table, one of which has an element more
-  pub row_more : (rows : List (List A)) (place good : ℕ) (x : A) → place < length rows
-      → get_or (set rows place (get_or rows place [] ++ x ∷ [])) good [] ≡ get_or rows good [] ++ cons_option (cond (eqb place good) (Some x) None) []
-  row_more rows place good x inside = elim (eqb_tells place good) [
-    | inl here ↦
-        ap (λ (g : ℕ). get_or (set rows place (get_or rows place [] ++ x ∷ [])) g []) (sym here.1)
-        ∙ get_or-set_same rows place (get_or rows place [] ++ x ∷ []) [] inside
-        ∙ ap (λ (g : ℕ). get_or rows g [] ++ x ∷ []) here.1
-        ∙ ap (λ (l : List A). get_or rows good [] ++ l) (sym (one_if (eqb place good) x here.0))
-    | inr away ↦
-        let ne : good ≢ place = λ e. away.1 (sym e) in
-        get_or-set_other rows place good (get_or rows place [] ++ x ∷ []) [] ne
-        ∙ sym (append-nil (get_or rows good []))
-        ∙ ap (λ (l : List A). get_or rows good [] ++ l) (sym (none_if (eqb place good) x away.0))
-  ]
 
 -- numbers where one was raised
 pub seen_more : (seen : List ℕ) (place good count : ℕ) → place < length seen → get_or seen place 0 ≤ count

@@ -6,3 +6,4 @@ pub mod MadeCalls
 pub mod TickCalls
 pub mod Waits
 pub mod NewDesks
+pub mod ClockTurns

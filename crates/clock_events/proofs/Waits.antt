@@ -1,11 +1,12 @@
 -- Waiting tick by tick.
 use Rattle.std.proofs.Common.{◌≡◌, ℕ, zero, suc, ◌+◌, ◌-◌, ◌≤◌, Bool, true, false, cond, List, [], ◌∷◌, ◌++◌, map, take, refl, sym, ap, ◌∙◌, arith, subst}
-use Rattle.std.specs.Prelude.{MatchBool, count_by}
+use Rattle.std.specs.Prelude.{All, MatchBool, count_by}
 use Rattle.std.specs.Int.{from_bool}
 use Rattle.std.proofs.lemmas.List.{map-append}
+use Rattle.std.proofs.lemmas.List.Elements.{All-nil, All-push}
 use Rattle.std.proofs.lemmas.List.Sums.{sum_by-append}
 use Rattle.tac_io.specs.Counts.{Rose}
-use Rattle.tac_io.specs.States.{TickerState}
+use Rattle.tac_io.specs.States.{TickWait, TickerState}
 use Rattle.tac_io.specs.Known.{known_then}
 use Rattle.tac_io.proofs.KnownPieces.{known_then-nothing, known_then-twice}
 use Rattle.game_text.specs.Schedule.{ticks}
@@ -33,12 +34,13 @@ missed_more first before now missed false cause stays = record {
   same = λ none. stays ∙ cause.same (omega (arith, none));
 }
 
--- the first `many` ticks were waited for, in order and at the pace that was set, and this many of them lapsed
+-- the first `many` ticks were waited for, in order, each at the pace that was set before the first wait, and this many of them lapsed
 pub record WaitsFor (before after : TickerState) (many missed : ℕ) : Type 0 where
-  pub waits : List (ℕ × Bool)
+  pub waits : List TickWait
   pub known : after.waited ≡ known_then before.waited waits
-  pub in_order : map (λ wait. wait.0) waits ≡ take many ticks
-  pub lapses : count_by (λ wait. wait.1) waits ≡ missed
+  pub in_order : map (λ wait. wait.tick) waits ≡ take many ticks
+  pub all_paced : All (λ wait. wait.paced ≡ before.paced) waits
+  pub lapses : count_by (λ wait. wait.lapsed) waits ≡ missed
   pub cause : HasMissedCause before.faults after.faults missed
   pub paced : after.paced ≡ before.paced
 
@@ -47,24 +49,28 @@ waits_for_none ticker = record {
   waits = [];
   known = sym (known_then-nothing ticker.waited);
   in_order = refl;
+  all_paced = All-nil (λ (wait : TickWait). wait.paced ≡ ticker.paced);
   lapses = refl;
   cause = record { rose = λ some. absurd (omega (arith, some)); same = λ none. refl };
   paced = refl;
 }
 
 pub waits_for_more : (before now after : TickerState) (tick missed : ℕ) (lapsed : Bool) → 1 ≤ tick → tick ≤ 54 → WaitsFor before now (tick - 1) missed
-    → after.waited ≡ known_then now.waited ((tick, lapsed) ∷ []) → after.paced ≡ now.paced → MatchBool lapsed (Rose now.faults after.faults) (after.faults ≡ now.faults)
+    → after.waited ≡ known_then now.waited (record { tick = tick; lapsed = lapsed; paced = now.paced } ∷ []) → after.paced ≡ now.paced → MatchBool lapsed (Rose now.faults after.faults) (after.faults ≡ now.faults)
     → WaitsFor before after tick (missed + from_bool lapsed)
-waits_for_more before now after tick missed lapsed first last so_far e paced rose = record {
-  waits = so_far.waits ++ (tick, lapsed) ∷ [];
-  known = e ∙ ap (λ t. known_then t ((tick, lapsed) ∷ [])) so_far.known ∙ known_then-twice before.waited so_far.waits ((tick, lapsed) ∷ []);
-  in_order = map-append (λ wait. wait.0) so_far.waits ((tick, lapsed) ∷ []) ∙ ap (λ ts. ts ++ tick ∷ []) so_far.in_order ∙ sym (next_tick tick first last);
-  lapses = sum_by-append (λ (wait : ℕ × Bool). cond wait.1 1 0) so_far.waits ((tick, lapsed) ∷ []) ∙ ap (λ k. k + count_by (λ (wait : ℕ × Bool). wait.1) ((tick, lapsed) ∷ [])) so_far.lapses ∙ ap (λ k. missed + k) (one lapsed);
-  cause = missed_more before.faults now.faults after.faults missed lapsed so_far.cause rose;
-  paced = paced ∙ so_far.paced;
-}
+waits_for_more before now after tick missed lapsed first last so_far e paced rose =
+    let wait : TickWait = record { tick = tick; lapsed = lapsed; paced = now.paced } in
+    record {
+      waits = so_far.waits ++ wait ∷ [];
+      known = e ∙ ap (λ t. known_then t (wait ∷ [])) so_far.known ∙ known_then-twice before.waited so_far.waits (wait ∷ []);
+      in_order = map-append (λ (w : TickWait). w.tick) so_far.waits (wait ∷ []) ∙ ap (λ ts. ts ++ tick ∷ []) so_far.in_order ∙ sym (next_tick tick first last);
+      all_paced = All-push (λ (w : TickWait). w.paced ≡ before.paced) so_far.waits wait so_far.all_paced so_far.paced;
+      lapses = sum_by-append (λ (w : TickWait). cond w.lapsed 1 0) so_far.waits (wait ∷ []) ∙ ap (λ k. k + count_by (λ (w : TickWait). w.lapsed) (wait ∷ [])) so_far.lapses ∙ ap (λ k. missed + k) (one lapsed);
+      cause = missed_more before.faults now.faults after.faults missed lapsed so_far.cause rose;
+      paced = paced ∙ so_far.paced;
+    }
   where
-    one : (b : Bool) → count_by (λ (wait : ℕ × Bool). wait.1) ((tick, b) ∷ []) ≡ from_bool b
+    one : (b : Bool) → count_by (λ (w : TickWait). w.lapsed) (record { tick = tick; lapsed = b; paced = now.paced } ∷ []) ≡ from_bool b
     one true = refl
     one false = refl
 
@@ -74,6 +80,7 @@ waits_for_all before after many missed so_far all = record {
   waits = so_far.waits;
   known = so_far.known;
   all_ticks = so_far.in_order ∙ ap (λ k. take k ticks) all;
+  all_paced = so_far.all_paced;
   lapses = so_far.lapses;
   cause = so_far.cause;
   paced = so_far.paced;

@@ -1,9 +1,10 @@
 -- Lists side by side, and one of them after a change at one place.
-use Rattle.std.proofs.Common.{◌≡◌, ℕ, zero, suc, ◌+◌, ◌<◌, List, [], ◌∷◌, Option, Some, slice_get, map, length, get_or, set, sym, refl, ap, ◌∙◌, arith}
+use Rattle.std.proofs.Common.{◌≡◌, ◌≢◌, ℕ, zero, suc, ◌+◌, ◌<◌, Bool, true, false, cond, eqb, List, [], ◌∷◌, ◌++◌, Option, Some, None, slice_get, map, length, get_or, set, sym, refl, ap, ◌∙◌, arith, inl, inr}
 use Rattle.std.specs.Prelude.{option_and_then}
 use Rattle.std.specs.Option.{option_map}
-use Rattle.std.specs.List.{range_with_len}
-use Rattle.std.proofs.lemmas.List.{length-map, get_or-map, map-set, set-get_or}
+use Rattle.std.specs.List.{cons_option, range_with_len}
+use Rattle.std.proofs.lemmas.List.{append-nil, length-map, get_or-map, get_or-set_same, get_or-set_other, map-set, set-get_or}
+use Rattle.std.proofs.lemmas.Bool.Decides.{eqb_tells}
 
 module _ {A B : Type 0} where
   -- what stands at a place of a list that is read by a function
@@ -48,3 +49,28 @@ module _ {A : Type 0} where
   at_numbered f from zero k inside = absurd (omega arith)
   at_numbered f from (suc n) zero inside = ap (λ (j : ℕ). Some (f j)) (omega arith)
   at_numbered f from (suc n) (suc k) inside = at_numbered f (from + 1) n k (omega arith) ∙ ap (λ (j : ℕ). Some (f j)) (omega arith)
+
+module _ {A : Type 0} where
+  one_if : (b : Bool) (x : A) → b ≡ true → cons_option (cond b (Some x) None) [] ≡ x ∷ []
+  one_if true x is = refl
+  one_if false x is = absurd (cc)
+
+  none_if : (b : Bool) (x : A) → b ≡ false → cons_option (cond b (Some x) None) [] ≡ []
+  none_if true x is = absurd (cc)
+  none_if false x is = refl
+
+  -- the rows of a table, one of which has an element more
+  pub row_more : (rows : List (List A)) (place good : ℕ) (x : A) → place < length rows
+      → get_or (set rows place (get_or rows place [] ++ x ∷ [])) good [] ≡ get_or rows good [] ++ cons_option (cond (eqb place good) (Some x) None) []
+  row_more rows place good x inside = elim (eqb_tells place good) [
+    | inl here ↦
+        ap (λ (g : ℕ). get_or (set rows place (get_or rows place [] ++ x ∷ [])) g []) (sym here.1)
+        ∙ get_or-set_same rows place (get_or rows place [] ++ x ∷ []) [] inside
+        ∙ ap (λ (g : ℕ). get_or rows g [] ++ x ∷ []) here.1
+        ∙ ap (λ (l : List A). get_or rows good [] ++ l) (sym (one_if (eqb place good) x here.0))
+    | inr away ↦
+        let ne : good ≢ place = λ e. away.1 (sym e) in
+        get_or-set_other rows place good (get_or rows place [] ++ x ∷ []) [] ne
+        ∙ sym (append-nil (get_or rows good []))
+        ∙ ap (λ (l : List A). get_or rows good [] ++ l) (sym (none_if (eqb place good) x away.0))
+  ]

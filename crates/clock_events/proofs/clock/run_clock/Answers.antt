@@ -4,13 +4,18 @@ use Rattle.floor.specs.Keeping.{calls_of_good}
 use Rattle.floor.proofs.CallLists.{none_listed}
 use Rattle.game_text.specs.Schedule.{calls_at, ticks}
 use Rattle.tac_io.specs.Known.{known_then}
-use Rattle.clock_events.proofs.TickCalls.{tick_done}
+use Rattle.clock_events.specs.ClockTurns.{MakesCalls}
+use Rattle.clock_events.specs.Steps.{steps_at}
+use Rattle.clock_events.proofs.ClockTurns.{makes_both, makes_none}
+use Rattle.clock_events.proofs.TickCalls.{all_done, tick_done}
 use Rattle.clock_events.proofs.Waits.{WaitsFor, one_at_most, waits_for_all, waits_for_more, waits_for_none}
 use Rattle.clock_events.proofs.clock.run_clock.Goals as goal
 
 pub loop-number-init : goal.loop-number-init
 loop-number-init g c = record {
   calls = none_listed _ _ c.requires.no_calls.0 c.args.desk.listed;
+  steps = c.new-steps.ensures;
+  turns = makes_none c.args.desk;
   boards = search rules;
   same = search rules;
   few = omega arith;
@@ -25,15 +30,18 @@ loop-number-preserved g c =
     let first : 1 ≤ c.loop-number.number = omega arith in
     let last : c.loop-number.number ≤ 54 = omega arith in
     let waits = waits_for_more _ _ _ c.loop-number.number c.loop-number.missed c.wait_for-due.result.1 first last before.waits
-    (subst (λ t. (g.T.Ticker.state c.wait_for-due.new.ticker).waited ≡ known_then (g.T.Ticker.state c.loop-number.ticker).waited ((t, c.wait_for-due.result.1) ∷ [])) tick c.wait_for-due.ensures.waited)
+    (subst (λ t. (g.T.Ticker.state c.wait_for-due.new.ticker).waited ≡ known_then (g.T.Ticker.state c.loop-number.ticker).waited (record { tick = t; lapsed = c.wait_for-due.result.1; paced = (g.T.Ticker.state c.loop-number.ticker).paced } ∷ [])) tick c.wait_for-due.ensures.waited)
     c.wait_for-due.ensures.paced c.wait_for-due.ensures.cause in
     let one = one_at_most c.wait_for-due.result.1 in
     let count = c.from-missed.ensures in
     let few = before.few in
     record {
-      calls = c.clock_tick.ensures.calls ∙ (λ i. before.calls i ++ calls_at c.args.game.now (tick i)) ∙ tick_done c.args.game.now c.loop-number.number first last ∙ ap (λ k. flat_map (calls_at c.args.game.now) (take k ticks)) (sym same);
-      boards = c.clock_tick.ensures.boards ∙ before.boards;
-      same = (c.clock_tick.ensures.same.0 ∙ before.same.0, c.clock_tick.ensures.same.1 ∙ before.same.1);
+      calls = c.tick_steps.ensures.calls ∙ (λ i. before.calls i ++ calls_at c.args.game.now (tick i)) ∙ tick_done c.args.game.now c.loop-number.number first last ∙ ap (λ k. flat_map (calls_at c.args.game.now) (take k ticks)) (sym same);
+      steps = c.tick_steps.ensures.steps ∙ (λ i. before.steps i ++ steps_at c.args.game.now (tick i)) ∙ all_done (steps_at c.args.game.now) c.loop-number.number first last ∙ ap (λ k. flat_map (steps_at c.args.game.now) (take k ticks)) (sym same);
+      turns = subst (λ l. MakesCalls l c.args.desk c.tick_steps.new.desk) ((λ i. flat_map (calls_at c.args.game.now) (take (c.loop-number.number - 1) ticks) ++ calls_at c.args.game.now (tick i)) ∙ tick_done c.args.game.now c.loop-number.number first last ∙ ap (λ k. flat_map (calls_at c.args.game.now) (take k ticks)) (sym same))
+          (makes_both _ _ c.args.desk c.loop-number.desk c.tick_steps.new.desk before.turns c.tick_steps.ensures.turns);
+      boards = c.tick_steps.ensures.boards ∙ before.boards;
+      same = (c.tick_steps.ensures.same.0 ∙ before.same.0, c.tick_steps.ensures.same.1 ∙ before.same.1);
       few = omega (arith, one, count, few);
       waits = subst (λ k. WaitsFor (g.T.Ticker.state c.args.ticker.now) (g.T.Ticker.state c.wait_for-due.new.ticker) k (c.loop-number.missed + c.from-missed.result)) (sym same)
           (subst (λ k. WaitsFor (g.T.Ticker.state c.args.ticker.now) (g.T.Ticker.state c.wait_for-due.new.ticker) c.loop-number.number (c.loop-number.missed + k)) (sym count) waits);
@@ -41,6 +49,14 @@ loop-number-preserved g c =
 
 pub returns-clause-calls : goal.returns-clause-calls
 returns-clause-calls g c = let last : c.loop-number.number - 1 ≡ 54 = omega arith in c.loop-number.invariant.calls ∙ ap (λ k. flat_map (calls_at c.args.game.now) (take k ticks)) last
+
+pub returns-clause-steps : goal.returns-clause-steps
+returns-clause-steps g c = let last : c.loop-number.number - 1 ≡ 54 = omega arith in c.loop-number.invariant.steps ∙ ap (λ k. flat_map (steps_at c.args.game.now) (take k ticks)) last
+
+pub returns-clause-turns : goal.returns-clause-turns
+returns-clause-turns g c =
+    let last : c.loop-number.number - 1 ≡ 54 = omega arith in
+    subst (λ k. MakesCalls (flat_map (calls_at c.args.game.now) (take k ticks)) c.args.desk c.loop-number.desk) last c.loop-number.invariant.turns
 
 pub returns-clause-made : goal.returns-clause-made
 returns-clause-made g c good low = c.loop-number.desk.listed.each good low ∙ ap (λ calls. calls_of_good calls good) (returns-clause-calls g c)
