@@ -13,11 +13,13 @@ use Rattle.floor.specs.declared.desk.Desk.{Desk}
 use Rattle.floor.specs.Desks.{desk_caller, desk_entries, desk_cash, boards_of, IsNewDesk}
 use Rattle.floor.specs.Closing.{IsBorneOut}
 use Rattle.floor.specs.ClosedBoards.{board_of}
-use Rattle.game_text.specs.Schedule.{clock_calls}
+use Rattle.game_text.specs.Schedule.{clock_calls, schedule}
+use Rattle.clock_events.specs.ClockTurns.{MakesCalls, clock_entries, clock_posts}
 use Rattle.agent_gate.specs.Sessions.{AreMadeBy}
 use Rattle.agent_gate.specs.Transcript.{IsTranscript}
 use Rattle.agent_gate.specs.Turns.{Turn, cash_made, boards_shown}
 use Rattle.game_run.specs.{caller_parts, IsAbsent, FloorIds, HasMadeAll}
+use Rattle.game_run.specs.PlayedGame.{IsClockTranscript}
 
 -- ---- lists by place
 
@@ -78,10 +80,23 @@ module _ (closed : ClosedGame) (long : length closed.auctions ≡ 28) (ids : Flo
       }
 
 -- the calls of the clock are those of the schedule
-pub scheduled_of : (game : GameFile) (closed : ClosedGame) → length closed.auctions ≡ 28 → (desk : Desk) → IsBorneOut closed desk → desk_caller desk ≡ 8 → HasMadeAll game desk
+pub scheduled_of : (game : GameFile) (closed : ClosedGame) → length closed.auctions ≡ 28 → (before desk : Desk) → IsBorneOut closed desk → desk_caller desk ≡ 8 → HasMadeAll game before desk
     → map (λ calls. map (λ p. p.1.call) calls) (caller_parts closed 8) ≡ map (clock_calls game) all_goods
-scheduled_of game closed long desk borne is made =
+scheduled_of game closed long before desk borne is made =
     let own : desk_entries desk ≡ caller_parts closed 8 = borne.entries ∙ ap (caller_parts closed) is in
     let call_list = λ (calls : List (ℕ × Entry)). map (λ p. p.1.call) calls in
     by_goods (map call_list (caller_parts closed 8)) (clock_calls game) [] (length-map (caller_parts closed 8) call_list ∙ (length-map closed.auctions (λ auction. part (λ e. e.caller) auction.history 8) ∙ long))
     (λ good lt. map_at call_list (caller_parts closed 8) good [] ∙ (ap (λ l. call_list (slice_index_or l good [])) (sym own) ∙ made.each good lt))
+
+-- the turns of the clock are its part of the histories
+pub clock_transcript_of : (game : GameFile) (closed : ClosedGame) (ids : FloorIds) (before after : Desk) → IsNewDesk ids 8 before → IsBorneOut closed after → desk_caller after ≡ 8
+    → MakesCalls (schedule game) before after → IsClockTranscript game closed
+clock_transcript_of game closed ids before after new borne is made =
+    let own : desk_entries after ≡ caller_parts closed 8 = borne.entries ∙ ap (caller_parts closed) is in
+    record {
+      turns = made.turns;
+      asked = made.asked;
+      calls = sym own ∙ by_goods (desk_entries after) (λ good. clock_entries good made.turns) [] after.kept.goods
+          (λ good lt. made.entries good lt ∙ ap (λ l. l ++ clock_entries good made.turns) (ap (λ rows. slice_index_or rows good []) new.entries ∙ get_or-replicate 28 good [] [] lt));
+      cash = ap (λ n. part (λ e. e.caller) closed.cash n) (sym is) ∙ (sym borne.cash ∙ (made.cash ∙ ap (λ l. l ++ clock_posts made.turns) new.cash));
+    }

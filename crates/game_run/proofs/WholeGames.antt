@@ -160,6 +160,7 @@ module _ {L : Type 0} (state : L → LinkState) (hosted : HostedGame) (arrivals 
           each_end = through.ended ∙ ap (λ taken. filter (λ agent. slice_index_or taken agent false) agents) kept.seats;
           absent = absent lines agent_seats kept.wide through (seats_given hosted.game verdicts).taken kept.seats;
           scheduled = through.scheduled;
+          clock_transcript = through.clock_transcript;
         };
       }
 
