@@ -2,7 +2,7 @@
 ghost use Rattle.std.specs.Prelude.{◌≡◌, ◌<◌, [], ◌∷◌, ◌++◌, ◌-◌, ℕ, length, map, replicate, IfSome, MatchBool};
 ghost use Rattle.tac_base.specs.Goods.{clock};
 ghost use Rattle.floor.specs.Answers.{IsSameDesk};
-ghost use Rattle.floor.specs.Desks.{boards_of, desk_calls, desk_cash, desk_caller, desk_ids, entries_at, desk_entries};
+ghost use Rattle.floor.specs.Desks.{boards_of, desk_calls, desk_cash, desk_caller, desk_ids, entries_at, desk_entries, desk_steps};
 ghost use Rattle.floor.specs.Floors.{floor_ids};
 ghost use Rattle.tac_io.specs.Counts.{Rose};
 ghost use Rattle.tac_io.specs.Known.{known_then};
@@ -13,7 +13,7 @@ ghost use Rattle.clock_events.specs.Steps.{steps_at, all_steps};
 ghost use Rattle.game_text.specs.Schedule as spec;
 ghost use Rattle.game_text.specs.Schedule.{clock_calls};
 
-use crate::{ClockSteps, schedule, schedule_law};
+use crate::{schedule, schedule_law};
 use floor::{Desk, Floor};
 use game_text::Game;
 use std::sync::Wait;
@@ -29,11 +29,10 @@ pub struct ClockEnd {
     pub desk: Desk,
     /// How many of the 54 ticks lapsed.
     pub missed: u8,
-    /// What it did, in order, as clauses show it.
-    pub steps: ClockSteps,
 }
 
-/// Makes the clock's calls of a tick, whose wait `due` shows, in the schedule's order, and no other call. It may wait for turns.
+/// Takes the due of a tick, which shows its wait, and then makes the clock's calls of the tick in the schedule's order, and no other call. It
+/// may wait for turns.
 pub fn clock_tick<R: Wait + Clock, T: Ticker>(
     rt: &R,
     floor: &Floor,
@@ -46,43 +45,20 @@ pub fn clock_tick<R: Wait + Clock, T: Ticker>(
     requires own { desk_ids desk.old ≡ floor_ids floor.now }
     requires clock { desk_caller desk.old ≡ clock }
     requires before { HasMade game.now (tick - 1) desk.old }
+    ensures steps { desk_steps desk.new ≡ desk_steps desk.old ++ steps_at game.now tick }
     ensures calls { desk_calls desk.new ≡ desk_calls desk.old ++ spec.calls_at game.now tick }
     ensures made { HasMade game.now tick desk.new }
     ensures turns { MakesCalls (spec.calls_at game.now tick) desk.old desk.new }
     ensures boards { boards_of desk.new ≡ boards_of desk.old }
     ensures same { IsSameDesk desk.old desk.new }
 {
-    tick_steps::<R, T>(rt, floor, desk, &mut ClockSteps::new(), game, tick, due);
-}
-
-/// Takes the due of a tick, and then makes its calls.
-fn tick_steps<R: Wait + Clock, T: Ticker>(
-    rt: &R,
-    floor: &Floor,
-    desk: &mut Desk,
-    steps: &mut ClockSteps,
-    game: &Game,
-    tick: Tick,
-    due: T::Due,
-)
-    requires due { T.due_tick due ≡ tick }
-    requires own { desk_ids desk.old ≡ floor_ids floor.now }
-    requires clock { desk_caller desk.old ≡ clock }
-    requires before { HasMade game.now (tick - 1) desk.old }
-    ensures steps { steps.new.items ≡ steps.old.items ++ steps_at game.now tick }
-    ensures calls { desk_calls desk.new ≡ desk_calls desk.old ++ spec.calls_at game.now tick }
-    ensures made { HasMade game.now tick desk.new }
-    ensures turns { MakesCalls (spec.calls_at game.now tick) desk.old desk.new }
-    ensures boards { boards_of desk.new ≡ boards_of desk.old }
-    ensures same { IsSameDesk desk.old desk.new }
-{
-    steps.take_due::<T>(tick, due);
+    desk.take_due::<T>(tick, due);
     // The conditions of the calls rest on the tick's range and on the laws of the schedule.
     let _number = tick.get();
     schedule_law(game);
     let mut n = 0;
     while let Some((good, call)) = &schedule(game, tick, n) {
-        steps.make_call(rt, floor, desk, *good, call);
+        desk.clock_call(rt, floor, *good, call);
         n += 1;
     }
 }
@@ -119,23 +95,18 @@ pub fn run_clock<R: Wait + Clock, T: Ticker>(
     ensures calls { desk_calls result.desk ≡ spec.schedule game.now }
     ensures made { HasMade game.now TICKS result.desk }
     ensures whole { (good : ℕ) → good < GOODS → map (λ p. p.1.call) (entries_at result.desk good) ≡ clock_calls game.now good }
-    ensures steps { result.steps.items ≡ all_steps game.now }
+    ensures steps { desk_steps result.desk ≡ desk_steps desk ++ all_steps game.now }
     ensures turns { MakesCalls (spec.schedule game.now) desk result.desk }
     ensures boards { boards_of result.desk ≡ boards_of desk }
     ensures same { IsSameDesk desk result.desk }
     ensures waits { WaitsForAll (T.state ticker.old) (T.state ticker.new) result.missed }
 {
     let mut missed = 0;
-    let mut steps = ClockSteps::new();
     for number in 1..TICKS + 1 {
         let tick = Tick::new(number).unwrap();
         let (due, lapsed) = wait_for(rt, ticker, tick);
-        tick_steps::<R, T>(rt, floor, &mut desk, &mut steps, game, tick, due);
+        clock_tick::<R, T>(rt, floor, &mut desk, game, tick, due);
         missed += u8::from(lapsed);
     }
-    ClockEnd {
-        desk,
-        missed,
-        steps,
-    }
+    ClockEnd { desk, missed }
 }

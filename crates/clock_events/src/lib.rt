@@ -4,9 +4,7 @@
 mod calls;
 mod clock;
 mod laws;
-mod steps;
 
 pub use calls::schedule;
 pub use clock::{ClockEnd, clock_tick, run_clock};
 pub use laws::schedule_law;
-pub use steps::ClockSteps;

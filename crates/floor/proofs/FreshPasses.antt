@@ -18,6 +18,7 @@ use Rattle.floor.specs.Desks.{IsNewDesk}
 use Rattle.floor.proofs.Tables.{with_each_at}
 use Rattle.floor.proofs.Desks.{kept_first, kept_as}
 use Rattle.floor.proofs.Orders.{order_as, order_first}
+use Rattle.floor.specs.Steps.{calls_of_steps}
 use Rattle.floor.proofs.CallLists.{listed_as, listed_first, none_listed}
 
 -- how many calls each caller may make
@@ -99,7 +100,7 @@ new_desk d i ids id long fresh one = record {
   ids = λ k. (fresh.locks k, one.lock k);
   caller = one.caller_is;
   entries = fresh.made ∙ ap (λ (n : ℕ). replicate n []) long;
-  calls = none_listed (map (λ p. made_by p) d.passes.items) d.calls.items (fresh.made ∙ ap (λ (n : ℕ). replicate n []) long) d.listed;
+  calls = none_listed (map (λ p. made_by p) d.passes.items) (calls_of_steps d.steps.items) (fresh.made ∙ ap (λ (n : ℕ). replicate n []) long) d.listed;
   cash = one.made;
   boards = fresh.noted ∙ ap (λ (n : ℕ). replicate n []) long;
   seen = fresh.seen ∙ ap (λ (n : ℕ). replicate n 0) long;

@@ -22,14 +22,15 @@ use Rattle.floor.specs.declared.outcomes.Outcome.TheVariants.{At, Spent}
 use Rattle.floor.specs.declared.outcomes.CashOutcome.{CashOutcome}
 use Rattle.floor.specs.declared.outcomes.CashOutcome.TheVariants as cash_outcomes
 use Rattle.floor.specs.Keeping.{AddsCash, count_readings}
-use Rattle.floor.specs.Desks.{desk_ids, desk_caller, setup_at, desk_entries, entries_at, desk_calls, desk_cash, boards_of, boards_at, seen_of, seen_at}
+use Rattle.floor.specs.Steps.{CallMade, DueTaken}
+use Rattle.floor.specs.Desks.{desk_ids, desk_caller, setup_at, desk_entries, entries_at, desk_steps, desk_calls, desk_cash, boards_of, boards_at, seen_of, seen_at}
 
 -- the desk is of the same locks, and of the same caller
 abbrev pub IsSameDesk : Desk → Desk → Type 0
 IsSameDesk before after = (desk_ids after ≡ desk_ids before) × (desk_caller after ≡ desk_caller before)
 
 -- a call at a good was answered at a position: the desk has one entry more there, and at the other goods as before; this call is appended
--- to its list of calls; the post that is due to that entry was made; and the position is not below what the desk had seen there. The
+-- to its steps and to its list of calls; the post that is due to that entry was made; and the position is not below what the desk had seen there. The
 -- entry is the one that the rules give after the entries before it, among which the desk's own are those that it had made
 pub record IsCallAnswered (before after : Desk) (good : ℕ) (asked : Call) (position : ℕ) (answered : Reply) : Type 0 where
   pub entry : Entry
@@ -37,6 +38,7 @@ pub record IsCallAnswered (before after : Desk) (good : ℕ) (asked : Call) (pos
   pub call : entry.call ≡ asked
   pub reply : entry.reply ≡ answered
   pub entries : desk_entries after ≡ slice_set (desk_entries before) good (entries_at before good ++ (position, entry) ∷ [])
+  pub steps : desk_steps after ≡ desk_steps before ++ CallMade good asked ∷ []
   pub calls : desk_calls after ≡ desk_calls before ++ (good, asked) ∷ []
   pub posts : AddsCash (desk_cash before) (desk_cash after) (due_post good position entry)
   pub seen_before : seen_at before good ≤ position
@@ -67,6 +69,7 @@ TakesLawfulBid before after good points (At position reply) = (told : IsCallAnsw
 pub record IsCashRead (before after : Desk) (position : ℕ) (entry : CashEntry) : Type 0 where
   pub cash : desk_cash after ≡ desk_cash before ++ (position, entry) ∷ []
   pub entries : desk_entries after ≡ desk_entries before
+  pub steps : desk_steps after ≡ desk_steps before
   pub calls : desk_calls after ≡ desk_calls before
   pub seen : seen_of after ≡ seen_of before
   pub boards : boards_of after ≡ boards_of before
@@ -84,8 +87,19 @@ pub record IsSeen (before after : Desk) (good : ℕ) (board : Board) : Type 0 wh
   pub seen_before : seen_at before good ≤ board.count
   pub seen : seen_of after ≡ slice_set (seen_of before) good board.count
   pub entries : desk_entries after ≡ desk_entries before
+  pub steps : desk_steps after ≡ desk_steps before
   pub calls : desk_calls after ≡ desk_calls before
   pub cash : desk_cash after ≡ desk_cash before
+  pub same : IsSameDesk before after
+
+-- the due of a tick was taken, and nothing else is changed
+pub record IsDueTaken (before after : Desk) (tick : ℕ) : Type 0 where
+  pub steps : desk_steps after ≡ desk_steps before ++ DueTaken tick ∷ []
+  pub calls : desk_calls after ≡ desk_calls before
+  pub entries : desk_entries after ≡ desk_entries before
+  pub cash : desk_cash after ≡ desk_cash before
+  pub seen : seen_of after ≡ seen_of before
+  pub boards : boards_of after ≡ boards_of before
   pub same : IsSameDesk before after
 
 -- the calls of the clock: an update of one of the ticks 1..53, a publication and a closing

@@ -10,6 +10,7 @@ use Rattle.auction_core.specs.Auctions.{AuctionHistory}
 use Rattle.trade_ledger.specs.declared.cash_calls.CashEntry.{CashEntry}
 use Rattle.turn_lock.specs.Passes.{LockId, lock_of, caller_of, made_by, noted_by, seen_by}
 use Rattle.floor.specs.declared.desk.Desk.{Desk}
+use Rattle.floor.specs.Steps.{Step, calls_of_steps}
 
 -- the locks of the desk's passes: those of the auctions, in the order of goods, and that of the cash book
 abbrev pub desk_ids : Desk → List (LockId AuctionHistory) × LockId (List CashEntry)
@@ -30,9 +31,13 @@ desk_entries d = map (λ p. made_by p) d.passes.items
 abbrev pub entries_at : Desk → ℕ → List (ℕ × Entry)
 entries_at d good = slice_index_or (desk_entries d) good []
 
+-- its steps so far, in order
+abbrev pub desk_steps : Desk → List Step
+desk_steps d = d.steps.items
+
 -- its calls of auctions so far with their goods, in the order in which it made them
 abbrev pub desk_calls : Desk → List (ℕ × Call)
-desk_calls d = d.calls.items
+desk_calls d = calls_of_steps (desk_steps d)
 
 -- its own entries of the cash history so far, each with its position
 abbrev pub desk_cash : Desk → List (ℕ × CashEntry)

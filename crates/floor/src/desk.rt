@@ -2,16 +2,18 @@ ghost use Rattle.std.specs.Prelude.{◌≡◌, ◌≤◌, map};
 ghost use Rattle.tac_base.specs.Goods.{clock};
 ghost use Rattle.turn_lock.specs.Passes.{caller_of, turns_left, made_by, noted_by, seen_by};
 ghost use Rattle.floor.specs.Keeping.{IsDeskKept, AreGoodsInOrder, AreListed};
+ghost use Rattle.floor.specs.Steps.{calls_of_steps};
 
-use crate::call_list::CallList;
 use crate::cash_turns::{post, read};
 use crate::floor::Floor;
 use crate::outcomes::{CashOutcome, Outcome};
+use crate::step_list::StepList;
 use auction_core::{Auction, Struck};
 use std::sync::Wait;
 use std::time::Clock;
 use tac_base::limits::{AGENTS, CASH_READINGS, CLOCK_CALLS, CLOCK_CASH_ENTRIES};
-use tac_base::{Agent, Board, Call, Caller, Good, Points, Reply};
+use tac_base::{Agent, Board, Call, Caller, Good, Points, Reply, Tick};
+use tac_io::Ticker;
 use trade_ledger::CashBook;
 use turn_lock::Pass;
 
@@ -23,13 +25,13 @@ pub struct Desk {
     pub(crate) cash: Pass<CashBook>,
     /// How many times it has read its cash.
     pub(crate) readings: u32,
-    pub(crate) calls: CallList,
+    pub(crate) steps: StepList,
     ghost kept: { IsDeskKept (caller_of cash) (map (λ p. caller_of p) passes.items) (map (λ p. turns_left p) passes.items)
         (map (λ p. made_by p) passes.items) (turns_left cash) (made_by cash) readings },
     /// What it was answered of each good is in order.
     pub ghost in_order: { AreGoodsInOrder (map (λ p. made_by p) passes.items) (map (λ p. noted_by p) passes.items) (map (λ p. seen_by p) passes.items) },
     /// The list of its calls is that of its entries.
-    pub ghost listed: { AreListed (map (λ p. made_by p) passes.items) calls.items },
+    pub ghost listed: { AreListed (map (λ p. made_by p) passes.items) (calls_of_steps steps.items) },
 }
 
 /// The index of a good's auction.
@@ -49,7 +51,7 @@ impl Desk {
     ghost use Rattle.floor.specs.Keeping.{IsPosted, count_entries};
     ghost use Rattle.floor.specs.Desks.{desk_ids, desk_caller, desk_entries, entries_at, desk_cash};
     ghost use Rattle.floor.specs.Floors.{floor_ids};
-    ghost use Rattle.floor.specs.Answers.{IsSameDesk, IsCallAnswered, IsOutcome, TakesLawfulBid, IsCashOutcome, IsSeen, IsClockCall};
+    ghost use Rattle.floor.specs.Answers.{IsSameDesk, IsCallAnswered, IsOutcome, TakesLawfulBid, IsCashOutcome, IsSeen, IsClockCall, IsDueTaken};
 
     /// The desk's caller.
     pub fn caller(&self) -> Caller
@@ -75,7 +77,7 @@ impl Desk {
         let place = place(good);
         let lock = &floor.auctions[place];
         let (position, struck) = lock.call(rt, &mut self.passes[place], call);
-        self.calls = self.calls.with(&good, call);
+        self.steps = self.steps.with_call(&good, call);
         post(rt, &floor.cash, &mut self.cash, good, position, &struck);
         let Struck { reply, .. } = struck;
         (position, reply)
@@ -165,6 +167,16 @@ impl Desk {
     {
         let place = place(good);
         floor.auctions[place].peek(&mut self.passes[place])
+    }
+
+    /// Takes the due of a tick as a step of the desk, and changes nothing else.
+    pub fn take_due<T: Ticker>(&mut self, tick: Tick, due: T::Due)
+        requires due { T.due_tick due ≡ tick }
+        ensures taken { IsDueTaken self.old self.new tick }
+        ensures posted { IsPosted (desk_entries self.new) (desk_cash self.new) }
+    {
+        drop(due);
+        self.steps = self.steps.with_due(&tick);
     }
 
     /// A call of the clock: an update of one of the ticks 1..53, a publication or a closing. The clock makes at most 64 at a good, and

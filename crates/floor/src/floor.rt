@@ -92,7 +92,7 @@ impl Floor {
                 passes,
                 cash: pass,
                 readings: _,
-                calls: _,
+                steps: _,
             } = desk;
             return_passes(&mut auctions, passes);
             cash.take_back(pass);

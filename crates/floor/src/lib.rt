@@ -2,7 +2,6 @@
 //! entries. No lock is taken inside another.
 #![tactic(auto)]
 
-mod call_list;
 mod cash_turns;
 mod closing;
 mod desk;
@@ -11,6 +10,7 @@ mod growing;
 mod opening;
 mod outcomes;
 mod sharing;
+mod step_list;
 
 pub use desk::Desk;
 pub use floor::Floor;

@@ -10,9 +10,9 @@ ghost use Rattle.turn_lock.specs.Passes.{LockId, lock_of, lock_id, caller_of, tu
 ghost use Rattle.floor.specs.Rows.{with_each};
 ghost use Rattle.floor.specs.Dealing.{AreFresh, MakeDesk};
 
-use crate::call_list::CallList;
 use crate::desk::Desk;
 use crate::growing::add;
+use crate::step_list::StepList;
 use auction_core::Auction;
 use game_text::Game;
 use std::alloc::Global;
@@ -125,7 +125,7 @@ pub(crate) fn seat(
             passes: hand,
             cash,
             readings: 0,
-            calls: CallList::new(),
+            steps: StepList::new(),
         };
         add(&mut desks, desk)?;
     }

@@ -95,11 +95,7 @@ pub(crate) fn play_out<
     let agent_seats = agent_seats(desks, lines);
     let (played, clock) = run_all(rt, &floor, game, dialect, agent_seats, clock, ticker);
     session_ends.add_eight(played);
-    let ClockEnd {
-        desk,
-        missed,
-        steps: _,
-    } = clock;
+    let ClockEnd { desk, missed } = clock;
     let SessionEnds {
         mut desks,
         ends,

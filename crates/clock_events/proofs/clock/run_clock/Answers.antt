@@ -1,5 +1,6 @@
-use Rattle.std.proofs.Common.{rules, ◌≡◌, ◌≤◌, ◌+◌, ◌-◌, [], ◌∷◌, ◌++◌, take, subst, sym, ap, ◌∙◌, arith}
+use Rattle.std.proofs.Common.{rules, ◌≡◌, ◌≤◌, ◌+◌, ◌-◌, [], ◌∷◌, ◌++◌, take, subst, sym, ap, ◌∙◌, arith, append_assoc, append-nil}
 use Rattle.std.specs.List.{flat_map}
+use Rattle.floor.specs.Desks.{desk_steps}
 use Rattle.floor.specs.Keeping.{calls_of_good}
 use Rattle.floor.proofs.CallLists.{none_listed}
 use Rattle.game_text.specs.Schedule.{calls_at, ticks}
@@ -14,7 +15,7 @@ use Rattle.clock_events.proofs.clock.run_clock.Goals as goal
 pub loop-number-init : goal.loop-number-init
 loop-number-init g c = record {
   calls = none_listed _ _ c.requires.no_calls.0 c.args.desk.listed;
-  steps = c.new-steps.ensures;
+  steps = sym (append-nil (desk_steps c.args.desk));
   turns = makes_none c.args.desk;
   boards = search rules;
   same = search rules;
@@ -36,12 +37,14 @@ loop-number-preserved g c =
     let count = c.from-missed.ensures in
     let few = before.few in
     record {
-      calls = c.tick_steps.ensures.calls ∙ (λ i. before.calls i ++ calls_at c.args.game.now (tick i)) ∙ tick_done c.args.game.now c.loop-number.number first last ∙ ap (λ k. flat_map (calls_at c.args.game.now) (take k ticks)) (sym same);
-      steps = c.tick_steps.ensures.steps ∙ (λ i. before.steps i ++ steps_at c.args.game.now (tick i)) ∙ all_done (steps_at c.args.game.now) c.loop-number.number first last ∙ ap (λ k. flat_map (steps_at c.args.game.now) (take k ticks)) (sym same);
-      turns = subst (λ l. MakesCalls l c.args.desk c.tick_steps.new.desk) ((λ i. flat_map (calls_at c.args.game.now) (take (c.loop-number.number - 1) ticks) ++ calls_at c.args.game.now (tick i)) ∙ tick_done c.args.game.now c.loop-number.number first last ∙ ap (λ k. flat_map (calls_at c.args.game.now) (take k ticks)) (sym same))
-          (makes_both _ _ c.args.desk c.loop-number.desk c.tick_steps.new.desk before.turns c.tick_steps.ensures.turns);
-      boards = c.tick_steps.ensures.boards ∙ before.boards;
-      same = (c.tick_steps.ensures.same.0 ∙ before.same.0, c.tick_steps.ensures.same.1 ∙ before.same.1);
+      calls = c.clock_tick.ensures.calls ∙ (λ i. before.calls i ++ calls_at c.args.game.now (tick i)) ∙ tick_done c.args.game.now c.loop-number.number first last ∙ ap (λ k. flat_map (calls_at c.args.game.now) (take k ticks)) (sym same);
+      steps = c.clock_tick.ensures.steps ∙ (λ i. before.steps i ++ steps_at c.args.game.now (tick i))
+          ∙ append_assoc (desk_steps c.args.desk) (flat_map (steps_at c.args.game.now) (take (c.loop-number.number - 1) ticks)) (steps_at c.args.game.now c.loop-number.number)
+          ∙ ap (λ l. desk_steps c.args.desk ++ l) (all_done (steps_at c.args.game.now) c.loop-number.number first last ∙ ap (λ k. flat_map (steps_at c.args.game.now) (take k ticks)) (sym same));
+      turns = subst (λ l. MakesCalls l c.args.desk c.clock_tick.new.desk) ((λ i. flat_map (calls_at c.args.game.now) (take (c.loop-number.number - 1) ticks) ++ calls_at c.args.game.now (tick i)) ∙ tick_done c.args.game.now c.loop-number.number first last ∙ ap (λ k. flat_map (calls_at c.args.game.now) (take k ticks)) (sym same))
+          (makes_both _ _ c.args.desk c.loop-number.desk c.clock_tick.new.desk before.turns c.clock_tick.ensures.turns);
+      boards = c.clock_tick.ensures.boards ∙ before.boards;
+      same = (c.clock_tick.ensures.same.0 ∙ before.same.0, c.clock_tick.ensures.same.1 ∙ before.same.1);
       few = omega (arith, one, count, few);
       waits = subst (λ k. WaitsFor (g.T.Ticker.state c.args.ticker.now) (g.T.Ticker.state c.wait_for-due.new.ticker) k (c.loop-number.missed + c.from-missed.result)) (sym same)
           (subst (λ k. WaitsFor (g.T.Ticker.state c.args.ticker.now) (g.T.Ticker.state c.wait_for-due.new.ticker) c.loop-number.number (c.loop-number.missed + k)) (sym count) waits);
@@ -51,7 +54,7 @@ pub returns-clause-calls : goal.returns-clause-calls
 returns-clause-calls g c = let last : c.loop-number.number - 1 ≡ 54 = omega arith in c.loop-number.invariant.calls ∙ ap (λ k. flat_map (calls_at c.args.game.now) (take k ticks)) last
 
 pub returns-clause-steps : goal.returns-clause-steps
-returns-clause-steps g c = let last : c.loop-number.number - 1 ≡ 54 = omega arith in c.loop-number.invariant.steps ∙ ap (λ k. flat_map (steps_at c.args.game.now) (take k ticks)) last
+returns-clause-steps g c = let last : c.loop-number.number - 1 ≡ 54 = omega arith in c.loop-number.invariant.steps ∙ ap (λ k. desk_steps c.args.desk ++ flat_map (steps_at c.args.game.now) (take k ticks)) last
 
 pub returns-clause-turns : goal.returns-clause-turns
 returns-clause-turns g c =

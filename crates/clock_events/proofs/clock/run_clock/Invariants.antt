@@ -1,7 +1,7 @@
-use Rattle.std.proofs.Common.{◌≡◌, ◌-◌, ◌<◌, take}
+use Rattle.std.proofs.Common.{◌≡◌, ◌++◌, ◌-◌, ◌<◌, take}
 use Rattle.std.specs.List.{flat_map}
 use Rattle.floor.specs.Answers.{IsSameDesk}
-use Rattle.floor.specs.Desks.{boards_of, desk_calls}
+use Rattle.floor.specs.Desks.{boards_of, desk_calls, desk_steps}
 use Rattle.game_text.specs.Schedule.{calls_at, ticks}
 use Rattle.clock_events.specs.ClockTurns.{MakesCalls}
 use Rattle.clock_events.specs.Steps.{steps_at}
@@ -11,7 +11,7 @@ use Rattle.clock_events.proofs.clock.run_clock.Given as goal
 abbrev pub invariant-loop-number : goal.invariant-loop-number
 invariant-loop-number g l = record {
   calls : desk_calls l.desk ≡ flat_map (calls_at l.game) (take (l.number - 1) ticks);
-  steps : l.steps.items ≡ flat_map (steps_at l.game) (take (l.number - 1) ticks);
+  steps : desk_steps l.desk ≡ desk_steps l.initial.desk ++ flat_map (steps_at l.game) (take (l.number - 1) ticks);
   turns : MakesCalls (flat_map (calls_at l.game) (take (l.number - 1) ticks)) l.initial.desk l.desk;
   boards : boards_of l.desk ≡ boards_of l.initial.desk;
   same : IsSameDesk l.initial.desk l.desk;

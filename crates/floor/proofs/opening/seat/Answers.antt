@@ -4,6 +4,7 @@ use Rattle.std.specs.Option.{option_to_list}
 use Rattle.std.proofs.lemmas.List.{length-map, append_assoc, nil_from_length, map_push}
 use lib.ListN.{get_elem?}
 use Rattle.floor.proofs.Tables.{at_next}
+use Rattle.floor.specs.Steps.{calls_of_steps}
 use Rattle.floor.proofs.CallLists.{listed_as}
 use Rattle.floor.proofs.opening.seat.Goals as goal
 
@@ -14,7 +15,7 @@ invariant_of-desk c =
     let passes_are = v.rest ∙ ap (λ l. map (λ d. d.cash) desks ++ l) c.in-Some.ensures.steps.0 in
     let fit = c.requires.fit (length desks) hand cash
     (ap (λ (k : ℕ). get_elem? c.args.hands.items k) (sym (length-map desks (λ d. d.passes))) ∙ at_next _ _ _ _ hands_are)
-    (ap (λ (k : ℕ). get_elem? c.args.passes.items k) (sym (length-map desks (λ d. d.cash))) ∙ at_next _ _ _ _ passes_are) in record { kept = fit.0; in_order = fit.1; listed = listed_as fit.2 refl c.new.ensures }
+    (ap (λ (k : ℕ). get_elem? c.args.passes.items k) (sym (length-map desks (λ d. d.cash))) ∙ at_next _ _ _ _ passes_are) in record { kept = fit.0; in_order = fit.1; listed = listed_as fit.2 refl (ap calls_of_steps c.new.ensures) }
 
 pub loop-cash-preserved : goal.loop-cash-preserved
 loop-cash-preserved c =

@@ -7,10 +7,12 @@ use Rattle.auction_rules.specs.History.{Entry}
 use Rattle.auction_rules.specs.Legal.{entry_of}
 use Rattle.turn_lock.specs.Part.{part}
 use Rattle.turn_lock.specs.Passes.{LockId, lock_of, lock_id, start_of, caller_of, turns_left, made_by, noted_by, seen_by}
+use Rattle.floor.specs.Desks.{desk_steps}
+use Rattle.floor.specs.Steps.{calls_of_steps}
 use Rattle.floor.proofs.Rows.{map_get, map_at, map_set, map_set_same, same_at}
 use Rattle.floor.proofs.Desks.{kept_more, kept_as}
 use Rattle.floor.proofs.Orders.{orders_entry, order_as}
-use Rattle.floor.proofs.CallLists.{listed_more, listed_as}
+use Rattle.floor.proofs.CallLists.{calls_of_steps-call, listed_more, listed_as}
 use Rattle.floor.proofs.BornOut.{last_is_ruled}
 use Rattle.floor.proofs.desk.Desk.call.Goals as goal
 
@@ -47,7 +49,7 @@ invariant_of-self g c =
           entries
           (map_set_same (λ q. noted_by q) ps k p p' inside at own.3)
           (map_set (λ q. seen_by q) ps k p' (position + 1) c.call-position.ensures.seen.1 ∙ ap (λ (j : ℕ). set (map (λ q. seen_by q) ps) j (position + 1)) is);
-      listed = listed_as (listed_more d.listed good c.args.call.now position e (omega (arith, c.place-place.ensures.range)) d.kept.goods entry.2) entries c.with-self.ensures;
+      listed = listed_as (listed_more d.listed good c.args.call.now position e (omega (arith, c.place-place.ensures.range)) d.kept.goods entry.2) entries (ap calls_of_steps c.with_call-self.ensures ∙ calls_of_steps-call (desk_steps d) c.args.good c.args.call.now);
     }
 
 pub returns : goal.returns
@@ -68,7 +70,8 @@ returns g c =
         reply = ap (λ s. s.reply) entry.3;
         entries = map_set (λ q. made_by q) ps k p' _ (entry.4 ∙ ap (λ (l : List (ℕ × Entry)). l ++ (position, e) ∷ []) (sym (map_get (λ q. made_by q) ps k p [] inside at)))
             ∙ ap (λ (j : ℕ). set (map (λ q. made_by q) ps) j (get_or (map (λ q. made_by q) ps) j [] ++ (position, e) ∷ [])) is;
-        calls = c.with-self.ensures;
+        steps = c.with_call-self.ensures;
+        calls = ap calls_of_steps c.with_call-self.ensures ∙ calls_of_steps-call (desk_steps d) c.args.good c.args.call.now;
         posts = posted.0;
         seen_before = subst (λ (n : ℕ). n ≤ position) (sym (map_get (λ q. seen_by q) ps k p 0 inside at) ∙ ap (λ (j : ℕ). get_or (map (λ q. seen_by q) ps) j 0) is) c.call-position.ensures.seen.0;
         seen = map_set (λ q. seen_by q) ps k p' (position + 1) c.call-position.ensures.seen.1 ∙ ap (λ (j : ℕ). set (map (λ q. seen_by q) ps) j (position + 1)) is;

@@ -39,6 +39,7 @@ returns-clause-seen c =
       seen_before = subst (λ (n : ℕ). n ≤ board.count) (sym (map_get (λ q. seen_by q) ps k p 0 inside at) ∙ ap (λ (j : ℕ). get_or (map (λ q. seen_by q) ps) j 0) is) c.peek.ensures.seen.0;
       seen = map_set (λ q. seen_by q) ps k p' board.count c.peek.ensures.seen.1 ∙ ap (λ (j : ℕ). set (map (λ q. seen_by q) ps) j board.count) is;
       entries = map_set_same (λ q. made_by q) ps k p p' inside at own.3;
+      steps = refl;
       calls = refl;
       cash = refl;
       same = ((λ i. (map_set_same (λ q. lock_of q) ps k p p' inside at own.0 i, lock_of d.cash)), refl);

@@ -1,16 +1,16 @@
-use Rattle.std.proofs.Common.{rules, ◌≡◌, ℕ, ◌≤◌, ◌-◌, ◌++◌, [], ◌∷◌, Some, map, take, slice_get, refl, subst, sym, ap, ◌∙◌, arith, append_assoc, append-nil}
+use Rattle.std.proofs.Common.{rules, ◌≡◌, ℕ, ◌≤◌, ◌-◌, ◌++◌, [], ◌∷◌, Some, map, take, slice_get, subst, sym, ap, ◌∙◌, arith, append_assoc, append-nil}
 use Rattle.std.proofs.lemmas.List.{map-append}
 use Rattle.tac_base.specs.declared.calls.Call.{Call}
 use Rattle.std.specs.List.{flat_map}
 use Rattle.std.proofs.lemmas.Option.{slice_get_within}
-use Rattle.floor.specs.Desks.{desk_calls, desk_entries}
+use Rattle.floor.specs.Desks.{desk_calls, desk_entries, desk_steps}
 use Rattle.game_text.specs.Schedule.{calls_at, ticks}
 use Rattle.clock_events.specs.ClockTurns.{MakesCalls}
-use Rattle.clock_events.specs.Steps.{Step, CallMade, DueTaken}
-use Rattle.clock_events.proofs.ClockTurns.{makes_more, makes_none}
+use Rattle.floor.specs.Steps.{Step, CallMade, DueTaken}
+use Rattle.clock_events.proofs.ClockTurns.{makes_more, makes_nothing}
 use Rattle.clock_events.proofs.MadeCalls.{AreMade, made_after, made_count, made_length}
 use Rattle.clock_events.proofs.TickCalls.{all_taken, call_is_due, few_so_far, one_more, so_far, some_to_come, tick_done}
-use Rattle.clock_events.proofs.clock.tick_steps.Goals as goal
+use Rattle.clock_events.proofs.clock.clock_tick.Goals as goal
 
 -- a call as a step
 abbrev step : ℕ × Call → Step
@@ -19,21 +19,21 @@ step call = CallMade call.0 call.1
 pub loop-good-init : goal.loop-good-init
 loop-good-init g c = record {
   within = omega arith;
-  calls = sym (append-nil (desk_calls c.args.desk.now));
-  steps = c.take_due.ensures ∙ ap (λ t. c.args.steps.now.items ++ DueTaken t ∷ []) c.requires.due;
-  turns = makes_none c.args.desk.now;
-  boards = refl;
-  same = (refl, refl);
+  calls = c.take_due.ensures.taken.calls ∙ sym (append-nil (desk_calls c.args.desk.now));
+  steps = c.take_due.ensures.taken.steps;
+  turns = makes_nothing c.args.desk.now c.take_due.new.self c.take_due.ensures.taken;
+  boards = c.take_due.ensures.taken.boards;
+  same = c.take_due.ensures.taken.same;
 }
 
-pub make_call-requires-clause-call : goal.make_call-requires-clause-call
-make_call-requires-clause-call g c =
+pub clock_call-requires-clause-call : goal.clock_call-requires-clause-call
+clock_call-requires-clause-call g c =
     let number = c.get-number.ensures in
     let due = c.schedule_law.ensures.fit c.args.tick (omega (arith, number)) (omega (arith, number)) in
     (call_is_due (calls_at c.args.game.now c.args.tick) c.args.tick c.loop-good.n c.in-Some.good c.in-Some.call due (sym c.schedule.ensures ∙ c.in-Some.is)).1
 
-pub make_call-requires-clause-left : goal.make_call-requires-clause-left
-make_call-requires-clause-left g c =
+pub clock_call-requires-clause-left : goal.clock_call-requires-clause-left
+clock_call-requires-clause-left g c =
     let number = c.get-number.ensures in
     let first : 1 ≤ c.args.tick = omega (arith, number) in
     let last : c.args.tick ≤ 54 = omega (arith, number) in
@@ -45,8 +45,8 @@ make_call-requires-clause-left g c =
     let most = c.schedule_law.ensures.most c.in-Some.good in
     omega (arith, counted, few, most)
 
-pub make_call-requires-clause-all_left : goal.make_call-requires-clause-all_left
-make_call-requires-clause-all_left g c =
+pub clock_call-requires-clause-all_left : goal.clock_call-requires-clause-all_left
+clock_call-requires-clause-all_left g c =
     let number = c.get-number.ensures in
     let first : 1 ≤ c.args.tick = omega (arith, number) in
     let last : c.args.tick ≤ 54 = omega (arith, number) in
@@ -75,7 +75,7 @@ loop-good-preserved g c =
     let calls = calls_at c.args.game.now c.args.tick in
     let at : slice_get calls c.loop-good.n ≡ Some (c.in-Some.good, c.in-Some.call) = sym c.schedule.ensures ∙ c.in-Some.is in
     let within = slice_get_within calls c.loop-good.n (c.in-Some.good, c.in-Some.call) at in
-    let known = c.make_call.ensures.answered in
+    let known = c.clock_call.ensures.answered in
     let before = desk_calls c.args.desk.now in
     let number = c.get-number.ensures in
     let due = c.schedule_law.ensures.fit c.args.tick (omega (arith, number)) (omega (arith, number)) in
@@ -84,12 +84,12 @@ loop-good-preserved g c =
       within = omega (arith, within);
       calls = known.calls ∙ ap (λ l. l ++ (c.in-Some.good, c.in-Some.call) ∷ []) c.loop-good.invariant.calls
           ∙ append_assoc before (take c.loop-good.n calls) ((c.in-Some.good, c.in-Some.call) ∷ []) ∙ ap (λ l. before ++ l) (one_more calls c.loop-good.n (c.in-Some.good, c.in-Some.call) at);
-      steps = c.make_call.ensures.step ∙ ap (λ l. l ++ CallMade c.in-Some.good c.in-Some.call ∷ []) c.loop-good.invariant.steps
-          ∙ append_assoc c.args.steps.now.items (DueTaken c.args.tick ∷ map step (take c.loop-good.n calls)) (CallMade c.in-Some.good c.in-Some.call ∷ [])
-          ∙ ap (λ l. c.args.steps.now.items ++ DueTaken c.args.tick ∷ l) (sym (map-append step (take c.loop-good.n calls) ((c.in-Some.good, c.in-Some.call) ∷ []))
+      steps = known.steps ∙ ap (λ l. l ++ CallMade c.in-Some.good c.in-Some.call ∷ []) c.loop-good.invariant.steps
+          ∙ append_assoc (desk_steps c.args.desk.now) (DueTaken c.args.tick ∷ map step (take c.loop-good.n calls)) (CallMade c.in-Some.good c.in-Some.call ∷ [])
+          ∙ ap (λ l. (desk_steps c.args.desk.now) ++ DueTaken c.args.tick ∷ l) (sym (map-append step (take c.loop-good.n calls) ((c.in-Some.good, c.in-Some.call) ∷ []))
           ∙ ap (map step) (one_more calls c.loop-good.n (c.in-Some.good, c.in-Some.call) at));
-      turns = subst (λ l. MakesCalls l c.args.desk.now c.make_call.new.desk) (one_more calls c.loop-good.n (c.in-Some.good, c.in-Some.call) at)
-          (makes_more (take c.loop-good.n calls) c.in-Some.good c.in-Some.call _ _ c.args.desk.now c.loop-good.desk c.make_call.new.desk low c.loop-good.invariant.turns known);
+      turns = subst (λ l. MakesCalls l c.args.desk.now c.clock_call.new.self) (one_more calls c.loop-good.n (c.in-Some.good, c.in-Some.call) at)
+          (makes_more (take c.loop-good.n calls) c.in-Some.good c.in-Some.call _ _ c.args.desk.now c.loop-good.desk c.clock_call.new.self low c.loop-good.invariant.turns known);
       boards = known.boards ∙ c.loop-good.invariant.boards;
       same = (known.same.0 ∙ c.loop-good.invariant.same.0, known.same.1 ∙ c.loop-good.invariant.same.1);
     }
@@ -102,7 +102,7 @@ returns-clause-calls g c =
 pub returns-clause-steps : goal.returns-clause-steps
 returns-clause-steps g c =
     let all = all_taken (calls_at c.args.game.now c.args.tick) c.loop-good.n (sym c.schedule.ensures ∙ c.in_default.is) in
-    c.loop-good.invariant.steps ∙ ap (λ l. c.args.steps.now.items ++ DueTaken c.args.tick ∷ map step l) all
+    c.loop-good.invariant.steps ∙ ap (λ l. (desk_steps c.args.desk.now) ++ DueTaken c.args.tick ∷ map step l) all
 
 pub returns-clause-turns : goal.returns-clause-turns
 returns-clause-turns g c =

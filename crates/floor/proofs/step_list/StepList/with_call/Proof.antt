@@ -1,4 +1,4 @@
--- A list with one call more is made anew, and nothing is read.
+-- Steps with a call more are made anew, and nothing is read.
 use Rattle.std.proofs.Common.{[], ◌∷◌, ◌++◌, refl}
 use mir.Syntax.{named}
 use mir.Val.{Val, vptr, vstruct, vnil}
@@ -16,12 +16,13 @@ use denote.Triple.Walked.{Stays, walk_of, says, stay_none_ref, Goes-none_ref, en
 use Rattle.atomic_table.proofs.Walks.{proved}
 use Rattle.tac_base.specs.contracts.numbers.Good as good
 use Rattle.tac_base.specs.contracts.calls.Call as call
-use Rattle.floor.specs.declared.call_list.CallList.{CallList}
-use Rattle.floor.specs.contracts.call_list.CallList as list
-use Rattle.floor.specs.contracts.call_list.CallList.with as with
-use Rattle.floor.specs.contracts.call_list.CallList.with.Key.{name}
-use Rattle.floor.proofs.call_list.CallList.with.Statement.{statement}
-use Rattle.floor.proofs.call_list.CallList.with.Code as code
+use Rattle.floor.specs.Steps.{CallMade}
+use Rattle.floor.specs.declared.step_list.StepList.{StepList}
+use Rattle.floor.specs.contracts.step_list.StepList as list
+use Rattle.floor.specs.contracts.step_list.StepList.with_call as with
+use Rattle.floor.specs.contracts.step_list.StepList.with_call.Key.{name}
+use Rattle.floor.proofs.step_list.StepList.with_call.Statement.{statement}
+use Rattle.floor.proofs.step_list.StepList.with_call.Code as code
 
 abbrev stays : Stays with.signature.params with.ended.kept
 stays = (
@@ -29,8 +30,8 @@ stays = (
   (stay_none_ref (1 ∷ []) tt (plain (λ _. good.the_row)) yes, (stay_none_ref (2 ∷ []) tt (plain (λ _. call.the_row)) yes, tt)),
 )
 
-pub with_spec : {M : Type 1} → statement M
-with_spec 𝓤 𝓛 𝓜 𝓡 wired =
+pub with_call_spec : {M : Type 1} → statement M
+with_call_spec 𝓤 𝓛 𝓜 𝓡 wired =
     let c = with.clauses 𝓛 𝓜.mem 𝓡.returns in
     proved 𝓛 with.ended stays c 𝓜 𝓡 (
       Goes-none_ref 𝓛 3 (0 ∷ []) tt (plain (λ _. list.the_row)) yes,
@@ -40,7 +41,7 @@ with_spec 𝓤 𝓛 𝓜 𝓡 wired =
     (λ κs qs bounds a ghost are.
     let u : Val = vptr a.0.ref_ptr.0 a.0.ref_ptr.1 in let v : Val = vptr a.1.0.ref_ptr.0 a.1.0.ref_ptr.1 in let w : Val = vptr a.1.1.0.ref_ptr.0 a.1.1.0.ref_ptr.1 in
     let y : (walk_of 𝓛 with.ended stays c).Ghost = ((κs, qs, bounds, a, (u ∷ [], (v ∷ [], (w ∷ [], tt)))), ghost) in
-    let made : CallList = record { items = a.0.now.items ++ (a.1.0.now, a.1.1.0.now) ∷ [] } in
+    let made : StepList = record { items = a.0.now.items ++ CallMade a.1.0.now a.1.1.0.now ∷ [] } in
     qed 𝓛 ((raw (alive 𝓛 with.signature κs qs) ⊛ ‵ (owns (types_at with.signature.params κs) a y.0.4)) ∷ raw ((c κs a).requires ghost) ∷ []) ∵
     keep ! (0 ∷ []) $ split ! $ enter ! _ _ _ _ _ $ alloc_all ! (λ l. pass_all ! refl ((tt, tt), ((tt, tt), ((tt, tt), tt))) $ sets ! (agg ! (no_more !)) refl (tt, tt) $
     returns ! (look_at ! 0 refl) $ free_all ! refl $ suffices ! _ (ends_at 𝓛 with.ended stays c y (vstruct vnil) made (tt, (tt, (tt, tt))) (tt, (tt, (tt, tt)))) $ says ! refl $

@@ -15,13 +15,13 @@ use denote.Triple.Entry.{alive}
 use denote.Triple.Walked.{Stays, walk_of, says, stay_none_ref, Goes-none_ref, ends_at}
 use Rattle.atomic_table.proofs.Walks.{proved}
 use Rattle.tac_base.specs.contracts.numbers.Tick as tick
-use Rattle.clock_events.specs.Steps.{DueTaken}
-use Rattle.clock_events.specs.declared.steps.ClockSteps.{ClockSteps}
-use Rattle.clock_events.specs.contracts.steps.ClockSteps as list
-use Rattle.clock_events.specs.contracts.steps.ClockSteps.with_due as with
-use Rattle.clock_events.specs.contracts.steps.ClockSteps.with_due.Key.{name}
-use Rattle.clock_events.proofs.steps.ClockSteps.with_due.Statement.{statement}
-use Rattle.clock_events.proofs.steps.ClockSteps.with_due.Code as code
+use Rattle.floor.specs.Steps.{DueTaken}
+use Rattle.floor.specs.declared.step_list.StepList.{StepList}
+use Rattle.floor.specs.contracts.step_list.StepList as list
+use Rattle.floor.specs.contracts.step_list.StepList.with_due as with
+use Rattle.floor.specs.contracts.step_list.StepList.with_due.Key.{name}
+use Rattle.floor.proofs.step_list.StepList.with_due.Statement.{statement}
+use Rattle.floor.proofs.step_list.StepList.with_due.Code as code
 
 abbrev stays : Stays with.signature.params with.ended.kept
 stays = (
@@ -40,7 +40,7 @@ with_due_spec 𝓤 𝓛 𝓜 𝓡 wired =
     (λ κs qs bounds a ghost are.
     let u : Val = vptr a.0.ref_ptr.0 a.0.ref_ptr.1 in let v : Val = vptr a.1.0.ref_ptr.0 a.1.0.ref_ptr.1 in
     let y : (walk_of 𝓛 with.ended stays c).Ghost = ((κs, qs, bounds, a, (u ∷ [], (v ∷ [], tt))), ghost) in
-    let made : ClockSteps = record { items = a.0.now.items ++ DueTaken a.1.0.now ∷ [] } in
+    let made : StepList = record { items = a.0.now.items ++ DueTaken a.1.0.now ∷ [] } in
     qed 𝓛 ((raw (alive 𝓛 with.signature κs qs) ⊛ ‵ (owns (types_at with.signature.params κs) a y.0.4)) ∷ raw ((c κs a).requires ghost) ∷ []) ∵
     keep ! (0 ∷ []) $ split ! $ enter ! _ _ _ _ _ $ alloc_all ! (λ l. pass_all ! refl ((tt, tt), ((tt, tt), tt)) $ sets ! (agg ! (no_more !)) refl (tt, tt) $
     returns ! (look_at ! 0 refl) $ free_all ! refl $ suffices ! _ (ends_at 𝓛 with.ended stays c y (vstruct vnil) made (tt, (tt, tt)) (tt, (tt, tt))) $ says ! refl $

@@ -1,16 +1,16 @@
 use Rattle.std.proofs.Common.{◌≡◌, ◌∷◌, ◌++◌, ◌-◌, ◌≤◌, length, map, take}
 use Rattle.floor.specs.Answers.{IsSameDesk}
-use Rattle.floor.specs.Desks.{boards_of, desk_calls}
+use Rattle.floor.specs.Desks.{boards_of, desk_calls, desk_steps}
 use Rattle.game_text.specs.Schedule.{calls_at}
 use Rattle.clock_events.specs.ClockTurns.{MakesCalls}
-use Rattle.clock_events.specs.Steps.{CallMade, DueTaken}
-use Rattle.clock_events.proofs.clock.tick_steps.Given as goal
+use Rattle.floor.specs.Steps.{CallMade, DueTaken}
+use Rattle.clock_events.proofs.clock.clock_tick.Given as goal
 
 abbrev pub invariant-loop-good : goal.invariant-loop-good
 invariant-loop-good g l = record {
   within : l.n ≤ length (calls_at l.game l.tick);
   calls : desk_calls l.desk ≡ desk_calls l.fn.desk ++ take l.n (calls_at l.game l.tick);
-  steps : l.steps.items ≡ l.fn.steps.items ++ DueTaken l.tick ∷ map (λ call. CallMade call.0 call.1) (take l.n (calls_at l.game l.tick));
+  steps : desk_steps l.desk ≡ desk_steps l.fn.desk ++ DueTaken l.tick ∷ map (λ call. CallMade call.0 call.1) (take l.n (calls_at l.game l.tick));
   turns : MakesCalls (take l.n (calls_at l.game l.tick)) l.fn.desk l.desk;
   boards : boards_of l.desk ≡ boards_of l.fn.desk;
   same : IsSameDesk l.fn.desk l.desk;

@@ -1,6 +1,6 @@
 -- Steps own nothing, so they may go to another thread.
 use denote.Param.Send.{IsSend, owning_send}
-use Rattle.clock_events.specs.contracts.steps.ClockSteps.{the_row, the_type}
+use Rattle.floor.specs.contracts.step_list.StepList.{the_row, the_type}
 
 pub send : IsSend the_row
 send = owning_send the_type tt (λ d. tt) (λ k x w. tt)
