@@ -102,8 +102,8 @@ SKIPPED: Dict[str, str] = {
 # What stands beside a name in the tables of definitions, by CRATE/MODULE.NAME.
 NOTES: Dict[str, str] = {
     "clock_events/Clocking.WaitsForAll":
-        ("its `paced` says that the pace stays as it was before, where `at_pace` of the last "
-         "chapter has set it to PACE"),
+        ("its `all_paced` and `paced` say that the pace is as it was before at each wait and "
+         "stays so, where `at_pace` of the last chapter has set it to PACE"),
 }
 
 # Which `played` is which: where it stands, its type, and what is said of it.
@@ -272,15 +272,19 @@ and with what it left in the histories. Three equations hold it, and the rest is
 Every link that came is in the list `given`, in order, with its verdict at the same place; `CameTo`
 says for each verdict what became of it, and hands the seated ones to `IsSeated`, which puts the
 session together (the chapter above). So read `Admission` first, then `IsSeated`, and `IsPlayedBy`
-last: its four fields are the whole rest of the headline.
+last: its five fields are the whole rest of the headline.
 
 - **Look for** `take n verdicts` in `AreAdmitted`: the n-th link is judged by the seats that the
   earlier verdicts left. `AreAllTaken` has both directions: none is taken too many, and none is left
   out that could be taken. In `IsPlayedBy`: the agents with an end are exactly those with a seat,
-  the others made no call, and the clock's calls are the schedule's, good by good.
+  the others made no call, and the clock's calls are the schedule's, good by good. The field
+  `clock_transcript` says for the clock what `IsTranscript` says for an agent: its turns make the
+  whole schedule in order, and its part of the cash history is the posts of these turns, in that
+  order.
 - **`paced : after.paced ≡ before.paced`** in `WaitsForAll` does not say that no pace was set:
   `ServeAllows` calls it with `at_pace` of the outside before, in which the pace is already that of
-  the command line (the last chapter). So the field says that the pace stays PACE to the end.
+  the command line (the last chapter). So the field says that the pace stays PACE to the end, and
+  `all_paced` that it was PACE at each of the 54 waits: it was set before the first one.
 - **On numbers**: the verdicts on ten first lines, and the seats after three verdicts; a link that
   is refused, cut off, and lost in two ways; the eighth seat and the 64th link; the 54 waits.
 - **For code 0** `IsNotPlayed` and `IsLeftUnplayed` are not needed, and may be skipped: they are of
@@ -330,7 +334,7 @@ The same game passes through all of it, and each record gets a part of it:
 - `IsSeated` uses `played.ends` for the cause of its session, and `played.closed` for its calls.
 - **The pace**: `at_pace` changes the outside before in one field: `paced` is PACE if it is known,
   and `None` otherwise. `WaitsForAll` says that `paced` stays as it was before, so it is PACE at the
-  end.
+  end, and that each wait had it.
 
 What to look for, and what goes wrong:
 
@@ -414,7 +418,7 @@ OUTSIDE: List[Tuple[str, str, str, str]] = [
      "nothing: what is known of it follows from the answers of `write`"),
     ("TickerState", "paced", "the pace that was set, if any, in milliseconds from tick to tick",
      "it is kept to, which no clause says: of time there is no clause at all"),
-    ("TickerState", "waited", "the ticks that were waited for, in order, and which lapsed",
+    ("TickerState", "waited", "the waits for ticks, in order, which lapsed, and at which pace",
      "a wait that ends did so at the tick's time or later"),
     ("TickerState", "faults", "how many ticks lapsed: the system's clock could not be read",
      "nothing else is counted; a tick that comes late under load is none of these"),

@@ -351,7 +351,12 @@ ROWS = [
     Row(["worked_rows/CommandLines:one_tick_lapsed"],
         ["clock_events/Clocking.WaitsForAll", "clock_events/Clocking.HasMissedCause"],
         ("The ticks 1 to 54 were waited for, tick 7 lapsed, and the count of faults rose from 0 to "
-         "1: 1 tick was missed. The pace, 500, stays")),
+         "1: 1 tick was missed. The pace, 500, was set at each wait, and stays")),
+    Row(["worked_rows/Sessions:clock_posts_what_was_traded"],
+        ["clock_events/ClockTurns.call_made", "clock_events/ClockTurns.clock_entries",
+         "clock_events/ClockTurns.clock_posts"],
+        ("The clock updates flight 0, where a seat is sold at 300, and publishes at hotel 8: one "
+         "entry at each good, and one post, for the update")),
     Row(["worked_rows/Links:one_seat_is_given_and_refused_links_are_told"],
         ["game_run/Admission.seats_given", "game_run/Admission.first_verdict",
          "game_run/Admission.refusal_line"],

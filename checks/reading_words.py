@@ -63,12 +63,13 @@ TRUTHS = """\
   not meet them: a failed write cuts the turns at its line, and after a failed read every whole line
   must have been answered. Any read or write may fail, so each reply goes out before the next read.
 - **When the clock makes its calls.** The clause `service` says that they are the schedule's, good
-  by good, and that the ticks were waited for; that a tick's calls are made after its wait and
-  before the next one is tested (`docs/PROOFS.md`, "What is not proved"). Their order across the
-  goods is a clause of `run_clock` (`crates/clock_events`), and not of `tac`.
+  by good, that their posts are in the order of the schedule, and that the ticks were waited for.
+  The order of all calls across the goods, and that a tick's calls come after its due, are clauses
+  of `run_clock` (`crates/clock_events`), and not of `tac`. That they are made before the next tick
+  is waited for is tested (`docs/PROOFS.md`, "What is not proved").
 - **How far a reading of cash may lag.** The desk's clause bounds it, and not that of `tac`: every
   desk has posted what is due before its call returns. A body that appended the clock's posts at the
-  end would meet the clauses of `tac`.
+  end, in the order of the schedule, would meet the clauses of `tac`.
 - **That a game file is well formed.** That there are eight clients for each agent, that the seats'
   words differ, and that the closing order has each hotel night once, no chapter says: it follows
   from how a text is read (`game_in`, in the part beside, "How the text of a game file is read"),
@@ -426,7 +427,7 @@ SENTENCES: List[Tuple[str, List[str]]] = [
       "line_protocol/Replies.said_text"]),
     ("and the clock's are the game file's;",
      ["game_run/PlayedGame.IsPlayedBy", "game_text/Schedule.clock_calls",
-      "clock_events/Clocking.WaitsForAll"]),
+      "game_run/PlayedGame.IsClockTranscript", "clock_events/Clocking.WaitsForAll"]),
     ("goods and cash equal the trades recorded;",
      ["trade_ledger/Posts.Matched", "settlement/Settlement.settlement_of",
       "settlement/Settlement.cash_gained", "auction_rules/Effects.holding",

@@ -3,6 +3,8 @@ use Rattle.std.proofs.Common.{◌≡◌, [], ◌∷◌, length, map, slice_get, 
 use Rattle.tac_base.specs.declared.calls.Call.TheVariants.{Update, Publish, Close}
 use Rattle.game_text.specs.QuietGames.{quiet_game}
 use Rattle.game_text.specs.Schedule.{calls_at, clock_calls, open_after, schedule}
+use Rattle.floor.specs.Steps.{CallMade, DueTaken}
+use Rattle.clock_events.specs.Steps.{steps_of_game, steps_at}
 
 flights_alone_are_updated_first : map (slice_get (calls_at quiet_game 1)) (0 ∷ 8 ∷ []) ≡ Some (0, Update 1 10) ∷ None ∷ []
 unfolding quiet_game calls_at
@@ -26,3 +28,9 @@ all_calls_and_those_of_two_goods : (length (schedule quiet_game) ≡ 480)
     × (clock_calls quiet_game 20 ≡ Close ∷ [])
 unfolding quiet_game calls_at open_after
 all_calls_and_those_of_two_goods = (refl, refl, refl)
+
+-- the due of tick 54 is taken, and then its 20 calls are made
+each_tick_begins_with_its_due : (map (λ n. slice_get (steps_at quiet_game 54) n) (0 ∷ 1 ∷ 20 ∷ 21 ∷ []) ≡ Some (DueTaken 54) ∷ Some (CallMade 0 Close) ∷ Some (CallMade 27 Close) ∷ None ∷ [])
+    × (length (steps_of_game quiet_game) ≡ 534)
+unfolding quiet_game calls_at open_after
+each_tick_begins_with_its_due = (refl, refl)

@@ -10,5 +10,5 @@ abbrev pub steps_at : GameFile → ℕ → List Step
 steps_at game tick = DueTaken tick ∷ map (λ call. CallMade call.0 call.1) (calls_at game tick)
 
 -- the steps of a game, tick by tick
-abbrev pub all_steps : GameFile → List Step
-all_steps game = flat_map (steps_at game) ticks
+abbrev pub steps_of_game : GameFile → List Step
+steps_of_game game = flat_map (steps_at game) ticks

@@ -9,7 +9,7 @@ ghost use Rattle.tac_io.specs.Known.{known_then};
 ghost use Rattle.clock_events.specs.Clocking.{WaitsForAll};
 ghost use Rattle.clock_events.specs.ClockTurns.{MakesCalls};
 ghost use Rattle.clock_events.specs.MadeCalls.{HasMade};
-ghost use Rattle.clock_events.specs.Steps.{steps_at, all_steps};
+ghost use Rattle.clock_events.specs.Steps.{steps_at, steps_of_game};
 ghost use Rattle.game_text.specs.Schedule as spec;
 ghost use Rattle.game_text.specs.Schedule.{clock_calls};
 
@@ -95,7 +95,7 @@ pub fn run_clock<R: Wait + Clock, T: Ticker>(
     ensures calls { desk_calls result.desk ≡ spec.schedule game.now }
     ensures made { HasMade game.now TICKS result.desk }
     ensures whole { (good : ℕ) → good < GOODS → map (λ p. p.1.call) (entries_at result.desk good) ≡ clock_calls game.now good }
-    ensures steps { desk_steps result.desk ≡ desk_steps desk ++ all_steps game.now }
+    ensures steps { desk_steps result.desk ≡ desk_steps desk ++ steps_of_game game.now }
     ensures turns { MakesCalls (spec.schedule game.now) desk result.desk }
     ensures boards { boards_of result.desk ≡ boards_of desk }
     ensures same { IsSameDesk desk result.desk }

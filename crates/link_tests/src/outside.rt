@@ -1,5 +1,6 @@
 // The two calls over the forms in memory, and forms through their traits.
 ghost use Rattle.std.specs.Prelude.{◌≡◌, ◌<◌, ◌∷◌, [], Bool, IfOk, IfSome, length, true, false};
+ghost use Rattle.std.specs.Option.{option_map};
 ghost use Rattle.tac_io.specs.Calls.{one_call_more};
 ghost use Rattle.tac_io.specs.LineAnswers.{goes_on};
 ghost use Rattle.tac_io.specs.Lines.{last_of};
@@ -111,8 +112,8 @@ fn a_text_is_written_whole_or_in_part(rt: HostRuntime) -> Result<(), Fail> {
 
 // Whether a tick is due in time.
 fn is_due<R: Wait + Clock, T: Ticker + Send>(rt: &R, ticker: &mut T, tick: Tick) -> bool
-    requires { IfSome (T.state ticker.old).waited (λ ticks. length ticks < 54) }
-    ensures { (late : Bool) × ((T.state ticker.new).waited ≡ known_then (T.state ticker.old).waited ((tick, late) ∷ [])) }
+    requires { IfSome (T.state ticker.old).waited (λ waits. length waits < 54) }
+    ensures { (late : Bool) × ((T.state ticker.new).waited ≡ known_then (T.state ticker.old).waited (record { tick = tick; lapsed = late; paced = option_map (λ _. Some 100) (T.state ticker.old).paced } ∷ [])) }
 {
     ticker.pace(100);
     match ticker.wait(rt, tick) {

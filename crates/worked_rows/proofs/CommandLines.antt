@@ -1,10 +1,11 @@
 -- Which words ask for a service, what the clock of one waited for, and what is written of outcomes.
-use Rattle.std.proofs.Common.{◌≡◌, ℕ, Bool, List, [], ◌∷◌, length, Option, Some, None, map, refl, ap, arith}
+use Rattle.std.proofs.Common.{◌≡◌, ℕ, List, [], ◌∷◌, length, Option, Some, None, map, refl, ap, arith}
 use Rattle.std.specs.Prelude.{codes, replicate, ◌==◌}
 use Rattle.std.specs.Fmt.{digits}
+use Rattle.std.proofs.lemmas.List.Elements.{All-map}
 use Rattle.tac_base.specs.Numerals.{numeral}
 use Rattle.game_text.specs.Schedule.{ticks}
-use Rattle.tac_io.specs.States.{TickerState, SinkState}
+use Rattle.tac_io.specs.States.{TickWait, TickerState, SinkState}
 use Rattle.clock_events.specs.Clocking.{WaitsForAll}
 use Rattle.tac_commands.specs.declared.services.Form.TheVariants.{Lines, Json}
 use Rattle.tac_commands.specs.declared.refusals.Refusal.TheVariants as refusals
@@ -26,18 +27,22 @@ unfolding numeral
 services_have_a_port_a_pace_and_a_form = (refl, refl, refl)
 
 -- a ticker at 500 milliseconds a tick
-abbrev ticker : List (ℕ × Bool) → ℕ → TickerState
+abbrev ticker : List TickWait → ℕ → TickerState
 ticker waited faults = record { paced = Some (Some 500); waited = Some waited; faults = faults }
 
--- tick 7 lapsed, and was counted
-abbrev waits : List (ℕ × Bool)
-waits = map (λ tick. (tick, tick == 7)) ticks
+-- the wait for a tick at that pace: tick 7 lapsed, and was counted
+abbrev wait : ℕ → TickWait
+wait tick = record { tick = tick; lapsed = tick == 7; paced = Some (Some 500) }
+
+abbrev waits : List TickWait
+waits = map wait ticks
 
 one_tick_lapsed : WaitsForAll (ticker [] 0) (ticker waits 1) 1
 one_tick_lapsed = record {
   waits = waits;
   known = refl;
   all_ticks = refl;
+  all_paced = All-map (λ (w : TickWait). w.paced ≡ Some (Some 500)) wait ticks (λ k d inside. refl);
   lapses = refl;
   cause = record { rose = λ lapsed. counts_rise_or_stay.0; same = λ none. omega (arith, none) };
   paced = refl;

@@ -1,5 +1,5 @@
 -- A session of six lines at a hotel in which agent 1 also bids: its turns, what of them stands in the histories, and what a turn may be
--- after those before it.
+-- after those before it. And two turns of the clock.
 use Rattle.std.proofs.Common.{◌≡◌, ℕ, ◌<◌, ◌≤◌, true, false, List, [], ◌∷◌, pos, map, refl, arith}
 use Rattle.std.specs.Prelude.{codes, replicate, reverse, take}
 use Rattle.std.specs.Fmt.{digits}
@@ -12,6 +12,7 @@ use Rattle.tac_base.specs.declared.calls.Reply.TheVariants as replies
 use Rattle.auction_rules.specs.declared.rules.Rules.TheVariants.{Hotel as HotelRules}
 use Rattle.auction_rules.specs.Setup.{Setup}
 use Rattle.auction_rules.specs.History.{Entry}
+use Rattle.auction_rules.specs.Effects.{nets}
 use Rattle.auction_rules.specs.Legal.{past_of}
 use Rattle.auction_core.specs.Auctions.{AuctionHistory}
 use Rattle.floor.specs.ClosedBoards.{board_of}
@@ -23,6 +24,7 @@ use Rattle.line_protocol.specs.declared.asking.Request.TheVariants as requests
 use Rattle.line_protocol.specs.declared.asking.RequestFault.TheVariants as faults
 use Rattle.line_protocol.specs.Requests.{request_of}
 use Rattle.line_protocol.specs.Replies.{said_text}
+use Rattle.clock_events.specs.ClockTurns.{ClockTurn, call_made, clock_entries, clock_posts}
 use Rattle.agent_gate.specs.Items.{Asks}
 use Rattle.agent_gate.specs.Turns.{Turn, Called, CallDenied, CashRead, CashDenied, Quoted, Refused, Skipped, Left, item_of, made_at, cash_made, boards_shown, shown_length, has_left, IsLawfulTurn, AreLawful}
 use Rattle.agent_gate.specs.Served.{reply_line}
@@ -67,6 +69,22 @@ turns_make_the_agents_part : (part (λ e. e.caller) auction.history 0 ≡ made_a
     × (made_at 9 turns ≡ [])
     × (cash_made 0 turns ≡ (0, record { caller = 0; call = cash_calls.Read 0; reply = cash_replies.Cash (pos 0) }) ∷ [])
 turns_make_the_agents_part = (refl, refl, refl)
+
+-- the clock updates flight 0, where agent 0 buys a seat at 300, and then publishes at hotel 8
+abbrev update_entry : Entry
+update_entry = record { caller = 8; call = calls.Update 1 10; reply = replies.Done; trades = record { buyer = 0; seller = 8; good = 0; units = 1; price = 300 } ∷ [] }
+
+abbrev publish_entry : Entry
+publish_entry = record { caller = 8; call = calls.Publish; reply = replies.Done; trades = [] }
+
+abbrev clock_turns : List ClockTurn
+clock_turns = record { good = 0; position = 5; entry = update_entry; posted = 3 } ∷ record { good = 8; position = 2; entry = publish_entry; posted = 0 } ∷ []
+
+-- the update alone has a post
+clock_posts_what_was_traded : (map call_made clock_turns ≡ (0, calls.Update 1 10) ∷ (8, calls.Publish) ∷ [])
+    × (map (λ good. clock_entries good clock_turns) (0 ∷ 1 ∷ 8 ∷ []) ≡ ((5, update_entry) ∷ []) ∷ [] ∷ ((2, publish_entry) ∷ []) ∷ [])
+    × (clock_posts clock_turns ≡ (3, record { caller = 8; call = cash_calls.Post 0 5 (record { dollars = nets update_entry.trades }); reply = cash_replies.Done }) ∷ [])
+clock_posts_what_was_traded = (refl, refl, refl)
 
 -- the board that was shown is that of the first three entries
 shown_board_is_of_a_prefix : map (λ note. (note.0, board_of auction (take note.0 auction.history))) (boards_shown 8 turns) ≡ boards_shown 8 turns
