@@ -28,7 +28,7 @@ use Rattle.tac_commands.specs.declared.refusals.Refusal.TheVariants.{Usage, Link
 use Rattle.tac_commands.specs.Cash.{IsCashOfPosts}
 use Rattle.tac_commands.specs.Commands.{BatchCommand, Hotel, Show, Upgrade, Make, Solve, Worth, Play, Step, Trial, Audit, Table, Command, Batch, Serve}
 use Rattle.tac_commands.specs.FlawTexts.{flaw_text, unsound_text}
-use Rattle.tac_commands.specs.Outcomes.{Outcome, Done, Lapsed, Unsound, Stopped, Unwritten, Refused}
+use Rattle.tac_commands.specs.Outcomes.{Outcome, Done, Lapsed, Unsound, Stopped, Unwritten, Unread, Refused}
 use Rattle.tac_commands.specs.Runs.{AreUnasked, Runs}
 use Rattle.tac_commands.specs.SoundTexts.{log_of_game, EndsInSoundLog}
 use Rattle.tac_commands.specs.Steps.{Steps, Reads, Audits, Hears, EndsWith, file}
@@ -143,6 +143,7 @@ IsServiceEnd (Lapsed text) = ⊤
 IsServiceEnd (Stopped text Memory) = ⊤
 IsServiceEnd (Stopped text refusal) = ⊥
 IsServiceEnd (Unwritten text) = ⊥
+IsServiceEnd (Unread text) = ⊥
 IsServiceEnd (Refused LinkFault) = ⊤
 IsServiceEnd (Refused Memory) = ⊤
 IsServiceEnd (Refused refusal) = ⊥

@@ -12,7 +12,7 @@ use Rattle.tac_commands.specs.declared.ends.End.{End}
 use Rattle.tac_commands.specs.declared.ends.End.TheVariants as ends
 use Rattle.tac_commands.specs.Allowed.{batch_steps}
 use Rattle.tac_commands.specs.Commands.{BatchCommand}
-use Rattle.tac_commands.specs.Outcomes.{Outcome, Done, Unsound, Stopped, Unwritten, Refused}
+use Rattle.tac_commands.specs.Outcomes.{Outcome, Done, Unsound, Stopped, Unwritten, Unread, Refused}
 use Rattle.tac_commands.specs.Runs.{Runs}
 use Rattle.tac_commands.specs.Steps.{Steps}
 use Rattle.tac_commands.specs.Reporting.{Reports}
@@ -32,9 +32,16 @@ Stops text refusal sink sink' ends.Unsound = ⊥
 Stops text refusal sink sink' ends.WriteFault = TookPart sink sink' text
 Stops text refusal sink sink' (ends.Refused told) = (told ≡ refusal) × TookWhole sink sink' text
 
--- a command that allows these outcomes, some of which may stop after a first part, ended so, and left the sink so
+-- the replies to a script were written whole, and then a read of it failed, which is to be told
+abbrev pub BreaksOff : List ℕ → SinkState → SinkState → End → Type 0
+BreaksOff replies sink sink' end = (end ≡ ends.Refused ReadFault) × TookWhole sink sink' replies
+
+-- a command that allows these outcomes, some of which may stop after a first part or break off, ended so, and left the sink so
 abbrev pub EndsOrStops : (Outcome → Type 0) → SinkState → SinkState → End → Type 0
-EndsOrStops allows sink sink' end = Ends allows sink sink' end ⊎ ((text : List ℕ) × (refusal : Refusal) × allows (Stopped text refusal) × Stops text refusal sink sink' end)
+EndsOrStops allows sink sink' end =
+    Ends allows sink sink' end
+    ⊎ ((text : List ℕ) × (refusal : Refusal) × allows (Stopped text refusal) × Stops text refusal sink sink' end)
+    ⊎ ((replies : List ℕ) × allows (Unread replies) × BreaksOff replies sink sink' end)
 
 -- a command with these steps over its files ended so, and left the files and the sink so
 abbrev pub EndsSteps : Steps → FilesState → FilesState → SinkState → SinkState → End → Type 0

@@ -1,31 +1,32 @@
 -- Hearing the script of a command, line by line.
-use Rattle.std.specs.Prelude.{◌≡◌, ℕ, ◌⊎◌, List, ◌++◌, Option, Some, IfSome}
+use Rattle.std.specs.Prelude.{◌≡◌, ℕ, ◌⊎◌, List, [], ◌++◌, Option, Some, IfSome}
 use Rattle.tac_io.specs.Counts.{Rose}
 use Rattle.tac_io.specs.States.{FilesState}
+use Rattle.tac_io.specs.Known.{IsAtEnd}
 use Rattle.script_run.specs.declared.game.lines.GameLine.{GameLine as ScriptLine}
 use Rattle.script_run.specs.HeardScripts.{heard_lines, Reading, Standing, Whole, BadAt, Overlong, BrokenOff, Open, standing}
 use Rattle.script_run.specs.HeardReads.{HasReadCause, StopsThere}
 use Rattle.tac_commands.specs.declared.refusals.Refusal.TheVariants.{ReadFault, Memory, TextLine, TextTooLong}
 use Rattle.tac_commands.specs.Files.{Content}
-use Rattle.tac_commands.specs.Outcomes.{Outcome, Stopped, Unwritten, Refused}
+use Rattle.tac_commands.specs.Outcomes.{Outcome, Stopped, Unwritten, Unread, Refused}
 
 -- the file of that name gave these bytes, its first, and has this left, where files are told
 abbrev pub IsGiven : Content → List ℕ → List ℕ → Option (List ℕ) → Type 0
 IsGiven content name given left = IfSome content (λ files. (rest : List ℕ) × (files name ≡ Some (given ++ rest)) × (left ≡ Some rest))
 
--- the script could not be selected, or memory was refused before anything of it was read
-abbrev pub IsUnheard : FilesState → FilesState → Outcome → Type 0
-IsUnheard files files' outcome =
-    ((outcome ≡ Refused ReadFault) × Rose files.faults files'.faults)
-    ⊎ ((outcome ≡ Refused Memory) × (files'.faults ≡ files.faults))
+-- The script could not be selected, and the file that was read before it is still at its end; or memory was refused, and the whole script is left.
+abbrev pub IsUnheard : FilesState → FilesState → List ℕ → Outcome → Type 0
+IsUnheard files files' name outcome =
+    ((outcome ≡ Refused ReadFault) × IsAtEnd files'.left × Rose files.faults files'.faults)
+    ⊎ ((outcome ≡ Refused Memory) × IsGiven files.content name [] files'.left × (files'.faults ≡ files.faults))
 
 -- What a script allows that stands so, after these good lines: the replies to them are written, and then what is due; or a failed write kept them
--- from being written whole.
+-- from being written whole, but not after a failed read, before which they were written.
 abbrev pub Answers : (List ScriptLine → List ℕ) → (List ScriptLine → Outcome → Type 0) → List ScriptLine → Standing → Outcome → Type 0
 Answers replies allows lines Whole outcome = allows lines outcome
 Answers replies allows lines (BadAt line reason) outcome = outcome ≡ Stopped (replies lines) (TextLine line reason)
 Answers replies allows lines Overlong outcome = outcome ≡ Stopped (replies lines) TextTooLong
-Answers replies allows lines BrokenOff outcome = outcome ≡ Stopped (replies lines) ReadFault
+Answers replies allows lines BrokenOff outcome = outcome ≡ Unread (replies lines)
 Answers replies allows lines Open outcome = outcome ≡ Unwritten (replies lines)
 
 -- the script of that name was heard, as far as it gave its bytes, and this is the outcome

@@ -5,13 +5,15 @@ use Rattle.tac_commands.specs.declared.refusals.Refusal.TheVariants.{Usage, Game
 use Rattle.tac_commands.specs.NumberedLines.{numbered}
 
 -- a command's text; that of a game in which ticks lapsed; a text that reports an unsound log; a first part of a text, and what is written in
--- place of the rest; a first part that a failed write kept from being written whole; or what is written in place of a text
+-- place of the rest; a first part that a failed write kept from being written whole; the replies to a script that a failed read broke off, after
+-- which that is told; or what is written in place of a text
 pub data Outcome : Type 0 where
   Done : (text : List ℕ) → Outcome
   Lapsed : (text : List ℕ) → Outcome
   Unsound : (text : List ℕ) → Outcome
   Stopped : (text : List ℕ) → (refusal : Refusal) → Outcome
   Unwritten : (text : List ℕ) → Outcome
+  Unread : (text : List ℕ) → Outcome
   Refused : (refusal : Refusal) → Outcome
 
 -- the code that a refusal ends with, and the line that is written
@@ -32,6 +34,7 @@ exit_of (Lapsed text) = (6, text)
 exit_of (Unsound text) = (9, text)
 exit_of (Stopped text refusal) = ((refusal_end refusal).0, text ++ (refusal_end refusal).1)
 exit_of (Unwritten text) = (4, text)
+exit_of (Unread text) = ((refusal_end ReadFault).0, text ++ (refusal_end ReadFault).1)
 exit_of (Refused refusal) = refusal_end refusal
 
 abbrev pub code_of : Outcome → ℕ

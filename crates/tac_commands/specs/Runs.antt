@@ -37,5 +37,5 @@ Runs (Audits game log IsDue next) files files' outcome =
     (IsSound game log × Runs next files files' outcome)
     ⊎ (StopsAt game log IsDue outcome × AreUnasked files files')
 Runs (Hears name replies allows) files files' outcome =
-    (IsUnheard files files' outcome ⊎ IsHeard replies allows files files' name outcome) × (files'.names ≡ known_then files.names (name ∷ []))
+    (IsUnheard files files' name outcome ⊎ IsHeard replies allows files files' name outcome) × (files'.names ≡ known_then files.names (name ∷ []))
 Runs (EndsWith allows) files files' outcome = allows outcome × AreUnasked files files'
