@@ -6,6 +6,7 @@ use Rattle.tac_io.specs.Counts.{Rose}
 use Rattle.tac_io.specs.States.{FilesState, SinkState}
 use Rattle.tac_io.specs.Known.{IsAtEnd, then_known}
 use Rattle.tac_io.proofs.KnownPieces.{known_then-nothing, then_known-nothing, then_known-twice}
+use Rattle.tac_io.proofs.WholeFiles.{still_at_end}
 use Rattle.game_text.specs.Games.{GameFile}
 use Rattle.tac_io.specs.Taken.{TookWhole, TookPart}
 use Rattle.script_run.specs.declared.fault.StepFault.{StepFault}
@@ -36,10 +37,6 @@ hears_nothing game files start stepper none s = record {
   left = sym (then_known-nothing files.left);
   quiet = refl;
 }
-
--- a file that gave nothing more is at its end
-still_at_end : (left left' : Option (List ℕ)) (piece : List ℕ) (n : ℕ) → n ≡ 0 → left ≡ then_known (take n piece) left' → IsAtEnd left → IsAtEnd left'
-still_at_end left left' piece n none gave end = subst IsAtEnd (gave ∙ (ap (λ (k : ℕ). then_known (take k piece) left') none ∙ then_known-nothing left')) end
 
 module _ (game : GameFile) (files : FilesState) (start : SinkState) where
   -- what ended the game

@@ -4,19 +4,33 @@ use Rattle.std.specs.Prelude.{◌==◌, ◌⊎◌, MatchBool}
 use Rattle.std.proofs.lemmas.Bool.{eqb-true}
 use Rattle.tac_io.specs.Counts.{Rose}
 use Rattle.tac_io.specs.States.{SinkState}
-use Rattle.tac_commands.specs.{Outcome, code_of, Reports}
+use Rattle.tac_io.specs.Taken.{TookPart}
+use Rattle.game_log.proofs.Writing.{then_some}
+use Rattle.tac_commands.specs.declared.refusals.Refusal.TheVariants.{ReadFault}
+use Rattle.tac_commands.specs.{Outcome, Done, Lapsed, Unsound, Stopped, Unwritten, Unread, Refused, code_of, refusal_end, IsCutShort, Reports}
+use Rattle.tac_commands.specs.Outcomes.{exit_text}
+
+-- only the first bytes of the text that is due were written, whatever the outcome
+pub cut_part : (outcome : Outcome) (sink sink' : SinkState) → IsCutShort outcome sink sink' → TookPart sink sink' (exit_text outcome)
+cut_part (Done text) sink sink' cut = cut
+cut_part (Lapsed text) sink sink' cut = cut
+cut_part (Unsound text) sink sink' cut = cut
+cut_part (Stopped text refusal) sink sink' cut = cut
+cut_part (Unwritten text) sink sink' cut = cut
+cut_part (Unread text) sink sink' cut = then_some text (refusal_end ReadFault).1 sink cut.0 sink' cut.1 cut.2
+cut_part (Refused refusal) sink sink' cut = cut
 
 -- it is 4 if the count of the sink rose, or the outcome's
 abbrev pub IsCoded : SinkState → SinkState → ℕ → Outcome → Type 0
 IsCoded sink sink' code outcome = ((code ≡ 4) × Rose sink.faults sink'.faults) ⊎ (code ≡ code_of outcome)
 
-coded_by : (b : Bool) (sink sink' : SinkState) (code : ℕ) (outcome : Outcome) (P Q R : Type 0) → (code == 4) ≡ b → MatchBool b (P × Rose sink.faults sink'.faults × Q) ((code ≡ code_of outcome) × R) →
+coded_by : (b : Bool) (sink sink' : SinkState) (code : ℕ) (outcome : Outcome) (Q : Type 0) → (code == 4) ≡ b → MatchBool b (IsCutShort outcome sink sink') ((code ≡ code_of outcome) × Q) →
     IsCoded sink sink' code outcome
-coded_by true sink sink' code outcome P Q R e told = inl (eqb-true code 4 e, told.1)
-coded_by false sink sink' code outcome P Q R e told = inr told.0
+coded_by true sink sink' code outcome Q e told = inl (eqb-true code 4 e, (cut_part outcome sink sink' told).1)
+coded_by false sink sink' code outcome Q e told = inr told.0
 
 pub coded : (outcome : Outcome) (sink sink' : SinkState) (code : ℕ) → Reports outcome sink sink' code → IsCoded sink sink' code outcome
-coded outcome sink sink' code told = coded_by (code == 4) sink sink' code outcome _ _ _ refl told
+coded outcome sink sink' code told = coded_by (code == 4) sink sink' code outcome _ refl told
 
 module _ (sink sink' : SinkState) (code : ℕ) (outcome : Outcome) where
   -- if the outcome has the code only from its cause, so has the program
@@ -33,4 +47,4 @@ module _ (sink sink' : SinkState) (code : ℕ) (outcome : Outcome) where
 
   -- 4 comes only if the count of the sink rose
   pub told_four : Reports outcome sink sink' code → code ≡ 4 → Rose sink.faults sink'.faults
-  told_four told is = let test : (code == 4) ≡ true = rw is refl in (rw test at told).1
+  told_four told is = let test : (code == 4) ≡ true = rw is refl in (cut_part outcome sink sink' (rw test at told)).1

@@ -68,9 +68,9 @@ long_bytes given rest reading is = let long = overlong_is given reading is in lo
 -- ---- why the run ended
 
 module _ (replies : List ScriptLine → List ℕ) (allows : List ScriptLine → Outcome → Type 0) (files files' : FilesState) (name : List ℕ) (outcome : Outcome) where
-  unheard_so : IsUnheard files files' outcome → HeardSo files files' allows name outcome
-  unheard_so (inl fault) = inl (inl (ap code_of fault.0, fault.1))
-  unheard_so (inr memory) = inl (inr (inl (ap code_of memory.0, memory.1)))
+  unheard_so : IsUnheard files files' name outcome → HeardSo files files' allows name outcome
+  unheard_so (inl fault) = inl (inl (ap code_of fault.0, fault.2))
+  unheard_so (inr memory) = inl (inr (inl (ap code_of memory.0, memory.2)))
 
   module _ (given : List ℕ) (reading : Reading) (is : IsGiven files.content name given files'.left) (stops : StopsThere reading files'.left) where
     by_standing : (stands : Standing) → standing given reading ≡ stands → HasReadCause stands files.faults files'.faults → Answers replies allows (heard_lines given) stands outcome →
@@ -89,6 +89,6 @@ module _ (replies : List ScriptLine → List ℕ) (allows : List ScriptLine → 
     by_standing BrokenOff so cause answer = inl (inl (ap code_of answer, cause))
     by_standing Open so cause answer = inr (inl (ap code_of answer, cause))
 
-  pub heard_so : IsUnheard files files' outcome ⊎ IsHeard replies allows files files' name outcome → HeardSo files files' allows name outcome
+  pub heard_so : IsUnheard files files' name outcome ⊎ IsHeard replies allows files files' name outcome → HeardSo files files' allows name outcome
   heard_so (inl unheard) = unheard_so unheard
   heard_so (inr heard) = by_standing heard.0 heard.1 heard.2 heard.3 (standing heard.0 heard.1) refl heard.4 heard.5

@@ -56,13 +56,13 @@ module _ (files files' : FilesState) (name bytes : List ℕ) (sink sink' : SinkS
 
     -- a write failed
     failed : (text : List ℕ) → IsFirstOut game bytes text ⊎ IsPlayOut game bytes text → TookPart sink sink' text → EndsSteps (play_steps game name) files files' sink sink' ends.WriteFault
-    failed text (inl first) some = inr (text, refusals.Memory, first_run text first, some)
+    failed text (inl first) some = inr (inl (text, refusals.Memory, first_run text first, some))
     failed text (inr whole) some = inl (text, inl (play_run text whole), some)
 
     no_memory : (sink' ≡ sink) ⊎ ((text : List ℕ) × IsFirstOut game bytes text × TookWhole sink sink' text) →
         EndsSteps (play_steps game name) files files' sink sink' (ends.Refused refusals.Memory)
     no_memory (inl same) = inl (inr (refusals.Memory, refl, inr (inl (refl, quiet)), selected), same)
-    no_memory (inr first) = inr (first.0, refusals.Memory, first_run first.0 first.1, (refl, first.2))
+    no_memory (inr first) = inr (inl (first.0, refusals.Memory, first_run first.0 first.1, (refl, first.2)))
 
     pub played : (result : Result PlayCount ScriptFault) → PlaysScript game bytes sink sink' result → EndsSteps (play_steps game name) files files' sink sink' (script_end result)
     played (Ok count) ran = inl (ran.0, play_run ran.0 ran.1, ran.3)

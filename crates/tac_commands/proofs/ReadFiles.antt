@@ -42,9 +42,9 @@ module _ (last : FilesState) (outcome : Outcome) where
   runs_from (Hears name replies allows) files files' same selected quiet run =
       (still_heard run.0, run.1 ∙ ap (λ names. known_then names (name ∷ [])) selected)
     where
-      still_heard : IsUnheard files' last outcome ⊎ IsHeard replies allows files' last name outcome → IsUnheard files last outcome ⊎ IsHeard replies allows files last name outcome
-      still_heard (inl (inl fault)) = inl (inl (fault.0, subst (λ (n : ℕ). Rose n last.faults) quiet fault.1))
-      still_heard (inl (inr memory)) = inl (inr (memory.0, memory.1 ∙ quiet))
+      still_heard : IsUnheard files' last name outcome ⊎ IsHeard replies allows files' last name outcome → IsUnheard files last name outcome ⊎ IsHeard replies allows files last name outcome
+      still_heard (inl (inl fault)) = inl (inl (fault.0, fault.1, subst (λ (n : ℕ). Rose n last.faults) quiet fault.2))
+      still_heard (inl (inr memory)) = inl (inr (memory.0, subst (λ (c : Content). IsGiven c name [] last.left) same memory.1, memory.2 ∙ quiet))
       still_heard (inr heard) = inr (
         heard.0,
         heard.1,

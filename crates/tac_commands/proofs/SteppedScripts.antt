@@ -3,6 +3,7 @@ use Rattle.std.proofs.Common.{◌≡◌, ℕ, true, false, List, [], ◌∷◌, 
 use Rattle.std.specs.Prelude.{◌⊎◌, IfSome, IsSome, Result, Ok, Err}
 use Rattle.tac_io.specs.States.{FilesState, SinkState}
 use Rattle.tac_io.specs.Known.{known_then, then_known}
+use Rattle.tac_io.proofs.KnownPieces.{then_known-nothing}
 use Rattle.game_text.specs.Games.{GameFile}
 use Rattle.tac_io.specs.Taken.{TookPart}
 use Rattle.script_run.specs.declared.fault.StepFault.{StepFault}
@@ -15,7 +16,7 @@ use Rattle.script_run.specs.LawfulGames.{IsLawfulGame}
 use Rattle.script_run.specs.OneThreadRun.{replies}
 use Rattle.script_run.specs.PlayOuts.{IsFirstOut, IsPlayOut}
 use Rattle.script_run.specs.HeardReads.{HasReadCause}
-use Rattle.script_run.specs.SteppedGames.{Gave, StepsGame, Tells, TellsFault, TellsGame, IsUnwritten}
+use Rattle.script_run.specs.SteppedGames.{Gave, StepsGame, Tells, TellsFault, TellsGame, IsUnread, IsUnwritten}
 use Rattle.script_run.proofs.StoodScripts.{whole_is}
 use Rattle.tac_commands.specs.declared.refusals.Refusal.{Refusal}
 use Rattle.tac_commands.specs.declared.refusals.Refusal.TheVariants as refusals
@@ -85,7 +86,7 @@ module _ (game : GameFile) (law : (script : List ℕ) (lines : List GameLine) �
       )
 
       unwritten : (text : List ℕ) → IsFirstOut game given text ⊎ IsPlayOut game given text → TookPart sink sink' text → IsEnd (Err Unwritten)
-      unwritten text (inl first) some = inr (text, refusals.Memory, first_run text first, some)
+      unwritten text (inl first) some = inr (inl (text, refusals.Memory, first_run text first, some))
       unwritten text (inr played) some = inl (text, inl (played_run text played), some)
 
       whole_end : (result : Result (Unit {0}) StepFault) → TellsGame game given sink sink' result → IsEnd result
@@ -94,17 +95,20 @@ module _ (game : GameFile) (law : (script : List ℕ) (lines : List GameLine) �
       whole_end (Err TooLong) reports = absurd reports
       whole_end (Err Unread) reports = absurd reports
       whole_end (Err Unwritten) reports = unwritten reports.0 reports.1 reports.2
-      whole_end (Err Memory) reports = inr (reports.0, refusals.Memory, first_run reports.0 reports.1, (refl, reports.2))
+      whole_end (Err Memory) reports = inr (inl (reports.0, refusals.Memory, first_run reports.0 reports.1, (refl, reports.2)))
 
     -- ---- a script that was not
 
     fault_end : (fault : StepFault) (text : List ℕ) (result : Result (Unit {0}) StepFault) → Runs (step_steps game name) files files' (Stopped text (refusal_by fault)) → TellsFault text fault sink sink' result → IsEnd result
     fault_end fault text (Ok done) run reports = absurd reports
-    fault_end fault text (Err (Line line reason)) run reports = inr (text, refusal_by fault, run, (ap refusal_by reports.0, reports.1))
-    fault_end fault text (Err TooLong) run reports = inr (text, refusal_by fault, run, (ap refusal_by reports.0, reports.1))
-    fault_end fault text (Err Unread) run reports = inr (text, refusal_by fault, run, (ap refusal_by reports.0, reports.1))
-    fault_end fault text (Err Unwritten) run reports = inr (text, refusal_by fault, run, reports)
-    fault_end fault text (Err Memory) run reports = inr (text, refusal_by fault, run, (ap refusal_by reports.0, reports.1))
+    fault_end fault text (Err (Line line reason)) run reports = inr (inl (text, refusal_by fault, run, (ap refusal_by reports.0, reports.1)))
+    fault_end fault text (Err TooLong) run reports = inr (inl (text, refusal_by fault, run, (ap refusal_by reports.0, reports.1)))
+    fault_end fault text (Err Unread) run reports = inr (inl (text, refusal_by fault, run, (ap refusal_by reports.0, reports.1)))
+    fault_end fault text (Err Unwritten) run reports = inr (inl (text, refusal_by fault, run, reports))
+    fault_end fault text (Err Memory) run reports = inr (inl (text, refusal_by fault, run, (ap refusal_by reports.0, reports.1)))
+
+    unread_end : (text : List ℕ) (result : Result (Unit {0}) StepFault) → Runs (step_steps game name) files files' (outcomes.Unread text) → IsUnread text sink sink' result → IsEnd result
+    unread_end text result run reports = rw reports.0 (inr (inr (text, run, (refl, reports.1))))
 
     open_end : (text : List ℕ) (result : Result (Unit {0}) StepFault) → Runs (step_steps game name) files files' (outcomes.Unwritten text) → IsUnwritten text sink sink' result → IsEnd result
     open_end text (Ok done) run reports = absurd reports
@@ -121,13 +125,15 @@ module _ (game : GameFile) (law : (script : List ℕ) (lines : List GameLine) �
     by_standing Overlong is result reports =
         fault_end TooLong (replies game (heard_lines given)) result (heard (Stopped (replies game (heard_lines given)) refusals.TextTooLong) Overlong is refl) reports
     by_standing BrokenOff is result reports =
-        fault_end Unread (replies game (heard_lines given)) result (heard (Stopped (replies game (heard_lines given)) refusals.ReadFault) BrokenOff is refl) reports
+        unread_end (replies game (heard_lines given)) result (heard (outcomes.Unread (replies game (heard_lines given))) BrokenOff is refl) reports
     by_standing Open is result reports =
         open_end (replies game (heard_lines given)) result (heard (outcomes.Unwritten (replies game (heard_lines given))) Open is refl) reports
 
   -- memory was refused before anything was read
   unheard : (result : Result (Unit {0}) StepFault) → result ≡ Err Memory → files' ≡ between → sink' ≡ sink → IsEnd result
-  unheard result is same_files same = rw is (inl ((inl (inr (refl, ap (λ (s : FilesState). s.faults) same_files ∙ quiet)), kept ∙ selected), same))
+  unheard result is same_files same =
+      let whole : between.left ≡ then_known [] files'.left = ap (λ (s : FilesState). s.left) (sym same_files) ∙ sym (then_known-nothing files'.left) in
+      rw is (inl ((inl (inr (refl, given_is files.content name [] between.left files'.left found whole, ap (λ (s : FilesState). s.faults) same_files ∙ quiet)), kept ∙ selected), same))
 
   pub stepped : (result : Result (Unit {0}) StepFault) → StepsGame game between files' sink sink' result → IsEnd result
   stepped result (inl memory) = unheard result memory.0 memory.1 memory.2

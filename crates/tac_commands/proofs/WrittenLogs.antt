@@ -15,7 +15,7 @@ use Rattle.log_text.specs.SoundLog.{IsSound}
 use Rattle.log_reader.proofs.LogTexts.{only_log}
 use Rattle.tac_commands.specs.declared.file_kinds.FileKind.TheVariants.{Log}
 use Rattle.tac_commands.specs.declared.refusals.Refusal.TheVariants.{Memory}
-use Rattle.tac_commands.specs.{WritesDue, IsFlawText, audit_steps, read_as, logged_or_fault, Outcome, Done, Lapsed, Unsound, Stopped, Unwritten, Refused, EndsInSoundLog}
+use Rattle.tac_commands.specs.{WritesDue, IsFlawText, audit_steps, read_as, logged_or_fault, Outcome, Done, Lapsed, Unsound, Stopped, Unread, Unwritten, Refused, EndsInSoundLog}
 use Rattle.tac_commands.specs.Runs.{StopsAt, Runs}
 use Rattle.tac_commands.proofs.LoggedNumbers.{head_is, game_in, game_is, same_histories}
 
@@ -55,6 +55,7 @@ written (Lapsed text) due = absurd due
 written (Unsound text) due = absurd due
 written (Stopped text refusal) due = absurd due
 written (Unwritten text) due = absurd due
+written (Unread text) due = absurd due
 written (Refused Memory) due = inr refl
 written (Refused refusal) due = absurd due
 
@@ -64,6 +65,7 @@ stopped game log (Lapsed text) sound stops = absurd stops
 stopped game log (Unsound text) sound stops = absurd (stops.0 sound)
 stopped game log (Stopped text refusal) sound stops = absurd stops
 stopped game log (Unwritten text) sound stops = absurd stops
+stopped game log (Unread text) sound stops = absurd stops
 stopped game log (Refused Memory) sound stops = inr refl
 stopped game log (Refused refusal) sound stops = absurd stops
 

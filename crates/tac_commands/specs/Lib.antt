@@ -26,7 +26,7 @@ pub use Rattle.tac_commands.specs.Codes.{code_number}
 pub use Rattle.tac_commands.specs.FileKinds.{Value, lines_or_fault, logged_or_fault, most_bytes, read_as, refusal_of, refused_code, script_in}
 pub use Rattle.tac_commands.specs.Services.{service_of}
 pub use Rattle.tac_commands.specs.Commands.{Audit, Batch, BatchCommand, Command, Hotel, Make, Play, Serve, Show, Solve, Step, Table, Trial, Upgrade, Worth, batch_of, in_pairs, seen_batch, seen_service, service_or_batch}
-pub use Rattle.tac_commands.specs.Words.{IsShortBatch}
+pub use Rattle.tac_commands.specs.Words.{IsShortBatch, IsWithinBatch}
 pub use Rattle.tac_commands.specs.Outcomes.{Done, Lapsed, Outcome, Refused, Stopped, Unread, Unsound, Unwritten, code_of, refusal_end}
 pub use Rattle.tac_commands.specs.Steps.{Reads, file}
 pub use Rattle.tac_commands.specs.Files.{Content, HasFault, IsFileRead, IsNotRead}

@@ -3,7 +3,7 @@ ghost use Rattle.std.specs.Prelude.{◌≡◌, [], IfSome};
 ghost use Rattle.game_text.specs.Games.{canonical_text, upgraded};
 ghost use Rattle.draw_maker.specs.Games.{made_game};
 ghost use Rattle.allocator.specs.Solutions.{IsSolvedText};
-ghost use Rattle.tac_commands.specs.{WritesDue, seen_batch, IsPromptBatch, IsShortBatch};
+ghost use Rattle.tac_commands.specs.{WritesDue, seen_batch, IsPromptBatch, IsShortBatch, IsWithinBatch};
 ghost use Rattle.tac_commands.specs.Commands as commands;
 ghost use Rattle.tac_commands.specs.Ends.{Ends, EndsBatch};
 ghost use Rattle.tac_io.specs.States.{MaySelect};
@@ -101,8 +101,9 @@ fn solve_file<F: Files, K: Sink>(alloc: Global, name: &str, files: &mut F, out: 
     }
 }
 
-/// Runs a command that needs no links. It selects its files in order, up to one that is not read or a log that is not sound. No name was
-/// selected before, each has at most 1024 bytes, and the counts of a trial and a table are within their limits. `finish` writes a refusal.
+/// Runs a command that needs no links. It selects its files in order, up to one that is not read or a log that is not sound. Where the names are
+/// told, none was selected before, and each has at most 1024 bytes. The counts of a trial and a table are within their limits. `finish` writes a
+/// refusal.
 pub(crate) fn run_batch<R: Threads + Sync, F: Files, K: Sink>(
     rt: &R,
     alloc: Global,
@@ -110,8 +111,8 @@ pub(crate) fn run_batch<R: Threads + Sync, F: Files, K: Sink>(
     files: &mut F,
     out: &mut K,
 ) -> End
-    requires names { IfSome (F.state files.old).names (λ names. names ≡ []) }
-    requires short { IsShortBatch command }
+    requires names { IfSome (F.state files.old).names (λ names. (names ≡ []) × IsShortBatch command) }
+    requires within { IsWithinBatch command }
     ensures ends { EndsBatch (seen_batch command.entry) (F.state files.old) (F.state files.new) (K.state out.old) (K.state out.new) result }
     ensures prompt { IsPromptBatch (seen_batch command.entry) (F.state files.old) (F.state files.new) (K.state out.old) (K.state out.new) }
 {

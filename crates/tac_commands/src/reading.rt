@@ -2,7 +2,7 @@
 ghost use Rattle.std.specs.Prelude.{◌≡◌, ◌≤◌, ◌⊎◌, [], ◌∷◌, length, Ok, Err, IfOk, IfErr, OnOk};
 ghost use Rattle.tac_io.specs.Reading.{IsFile};
 ghost use Rattle.tac_io.specs.States.{MaySelect};
-ghost use Rattle.tac_io.specs.Known.{known_then};
+ghost use Rattle.tac_io.specs.Known.{IsAtEnd, known_then};
 ghost use Rattle.game_text.specs.declared.fault.GameFault.{GameFault};
 ghost use Rattle.tac_commands.specs.declared.refusals.Refusal.TheVariants.{Memory};
 ghost use Rattle.tac_commands.specs.{most_bytes, read_as, refusal_of, IsNotRead, IsFileRead};
@@ -24,6 +24,7 @@ pub(crate) fn read_bytes<F: Files>(
     requires { MaySelect (F.state files.old) name.now }
     ensures whole { IfOk result (λ bytes. IsFile (F.state files.old).content name.now bytes.items) }
     ensures within { IfOk result (λ bytes. length bytes.items ≤ most_bytes kind) }
+    ensures end { OnOk result (IsAtEnd (F.state files.new).left) }
     ensures quiet { OnOk result ((F.state files.new).faults ≡ (F.state files.old).faults) }
     ensures unread { IfErr result (IsNotRead (F.state files.old) (F.state files.new) kind name.now) }
     ensures names { (F.state files.new).names ≡ known_then (F.state files.old).names (name.now ∷ []) }
@@ -118,8 +119,8 @@ impl FileValue for Log {
     }
 }
 
-/// The value of the file of that name, or what is written in its place. The file is selected once. Fewer than 128 names were selected before,
-/// and the name has at most 1024 bytes.
+/// The value of the file of that name, which is then at its end, or what is written in its place. The file is selected once. Where the names are
+/// told, fewer than 128 were selected before, and this one has at most 1024 bytes.
 pub fn read_value<T: FileValue, F: Files>(
     alloc: Global,
     files: &mut F,
@@ -127,6 +128,7 @@ pub fn read_value<T: FileValue, F: Files>(
 ) -> Result<T, Refusal>
     requires { MaySelect (F.state files.old) name.now }
     ensures value { IfOk result (λ value. IsFileRead (F.state files.old).content T.kind name.now (T.seen value)) }
+    ensures end { OnOk result (IsAtEnd (F.state files.new).left) }
     ensures quiet { OnOk result ((F.state files.new).faults ≡ (F.state files.old).faults) }
     ensures unread { IfErr result (IsNotRead (F.state files.old) (F.state files.new) T.kind name.now) }
     ensures names { (F.state files.new).names ≡ known_then (F.state files.old).names (name.now ∷ []) }

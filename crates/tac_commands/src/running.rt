@@ -10,7 +10,6 @@ use crate::refusals::Refusal;
 use crate::words::batch_asked;
 use std::alloc::Global;
 use std::thread::Threads;
-use tac_base::limits::NAME_BYTES;
 use tac_io::{Files, Sink};
 
 /// Runs the command that the words ask for, one that needs no links, and returns its code; if they ask for none, the usage is written.
@@ -22,7 +21,7 @@ pub fn run_words<R: Threads + Sync, F: Files, K: Sink>(
     out: &mut K,
 ) -> Code
     requires names { IfSome (F.state files.old).names (λ names. names ≡ []) }
-    requires short { All (λ word. string_len word ≤ NAME_BYTES) words.now }
+    requires short { IfSome (F.state files.old).names (λ _. All (λ word. string_len word ≤ NAME_BYTES) words.now) }
     ensures outcome { (outcome : Outcome) × Allows (service_or_batch None (batch_of (map (λ word. string_bytes word) words.now))) (F.state files.old) (F.state files.new) outcome
         × Reports outcome (K.state out.old) (K.state out.new) (code_number result) }
     ensures prompt { IsPromptCommand (service_or_batch None (batch_of (map (λ word. string_bytes word) words.now))) (F.state files.old) (F.state files.new) (K.state out.old) (K.state out.new) }

@@ -5,7 +5,7 @@ ghost use Rattle.tac_base.specs.Numerals.{numeral};
 ghost use Rattle.tac_commands.specs.{seen_service, service_of};
 ghost use Rattle.tac_commands.specs.Services as services;
 
-use tac_base::limits::{NAME_BYTES, PACE, PORT};
+use tac_base::limits::{PACE, PORT};
 use tac_base::read_numeral;
 
 /// The wire format of a served game.
@@ -43,10 +43,9 @@ fn service_with<'a>(
     pace: Option<u16>,
     form: Form,
 ) -> Option<Service<'a>>
-    requires { length game.now ≤ NAME_BYTES }
     ensures service { MatchOption result (services.service_with game.now port pace form ≡ None)
         (λ service. services.service_with game.now port pace form ≡ Some (seen_service service)) }
-    ensures short { IfSome result (λ service. length service.game.now ≤ NAME_BYTES) }
+    ensures short { length game.now ≤ NAME_BYTES → IfSome result (λ service. length service.game.now ≤ NAME_BYTES) }
 {
     let Some(port) = port else {
         return None;
@@ -64,10 +63,9 @@ fn service_with<'a>(
 
 /// The service of a word and three more, in lines of words.
 fn service_in_lines<'a>(word: &str, game: &'a str, port: &str, pace: &str) -> Option<Service<'a>>
-    requires { length game.now ≤ NAME_BYTES }
     ensures service { MatchOption result (service_of (word.now ∷ game.now ∷ port.now ∷ pace.now ∷ []) ≡ None)
         (λ service. service_of (word.now ∷ game.now ∷ port.now ∷ pace.now ∷ []) ≡ Some (seen_service service)) }
-    ensures short { IfSome result (λ service. length service.game.now ≤ NAME_BYTES) }
+    ensures short { length game.now ≤ NAME_BYTES → IfSome result (λ service. length service.game.now ≤ NAME_BYTES) }
 {
     if word == "serve" {
         service_with(
@@ -89,10 +87,9 @@ fn service_in_json<'a>(
     pace: &str,
     form: &str,
 ) -> Option<Service<'a>>
-    requires { length game.now ≤ NAME_BYTES }
     ensures service { MatchOption result (service_of (word.now ∷ game.now ∷ port.now ∷ pace.now ∷ form.now ∷ []) ≡ None)
         (λ service. service_of (word.now ∷ game.now ∷ port.now ∷ pace.now ∷ form.now ∷ []) ≡ Some (seen_service service)) }
-    ensures short { IfSome result (λ service. length service.game.now ≤ NAME_BYTES) }
+    ensures short { length game.now ≤ NAME_BYTES → IfSome result (λ service. length service.game.now ≤ NAME_BYTES) }
 {
     if word == "serve" && form == "json" {
         service_with(
@@ -108,10 +105,9 @@ fn service_in_json<'a>(
 
 /// The service that the words ask for, if they ask for one.
 pub fn service_asked(words: &[String]) -> Option<Service<'_>>
-    requires { All (λ word. string_len word ≤ NAME_BYTES) words.now }
     ensures service { MatchOption result (service_of (map (λ word. string_bytes word) words.now) ≡ None)
         (λ service. service_of (map (λ word. string_bytes word) words.now) ≡ Some (seen_service service)) }
-    ensures short { IfSome result (λ service. length service.game.now ≤ NAME_BYTES) }
+    ensures short { All (λ word. string_len word ≤ NAME_BYTES) words.now → IfSome result (λ service. length service.game.now ≤ NAME_BYTES) }
 {
     match words {
         [word, game, port, pace] => service_in_lines(

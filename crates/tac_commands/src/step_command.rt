@@ -1,9 +1,11 @@
 // The command that plays a game line by line.
-ghost use Rattle.std.specs.Prelude.{◌≡◌, ◌<◌, ◌≤◌, [], length, IfSome};
-ghost use Rattle.tac_base.specs.declared.limits.TheConstants.{FILE_NAMES, NAME_BYTES};
+ghost use Rattle.std.specs.Prelude.{◌≡◌, ◌≤◌, [], length, IfSome};
+ghost use Rattle.tac_base.specs.declared.limits.TheConstants.{NAME_BYTES};
 ghost use Rattle.tac_commands.specs.{step_steps, EndsBatch, EndsSteps, HearsPromptly, StepsPromptly};
 ghost use Rattle.tac_commands.specs.Commands as commands;
 ghost use Rattle.tac_commands.specs.Ends as ends;
+ghost use Rattle.tac_io.specs.Known.{IsAtEnd};
+ghost use Rattle.tac_io.specs.States.{MaySelect};
 
 use crate::ends::End;
 use crate::reading::read_value;
@@ -28,7 +30,7 @@ fn step_end(played: Result<(), StepFault>) -> End
     }
 }
 
-/// Plays a game by the lines of the script of that name, as they come.
+/// Plays a game by the lines of the script of that name, as they come. The file that was read before it is at its end.
 fn step_by_file<R: Threads + Sync, F: Files, K: Sink>(
     rt: &R,
     alloc: Global,
@@ -37,7 +39,8 @@ fn step_by_file<R: Threads + Sync, F: Files, K: Sink>(
     files: &mut F,
     out: &mut K,
 ) -> End
-    requires { IfSome (F.state files.old).names (λ names. (length names < FILE_NAMES) × (length name.now ≤ NAME_BYTES)) }
+    requires name { MaySelect (F.state files.old) name.now }
+    requires end { IsAtEnd (F.state files.old).left }
     ensures ends { EndsSteps (step_steps game.now name.now) (F.state files.old) (F.state files.new) (K.state out.old) (K.state out.new) result }
     ensures prompt { HearsPromptly game.now name.now (F.state files.old) (F.state files.new) (K.state out.old) (K.state out.new) }
 {

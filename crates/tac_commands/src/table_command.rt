@@ -93,8 +93,7 @@ fn add_pairs<F: Files>(
     names: &[String],
     files: &mut F,
 ) -> Result<Standings, TableFault>
-    requires none { IfSome (F.state files.old).names (λ selected. selected ≡ []) }
-    requires short { All (λ name. string_len name ≤ NAME_BYTES) names.now }
+    requires names { IfSome (F.state files.old).names (λ selected. (selected ≡ []) × All (λ name. string_len name ≤ NAME_BYTES) names.now) }
     requires few { length names.now ≤ FILE_NAMES }
     ensures all { IfOk result (TableGoesOn (in_pairs (map (λ name. string_bytes name) names.now)) [] (length names.now / 2) (F.state files.old) (F.state files.new)) }
     ensures fault { IfErr result (λ fault. Runs (table_steps [] (in_pairs (map (λ name. string_bytes name) names.now)))
@@ -141,8 +140,7 @@ pub(crate) fn table_files<F: Files, K: Sink>(
     files: &mut F,
     out: &mut K,
 ) -> End
-    requires none { IfSome (F.state files.old).names (λ selected. selected ≡ []) }
-    requires short { All (λ name. string_len name ≤ NAME_BYTES) names.now }
+    requires names { IfSome (F.state files.old).names (λ selected. (selected ≡ []) × All (λ name. string_len name ≤ NAME_BYTES) names.now) }
     requires few { length names.now ≤ FILE_NAMES }
     ensures { EndsBatch (commands.Table (in_pairs (map (λ name. string_bytes name) names.now))) (F.state files.old) (F.state files.new) (K.state out.old) (K.state out.new) result }
 {

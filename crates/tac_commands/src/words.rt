@@ -1,10 +1,11 @@
 // The words of a command that needs no links.
 ghost use Rattle.std.specs.Prelude.{◌≡◌, ◌+◌, ◌≤◌, ◌^◌, length, map, string_bytes, string_len, MatchOption, Some, None, All, IfSome};
+ghost use Rattle.tac_base.specs.declared.limits.TheConstants.{MADE_REQUESTS, NAME_BYTES};
 ghost use Rattle.tac_base.specs.Numerals.{below, numeral};
 ghost use Rattle.tac_commands.specs.Commands as commands;
-ghost use Rattle.tac_commands.specs.{batch_of, seen_batch, IsShortBatch};
+ghost use Rattle.tac_commands.specs.{batch_of, seen_batch, IsShortBatch, IsWithinBatch};
 
-use tac_base::limits::{FILE_NAMES, MADE_REQUESTS, NAME_BYTES};
+use tac_base::limits::{FILE_NAMES, MADE_REQUESTS};
 use tac_base::read_numeral;
 
 /// A command that needs no links, with its words: the names of its files, or numbers.
@@ -36,10 +37,10 @@ pub(crate) enum BatchCommand<'a> {
 
 /// The command of a word and one more.
 fn batch_with<'a>(word: &str, argument: &'a str) -> Option<BatchCommand<'a>>
-    requires { length argument.now ≤ NAME_BYTES }
     ensures command { MatchOption result (commands.batch_with word.now argument.now ≡ None)
         (λ asked. commands.batch_with word.now argument.now ≡ Some (seen_batch asked)) }
-    ensures short { IfSome result IsShortBatch }
+    ensures within { IfSome result IsWithinBatch }
+    ensures short { length argument.now ≤ NAME_BYTES → IfSome result IsShortBatch }
 {
     if word == "hotel" {
         Some(BatchCommand::Hotel { script: argument })
@@ -80,6 +81,7 @@ fn count_of(word: &str) -> Option<u32>
 fn trial_of<'a>(seed: Option<u64>, count: Option<u32>) -> Option<BatchCommand<'a>>
     requires { IfSome count (λ count. count ≤ MADE_REQUESTS) }
     ensures command { MatchOption result (commands.trial_of seed count ≡ None) (λ asked. commands.trial_of seed count ≡ Some (seen_batch asked)) }
+    ensures within { IfSome result IsWithinBatch }
     ensures short { IfSome result IsShortBatch }
 {
     let Some(seed) = seed else {
@@ -93,11 +95,10 @@ fn trial_of<'a>(seed: Option<u64>, count: Option<u32>) -> Option<BatchCommand<'a
 
 /// The command of a word and two more.
 fn batch_with_two<'a>(word: &str, first: &'a str, second: &'a str) -> Option<BatchCommand<'a>>
-    requires first { length first.now ≤ NAME_BYTES }
-    requires second { length second.now ≤ NAME_BYTES }
     ensures command { MatchOption result (commands.batch_with_two word.now first.now second.now ≡ None)
         (λ asked. commands.batch_with_two word.now first.now second.now ≡ Some (seen_batch asked)) }
-    ensures short { IfSome result IsShortBatch }
+    ensures within { IfSome result IsWithinBatch }
+    ensures short { (length first.now ≤ NAME_BYTES) × (length second.now ≤ NAME_BYTES) → IfSome result IsShortBatch }
 {
     if word == "play" {
         Some(BatchCommand::Play {
@@ -123,10 +124,10 @@ fn batch_with_two<'a>(word: &str, first: &'a str, second: &'a str) -> Option<Bat
 
 /// The table of the games and logs of these names, in turn.
 fn table_of(names: &[String]) -> Option<BatchCommand<'_>>
-    requires { All (λ name. string_len name ≤ NAME_BYTES) names.now }
     ensures command { MatchOption result (commands.table_of (map (λ name. string_bytes name) names.now) ≡ None)
         (λ asked. commands.table_of (map (λ name. string_bytes name) names.now) ≡ Some (seen_batch asked)) }
-    ensures short { IfSome result IsShortBatch }
+    ensures within { IfSome result IsWithinBatch }
+    ensures short { All (λ name. string_len name ≤ NAME_BYTES) names.now → IfSome result IsShortBatch }
 {
     if 0 < names.len() && names.len() <= FILE_NAMES && names.len() % 2 == 0 {
         Some(BatchCommand::Table { names })
@@ -137,10 +138,10 @@ fn table_of(names: &[String]) -> Option<BatchCommand<'_>>
 
 /// The command of a word and those after it, by their number.
 fn batch_by_count<'a>(word: &str, others: &'a [String]) -> Option<BatchCommand<'a>>
-    requires { All (λ other. string_len other ≤ NAME_BYTES) others.now }
     ensures command { MatchOption result (commands.batch_by_count word.now (map (λ other. string_bytes other) others.now) ≡ None)
         (λ asked. commands.batch_by_count word.now (map (λ other. string_bytes other) others.now) ≡ Some (seen_batch asked)) }
-    ensures short { IfSome result IsShortBatch }
+    ensures within { IfSome result IsWithinBatch }
+    ensures short { All (λ other. string_len other ≤ NAME_BYTES) others.now → IfSome result IsShortBatch }
 {
     match others {
         [argument] => batch_with(word, argument.as_str()),
@@ -151,10 +152,10 @@ fn batch_by_count<'a>(word: &str, others: &'a [String]) -> Option<BatchCommand<'
 
 /// The command that the words ask for, if they ask for one that needs no links.
 pub(crate) fn batch_asked(words: &[String]) -> Option<BatchCommand<'_>>
-    requires { All (λ word. string_len word ≤ NAME_BYTES) words.now }
     ensures command { MatchOption result (batch_of (map (λ word. string_bytes word) words.now) ≡ None)
         (λ asked. batch_of (map (λ word. string_bytes word) words.now) ≡ Some (seen_batch asked)) }
-    ensures short { IfSome result IsShortBatch }
+    ensures within { IfSome result IsWithinBatch }
+    ensures short { All (λ word. string_len word ≤ NAME_BYTES) words.now → IfSome result IsShortBatch }
 {
     let [word, others @ ..] = words else {
         return None;

@@ -1,10 +1,10 @@
 -- A known file, read piece by piece.
-use Rattle.std.proofs.Common.{◌≡◌, ℕ, ◌+◌, List, ◌++◌, take, drop, ap, sym, ◌∙◌}
+use Rattle.std.proofs.Common.{◌≡◌, ℕ, ◌+◌, List, ◌++◌, take, drop, ap, sym, subst, ◌∙◌}
 use Rattle.std.proofs.Math.Seq.{take-add}
 use Rattle.std.specs.Prelude.{None, Some, IfSome, IsSome}
 use Rattle.std.specs.declared.option.Option.{Option}
-use Rattle.tac_io.specs.Known.{then_known}
-use Rattle.tac_io.proofs.KnownPieces.{then_known-twice}
+use Rattle.tac_io.specs.Known.{IsAtEnd, then_known}
+use Rattle.tac_io.proofs.KnownPieces.{then_known-nothing, then_known-twice}
 
 -- what is known of the file of that name is these bytes, and then what is left
 abbrev pub IsReading : Option (List ℕ → Option (List ℕ)) → List ℕ → List ℕ → Option (List ℕ) → Type 0
@@ -19,3 +19,7 @@ reads_on (Some files) name old new at n left rest h same e = (
   h.1 ∙ ap (then_known (take at old)) e ∙ then_known-twice rest (take at old) (take n (drop at new))
       ∙ ap (λ done. then_known (done ++ take n (drop at new)) rest) (sym same) ∙ ap (λ done. then_known done rest) (sym (take-add at n new)),
 )
+
+-- a file that gave nothing more is at its end
+pub still_at_end : (left left' : Option (List ℕ)) (piece : List ℕ) (n : ℕ) → n ≡ 0 → left ≡ then_known (take n piece) left' → IsAtEnd left → IsAtEnd left'
+still_at_end left left' piece n none gave end = subst IsAtEnd (gave ∙ (ap (λ (k : ℕ). then_known (take k piece) left') none ∙ then_known-nothing left')) end

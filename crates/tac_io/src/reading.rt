@@ -46,8 +46,8 @@ const FIRST_READ: usize = 65_536;
 
 /// All bytes of the file of that name, if it has at most `limit`. It selects this name, once.
 /// `Failed` comes exactly where the files counted a fault in this call, and `TooLong` exactly where
-/// they did not and the file has more than `limit` bytes. Which file is selected afterwards, and
-/// what is left of it, is open.
+/// they did not and the file has more than `limit` bytes. A file that was read is at its end
+/// afterwards; otherwise it is open which file is selected, and what is left of it.
 pub fn read_file<F: Files>(
     alloc: Global,
     files: &mut F,
@@ -57,6 +57,7 @@ pub fn read_file<F: Files>(
     requires { MaySelect (F.state files.old) name.now }
     ensures whole { IfOk result (λ bytes. IsFile (F.state files.old).content name.now bytes.items) }
     ensures within { IfOk result (λ bytes. length bytes.items ≤ limit) }
+    ensures end { OnOk result (IsAtEnd (F.state files.new).left) }
     ensures long { IsErrOf result FileFault.TooLong → IsTooLong (F.state files.old).content name.now limit }
     ensures names { (F.state files.new).names ≡ known_then (F.state files.old).names (name.now ∷ []) }
     ensures content { (F.state files.new).content ≡ (F.state files.old).content }

@@ -11,7 +11,7 @@ use Rattle.tac_commands.specs.declared.code.Code.{Code}
 use Rattle.tac_commands.specs.declared.code.Code.TheVariants.{Success}
 use Rattle.tac_commands.specs.Codes.{code_number}
 use Rattle.tac_commands.specs.declared.refusals.Refusal.TheVariants.{Memory}
-use Rattle.tac_commands.specs.Outcomes.{Outcome, Done, Lapsed, Unsound, Stopped, Unwritten, Refused}
+use Rattle.tac_commands.specs.Outcomes.{Outcome, Done, Lapsed, Unsound, Stopped, Unread, Unwritten, Refused}
 use Rattle.tac_commands.specs.Reporting.{Reports}
 use Rattle.game_run.specs.Outcomes.{missed_of}
 use Rattle.tacd.specs.Finishing.{LogAllows, lapsed_code}
@@ -44,6 +44,7 @@ kept game played sink sink' code (Unsound text) log told none = absurd log
 kept game played sink sink' code (Stopped text Memory) first told none = (Stopped text Memory, first, told)
 kept game played sink sink' code (Stopped text refusal) log told none = absurd log
 kept game played sink sink' code (Unwritten text) log told none = absurd log
+kept game played sink sink' code (Unread text) log told none = absurd log
 kept game played sink sink' code (Refused refusal) log told none = absurd log
 
 -- code 6 replaces 0 if a tick lapsed
@@ -55,6 +56,7 @@ lapsed game played sink sink' (Unsound text) log told some = absurd log
 lapsed game played sink sink' (Stopped text Memory) first told some = let is = told.0 in absurd (omega (arith, is))
 lapsed game played sink sink' (Stopped text refusal) log told some = absurd log
 lapsed game played sink sink' (Unwritten text) log told some = absurd log
+lapsed game played sink sink' (Unread text) log told some = absurd log
 lapsed game played sink sink' (Refused refusal) log told some = absurd log
 
 -- the code that is returned is 6 in place of 0 if a tick lapsed

@@ -9,7 +9,7 @@ use Rattle.tacd.specs.declared.answer.Answer.{Answer}
 use Rattle.tacd.specs.declared.answer.Played.{Played}
 use Rattle.tac_commands.specs.declared.file_kinds.FileKind.TheVariants.{Game}
 use Rattle.tac_commands.specs.declared.refusals.Refusal.TheVariants.{LinkFault, Memory}
-use Rattle.tac_commands.specs.Outcomes.{Outcome, Done, Lapsed, Unsound, Stopped, Unwritten, Refused, code_of}
+use Rattle.tac_commands.specs.Outcomes.{Outcome, Done, Lapsed, Unsound, Stopped, Unread, Unwritten, Refused, code_of}
 use Rattle.tac_commands.specs.Commands.{Serve}
 use Rattle.tac_commands.specs.Services.{Service}
 use Rattle.tac_commands.specs.Allowed.{Allows, IsServiceEnd}
@@ -84,6 +84,7 @@ module _ {L : Type 0} (state : L → LinkState) (hosted : HostedGame) (before af
     ended_played (Stopped text Memory) plays = tt
     ended_played (Stopped text refusal) plays = absurd plays.2
     ended_played (Unwritten text) plays = absurd plays.2
+    ended_played (Unread text) plays = absurd plays.2
     ended_played (Unsound text) plays = absurd plays.2
     ended_played (Refused refusal) plays = absurd plays.2
 
@@ -93,6 +94,7 @@ module _ {L : Type 0} (state : L → LinkState) (hosted : HostedGame) (before af
     links_played (Stopped text Memory) plays = inr (omega arith, plays.0.no_fault)
     links_played (Stopped text refusal) plays = absurd plays.2
     links_played (Unwritten text) plays = absurd plays.2
+    links_played (Unread text) plays = absurd plays.2
     links_played (Unsound text) plays = absurd plays.2
     links_played (Refused refusal) plays = absurd plays.2
 
@@ -102,6 +104,7 @@ module _ {L : Type 0} (state : L → LinkState) (hosted : HostedGame) (before af
     clock_played (Stopped text Memory) plays = inr (inr refl)
     clock_played (Stopped text refusal) plays = absurd plays.2
     clock_played (Unwritten text) plays = absurd plays.2
+    clock_played (Unread text) plays = absurd plays.2
     clock_played (Unsound text) plays = absurd plays.2
     clock_played (Refused refusal) plays = absurd plays.2
 

@@ -40,7 +40,7 @@ use Rattle.game_run.proofs.ByIndex.{admitted_in_turn}
 use Rattle.game_run.proofs.KeptSeats.{seat_was_free}
 use Rattle.game_run.specs.declared.run.GameEnd.{GameEnd}
 use Rattle.script_run.specs.LawfulGames.{closed_history, calls_by, IsLawfulGame}
-use Rattle.tac_commands.specs.Outcomes.{Outcome, Done, Lapsed, Unsound, Stopped, Unwritten, Refused}
+use Rattle.tac_commands.specs.Outcomes.{Outcome, Done, Lapsed, Unsound, Stopped, Unread, Unwritten, Refused}
 use Rattle.tac_commands.specs.SoundTexts.{log_of_game, EndsInSoundLog}
 use Rattle.tac_commands.proofs.SoundLogs.{text_is, ends_soundly}
 use Rattle.tacd.specs.declared.answer.Played.{Played}
@@ -189,4 +189,5 @@ module _ {L : Type 0} (state : L → LinkState) (hosted : HostedGame) (links lin
     reports_soundly (Unsound told) allows = tt
     reports_soundly (Stopped told refusal) allows = tt
     reports_soundly (Unwritten told) allows = tt
+    reports_soundly (Unread told) allows = tt
     reports_soundly (Refused refusal) allows = tt

@@ -15,7 +15,7 @@ use Rattle.tacd.specs.Finishing.{LogAllows, first_part}
 
 -- a write of the first part failed
 pub cut_in_first : (game : GameFile) (played : Played) (s0 s1 : SinkState) → TookPart s0 s1 (first_part played) → EndsOrStops (LogAllows game played) s0 s1 ends.WriteFault
-cut_in_first game played s0 s1 some = inr (first_part played, Memory, refl, some)
+cut_in_first game played s0 s1 some = inr (inl (first_part played, Memory, refl, some))
 
 module _ (game : GameFile) (played : Played) (s0 s1 s2 : SinkState) (first : TookWhole s0 s1 (first_part played)) where
   -- both parts were written

@@ -33,9 +33,12 @@ mod trial_tests;
 #[cfg(test)]
 mod write_tests;
 
-ghost use Rattle.std.specs.Prelude.{◌≡◌, ◌≤◌, ◌↔◌, All, IfOk, IsTrue, MatchResult, string_len};
-ghost use Rattle.tac_commands.specs.declared.refusals.Refusal.TheVariants.{Usage};
+ghost use Rattle.std.specs.Prelude.{◌≡◌};
+ghost use Rattle.std.specs.Process.{exit_status};
+ghost use Rattle.tac_commands.specs.Ends.{Finishes};
+ghost use Rattle.tac_commands.specs.declared.ends.End.TheVariants as ends;
 
+use answer::Answer;
 use host_files::HostFiles;
 use sleep_ticker::SleepTicker;
 use std::env::Env;
@@ -43,18 +46,15 @@ use std::io::ErrorKind;
 use std::process::ExitCode;
 use std::{env, io};
 use std_sink::StdSink;
-use tac_base::limits::NAME_BYTES;
 use tac_commands::{End, Refusal, finish};
+use tac_io::Sink;
 use tcp_links::TcpLinks;
 use top::tac;
 
-/// The words of the command line after the program's name. One that is not UTF-8, or longer than
-/// the name of a file may be, is in no command.
-fn command_line<R: Env + AllocGlobal>(rt: &R) -> Result<Vec<String>, Refusal>
-    ensures { IfOk result (λ words. All (λ word. string_len word ≤ NAME_BYTES) words.items) }
-{
+/// The words of the command line after the program's name. One that is not UTF-8 is in no command.
+fn command_line<R: Env + AllocGlobal>(rt: &R) -> Result<Vec<String>, Refusal> {
     match collected(rt) {
-        Ok(words) => short(words),
+        Ok(words) => Ok(words),
         Err(error) if error.kind() == ErrorKind::OutOfMemory => Err(Refusal::Memory),
         Err(_) => Err(Refusal::Usage),
     }
@@ -68,31 +68,26 @@ fn collected<R: Env + AllocGlobal>(rt: &R) -> io::Result<Vec<String>> {
     Ok(words)
 }
 
-/// The words, where each is short enough for the name of a file.
-fn short(words: Vec<String>) -> Result<Vec<String>, Refusal>
-    ensures { MatchResult result
-        (λ kept. (kept ≡ words) × All (λ word. string_len word ≤ NAME_BYTES) words.items)
-        (λ refusal. (refusal ≡ Usage) × (All (λ word. string_len word ≤ NAME_BYTES) words.items → ⊥)) }
+/// The status of a process that ran a command: the code of its answer.
+fn status<L>(answer: &Answer<L>) -> ExitCode
+    ensures { exit_status result ≡ answer.now.code }
 {
-    if are_short(&words) {
-        Ok(words)
-    } else {
-        Err(Refusal::Usage)
-    }
+    ExitCode::from(answer.code)
 }
 
-/// Whether each word is short enough for the name of a file.
-fn are_short(words: &[String]) -> bool
-    ensures { IsTrue result ↔ All (λ word. string_len word ≤ NAME_BYTES) words.now }
+/// The status of a process whose words were not read: the code of what is written in their place.
+fn refused_status<K: Sink>(out: &mut K, refusal: Refusal) -> ExitCode
+    ensures { Finishes (ends.Refused refusal) (K.state out.old) (K.state out.new) (exit_status result) }
 {
-    words.iter().all(|word| word.len() <= NAME_BYTES)
+    let code = finish(out, End::Refused(refusal));
+    ExitCode::from(code.number())
 }
 
 fn main(rt: HostRuntime) -> ExitCode {
     let mut out = StdSink::new(io::writer(&rt));
     let words = match command_line(&rt) {
         Ok(words) => words,
-        Err(refusal) => return ExitCode::from(finish(&mut out, End::Refused(refusal)).number()),
+        Err(refusal) => return refused_status(&mut out, refusal),
     };
     let mut files = HostFiles::new(&rt);
     let mut links = TcpLinks::new(&rt);
@@ -106,5 +101,5 @@ fn main(rt: HostRuntime) -> ExitCode {
         &mut links,
         &mut ticker,
     );
-    ExitCode::from(answer.code)
+    status(&answer)
 }

@@ -1,7 +1,7 @@
 // What the tests of the commands share: runs over the outside in memory, and a plain game.
-ghost use Rattle.std.specs.Prelude.{◌≡◌, [], IfOk, IfSome};
+ghost use Rattle.std.specs.Prelude.{◌≡◌, ◌≤◌, ◌↔◌, [], All, IfOk, IfSome, IsTrue, string_len};
+ghost use Rattle.tac_base.specs.declared.limits.TheConstants.{NAME_BYTES};
 
-use crate::are_short;
 use crate::top::tac;
 use std::alloc::Global;
 use std::fmt::Write;
@@ -9,6 +9,7 @@ use std::rt::Clock;
 use std::sync::Wait;
 use std::test::Fail;
 use std::thread::Threads;
+use tac_base::limits::NAME_BYTES;
 use tac_io::{Link, MemFile, MemFiles, MemLink, MemLinks, MemSink, MemTicker, Ticker};
 
 // What a run left: its code, what it wrote, the links that it took, and whether a game was played over them.
@@ -92,6 +93,13 @@ pub(crate) fn run_over<R: Threads + Sync + Wait + Clock, L: Link + Send + Drop, 
         ended: answer.ended,
         played: answer.played.is_some(),
     })
+}
+
+// Whether each word is short enough for the name of a file in memory.
+fn are_short(words: &[String]) -> bool
+    ensures { IsTrue result ↔ All (λ word. string_len word ≤ NAME_BYTES) words.now }
+{
+    words.iter().all(|word| word.len() <= NAME_BYTES)
 }
 
 // The words of a line.

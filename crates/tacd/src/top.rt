@@ -23,7 +23,8 @@ use tac_commands::{run_words, service_asked};
 use tac_io::{Files, Links, Sink, Ticker};
 
 /// Runs the command of the words of a command line after the program's name, over the files, the
-/// sink, the links and the ticker of the outside.
+/// sink, the links and the ticker of the outside. Where the files tell the names that were selected,
+/// there is none yet, and each word has at most 1024 bytes.
 pub fn tac<R: Threads + Sync + Wait + Clock, F: Files, K: Sink, N: Links, T: Ticker + Send>(
     rt: &R,
     alloc: Global,
@@ -34,7 +35,7 @@ pub fn tac<R: Threads + Sync + Wait + Clock, F: Files, K: Sink, N: Links, T: Tic
     ticker: &mut T,
 ) -> Answer<N::Link>
     requires names { IfSome (F.state files.old).names (λ names. names ≡ []) }
-    requires short { All (λ word. string_len word ≤ NAME_BYTES) words.now }
+    requires short { IfSome (F.state files.old).names (λ _. All (λ word. string_len word ≤ NAME_BYTES) words.now) }
     requires ports { IfSome (N.state links.old).ports (λ ports. ports ≡ []) }
     requires ticks { IfSome (T.state ticker.old).waited (λ ticks. ticks ≡ []) }
     // The outcome is one that the words and the files allow, and the files that were selected are those that it implies.
