@@ -384,13 +384,18 @@ ROWS = [
     Row(["worked_rows/CommandLines:codes_of_texts_and_refusals"],
         ["tac_commands/Outcomes.exit_of", "tac_commands/Outcomes.refusal_end"],
         ("A text has the code 0, with lapsed ticks 6, of an unsound log 9, cut off by a failed "
-         "write 4; a first part is followed by `memory`, with 7. Refusals: 1 `usage`, 2 `game 3 "
-         "2`, 3 `fault read`, 5 `fault links`, 7 `memory`")),
+         "write 4; a first part is followed by `memory`, with 7; replies to a script that was "
+         "broken off by `fault read`, with 3. Refusals: 1 `usage`, 2 `game 3 2`, 3 `fault read`, "
+         "5 `fault links`, 7 `memory`")),
     Row(["worked_rows/CommandLines:text_is_written_with_its_code_or_cut"],
         ["tac_commands/Reporting.Reports", "tac_io/Taken.TookPart"],
         ("The text `ab` of a game with lapsed ticks: all of it, and code 6. Of `ab` only `a`, and "
          "a fault counted: code 4. Only `a` and code 0: never; and never `a` after a write that "
          "failed before it")),
+    Row(["worked_rows/CommandLines:replies_are_whole_before_a_failed_read_is_told"],
+        ["tac_commands/Reporting.Reports", "tac_commands/Reporting.IsCutShort"],
+        ("The reply `ab` to a script that was broken off, and then `fault read`: code 3. Then only "
+         "`fau`, and a fault counted: code 4. Only `a` of the reply, and code 4: never")),
     # The command `step`
     Row(["worked_rows/Lines:good_lines_and_a_rest_or_a_bad_line"],
         ["script_run/HeardScripts.heard", "script_run/HeardScripts.heard_from"],

@@ -2,8 +2,9 @@
 """Runs the program for each exit status that a shell can bring about, and compares what it ends
 with.
 
-Contracts speak of the code that `tac` answers, but not of the exit status of the process. It ends
-with 0 if each status is the one due, and with 1 if one differs, or there is no program.
+Contracts say that `main` ends with the code that `tac` answers, but not what the system makes of
+that. It ends with 0 if each status is the one due, and with 1 if one differs, or there is no
+program.
 """
 
 import resource
@@ -39,9 +40,9 @@ def cases(bad: str, port: int, full: Any) -> List[Case]:
         ("a port that is taken", ["serve", GAME, str(port), "1"], 5, {}),
         ("little memory", ["serve", GAME, "65534", "1"], 7, {"preexec_fn": little_memory}),
         ("a bad account", ["solve", bad], 8, {}),
-        ("the greatest port and pace, and the longest name",
-         ["serve", "n" * 1024, "65535", "60000"], 3, {}),
-        ("a name that is too long", ["serve", "n" * 1025, "65535", "60000"], 1, {}),
+        ("the greatest port and pace", ["serve", bad + ".none", "65535", "60000"], 3, {}),
+        ("a path of 1,500 bytes", ["show", GAME.rjust(1500, "/")], 0, {}),
+        ("a path past the system's limit", ["show", GAME.rjust(5000, "/")], 3, {}),
     ]
 
 

@@ -2,6 +2,7 @@
 use crate::host_files::HostFiles;
 use crate::std_sink::StdSink;
 use crate::tests::{FIRST_CLIENT, Faults, NO_FAULT, ONE_SEAT, TRADES, check, plain_game, run};
+use crate::top::tac;
 use std::alloc::Global;
 use std::fs;
 use std::fs::File;
@@ -9,7 +10,7 @@ use std::rt::Clock;
 use std::sync::Wait;
 use std::test::Fail;
 use std::thread::Threads;
-use tac_io::{Files, Sink, read_file};
+use tac_io::{Files, MemLink, MemLinks, MemSink, MemTicker, Sink, read_file, write_all};
 
 // Agent 0 buys 15 rooms.
 const HOTEL: &str = "0 bid ((15 100))\nclose\n";
@@ -95,5 +96,56 @@ fn the_ends_of_the_system_pass_bytes_on_and_count_faults(rt: HostRuntime) -> Res
     // A folder is opened, and cannot be read.
     assert!(rt; read_file(rt.alloc(), &mut files, ".", 6).is_err());
     assert_eq!(rt; files.faults(), 2);
+    Ok(())
+}
+
+// Plays the game of a file of the system, by no script: the code, and what was written.
+fn play_file(rt: &HostRuntime, path: String) -> Result<(u8, Vec<u8>), Fail> {
+    let alloc = rt.alloc();
+    let mut words = Vec::new(alloc);
+    words.push(String::from_str(alloc, "play")?)?;
+    words.push(path)?;
+    words.push(String::from_str(alloc, "/dev/null")?)?;
+    let mut files = HostFiles::new(rt);
+    let mut out = MemSink::new(alloc, 1_000_000, 1_000_000, Vec::new(alloc))?;
+    let mut links: MemLinks<MemLink> = MemLinks::new(Vec::new(alloc), Vec::new(alloc));
+    let mut ticker = MemTicker::new(alloc, Vec::new(alloc))?;
+    let answer = tac(
+        rt,
+        alloc,
+        &words,
+        &mut files,
+        &mut out,
+        &mut links,
+        &mut ticker,
+    );
+    Ok((answer.code, out.bytes().to_vec(alloc)?))
+}
+
+// The path of a file in this folder, which is named so many times before.
+fn long_path(alloc: Global, folders: usize, name: &str) -> Result<String, Fail> {
+    let mut path = "./".repeat(alloc, folders)?;
+    path.push_str(name)?;
+    Ok(path)
+}
+
+#[test]
+fn a_path_is_as_long_as_the_system_allows(rt: HostRuntime) -> Result<(), Fail> {
+    let alloc = rt.alloc();
+    let name = "played-by-a-test.txt";
+    let game = plain_game(alloc, FIRST_CLIENT)?;
+    let files = [("game", game.as_bytes()), ("script", b"".as_slice())];
+    let due = run(&rt, alloc, "play game script", &files, NO_FAULT)?;
+    let mut sink = StdSink::new(File::create(&rt, name)?);
+    assert!(rt; write_all(&mut sink, game.as_bytes()).is_ok());
+    let path = long_path(alloc, 740, name)?;
+    assert_eq!(rt; path.len(), 1_500);
+    let played = play_file(&rt, path)?;
+    let refused = play_file(&rt, long_path(alloc, 2_100, name)?)?;
+    fs::remove_file(&rt, name)?;
+    assert_eq!(rt; played.0, 0);
+    assert_eq!(rt; played.1.as_slice(), due.text.as_slice());
+    assert_eq!(rt; refused.0, 3);
+    assert_eq!(rt; refused.1.as_slice(), b"fault read\n".as_slice());
     Ok(())
 }

@@ -1,16 +1,17 @@
 -- Which words ask for a service, what the clock of one waited for, and what is written of outcomes.
-use Rattle.std.proofs.Common.{◌≡◌, ℕ, List, [], ◌∷◌, length, Option, Some, None, map, refl, ap, arith}
+use Rattle.std.proofs.Common.{◌≡◌, ℕ, ◌+◌, List, [], ◌∷◌, ◌++◌, length, take, Option, Some, None, map, refl, ap, ◌∙◌, arith}
 use Rattle.std.specs.Prelude.{codes, replicate, ◌==◌}
 use Rattle.std.specs.Fmt.{digits}
 use Rattle.std.proofs.lemmas.List.Elements.{All-map}
 use Rattle.tac_base.specs.Numerals.{numeral}
 use Rattle.game_text.specs.Schedule.{ticks}
 use Rattle.tac_io.specs.States.{TickWait, TickerState, SinkState}
+use Rattle.tac_io.specs.Known.{known_then}
 use Rattle.clock_events.specs.Clocking.{WaitsForAll}
 use Rattle.tac_commands.specs.declared.services.Form.TheVariants.{Lines, Json}
 use Rattle.tac_commands.specs.declared.refusals.Refusal.TheVariants as refusals
 use Rattle.tac_commands.specs.Services.{service_of}
-use Rattle.tac_commands.specs.Outcomes.{Done, Lapsed, Unsound, Stopped, Unwritten, Refused, exit_of}
+use Rattle.tac_commands.specs.Outcomes.{Done, Lapsed, Unsound, Stopped, Unread, Unwritten, Refused, exit_of}
 use Rattle.tac_commands.specs.Reporting.{Reports}
 use Rattle.worked_rows.proofs.Links.{counts_rise_or_stay, first_known}
 
@@ -48,8 +49,8 @@ one_tick_lapsed = record {
   paced = refl;
 }
 
-codes_of_texts_and_refusals : (map exit_of (Done (codes "a") ∷ Lapsed (codes "a") ∷ Unsound (codes "a") ∷ Stopped (codes "a\n") refusals.Memory ∷ Unwritten (codes "a") ∷ [])
-    ≡ (0, codes "a") ∷ (6, codes "a") ∷ (9, codes "a") ∷ (7, codes "a\nmemory\n") ∷ (4, codes "a") ∷ [])
+codes_of_texts_and_refusals : (map exit_of (Done (codes "a") ∷ Lapsed (codes "a") ∷ Unsound (codes "a") ∷ Stopped (codes "a\n") refusals.Memory ∷ Unwritten (codes "a") ∷ Unread (codes "a\n") ∷ [])
+    ≡ (0, codes "a") ∷ (6, codes "a") ∷ (9, codes "a") ∷ (7, codes "a\nmemory\n") ∷ (4, codes "a") ∷ (3, codes "a\nfault read\n") ∷ [])
     × (map (λ refusal. exit_of (Refused refusal)) (refusals.Usage ∷ refusals.GameLine 3 2 ∷ refusals.ReadFault ∷ refusals.LinkFault ∷ refusals.Memory ∷ [])
     ≡ (1, codes "usage\n") ∷ (2, codes "game 3 2\n") ∷ (3, codes "fault read\n") ∷ (5, codes "fault links\n") ∷ (7, codes "memory\n") ∷ [])
 unfolding digits
@@ -74,3 +75,19 @@ text_is_written_with_its_code_or_cut = (
   λ written. let e : ◌≡◌ {A = ℕ} 1 2 = ap count_known written.1.0 in omega (arith, e),
   λ cut. let e : ◌≡◌ {A = ℕ} 0 1 = ap first_known cut.2 in omega (arith, e),
 )
+
+replies_are_whole_before_a_failed_read_is_told : Reports (Unread (codes "ab\n")) (sink [] []) (sink (codes "ab\nfault read\n") []) 3
+    × Reports (Unread (codes "ab\n")) (sink [] []) (sink (codes "ab\nfau") (6 ∷ [])) 4
+    × (Reports (Unread (codes "ab\n")) (sink [] []) (sink (codes "a") (1 ∷ [])) 4 → ⊥)
+replies_are_whole_before_a_failed_read_is_told = (
+  (refl, (refl, refl, refl)),
+  (sink (codes "ab\n") [], (refl, refl, refl), (record { count = 3; proper = omega arith; taken = refl }, counts_rise_or_stay.0, refl)),
+  λ written. more_than_one written.0.taken written.1.0 written.2.0.count written.2.0.taken,
+)
+  where
+    -- what was taken of the line comes after the whole reply
+    more_than_one : (between : Option (List ℕ)) → between ≡ Some (codes "ab\n") → (count : ℕ) → Some (codes "a") ≡ known_then between (take count (codes "fault read\n")) → ⊥
+    more_than_one between whole count taken =
+        let behind : Some (codes "a") ≡ Some (codes "ab\n" ++ take count (codes "fault read\n")) = taken ∙ ap (λ known. known_then known (take count (codes "fault read\n"))) whole in
+        let e : ◌≡◌ {A = ℕ} 1 (3 + length (take count (codes "fault read\n"))) = ap count_known behind in
+        omega (arith, e)
