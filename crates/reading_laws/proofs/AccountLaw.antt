@@ -28,6 +28,6 @@ short_account text short = let long : ltb 67108864 (length text) ≡ false = le-
 
 pub account_law : (text : List ℕ) (line : ℕ) → length text ≤ 67108864 → IsRefusedAccountAt text line ↔ IsFirstBadLine IsTextOfAccount text line
 account_law text line short = (
-  λ r. let bad = bad_line_of (account_in (left_of true text)) line r.0 (sym (short_account text short) ∙ r.1) in is_first IsBadAt any_line Never true account_in IsTextOfAccount found only account_closes one_place text (nothing_within IsBadAt any_line (left_of true text)) line bad.bad bad.is bad.at,
-  λ is. let r = is_refused IsBadAt any_line Never true account_in IsTextOfAccount found only account_closes text (nothing_within IsBadAt any_line (left_of true text)) line is in (reason_number r.0.reason, short_account text short ∙ shown (account_in (left_of true text)) r.0 line r.1 r.2),
+  λ r. let bad = bad_line_of (account_in (left_of true text)) line r.0 (sym (short_account text short) ∙ r.1) in is_first IsBadAt any_line Never true account_in IsTextOfAccount found only account_closes one_place text (nothing_within IsBadAt any_line account_in (left_of true text)) line bad.bad bad.is bad.at,
+  λ is. let r = is_refused IsBadAt any_line Never true account_in IsTextOfAccount found only account_closes text (nothing_within IsBadAt any_line account_in (left_of true text)) line is in (reason_number r.0.reason, short_account text short ∙ shown (account_in (left_of true text)) r.0 line r.1 r.2),
 )

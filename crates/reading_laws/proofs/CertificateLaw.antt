@@ -31,6 +31,6 @@ shown text line Memory e is = absurd is
 
 pub certificate_law : (text : List ℕ) (line : ℕ) → length text ≤ 67108864 → IsRefusedAt text line ↔ IsFirstBadLine IsCertificateText text line
 certificate_law text line short = (
-  λ r. is_first IsFaultAt any_line Never false root_in IsCertificateText found only root_closes one_place text (nothing_within IsFaultAt any_line (left_of false text)) line (Line line r.0) (sym (short_text text short) ∙ r.1) refl,
-  λ is. let r = is_refused IsFaultAt any_line Never false root_in IsCertificateText found only root_closes text (nothing_within IsFaultAt any_line (left_of false text)) line is in shown text line r.0 (short_text text short ∙ r.1) r.2,
+  λ r. is_first IsFaultAt any_line Never false root_in IsCertificateText found only root_closes one_place text (nothing_within IsFaultAt any_line root_in (left_of false text)) line (Line line r.0) (sym (short_text text short) ∙ r.1) refl,
+  λ is. let r = is_refused IsFaultAt any_line Never false root_in IsCertificateText found only root_closes text (nothing_within IsFaultAt any_line root_in (left_of false text)) line is in shown text line r.0 (short_text text short ∙ r.1) r.2,
 )

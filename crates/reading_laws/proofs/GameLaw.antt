@@ -49,6 +49,6 @@ short_game text short = let long : ltb 1048576 (length text) ≡ false = le-ltb 
 
 pub game_law : (text : List ℕ) (line : ℕ) → length text ≤ 1048576 → IsRefusedGameAt text line ↔ IsFirstBadLine IsGameText text line
 game_law text line short = (
-  λ r. let bad = bad_line_of (game_in (left_of true text)) line r.0 (sym (short_game text short) ∙ r.1) in is_first IsBadAt any_line Never true game_in IsGameText found only game_closes one_place text (nothing_within IsBadAt any_line (left_of true text)) line bad.bad bad.is bad.at,
-  λ is. let r = is_refused IsBadAt any_line Never true game_in IsGameText found only game_closes text (nothing_within IsBadAt any_line (left_of true text)) line is in (reason_number r.0.reason, short_game text short ∙ shown (game_in (left_of true text)) r.0 line r.1 r.2),
+  λ r. let bad = bad_line_of (game_in (left_of true text)) line r.0 (sym (short_game text short) ∙ r.1) in is_first IsBadAt any_line Never true game_in IsGameText found only game_closes one_place text (nothing_within IsBadAt any_line game_in (left_of true text)) line bad.bad bad.is bad.at,
+  λ is. let r = is_refused IsBadAt any_line Never true game_in IsGameText found only game_closes text (nothing_within IsBadAt any_line game_in (left_of true text)) line is in (reason_number r.0.reason, short_game text short ∙ shown (game_in (left_of true text)) r.0 line r.1 r.2),
 )

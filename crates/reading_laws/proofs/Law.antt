@@ -1,5 +1,5 @@
 -- A text is refused at its first bad line, if a reader goes from line to line and reads exactly the texts of a kind.
-use Rattle.std.proofs.Common.{◌≡◌, ℕ, suc, ◌+◌, ◌-◌, ◌<◌, ◌≤◌, ◌&&◌, inl, inr, Bool, true, false, ltb, List, [], ◌∷◌, ◌++◌, Result, Ok, Err, length, map, take, refl, sym, ap, subst, ◌∙◌, arith, append_assoc, length-append}
+use Rattle.std.proofs.Common.{◌≡◌, ℕ, suc, ◌+◌, ◌-◌, ◌<◌, ◌≤◌, ◌&&◌, ◌⊎◌, inl, inr, Bool, true, false, ltb, List, [], ◌∷◌, ◌++◌, Result, Ok, Err, length, map, take, refl, sym, ap, subst, ◌∙◌, arith, append_assoc, length-append}
 use Rattle.std.proofs.Math.Seq.{take-length}
 use Rattle.std.proofs.lemmas.Bool.Decides.{nat_tests}
 use Rattle.std.proofs.lemmas.List.{length-map}
@@ -16,15 +16,22 @@ abbrev pub left_of : Bool → List ℕ → Remaining
 left_of skips text = lines_from skips 1 (parts_of 10 text)
 
 -- if no reader refuses within what some lines begin with, this one doesn't
-pub nothing_within : {E : Type 0} (IsAt : E → ℕ → Type 0) (is_calm : List ℕ → Bool) (left : Remaining) (front : List NumberedLine) (fault : E) → Within IsAt is_calm Never front left fault → ⊥
-nothing_within IsAt is_calm left front fault w = w.refused
+pub nothing_within : {X E : Type 0} (IsAt : E → ℕ → Type 0) (is_calm : List ℕ → Bool) (read : Reader X E) (left : Remaining) (front : List NumberedLine) (more : List (List ℕ)) (fault : E)
+    → Ends IsAt is_calm Never read front more → Within IsAt is_calm Never front more left fault → ⊥
+nothing_within IsAt is_calm read left front more fault e w = w.refused
 
-module _ {X E : Type 0} (IsAt : E → ℕ → Type 0) (is_calm : List ℕ → Bool) (In : Remaining → E → Type 0) (skips : Bool) (read : Reader X E) (IsText : List ℕ → Type 0)
+module _ {X E : Type 0} (IsAt : E → ℕ → Type 0) (is_calm : List ℕ → Bool) (In : Remaining → E → List (List ℕ) → Type 0) (skips : Bool) (read : Reader X E) (IsText : List ℕ → Type 0)
     (found : (text : List ℕ) (value : X) → read (left_of skips text) ≡ Ok value → IsText text) (only : (text : List ℕ) → IsText text → (value : X) × (read (left_of skips text) ≡ Ok value)) where
-  -- if this many lines before a place would have been read with others after them, they begin a text of the kind
-  begins : (text : List ℕ) (prior parts : List (List ℕ)) (front : List NumberedLine) (more : List (List ℕ)) → parts_of 10 text ≡ prior ++ parts → HasPart parts → Front skips 1 prior front → Ends IsAt is_calm In read front more
-      → BeginsText IsText text (length prior)
-  begins text prior parts front more are h f e =
+  -- a text of the kind that has these lines at its front, and then others
+  pub record Begun (prior more : List (List ℕ)) : Type 0 where
+    pub other : List ℕ
+    pub is : IsText other
+    pub parts : parts_of 10 other ≡ prior ++ (more ++ [] ∷ [])
+
+  -- if lines before a place would have been read with others after them, they all are those of a text of the kind
+  pub begun : (text : List ℕ) (prior parts : List (List ℕ)) (front : List NumberedLine) (more : List (List ℕ)) → parts_of 10 text ≡ prior ++ parts → HasPart parts → Front skips 1 prior front → Ends IsAt is_calm In read front more
+      → Begun prior more
+  begun text prior parts front more are h f e =
       let lines = prior ++ more in
       let last = more ++ [] ∷ [] in
       let last_has = part_after more [] [] in
@@ -32,10 +39,19 @@ module _ {X E : Type 0} (IsAt : E → ℕ → Type 0) (is_calm : List ℕ → Bo
       let cut : parts_of 10 (text_of lines) ≡ prior ++ last = parts_again lines lack ∙ append_assoc prior more ([] ∷ []) in
       let n = numbered skips (1 + length prior) more e.plain in
       let left : left_of skips (text_of lines) ≡ onto (front ++ n.all) (ending n.last) =
-      ap (lines_from skips 1) cut ∙ front_again skips 1 prior front f last last_has ∙ ap (onto front) n.left ∙ ap (λ (ls : List NumberedLine). record (ending n.last) { lines = ls }) (sym (append_assoc front n.all [])) in (
-        text_of lines,
-        found (text_of lines) e.value (ap read left ∙ e.reads n.all n.same n.last),
-        ap (λ (ps : List (List ℕ)). take (length prior) (with_ends ps)) cut ∙ take_before prior last last_has ∙ sym (ap (λ (ps : List (List ℕ)). take (length prior) (with_ends ps)) are ∙ take_before prior parts h),
+      ap (lines_from skips 1) cut ∙ front_again skips 1 prior front f last last_has ∙ ap (onto front) n.left ∙ ap (λ (ls : List NumberedLine). record (ending n.last) { lines = ls }) (sym (append_assoc front n.all [])) in
+      record { other = text_of lines; is = found (text_of lines) e.value (ap read left ∙ e.reads n.all n.same n.last); parts = cut }
+
+  -- so this many lines begin a text of the kind
+  begins : (text : List ℕ) (prior parts : List (List ℕ)) (front : List NumberedLine) (more : List (List ℕ)) → parts_of 10 text ≡ prior ++ parts → HasPart parts → Front skips 1 prior front → Ends IsAt is_calm In read front more
+      → BeginsText IsText text (length prior)
+  begins text prior parts front more are h f e =
+      let b = begun text prior parts front more are h f e in
+      let last = more ++ [] ∷ [] in
+      let last_has = part_after more [] [] in (
+        b.other,
+        b.is,
+        ap (λ (ps : List (List ℕ)). take (length prior) (with_ends ps)) b.parts ∙ take_before prior last last_has ∙ sym (ap (λ (ps : List (List ℕ)). take (length prior) (with_ends ps)) are ∙ take_before prior parts h),
       )
 
   abbrev refuse : E → Result X E
@@ -125,21 +141,34 @@ module _ {X E : Type 0} (IsAt : E → ℕ → Type 0) (is_calm : List ℕ → Bo
 
   -- ---- the law
 
-  -- nothing of a text is refused within
+  -- a text is refused so within what some of its lines begin with
+  pub record IsWithin (text : List ℕ) (fault : E) : Type 0 where
+    pub front : List NumberedLine
+    pub more : List (List ℕ)
+    pub goes : Ends IsAt is_calm In read front more
+    pub place : Within IsAt is_calm In front more (left_of skips text) fault
+
+  -- nothing of a text is
   abbrev pub NotWithin : List ℕ → Type 0
-  NotWithin text = (front : List NumberedLine) (fault : E) → Within IsAt is_calm In front (left_of skips text) fault → ⊥
+  NotWithin text = (front : List NumberedLine) (more : List (List ℕ)) (fault : E) → Ends IsAt is_calm In read front more → Within IsAt is_calm In front more (left_of skips text) fault → ⊥
 
   module _ (closes : Closes IsAt is_calm In read) where
-    first_bad : (text : List ℕ) → NotWithin text → (fault : E) → read (left_of skips text) ≡ Err fault → FirstBad text fault
-    first_bad text never fault refused =
+    either_bad : (text : List ℕ) (fault : E) → read (left_of skips text) ≡ Err fault → FirstBad text fault ⊎ IsWithin text fault
+    either_bad text fault refused =
         let r : Refuses IsAt is_calm In read (Ends IsAt is_calm In read) (left_of skips text) fault = subst (OutcomeAtEnd IsAt is_calm In read (left_of skips text)) refused (closes.outcome (left_of skips text)) in
-        elim r.place as (λ _. FirstBad text fault) [
-          | inl a ↦ bad_at_line text fault r.front r.more r.goes a
-          | inr p ↦ elim p as (λ _. FirstBad text fault) [
-            | inl a ↦ bad_at_end text fault r.front r.more r.goes a refused
-            | inr w ↦ absurd (never r.front fault w)
+        elim r.place as (λ _. FirstBad text fault ⊎ IsWithin text fault) [
+          | inl a ↦ inl (bad_at_line text fault r.front r.more r.goes a)
+          | inr p ↦ elim p as (λ _. FirstBad text fault ⊎ IsWithin text fault) [
+            | inl a ↦ inl (bad_at_end text fault r.front r.more r.goes a refused)
+            | inr w ↦ inr (record { front = r.front; more = r.more; goes = r.goes; place = w })
           ]
         ]
+
+    first_bad : (text : List ℕ) → NotWithin text → (fault : E) → read (left_of skips text) ≡ Err fault → FirstBad text fault
+    first_bad text never fault refused = elim (either_bad text fault refused) as (λ _. FirstBad text fault) [
+      | inl bad ↦ bad
+      | inr w ↦ absurd (never w.front w.more fault w.goes w.place)
+    ]
 
     -- a text that agrees with one of the kind so far does so before
     begins_less : (text : List ℕ) (fewer count : ℕ) → fewer ≤ count → BeginsText IsText text count → BeginsText IsText text fewer
@@ -160,6 +189,14 @@ module _ {X E : Type 0} (IsAt : E → ℕ → Type 0) (is_calm : List ℕ → Bo
     is_first one_place text never line fault refused at =
         let f = first_bad text never fault refused in
         subst (IsFirstBadLine IsText text) (one_place fault f.line line f.at at) f.first
+
+    -- the line of a fault is the first bad one, or the fault is within
+    pub is_first_or_within : (one_place : (fault : E) (m n : ℕ) → IsAt fault m → IsAt fault n → m ≡ n) (text : List ℕ) (line : ℕ) (fault : E) → read (left_of skips text) ≡ Err fault → IsAt fault line
+        → IsFirstBadLine IsText text line ⊎ IsWithin text fault
+    is_first_or_within one_place text line fault refused at = elim (either_bad text fault refused) as (λ _. IsFirstBadLine IsText text line ⊎ IsWithin text fault) [
+      | inl f ↦ inl (subst (IsFirstBadLine IsText text) (one_place fault f.line line f.at at) f.first)
+      | inr w ↦ inr w
+    ]
 
     is_refused_by : (text : List ℕ) → NotWithin text → (line : ℕ) → IsFirstBadLine IsText text line → (r : Result X E) → read (left_of skips text) ≡ r → (fault : E) × (read (left_of skips text) ≡ Err fault) × IsAt fault line
     is_refused_by text never line is (Ok value) e = absurd (is.bad (text, found text value e, refl))

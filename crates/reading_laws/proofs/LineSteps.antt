@@ -16,7 +16,7 @@ IsBadAt bad n = bad.line ≡ n
 pub plain : (most : ℕ) (line : List ℕ) → IsLine most line → IsPlain line
 plain most line is = record { lacks = is.lacks; kept = is.kept }
 
-module _ (is_calm : List ℕ → Bool) (In : Remaining → BadLine → Type 0) where
+module _ (is_calm : List ℕ → Bool) (In : Remaining → BadLine → List (List ℕ) → Type 0) where
   abbrev pub GoesOn : {A : Type 0} → Step A BadLine → Type 0
   GoesOn step = Steady IsBadAt is_calm In step
 

@@ -1,27 +1,29 @@
--- The first bad line of logs, where each certificate is one.
-use Rattle.std.proofs.Common.{◌≡◌, ℕ, zero, suc, ◌+◌, ◌<◌, ◌≤◌, ◌↔◌, lit≤, Bool, true, false, eqb, ltb, List, [], ◌∷◌, ◌++◌, Some, Result, Ok, Err, length, map, take, refl, sym, ap, subst, ◌∙◌, arith, append_assoc}
-use Rattle.std.specs.Prelude.{codes}
+-- The first bad line of logs, and the exception of certificates.
+use Rattle.std.proofs.Common.{◌≡◌, ℕ, zero, suc, ◌+◌, ◌<◌, ◌≤◌, ◌⊎◌, inl, inr, lit≤, Bool, true, false, cond, eqb, ltb, List, [], ◌∷◌, ◌++◌, Option, Some, None, Result, Ok, Err, length, map, take, flat_map, refl, sym, ap, subst, ◌∙◌, arith, append_assoc}
+use Rattle.std.specs.Prelude.{codes, ◌==◌}
 use Rattle.std.specs.List.{All}
 use Rattle.std.proofs.lemmas.Bool.{le-ltb, eq-eqb}
 use Rattle.std.proofs.lemmas.Bool.Decides.{nat_tests}
-use Rattle.std.proofs.lemmas.List.{append_cancel_left, append-nil}
+use Rattle.std.proofs.lemmas.List.{append_cancel_left, length-map}
 use Rattle.std.proofs.lemmas.List.Concat.{flat_map-cons}
 use Rattle.std.proofs.lemmas.List.Elements.{All-nil, All-cons, All-head, All-tail}
 use Rattle.text_forms.specs.declared.lines.BadLine.{BadLine}
+use Rattle.text_forms.specs.declared.lines.Reason.TheVariants.{TextEnd}
 use Rattle.text_forms.specs.Words.{parts_of}
-use Rattle.text_forms.specs.Lines.{NumberedLine, Remaining, lines_from, text_of, due_of, at_line, first_number, block_in, block_of, nothing_left}
+use Rattle.text_forms.specs.Lines.{NumberedLine, Remaining, lines_from, due_of, at_line, first_number, block_in, block_of, nothing_left}
 use Rattle.text_forms.specs.Steps.{◌>>=◌, repeat}
 use Rattle.text_forms.proofs.Reading.{bind_ok, ok_is}
+use Rattle.bound_cert.specs.declared.faults.CertFault.{CertFault}
+use Rattle.bound_cert.specs.declared.faults.CertFault.TheVariants as certs
 use Rattle.bound_cert.specs.Reading.{cert_of}
-use Rattle.bound_cert.specs.Texts.{tree_lines, cert_text}
-use Rattle.bound_cert.specs.Trees.{Tree, leaf, split, IsCertificate}
+use Rattle.bound_cert.specs.Texts.{cert_text}
+use Rattle.bound_cert.specs.Trees.{Tree}
 use Rattle.bound_cert.proofs.RootCases.{long_text}
 use Rattle.bound_cert.proofs.TreeTexts.{cert_printed}
-use Rattle.bound_cert.proofs.TreesAgain.{cert_again}
 use Rattle.settlement.specs.Sheets.{Scored}
 use Rattle.log_text.specs.HeadForms.{formed, is_text}
 use Rattle.log_text.specs.SheetForms.{read_score, package_of, read_count}
-use Rattle.log_text.specs.LogReading.{line_by, head_in, history_in, cash_in, block_by, cert_in, score_in, log_in}
+use Rattle.log_text.specs.LogReading.{line_by, head_in, history_in, cash_in, cert_by, block_by, cert_in, score_in, log_in}
 use Rattle.log_text.specs.LoggedGames.{LoggedGame, IsLoggedScore}
 use Rattle.log_text.proofs.SheetFormLaws.{count_body}
 use Rattle.log_text.proofs.LogTaking.{log_is}
@@ -31,10 +33,9 @@ use Rattle.log_reader.specs.declared.fault.LogFault.TheVariants.{Line}
 use Rattle.log_reader.specs.Faults.{or_log_fault}
 use Rattle.log_reader.specs.Logs.{log_of}
 use Rattle.reading_laws.specs.FirstBadLine.{IsFirstBadLine, with_ends}
-use Rattle.reading_laws.specs.Logs.{HasShortText, IsLogText, IsRefusedLogAt, HasCertificates}
-use Rattle.reading_laws.proofs.Steady.{Within}
-use Rattle.reading_laws.proofs.Spots.{AllLack, Front, with_end, parts_lack, later_lack, spot, ends_append, same_front}
-use Rattle.reading_laws.proofs.Law.{left_of, is_first, is_refused}
+use Rattle.reading_laws.specs.Logs.{HasShortText, IsLogText, IsRefusedLogAt, IsCertificateDue, IsBadAfter, IsBadOfCertificate, HasNoBadCertificate, bad_line_after}
+use Rattle.reading_laws.proofs.Spots.{Front, with_end, part_after, spot, ends_append}
+use Rattle.reading_laws.proofs.Law.{Begun, IsWithin, left_of, begun, is_first_or_within, is_refused}
 use Rattle.reading_laws.proofs.LineSteps.{IsBadAt}
 use Rattle.reading_laws.proofs.LogSteps.{BadBlock, is_calm, read_block, log_closes}
 
@@ -103,45 +104,74 @@ only text is =
     let eight = is.1.agents in
     (is.0, ap (λ (t : List ℕ). log_in (left_of false t)) is.3 ∙ log_given_by is.0 is.1 (each_score 0 is.0.scores (omega (arith, eight)) is.1.scores is.2))
 
--- ---- where each certificate is one, none is refused
+-- ---- a certificate that is refused
 
-printed_block : (lines : List (List ℕ)) (number : ℕ) (left : Remaining) (part : List ℕ) (rest : List (List ℕ)) → block_in number (length lines) left (lines_from false number (lines ++ part ∷ rest)).lines ≡ Some (text_of lines, record left { lines = (lines_from false (number + length lines) (part ∷ rest)).lines })
-printed_block [] number left part rest = let same : number ≡ number + 0 = omega arith in ap (λ (n : ℕ). Some ([], record left { lines = (lines_from false n (part ∷ rest)).lines })) same
-printed_block (line ∷ []) number left part rest =
-    let here : eqb number number ≡ true = eq-eqb number number refl in
-    let text : text_of (line ∷ []) ≡ line ++ 10 ∷ [] = flat_map-cons (λ l. l ++ 10 ∷ []) line [] ∙ append-nil (line ++ 10 ∷ []) in
-    rw (here, text) refl
-printed_block (line ∷ next ∷ lines) number left part rest =
-    let here : eqb number number ≡ true = eq-eqb number number refl in
-    let more = printed_block (next ∷ lines) (number + 1) left part rest in
-    let count : number + 1 + suc (length lines) ≡ number + suc (suc (length lines)) = omega arith in
-    let text : text_of (line ∷ next ∷ lines) ≡ line ++ 10 ∷ text_of (next ∷ lines) = flat_map-cons (λ l. l ++ 10 ∷ []) line (next ∷ lines) ∙ append_assoc line (10 ∷ []) (text_of (next ∷ lines)) in
-    rw (here, more, count, text) refl
+abbrev joined : List (List ℕ) → List ℕ
+joined lines = flat_map (λ bytes. bytes) lines
 
--- the block of some lines
-block_at : (lines : List (List ℕ)) (number : ℕ) (left : Remaining) (part : List ℕ) (rest : List (List ℕ)) → 0 < length lines → left.lines ≡ (lines_from false number (lines ++ part ∷ rest)).lines → (after : Remaining) × (block_of (length lines) left ≡ Some (text_of lines, after))
-block_at [] number left part rest some same = absurd (omega (arith, some))
-block_at (line ∷ []) number left part rest some same =
+some_ends : (part : List ℕ) (parts : List (List ℕ)) → 0 < length (with_ends (part ∷ parts))
+some_ends part [] = omega arith
+some_ends part (next ∷ parts) = omega arith
+
+-- the next lines of a text, this many, as a block: there are too few, or these are its bytes
+abbrev Taken : Option (List ℕ × Remaining) → ℕ → List (List ℕ) → Type 0
+Taken block count ends = ((length ends ≤ count) × (block ≡ None)) ⊎ ((count < length ends) × ((rest : Remaining) × (block ≡ Some (joined (take count ends), rest))))
+
+block_taken : (count number : ℕ) (left : Remaining) (part : List ℕ) (parts : List (List ℕ)) → Taken (block_in number count left (lines_from false number (part ∷ parts)).lines) count (with_ends (part ∷ parts))
+block_taken zero number left part parts = inr (some_ends part parts, (_, refl))
+block_taken (suc count) number left part [] = inl (omega arith, refl)
+block_taken (suc count) number left part (next ∷ parts) = by_rest (block_taken count (number + 1) left next parts)
+  where
+    here : eqb number number ≡ true
+    here = eq-eqb number number refl
+
+    by_rest : Taken (block_in (number + 1) count left (lines_from false (number + 1) (next ∷ parts)).lines) count (with_ends (next ∷ parts))
+        → Taken (block_in number (suc count) left (lines_from false number (part ∷ next ∷ parts)).lines) (suc count) (with_ends (part ∷ next ∷ parts))
+    by_rest (inl none) = let few = none.0 in inl (omega (arith, few), rw (here, none.1) refl)
+    by_rest (inr some) =
+        let many = some.0 in
+        let bytes = joined (take count (with_ends (next ∷ parts))) in
+        let text : joined ((part ++ 10 ∷ []) ∷ take count (with_ends (next ∷ parts))) ≡ part ++ 10 ∷ bytes =
+        flat_map-cons (λ (l : List ℕ). l) (part ++ 10 ∷ []) (take count (with_ends (next ∷ parts))) ∙ append_assoc part (10 ∷ []) bytes in
+        inr (omega (arith, many), (some.1.0, rw (here, some.1.1, text) refl))
+
+-- the same from the next line on, wherever it stands
+block_of_taken : (count number : ℕ) (left : Remaining) (part : List ℕ) (parts : List (List ℕ)) → left.lines ≡ (lines_from false number (part ∷ parts)).lines → Taken (block_of count left) count (with_ends (part ∷ parts))
+block_of_taken count number left part [] same =
+    let first : first_number left.lines ≡ 0 = ap first_number same in
+    subst (λ (b : Option (List ℕ × Remaining)). Taken b count (with_ends (part ∷ []))) (sym (λ i. block_in (first i) count left (same i))) (block_taken count 0 left part [])
+block_of_taken count number left part (next ∷ parts) same =
     let first : first_number left.lines ≡ number = ap first_number same in
-    (_, (λ i. block_in (first i) 1 left (same i)) ∙ printed_block (line ∷ []) number left part rest)
-block_at (line ∷ next ∷ lines) number left part rest some same =
-    let first : first_number left.lines ≡ number = ap first_number same in
-    (_, (λ i. block_in (first i) (suc (suc (length lines))) left (same i)) ∙ printed_block (line ∷ next ∷ lines) number left part rest)
+    subst (λ (b : Option (List ℕ × Remaining)). Taken b count (with_ends (part ∷ next ∷ parts))) (sym (λ i. block_in (first i) count left (same i))) (block_taken count number left part (next ∷ parts))
 
-some_line : (tree : Tree) → 0 < length (tree_lines tree)
-some_line (leaf prices) = omega arith
-some_line (split client feature children) = omega arith
+-- the line at which a block is refused
+abbrev Refusal : ℕ → Option (List ℕ × Remaining) → BadLine → Type 0
+Refusal number block bad = block_by number block ≡ Err bad
 
--- so a certificate is read
-block_is_tree : (number count : ℕ) (after : Remaining) (tree : Tree) → IsCertificate tree → HasShortText tree → (rest : Remaining) → block_of count after ≡ Some (cert_text tree, rest) → block_by number (block_of count after) ≡ Ok (tree, rest)
-block_is_tree number count after tree is short rest e = let read = cert_again tree is short in rw (e, read) refl
+no_block : (number : ℕ) (bad : BadLine) → Refusal number None bad → bad.line ≡ number
+no_block number bad e = cc
 
-abbrev refuse : BadLine → Result (Tree × Remaining) BadLine
-refuse bad = Err bad
+abbrev with_rest : Remaining → Result Tree BadLine → Result (Tree × Remaining) BadLine
+with_rest rest read = read >>= λ tree. Ok (tree, rest)
 
-not_both : (r : Result (Tree × Remaining) BadLine) (x : Tree × Remaining) (bad : BadLine) → r ≡ Ok x → r ≡ refuse bad → ⊥
-not_both (Ok y) x bad h k = absurd cc
-not_both (Err e) x bad h k = absurd cc
+by_reason : (ended : Bool) (number line : ℕ) (rest : Remaining) (bad : BadLine) → with_rest rest (cond ended (Err (record { line = number; reason = TextEnd })) (Err (record { line = number + line; reason = TextEnd }))) ≡ Err bad → bad.line ≡ cond ended number (number + line)
+by_reason true number line rest bad e = cc
+by_reason false number line rest bad e = cc
+
+by_fault : (number : ℕ) (rest : Remaining) (bad : BadLine) (fault : CertFault) → with_rest rest (cert_by number (Err fault)) ≡ Err bad → bad.line ≡ bad_line_after number fault
+by_fault number rest bad (certs.Line line reason) e = by_reason (reason == 7) number line rest bad e
+by_fault number rest bad certs.TooLong e = cc
+by_fault number rest bad certs.Memory e = cc
+
+by_cert : (number : ℕ) (bytes : List ℕ) (rest : Remaining) (bad : BadLine) (read : Result Tree CertFault) → cert_of bytes ≡ read → with_rest rest (cert_by number read) ≡ Err bad → (fault : CertFault) × (cert_of bytes ≡ Err fault) × (bad.line ≡ bad_line_after number fault)
+by_cert number bytes rest bad (Ok tree) is e = absurd cc
+by_cert number bytes rest bad (Err fault) is e = (fault, is, by_fault number rest bad fault e)
+
+bad_after : (number count : ℕ) (ends : List (List ℕ)) (block : Option (List ℕ × Remaining)) (bad : BadLine) → Taken block count ends → block_by number block ≡ Err bad → IsBadAfter number ends count bad.line
+bad_after number count ends block bad (inl none) e = inl (none.0, no_block number bad (subst (λ (b : Option (List ℕ × Remaining)). Refusal number b bad) none.1 e))
+bad_after number count ends block bad (inr some) e =
+    let bytes = joined (take count ends) in
+    inr (some.0, by_cert number bytes some.1.0 bad (cert_of bytes) refl (subst (λ (b : Option (List ℕ × Remaining)). Refusal number b bad) some.1.1 e))
 
 -- the lines after a line of a text
 lines_after : (prior : List (List ℕ)) (front : List NumberedLine) (line : NumberedLine) (lines : List NumberedLine) (next : List ℕ) (after : List (List ℕ)) → Front false 1 prior front → (lines_from false 1 (prior ++ line.bytes ∷ next ∷ after)).lines ≡ front ++ line ∷ lines
@@ -154,41 +184,46 @@ lines_after prior front line lines next after f same =
       tails : (x y : NumberedLine) (xs ys : List NumberedLine) → x ∷ xs ≡ y ∷ ys → xs ≡ ys
       tails x y xs ys h = cc
 
--- the line of a count, and the certificate after it
-record Counted (text : List ℕ) (agent count : ℕ) (prior : List (List ℕ)) (next : List ℕ) (after : List (List ℕ)) : Type 0 where
-  tree : Tree
-  fits : IsCertificate tree
-  short : HasShortText tree
-  count_is : length (tree_lines tree) ≡ count
-  part : List ℕ
-  rest : List (List ℕ)
-  split : next ∷ after ≡ tree_lines tree ++ part ∷ rest
+-- a log that has the same lines before a certificate of the agent
+due_there : (prior more others : List (List ℕ)) (agent : ℕ) (start : List (List ℕ)) (rest : List (List ℕ)) → more ≡ start ++ others → start ≡ count_body agent 1 ∷ rest → Begun IsBadAt is_calm BadBlock false log_in IsLogText found only prior more
+    → IsCertificateDue (map with_end prior) agent
+due_there prior more others agent start rest more_is start_is b =
+    let next = part_after (rest ++ others) [] [] in
+    let are : parts_of 10 b.other ≡ prior ++ count_body agent 1 ∷ ((rest ++ others) ++ [] ∷ []) =
+    b.parts ∙ ap (λ (ls : List (List ℕ)). prior ++ (ls ++ [] ∷ [])) (more_is ∙ ap (λ (ls : List (List ℕ)). ls ++ others) start_is) in
+    record {
+      other = b.other;
+      is = b.is;
+      count = 1;
+      after = with_ends (next.0 ∷ next.1);
+      lines = ap with_ends (are ∙ ap (λ (ls : List (List ℕ)). prior ++ count_body agent 1 ∷ ls) next.2) ∙ ends_append prior (count_body agent 1) (next.0 ∷ next.1);
+    }
 
-counted_at : (text : List ℕ) → HasCertificates text → (agent count : ℕ) (prior : List (List ℕ)) (next : List ℕ) (after : List (List ℕ)) → parts_of 10 text ≡ prior ++ count_body agent count ∷ next ∷ after → Counted text agent count prior next after
-counted_at text has agent count prior next after are =
-    let cert = has (map with_end prior) (with_ends (next ∷ after)) agent count (ap with_ends are ∙ ends_append prior (count_body agent count) (next ∷ after)) in
-    let lack : AllLack (next ∷ after) = (later_lack prior (count_body agent count ∷ next ∷ after) (subst AllLack are (parts_lack text))).1 in
-    let heads = same_front (tree_lines cert.0) (next ∷ after) lack (next, after, refl) (ap (λ (n : ℕ). take n (with_ends (next ∷ after))) cert.3 ∙ cert.4) in
-    record { tree = cert.0; fits = cert.1; short = cert.2; count_is = cert.3; part = heads.part; rest = heads.rest; split = heads.split }
-
--- the block after it is the certificate
-block_there : (text : List ℕ) (agent count number : ℕ) (prior : List (List ℕ)) (next : List ℕ) (after : List (List ℕ)) → Counted text agent count prior next after → (left : Remaining) → left.lines ≡ (lines_from false number (next ∷ after)).lines
-    → (x : Tree × Remaining) × ((line : ℕ) → block_by line (block_of count left) ≡ Ok x)
-block_there text agent count number prior next after c left lines =
-    let block = block_at (tree_lines c.tree) number left c.part c.rest (some_line c.tree) (lines ∙ ap (λ (ps : List (List ℕ)). (lines_from false number ps).lines) c.split) in
-    let counted : block_of count left ≡ Some (cert_text c.tree, block.0) = ap (λ (n : ℕ). block_of n left) (sym c.count_is) ∙ block.1 in
-    ((c.tree, block.0), λ line. block_is_tree line count left c.tree c.fits c.short block.0 counted)
-
-none_within : (text : List ℕ) → HasCertificates text → (front : List NumberedLine) (bad : BadLine) → Within IsBadAt is_calm BadBlock front (left_of false text) bad → ⊥
-none_within text has front bad w =
-    let b = w.refused in
-    let whole : (left_of false text).lines ≡ front ++ b.line ∷ b.lines = w.split ∙ ap (λ (ls : List NumberedLine). front ++ ls) {y = b.line ∷ b.lines} b.left_is in
-    let s = spot false 1 (parts_of 10 text) front b.line b.lines whole in
-    let c = counted_at text has b.agent b.count s.prior s.next s.after (s.parts_are ∙ ap (λ (l : List ℕ). s.prior ++ l ∷ s.next ∷ s.after) b.said) in
+-- what is refused within is the exception
+bad_within : (text : List ℕ) (bad : BadLine) → IsWithin IsBadAt is_calm BadBlock false log_in IsLogText found only text bad → IsBadOfCertificate text bad.line
+bad_within text bad w =
+    let b = w.place.refused in
+    let whole : (left_of false text).lines ≡ w.front ++ b.line ∷ b.lines = w.place.split ∙ ap (λ (ls : List NumberedLine). w.front ++ ls) {y = b.line ∷ b.lines} b.left_is in
+    let s = spot false 1 (parts_of 10 text) w.front b.line b.lines whole in
+    let body = count_body b.agent b.count in
+    let are : parts_of 10 text ≡ s.prior ++ body ∷ s.next ∷ s.after = s.parts_are ∙ ap (λ (l : List ℕ). s.prior ++ l ∷ s.next ∷ s.after) b.said in
     let left : Remaining = record (left_of false text) { lines = b.lines } in
-    let lines = lines_after s.prior front b.line b.lines s.next s.after s.ahead (ap (λ (ps : List (List ℕ)). (lines_from false 1 ps).lines) {y = parts_of 10 text} (sym s.parts_are) ∙ whole) in
-    let there = block_there text b.agent b.count (1 + length s.prior + 1) s.prior s.next s.after c left lines in
-    not_both (block_by b.line.number (block_of b.count left)) there.0 bad (there.1 b.line.number) b.refused
+    let lines = lines_after s.prior w.front b.line b.lines s.next s.after s.ahead (ap (λ (ps : List (List ℕ)). (lines_from false 1 ps).lines) {y = parts_of 10 text} (sym s.parts_are) ∙ whole) in
+    let count = length-map s.prior with_end in
+    let here = s.number_is in
+    let number : b.line.number ≡ length (map with_end s.prior) + 1 = omega (arith, here, count) in
+    record {
+      before = map with_end s.prior;
+      agent = b.agent;
+      count = b.count;
+      few = b.few;
+      after = with_ends (s.next ∷ s.after);
+      lines = ap with_ends are ∙ ends_append s.prior body (s.next ∷ s.after);
+      due = due_there s.prior w.more w.place.others b.agent w.place.start b.others w.place.more_is b.due
+          (begun IsBadAt is_calm BadBlock false log_in IsLogText found only text s.prior (b.line.bytes ∷ s.next ∷ s.after) w.front w.more s.parts_are (b.line.bytes, s.next ∷ s.after, refl) s.ahead w.goes);
+      bad = bad_after (length (map with_end s.prior) + 1) b.count (with_ends (s.next ∷ s.after)) (block_of b.count left) bad (block_of_taken b.count (1 + length s.prior + 1) left s.next s.after lines)
+          (subst (λ (n : ℕ). Refusal n (block_of b.count left) bad) number b.refused);
+    }
 
 -- ---- the law
 
@@ -209,8 +244,15 @@ bad_line_of (Err bad) line e = record { bad = bad; is = refl; at = cc }
 one_place : (bad : BadLine) (m n : ℕ) → IsBadAt bad m → IsBadAt bad n → m ≡ n
 one_place bad m n a b = sym a ∙ b
 
-pub log_law : (text : List ℕ) (line : ℕ) → length text ≤ 67108864 → HasCertificates text → IsRefusedLogAt text line ↔ IsFirstBadLine IsLogText text line
-log_law text line short has = (
-  λ r. let bad = bad_line_of (log_in (left_of false text)) line (sym (short_log text short) ∙ r) in is_first IsBadAt is_calm BadBlock false log_in IsLogText found only log_closes one_place text (none_within text has) line bad.bad bad.is bad.at,
-  λ is. let r = is_refused IsBadAt is_calm BadBlock false log_in IsLogText found only log_closes text (none_within text has) line is in short_log text short ∙ ap or_log_fault r.1 ∙ ap (λ (n : ℕ). Err (Line n)) r.2,
-)
+pub log_only : (text : List ℕ) (line : ℕ) → length text ≤ 67108864 → IsRefusedLogAt text line → IsFirstBadLine IsLogText text line ⊎ IsBadOfCertificate text line
+log_only text line short r =
+    let bad = bad_line_of (log_in (left_of false text)) line (sym (short_log text short) ∙ r) in
+    elim (is_first_or_within IsBadAt is_calm BadBlock false log_in IsLogText found only log_closes one_place text line bad.bad bad.is bad.at) as (λ _. IsFirstBadLine IsLogText text line ⊎ IsBadOfCertificate text line) [
+      | inl first ↦ inl first
+      | inr w ↦ inr (subst (IsBadOfCertificate text) bad.at (bad_within text bad.bad w))
+    ]
+
+pub log_first : (text : List ℕ) (line : ℕ) → length text ≤ 67108864 → HasNoBadCertificate text → IsFirstBadLine IsLogText text line → IsRefusedLogAt text line
+log_first text line short none is =
+    let r = is_refused IsBadAt is_calm BadBlock false log_in IsLogText found only log_closes text (λ front more fault e w. none fault.line (bad_within text fault (record { front = front; more = more; goes = e; place = w }))) line is in
+    short_log text short ∙ ap or_log_fault r.1 ∙ ap (λ (n : ℕ). Err (Line n)) r.2

@@ -42,14 +42,17 @@ use Rattle.reading_laws.proofs.Blocks.{next_block}
 
 -- ---- where a certificate is refused
 
--- the next line says how long a certificate is, and the lines after it are none
-pub record BadBlock (left : Remaining) (bad : BadLine) : Type 0 where
+-- the next line says how long a certificate is, and the lines after it are none; one of the same agent with one line would have been read
+pub record BadBlock (left : Remaining) (bad : BadLine) (start : List (List ℕ)) : Type 0 where
   pub agent : ℕ
   pub count : ℕ
   pub line : NumberedLine
   pub lines : List NumberedLine
   pub left_is : left.lines ≡ line ∷ lines
   pub said : line.bytes ≡ count_body agent count
+  pub few : count ≤ 4294967295
+  pub others : List (List ℕ)
+  pub due : start ≡ count_body agent 1 ∷ others
   pub refused : block_by line.number (block_of count (record left { lines = lines })) ≡ Err bad
 
 -- a line at which no run of links, ends or trades goes on
@@ -249,7 +252,7 @@ module _ (agent : ℕ) (low : agent ≤ 7) where
 
   counted_outcome : (line : NumberedLine) (count : ℕ) (after : Remaining) → read_count agent line.bytes ≡ Some count → (r : Result (Tree × Remaining) BadLine) → block_by line.number (block_of count after) ≡ r → Outcome IsBadAt any_line BadBlock (cert_in agent) (onto (line ∷ []) after) r
   counted_outcome line count after said (Err bad) e =
-      record { front = []; more = least; goes = cert_start; place = inr (inr (record { lines = line ∷ after.lines; split = refl; refused = record { agent = agent; count = count; line = line; lines = after.lines; left_is = refl; said = (count_is agent line.bytes count said).0; refused = e } })) }
+      record { front = []; more = least; goes = cert_start; place = inr (inr (record { lines = line ∷ after.lines; split = refl; start = least; others = []; more_is = refl; refused = record { agent = agent; count = count; line = line; lines = after.lines; left_is = refl; said = (count_is agent line.bytes count said).0; few = (count_is agent line.bytes count said).1; others = zero_leaf ∷ []; due = refl; refused = e } })) }
   counted_outcome line count after said (Ok x) e =
       let b = read_block line.number count after x (block_of count after) refl e in
       let n = next_block count after.last after.ended after.lines b.block b.found in

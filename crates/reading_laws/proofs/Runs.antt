@@ -10,7 +10,7 @@ use Rattle.log_text.specs.LogReading.{line_by, begins_in, begins, as_long_as}
 use Rattle.reading_laws.proofs.Steady.{Reader, Step, onto, bytes_of, ending, any_line, IsCalm, Follows, Completes, Outcome, Steady, AtLine, AtEnd, Within, ReadsLine, Ends, OutcomeAtEnd, Closes, no_lines}
 use Rattle.reading_laws.proofs.LineSteps.{IsBadAt}
 
-module _ {A : Type 0} (is_calm : List ℕ → Bool) (In : Remaining → BadLine → Type 0) (word : List ℕ) (quiet : (line : List ℕ) → is_calm line ≡ true → first_is word (words_of line) ≡ false) (form : ℕ → List ℕ → Option A) where
+module _ {A : Type 0} (is_calm : List ℕ → Bool) (In : Remaining → BadLine → List (List ℕ) → Type 0) (word : List ℕ) (quiet : (line : List ℕ) → is_calm line ≡ true → first_is word (words_of line) ≡ false) (form : ℕ → List ℕ → Option A) where
   abbrev run : ℕ → ℕ → Step (List A) BadLine
   run room from = as_long_as word (λ i. line_by (form i)) room from
 
@@ -80,11 +80,11 @@ module _ {A : Type 0} (is_calm : List ℕ → Bool) (In : Remaining → BadLine 
           front = line ∷ o.front;
           more = o.more;
           goes = record { value = x ∷ o.goes.value; plain = o.goes.plain; calm = tt; reads = λ lines h other calm. with_rest (onto (o.front ++ lines) other) (Ok (o.goes.value, other)) (o.goes.reads lines h other calm) };
-          place = elim o.place as (λ _. AtLine IsBadAt is_calm In whole (line ∷ o.front) left fault ⊎ AtEnd IsBadAt is_calm In (line ∷ o.front) left fault ⊎ Within IsBadAt is_calm In (line ∷ o.front) left fault) [
+          place = elim o.place as (λ _. AtLine IsBadAt is_calm In whole (line ∷ o.front) left fault ⊎ AtEnd IsBadAt is_calm In (line ∷ o.front) left fault ⊎ Within IsBadAt is_calm In (line ∷ o.front) o.more left fault) [
             | inl a ↦ inl (record { line = a.line; lines = a.lines; split = ap (λ (ls : List NumberedLine). line ∷ ls) a.split; at = a.at; again = λ other. with_rest (onto o.front (record other { lines = a.line ∷ other.lines })) (Err fault) (a.again other) })
-            | inr p ↦ elim p as (λ _. AtLine IsBadAt is_calm In whole (line ∷ o.front) left fault ⊎ AtEnd IsBadAt is_calm In (line ∷ o.front) left fault ⊎ Within IsBadAt is_calm In (line ∷ o.front) left fault) [
+            | inr p ↦ elim p as (λ _. AtLine IsBadAt is_calm In whole (line ∷ o.front) left fault ⊎ AtEnd IsBadAt is_calm In (line ∷ o.front) left fault ⊎ Within IsBadAt is_calm In (line ∷ o.front) o.more left fault) [
               | inl a ↦ inr (inl (record { whole = ap (λ (ls : List NumberedLine). line ∷ ls) a.whole; at = a.at }))
-              | inr w ↦ inr (inr (record { lines = w.lines; split = ap (λ (ls : List NumberedLine). line ∷ ls) w.split; refused = w.refused }))
+              | inr w ↦ inr (inr (record { lines = w.lines; split = ap (λ (ls : List NumberedLine). line ∷ ls) w.split; start = w.start; others = w.others; more_is = w.more_is; refused = w.refused }))
             ]
           ];
         }
@@ -122,7 +122,7 @@ module _ {A : Type 0} (is_calm : List ℕ → Bool) (In : Remaining → BadLine 
 
 -- ---- a line, and then a reader that looks at no line before it reads it
 
-module _ {A X : Type 0} (is_calm : List ℕ → Bool) (In : Remaining → BadLine → Type 0) (step : Step A BadLine) (next : A → Reader X BadLine) (r : ReadsLine IsBadAt is_calm In step) (each : (a : A) → Closes IsBadAt any_line In (next a)) where
+module _ {A X : Type 0} (is_calm : List ℕ → Bool) (In : Remaining → BadLine → List (List ℕ) → Type 0) (step : Step A BadLine) (next : A → Reader X BadLine) (r : ReadsLine IsBadAt is_calm In step) (each : (a : A) → Closes IsBadAt any_line In (next a)) where
   abbrev both : Reader X BadLine
   both left = step left >>= λ x. next x.0 x.1
 
@@ -152,11 +152,11 @@ module _ {A X : Type 0} (is_calm : List ℕ → Bool) (In : Remaining → BadLin
         front = line ∷ o.front;
         more = o.more;
         goes = record { value = o.goes.value; plain = o.goes.plain; calm = tt; reads = λ lines h last. whole (onto (o.front ++ lines) (ending last)) ∙ o.goes.reads lines h last };
-        place = elim o.place as (λ _. AtLine IsBadAt is_calm In both (line ∷ o.front) left fault ⊎ AtEnd IsBadAt is_calm In (line ∷ o.front) left fault ⊎ Within IsBadAt is_calm In (line ∷ o.front) left fault) [
+        place = elim o.place as (λ _. AtLine IsBadAt is_calm In both (line ∷ o.front) left fault ⊎ AtEnd IsBadAt is_calm In (line ∷ o.front) left fault ⊎ Within IsBadAt is_calm In (line ∷ o.front) o.more left fault) [
           | inl a ↦ inl (record { line = a.line; lines = a.lines; split = ap (λ (ls : List NumberedLine). line ∷ ls) a.split; at = a.at; again = λ other. whole (onto o.front (record other { lines = a.line ∷ other.lines })) ∙ a.again other })
-          | inr p ↦ elim p as (λ _. AtLine IsBadAt is_calm In both (line ∷ o.front) left fault ⊎ AtEnd IsBadAt is_calm In (line ∷ o.front) left fault ⊎ Within IsBadAt is_calm In (line ∷ o.front) left fault) [
+          | inr p ↦ elim p as (λ _. AtLine IsBadAt is_calm In both (line ∷ o.front) left fault ⊎ AtEnd IsBadAt is_calm In (line ∷ o.front) left fault ⊎ Within IsBadAt is_calm In (line ∷ o.front) o.more left fault) [
             | inl a ↦ inr (inl (record { whole = ap (λ (ls : List NumberedLine). line ∷ ls) a.whole; at = a.at }))
-            | inr w ↦ inr (inr (record { lines = w.lines; split = ap (λ (ls : List NumberedLine). line ∷ ls) w.split; refused = w.refused }))
+            | inr w ↦ inr (inr (record { lines = w.lines; split = ap (λ (ls : List NumberedLine). line ∷ ls) w.split; start = w.start; others = w.others; more_is = w.more_is; refused = w.refused }))
           ]
         ];
       }

@@ -34,12 +34,12 @@ Step A E = Reader (A × Remaining) E
 abbrev pub any_line : List ℕ → Bool
 any_line line = true
 
-abbrev pub Never : {E : Type 0} → Remaining → E → Type 0
-Never left fault = ⊥
+abbrev pub Never : {E : Type 0} → Remaining → E → List (List ℕ) → Type 0
+Never left fault start = ⊥
 
 -- IsAt: a fault is at a line. is_calm: a line is none that a step looks at to see whether it is to go on. In: the lines that are left are
--- refused so within what they begin with
-module _ {E : Type 0} (IsAt : E → ℕ → Type 0) (is_calm : List ℕ → Bool) (In : Remaining → E → Type 0) where
+-- refused so within what they begin with, while these lines would have been read there
+module _ {E : Type 0} (IsAt : E → ℕ → Type 0) (is_calm : List ℕ → Bool) (In : Remaining → E → List (List ℕ) → Type 0) where
   -- the first of these is calm
   abbrev pub IsCalm : List (List ℕ) → Type 0
   IsCalm [] = Unit {0}
@@ -87,17 +87,20 @@ module _ {E : Type 0} (IsAt : E → ℕ → Type 0) (is_calm : List ℕ → Bool
     pub whole : left.lines ≡ front
     pub at : IsAt fault left.last
 
-  -- within what the lines after these begin with
-  pub record Within (front : List NumberedLine) (left : Remaining) (fault : E) : Type 0 where
+  -- within what the lines after these begin with, where the first of some more would have been read
+  pub record Within (front : List NumberedLine) (more : List (List ℕ)) (left : Remaining) (fault : E) : Type 0 where
     pub lines : List NumberedLine
     pub split : left.lines ≡ front ++ lines
-    pub refused : In (record left { lines = lines }) fault
+    pub start : List (List ℕ)
+    pub others : List (List ℕ)
+    pub more_is : more ≡ start ++ others
+    pub refused : In (record left { lines = lines }) fault start
 
   pub record Refuses {A : Type 0} (read : Reader A E) (Goes : List NumberedLine → List (List ℕ) → Type 0) (left : Remaining) (fault : E) : Type 0 where
     pub front : List NumberedLine
     pub more : List (List ℕ)
     pub goes : Goes front more
-    pub place : AtLine read front left fault ⊎ AtEnd front left fault ⊎ Within front left fault
+    pub place : AtLine read front left fault ⊎ AtEnd front left fault ⊎ Within front more left fault
 
   abbrev pub Outcome : {A : Type 0} → Step A E → Remaining → Result (A × Remaining) E → Type 0
   Outcome step left (Ok x) = Reads step left x.0 x.1
@@ -156,11 +159,18 @@ module _ {E : Type 0} (IsAt : E → ℕ → Type 0) (is_calm : List ℕ → Bool
         front = r.front;
         more = r.more ++ l.0;
         goes = l.1;
-        place = elim r.place as (λ _. AtLine both r.front left fault ⊎ AtEnd r.front left fault ⊎ Within r.front left fault) [
+        place = elim r.place as (λ _. AtLine both r.front left fault ⊎ AtEnd r.front left fault ⊎ Within r.front (r.more ++ l.0) left fault) [
           | inl a ↦ inl (record { line = a.line; lines = a.lines; split = a.split; at = a.at; again = λ other. rw (a.again other) refl })
-          | inr p ↦ elim p as (λ _. AtLine both r.front left fault ⊎ AtEnd r.front left fault ⊎ Within r.front left fault) [
+          | inr p ↦ elim p as (λ _. AtLine both r.front left fault ⊎ AtEnd r.front left fault ⊎ Within r.front (r.more ++ l.0) left fault) [
             | inl a ↦ inr (inl a)
-            | inr w ↦ inr (inr w)
+            | inr w ↦ inr (inr (record {
+              lines = w.lines;
+              split = w.split;
+              start = w.start;
+              others = w.others ++ l.0;
+              more_is = ap (λ (ls : List (List ℕ)). ls ++ l.0) w.more_is ∙ append_assoc w.start w.others l.0;
+              refused = w.refused;
+            }))
           ]
         ];
       }
@@ -213,7 +223,10 @@ module _ {E : Type 0} (IsAt : E → ℕ → Type 0) (is_calm : List ℕ → Bool
             place = inr (inr (record {
               lines = w.lines;
               split = split_after step left x after r l.front w.lines w.split;
-              refused = subst (λ (m : Remaining). In (record m { lines = w.lines }) fault) r.rest w.refused;
+              start = w.start;
+              others = w.others;
+              more_is = w.more_is;
+              refused = subst (λ (m : Remaining). In (record m { lines = w.lines }) fault w.start) r.rest w.refused;
             }));
           }
         ]

@@ -1,9 +1,12 @@
 -- The texts of logs, and when a text is refused as one at a line.
-use Rattle.std.specs.Prelude.{◌≡◌, ◌≤◌, ℕ, List, [], ◌∷◌, ◌++◌, Err, length, map, take}
+use Rattle.std.specs.Prelude.{◌≡◌, ◌+◌, ◌<◌, ◌≤◌, ◌==◌, ◌⊎◌, ℕ, List, [], ◌∷◌, ◌++◌, Err, flat_map, if◌then◌else◌, length, take}
 use Rattle.std.specs.List.{All}
 use Rattle.tac_base.specs.declared.limits.TheConstants.{TEXT_BYTES}
-use Rattle.bound_cert.specs.Texts.{tree_lines, cert_text}
-use Rattle.bound_cert.specs.Trees.{Tree, IsCertificate}
+use Rattle.bound_cert.specs.declared.faults.CertFault.{CertFault}
+use Rattle.bound_cert.specs.declared.faults.CertFault.TheVariants as certs
+use Rattle.bound_cert.specs.Reading.{cert_of}
+use Rattle.bound_cert.specs.Texts.{cert_text}
+use Rattle.bound_cert.specs.Trees.{Tree}
 use Rattle.log_text.specs.SheetText.{cert_line}
 use Rattle.log_text.specs.LoggedGames.{LoggedGame, IsLogged, logged_text}
 use Rattle.log_reader.specs.declared.fault.LogFault.TheVariants.{Line}
@@ -22,10 +25,41 @@ IsLogText text = (log : LoggedGame) × IsLogged log × All (λ scored. HasShortT
 abbrev pub IsRefusedLogAt : List ℕ → ℕ → Type 0
 IsRefusedLogAt text line = log_of text ≡ Err (Line line)
 
--- these lines, each with its line end, begin with a certificate of this many lines
-abbrev pub BeginWithCertificate : ℕ → List (List ℕ) → Type 0
-BeginWithCertificate count lines = (tree : Tree) × IsCertificate tree × HasShortText tree × (length (tree_lines tree) ≡ count) × (take count lines ≡ map (λ line. line ++ 10 ∷ []) (tree_lines tree))
+-- ---- the exception
 
--- each line that says how long a certificate is has one of as many lines after it
-abbrev pub HasCertificates : List ℕ → Type 0
-HasCertificates text = (before after : List (List ℕ)) (agent count : ℕ) → lines_with_ends text ≡ before ++ (cert_line agent count ++ 10 ∷ []) ∷ after → BeginWithCertificate count after
+-- A log has these lines, each with its line end, before the line that says how long the certificate of this agent is.
+pub record IsCertificateDue (before : List (List ℕ)) (agent : ℕ) : Type 0 where
+  pub other : List ℕ
+  pub is : IsLogText other
+  pub count : ℕ
+  pub after : List (List ℕ)
+  pub lines : lines_with_ends other ≡ before ++ (cert_line agent count ++ 10 ∷ []) ∷ after
+
+-- The bad line of lines that are refused as a certificate, where the line before them has this number: that line, if the certificate ends too early
+-- or too late, which is reason 7, or is too long to be read; otherwise the line that is refused, which is counted from there.
+abbrev pub bad_line_after : ℕ → CertFault → ℕ
+bad_line_after number (certs.Line line reason) = if reason == 7 then number else number + line
+bad_line_after number fault = number
+
+-- After the line of this number these are left, each with its line end but the last, and so many of them are no certificate: there are too few, and
+-- that line is bad; or they are refused as a certificate.
+abbrev pub IsBadAfter : ℕ → List (List ℕ) → ℕ → ℕ → Type 0
+IsBadAfter number after count line =
+    ((length after ≤ count) × (line ≡ number))
+    ⊎ ((count < length after) × ((fault : CertFault) × (cert_of (flat_map (λ bytes. bytes) (take count after)) ≡ Err fault) × (line ≡ bad_line_after number fault)))
+
+-- The exception of certificates: a line says how long a certificate is, where that of its agent is due; so many lines after it are none; and for
+-- this the given line is the bad one.
+pub record IsBadOfCertificate (text : List ℕ) (line : ℕ) : Type 0 where
+  pub before : List (List ℕ)
+  pub agent : ℕ
+  pub count : ℕ
+  pub few : count ≤ 4294967295
+  pub after : List (List ℕ)
+  pub lines : lines_with_ends text ≡ before ++ (cert_line agent count ++ 10 ∷ []) ∷ after
+  pub due : IsCertificateDue before agent
+  pub bad : IsBadAfter (length before + 1) after count line
+
+-- a text has no such line
+abbrev pub HasNoBadCertificate : List ℕ → Type 0
+HasNoBadCertificate text = (line : ℕ) → IsBadOfCertificate text line → ⊥

@@ -1,7 +1,8 @@
 -- How a table goes on from a pair to the next, and how it ends at one.
 use Rattle.std.proofs.Common.{◌≡◌, ℕ, ◌+◌, ◌*◌, ◌<◌, ◌≤◌, map, drop, get_or, List, [], ◌∷◌, ◌++◌, length, refl, sym, ap, ◌∙◌, subst, inl, inr, arith, Option, Some, None, Ok, Err}
-use Rattle.std.specs.Prelude.{Result, IsErrAnd, IfErr, IfSome}
+use Rattle.std.specs.Prelude.{Result, All, IsErrAnd, IfErr, IfSome}
 use Rattle.std.proofs.lemmas.List.{length-append}
+use Rattle.std.proofs.lemmas.List.Elements.{All-get_or}
 use Rattle.tac_io.specs.States.{FilesState, SinkState}
 use Rattle.tac_io.specs.Known.{known_then}
 use Rattle.game_text.specs.Games.{GameFile}
@@ -123,9 +124,28 @@ ends_reported all files files' pair sink sink' end run ended =
     (λ outcome is. subst (λ (o : Outcome). Runs (table_steps [] all) files files' o) (sym is) run) (inl ended)
 
 -- the names of two more files were selected
-pub two_more : (names names' : Option (List (List ℕ))) (first second : List ℕ) (count : ℕ) → IfSome names (λ given. length given ≡ 2 * count) → names' ≡ known_then (known_then names (first ∷ [])) (second ∷ []) →
-    IfSome names' (λ given. length given ≡ 2 * (count + 1))
-two_more None names' first second count is selected = rw selected tt
-two_more (Some given) names' first second count is selected =
+pub two_more : (names names' : Option (List (List ℕ))) (first second : List ℕ) (count : ℕ) (P : Type 0) → IfSome names (λ given. (length given ≡ 2 * count) × P) →
+    names' ≡ known_then (known_then names (first ∷ [])) (second ∷ []) → IfSome names' (λ given. (length given ≡ 2 * (count + 1)) × P)
+two_more None names' first second count P is selected = rw selected tt
+two_more (Some given) names' first second count P is selected =
     let both : length ((given ++ first ∷ []) ++ second ∷ []) ≡ length given + 1 + 1 = length-append (given ++ first ∷ []) (second ∷ []) ∙ ap (λ (n : ℕ). n + 1) (length-append given (first ∷ [])) in
-    rw selected (both ∙ omega (arith, is))
+    let before = is.0 in
+    rw selected (both ∙ omega (arith, before), is.1)
+
+-- the files of the next pair may be selected: where the names are told, the words are short, and there are few enough of them
+pub may_select : {A : Type 0} (f : A → List ℕ) (size : A → ℕ) (size_is : (word : A) → size word ≡ length (f word)) (words : List A) (i : ℕ) (first second : A) (game log : List ℕ) (names : Option (List (List ℕ))) →
+    length words ≤ 128 → 2 * i + 1 < length words → first ≡ get_or words (2 * i) first → second ≡ get_or words (2 * i + 1) second → game ≡ f first → log ≡ f second →
+    IfSome names (λ given. (length given ≡ 2 * i) × All (λ word. size word ≤ 1024) words) →
+    IfSome names (λ given. (length given + 1 < 128) × (length game ≤ 1024) × (length log ≤ 1024))
+may_select f size size_is words i first second game log None few inside is_first is_second game_is log_is told = tt
+may_select {A} f size size_is words i first second game log (Some given) few inside is_first is_second game_is log_is told =
+    let count = told.0 in (
+      omega (arith, count, few, inside),
+      short first game (2 * i) (omega (arith, inside)) is_first game_is,
+      short second log (2 * i + 1) inside is_second log_is,
+    )
+  where
+    short : (word : A) (name : List ℕ) (k : ℕ) → k < length words → word ≡ get_or words k word → name ≡ f word → length name ≤ 1024
+    short word name k within is name_is =
+        let few : size word ≤ 1024 = subst (λ (w : A). size w ≤ 1024) (sym is) (All-get_or (λ word. size word ≤ 1024) words k word within told.1) in
+        subst (λ (n : List ℕ). length n ≤ 1024) (sym name_is) (subst (λ (n : ℕ). n ≤ 1024) (size_is word) few)

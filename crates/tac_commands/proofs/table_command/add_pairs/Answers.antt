@@ -1,6 +1,12 @@
-use Rattle.std.proofs.Common.{◌≡◌, ◌<◌, ◌≤◌, ◌+◌, ◌*◌, ◌/◌, ◌∙◌, ℕ, length, string_bytes, ap, arith}
-use Rattle.tac_commands.proofs.TableRuns.{all_done, ends_all, goes_all, two_more}
+use Rattle.std.proofs.Common.{◌≡◌, ◌<◌, ◌≤◌, ◌+◌, ◌*◌, ◌/◌, ◌∙◌, ℕ, length, string_bytes, string_len, ap, arith}
+use Rattle.tac_commands.proofs.TableRuns.{all_done, ends_all, goes_all, may_select, two_more}
 use Rattle.tac_commands.proofs.table_command.add_pairs.Goals as goal
+
+pub add_pair-requires-clause-names : goal.add_pair-requires-clause-names
+add_pair-requires-clause-names g c =
+    let inside : 2 * c.loop-pair.pair + 1 < length c.args.names.now = omega arith in
+    may_select (λ name. string_bytes name) (λ name. string_len name) String-len_is c.args.names.now c.loop-pair.pair c.index-names-pair.result c.index-names-pair-in-loop-pair.result c.as_str-game.result.now c.as_str-log.result.now
+    (g.F.Files.state c.loop-pair.files).names c.requires.few inside c.index-names-pair.is c.index-names-pair-in-loop-pair.is c.as_str-game.ensures.value c.as_str-log.ensures.value c.loop-pair.invariant.2
 
 pub returns-in_err-standings-clause-fault : goal.returns-in_err-standings-clause-fault
 returns-in_err-standings-clause-fault g c =
@@ -21,7 +27,7 @@ loop-pair-preserved g c =
           inside c.index-names-pair.is c.index-names-pair-in-loop-pair.is c.as_str-game.ensures.value c.as_str-log.ensures.value c.loop-pair.invariant.0
           c.in_ok-standings.standings is.added is.content is.names is.quiet,
       is.games ∙ ap (λ (n : ℕ). n + 1) c.loop-pair.invariant.1,
-      two_more (files c.loop-pair.files).names (files c.add_pair.new.files).names c.as_str-game.result.now c.as_str-log.result.now c.loop-pair.pair c.loop-pair.invariant.2 is.names,
+      two_more (files c.loop-pair.files).names (files c.add_pair.new.files).names c.as_str-game.result.now c.as_str-log.result.now c.loop-pair.pair _ c.loop-pair.invariant.2 is.names,
     )
 
 pub returns-clause-all : goal.returns-clause-all
