@@ -5,7 +5,7 @@ use Rattle.tac_commands.proofs.table_command.add_pairs.Goals as goal
 pub add_pair-requires-clause-names : goal.add_pair-requires-clause-names
 add_pair-requires-clause-names g c =
     let inside : 2 * c.loop-pair.pair + 1 < length c.args.names.now = omega arith in
-    may_select (λ name. string_bytes name) (λ name. string_len name) String-len_is c.args.names.now c.loop-pair.pair c.index-names-pair.result c.index-names-pair-in-loop-pair.result c.as_str-game.result.now c.as_str-log.result.now
+    may_select (λ name. string_bytes name) (λ name. string_len name) (λ name. name.bytes.ok.0) c.args.names.now c.loop-pair.pair c.index-names-pair.result c.index-names-pair-in-loop-pair.result c.as_str-game.result.now c.as_str-log.result.now
     (g.F.Files.state c.loop-pair.files).names c.requires.few inside c.index-names-pair.is c.index-names-pair-in-loop-pair.is c.as_str-game.ensures.value c.as_str-log.ensures.value c.loop-pair.invariant.2
 
 pub returns-in_err-standings-clause-fault : goal.returns-in_err-standings-clause-fault
