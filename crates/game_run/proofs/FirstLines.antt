@@ -200,9 +200,9 @@ lost before between after l a = record {
   bytes = l.bytes;
   gave = gave_still l.bytes before between after l.gave a.read;
   why = elim l.why [
-    inl ended ↦ inl (ended.0, subst IsAtEnd (sym a.read.1) ended.1, no_read_fails_twice before between after ended.2 a.read.2)
+    | inl ended ↦ inl (ended.0, subst IsAtEnd (sym a.read.1) ended.1, no_read_fails_twice before between after ended.2 a.read.2)
     | inr other ↦ elim other [
-      inl full ↦ inr (inl (full.0, no_read_fails_twice before between after full.1 a.read.2))
+      | inl full ↦ inr (inl (full.0, no_read_fails_twice before between after full.1 a.read.2))
       | inr failed ↦ inr (inr (failed.0, last_read_fails_still before between after failed.1 a.read))
     ]
   ];
