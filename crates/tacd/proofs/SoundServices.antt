@@ -32,7 +32,7 @@ use Rattle.game_log.specs.ShownGames.{IsShowable}
 use Rattle.game_log.specs.ScoredGames.{IsSheetOf}
 use Rattle.game_run.specs.Admission.{free_seats, seats_given, CameTo}
 use Rattle.game_run.specs.LinkRuns.{IsSeated}
-use Rattle.tac_io.specs.States.{LinkState, LinksState, TickerState}
+use Rattle.tac_io.specs.States.{LinkState, LinksState, TickWait, TickerState}
 use Rattle.game_run.specs.Hosted.{HostedGame}
 use Rattle.game_run.specs.Outcomes.{IsPlayedOver, IsGameEnd, missed_of}
 use Rattle.game_run.specs.PlayedGame.{PlayedGame, caller_parts, IsAbsent, IsPlayedBy}
@@ -127,8 +127,8 @@ few_links verdicts pending n may is = dite (dec_le (length verdicts) 64) (λ low
 
 few_missed : (ticker ticker' : TickerState) (missed : ℕ) → WaitsForAll ticker ticker' missed → missed ≤ 54
 few_missed ticker ticker' missed all =
-    let many : length all.waits ≡ 54 = sym (length-map all.waits (λ (w : ℕ × Bool). w.0)) ∙ ap length all.all_ticks in
-    let few = count_by-le-length (λ (w : ℕ × Bool). w.1) all.waits in
+    let many : length all.waits ≡ 54 = sym (length-map all.waits (λ (w : TickWait). w.tick)) ∙ ap length all.all_ticks in
+    let few = count_by-le-length (λ (w : TickWait). w.lapsed) all.waits in
     let lapses = all.lapses in
     omega (arith, many, few, lapses)
 
