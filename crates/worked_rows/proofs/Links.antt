@@ -111,7 +111,7 @@ second_greeting_is_taken = record {
 
 refusal_is_sent_or_cut : IsSentOrCut (codes "refused taken\n") (link [] [] [] [] []) (link [] [] (codes "refused taken\n") [] [])
     × IsSentOrCut (codes "refused taken\n") (link [] [] [] [] []) (link [] [] (codes "refused") [] (7 ∷ []))
-refusal_is_sent_or_cut = (inl (refl, refl, refl), inr (record { count = 7; proper = omega arith; taken = refl }, counts_rise_or_stay.0, refl))
+refusal_is_sent_or_cut = (inl (refl, (refl, refl)), inr (record { count = 7; proper = omega arith; taken = refl }, (counts_rise_or_stay.0, refl)))
 
 -- a write failed after 4 bytes, and 3 more were sent
 no_refusal_goes_on_after_a_failed_write : IsSentOrCut (codes "refused taken\n") (link [] [] [] [] []) (link [] [] (codes "refused") [] (4 ∷ [])) → ⊥
@@ -124,8 +124,8 @@ no_refusal_goes_on_after_a_failed_write told = elim told [
 lost_at_its_end_or_a_failed_read : IsLost (link [] (codes "hello seat2") [] [] []) (link (codes "hello seat2") [] [] [] [])
     × IsLost (link [] (codes "hello seat2\n") [] [] []) (link (codes "hello") (codes " seat2\n") [] (5 ∷ []) [])
 lost_at_its_end_or_a_failed_read = (
-  record { bytes = codes "hello seat2"; gave = (refl, refl); why = inl (refl, refl, refl, refl); quiet = (refl, refl, refl) },
-  record { bytes = codes "hello"; gave = (refl, refl); why = inr (inr (refl, counts_rise_or_stay.0, refl)); quiet = (refl, refl, refl) },
+  record { bytes = codes "hello seat2"; gave = (refl, refl); why = inl (refl, refl, (refl, refl)); quiet = (refl, (refl, refl)) },
+  record { bytes = codes "hello"; gave = (refl, refl); why = inr (inr (refl, (counts_rise_or_stay.0, refl))); quiet = (refl, (refl, refl)) },
 )
 
 -- a read failed after 2 bytes, and 3 more were taken
