@@ -420,6 +420,12 @@ OUTSIDE: List[Tuple[str, str, str, str]] = [
      "it is kept to, which no clause says: of time there is no clause at all"),
     ("TickerState", "waited", "the waits for ticks, in order, which lapsed, and at which pace",
      "a wait that ends did so at the tick's time or later"),
+    ("TickWait", "tick", "the tick that was waited for, 1 to 54",
+     "as above"),
+    ("TickWait", "lapsed", "whether the wait lapsed: the system's clock could not be read",
+     "as above"),
+    ("TickWait", "paced", "the pace that was set when the wait began, if any",
+     "as above"),
     ("TickerState", "faults", "how many ticks lapsed: the system's clock could not be read",
      "nothing else is counted; a tick that comes late under load is none of these"),
 ]

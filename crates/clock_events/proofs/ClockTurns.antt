@@ -9,7 +9,8 @@ use Rattle.floor.specs.declared.desk.Desk.{Desk}
 use Rattle.floor.specs.Answers.{IsCallAnswered, IsDueTaken}
 use Rattle.floor.specs.Desks.{desk_cash, desk_entries, entries_at}
 use Rattle.floor.proofs.Rows.{row_more}
-use Rattle.clock_events.specs.ClockTurns.{ClockTurn, MakesCalls, call_made, clock_entries, clock_entry, clock_post, clock_posts}
+use Rattle.clock_events.specs.ClockTurns.{ClockTurn, call_made, clock_entries, clock_entry, clock_post, clock_posts}
+use Rattle.clock_events.specs.MadeCalls.{MakesCalls}
 
 pub makes_none : (d : Desk) → MakesCalls [] d d
 makes_none d = record { turns = []; asked = refl; entries = λ good low. sym (append-nil (entries_at d good)); cash = sym (append-nil (desk_cash d)) }

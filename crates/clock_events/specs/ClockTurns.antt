@@ -1,13 +1,10 @@
 -- The clock's turns: each is a call that it made, with what it left in the auctions and in the cash history.
-use Rattle.std.specs.Prelude.{◌≡◌, ℕ, ◌<◌, ◌==◌, if◌then◌else◌, List, ◌++◌, Option, Some, None, map}
+use Rattle.std.specs.Prelude.{ℕ, ◌==◌, if◌then◌else◌, List, Option, Some, None, map}
 use Rattle.std.specs.List.{filter_map, flat_map}
 use Rattle.tac_base.specs.declared.calls.Call.{Call}
-use Rattle.tac_base.specs.declared.limits.TheConstants.{GOODS}
 use Rattle.auction_rules.specs.History.{Entry}
 use Rattle.trade_ledger.specs.declared.cash_calls.CashEntry.{CashEntry}
 use Rattle.trade_ledger.specs.Posts.{due_post}
-use Rattle.floor.specs.declared.desk.Desk.{Desk}
-use Rattle.floor.specs.Desks.{entries_at, desk_cash}
 
 -- a call of a good: its entry has the position; the post that is due to the entry, if one is, has the position `posted`
 pub record ClockTurn : Type 0 where
@@ -35,10 +32,3 @@ clock_post turn = map (λ post. (turn.posted, post)) (due_post turn.good turn.po
 -- the entries in the cash history, in order, each with its position
 abbrev pub clock_posts : List ClockTurn → List (ℕ × CashEntry)
 clock_posts turns = flat_map clock_post turns
-
--- The desk made these calls in order, and, in the same order, a post for each entry with trades.
-pub record MakesCalls (calls : List (ℕ × Call)) (before after : Desk) : Type 0 where
-  pub turns : List ClockTurn
-  pub asked : map call_made turns ≡ calls
-  pub entries : (good : ℕ) → good < GOODS → entries_at after good ≡ entries_at before good ++ clock_entries good turns
-  pub cash : desk_cash after ≡ desk_cash before ++ clock_posts turns

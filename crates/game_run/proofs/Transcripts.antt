@@ -14,7 +14,8 @@ use Rattle.floor.specs.Desks.{desk_caller, desk_entries, desk_cash, boards_of, I
 use Rattle.floor.specs.Closing.{IsBorneOut}
 use Rattle.floor.specs.ClosedBoards.{board_of}
 use Rattle.game_text.specs.Schedule.{clock_calls, schedule}
-use Rattle.clock_events.specs.ClockTurns.{MakesCalls, clock_entries, clock_posts}
+use Rattle.clock_events.specs.ClockTurns.{clock_entries, clock_posts}
+use Rattle.clock_events.specs.MadeCalls.{MakesCalls}
 use Rattle.agent_gate.specs.Sessions.{AreMadeBy}
 use Rattle.agent_gate.specs.Transcript.{IsTranscript}
 use Rattle.agent_gate.specs.Turns.{Turn, cash_made, boards_shown}

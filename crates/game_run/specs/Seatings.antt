@@ -14,7 +14,7 @@ use Rattle.line_protocol.specs.declared.admission.Cause.{Cause}
 use Rattle.floor.specs.declared.desk.Desk.{Desk}
 use Rattle.floor.specs.Desks.{desk_ids, desk_caller, entries_at, desk_entries, desk_cash}
 use Rattle.game_text.specs.Schedule.{clock_calls, schedule}
-use Rattle.clock_events.specs.ClockTurns.{MakesCalls}
+use Rattle.clock_events.specs.MadeCalls.{MakesCalls}
 use Rattle.agent_gate.specs.Served.{HasSessionCause}
 use Rattle.agent_gate.specs.Sessions.{IsSession}
 use Rattle.game_run.specs.declared.sessions.Two.{Two}

@@ -5,7 +5,7 @@ use Rattle.std.specs.List.{flat_map}
 use Rattle.std.proofs.lemmas.Option.{slice_get_within}
 use Rattle.floor.specs.Desks.{desk_calls, desk_entries, desk_steps}
 use Rattle.game_text.specs.Schedule.{calls_at, ticks}
-use Rattle.clock_events.specs.ClockTurns.{MakesCalls}
+use Rattle.clock_events.specs.MadeCalls.{MakesCalls}
 use Rattle.floor.specs.Steps.{Step, CallMade, DueTaken}
 use Rattle.clock_events.proofs.ClockTurns.{makes_more, makes_nothing}
 use Rattle.clock_events.proofs.MadeCalls.{AreMade, made_after, made_count, made_length}

@@ -5,7 +5,7 @@ use Rattle.floor.specs.Keeping.{calls_of_good}
 use Rattle.floor.proofs.CallLists.{none_listed}
 use Rattle.game_text.specs.Schedule.{calls_at, ticks}
 use Rattle.tac_io.specs.Known.{known_then}
-use Rattle.clock_events.specs.ClockTurns.{MakesCalls}
+use Rattle.clock_events.specs.MadeCalls.{MakesCalls}
 use Rattle.clock_events.specs.Steps.{steps_at}
 use Rattle.clock_events.proofs.ClockTurns.{makes_both, makes_none}
 use Rattle.clock_events.proofs.TickCalls.{all_done, tick_done}

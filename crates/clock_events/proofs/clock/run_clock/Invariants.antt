@@ -3,7 +3,7 @@ use Rattle.std.specs.List.{flat_map}
 use Rattle.floor.specs.Answers.{IsSameDesk}
 use Rattle.floor.specs.Desks.{boards_of, desk_calls, desk_steps}
 use Rattle.game_text.specs.Schedule.{calls_at, ticks}
-use Rattle.clock_events.specs.ClockTurns.{MakesCalls}
+use Rattle.clock_events.specs.MadeCalls.{MakesCalls}
 use Rattle.clock_events.specs.Steps.{steps_at}
 use Rattle.clock_events.proofs.Waits.{WaitsFor}
 use Rattle.clock_events.proofs.clock.run_clock.Given as goal
