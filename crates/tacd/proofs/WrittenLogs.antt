@@ -1,5 +1,5 @@
 -- The log of a game is written in two parts.
-use Rattle.std.proofs.Common.{◌++◌, refl, inl, inr, Ok, Err}
+use Rattle.std.proofs.Common.{◌++◌, refl, sym, subst, inl, inr, Ok, Err}
 use Rattle.tac_io.specs.States.{SinkState}
 use Rattle.game_text.specs.Games.{GameFile}
 use Rattle.game_log.specs.SheetText.{sheet_part}
@@ -33,3 +33,7 @@ module _ (game : GameFile) (played : Played) (s0 s1 s2 : SinkState) (first : Too
     inl (record { sheet = second.0; scores = second.1; due = refl }),
     then_some (first_part played) (sheet_part second.0) s0 s1 s2 first second.2,
   )
+
+  -- memory was refused for the second part, which is to be told
+  pub without_second : WritesSheet game played.closed s1 s2 (Err log.Memory) → EndsOrStops (LogAllows game played) s0 s2 (ends.Refused Memory)
+  without_second same = inr (inl (first_part played, Memory, refl, refl, subst (λ (s : SinkState). TookWhole s0 s (first_part played)) (sym same) first))

@@ -1,3 +1,5 @@
+use Rattle.std.proofs.Common.{ℕ, ◌≡◌, ◌<◌, ◌≤◌, List, [], Option, Some, None, length, arith}
+use Rattle.std.specs.Prelude.{IfSome}
 use Rattle.tac_commands.specs.Outsides.{outside_of}
 use Rattle.tac_commands.proofs.CommandCauses as causes
 use Rattle.tac_commands.proofs.CodedOutcomes.{coded}
@@ -6,6 +8,16 @@ use Rattle.tacd.proofs.ServiceCauses.{allowed, clock_fault, link_fault, no_clock
 use Rattle.tacd.proofs.top.tac.Goals as goal
 
 -- ---- the service of a game
+
+-- where the names are told, none was selected and each word is short, so the game's file may be
+may_select : (names : Option (List (List ℕ))) (name : List ℕ) (Short : Type 0) → IfSome names (λ given. given ≡ []) → IfSome names (λ _. Short) → (Short → length name ≤ 1024) →
+    IfSome names (λ given. (length given < 128) × (length name ≤ 1024))
+may_select None name Short fresh short within = tt
+may_select (Some given) name Short fresh short within = (rw fresh (omega arith), within short)
+
+pub serve-requires-clause-names : goal.serve-requires-clause-names
+serve-requires-clause-names g c =
+    may_select (g.F.Files.state c.args.files.now).names c.in-Some.service.game.now _ c.requires.names c.requires.short c.in-Some.ensures.short
 
 pub returns-in-Some-clause-outcome : goal.returns-in-Some-clause-outcome
 returns-in-Some-clause-outcome g c =
