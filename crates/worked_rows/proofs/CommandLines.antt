@@ -1,5 +1,5 @@
 -- Which words ask for a service, what the clock of one waited for, and what is written of outcomes.
-use Rattle.std.proofs.Common.{◌≡◌, ℕ, ◌+◌, List, [], ◌∷◌, ◌++◌, length, take, Option, Some, None, map, refl, ap, ◌∙◌, arith}
+use Rattle.std.proofs.Common.{◌≡◌, ℕ, suc, List, [], ◌∷◌, ◌++◌, length, take, Option, Some, None, map, refl, ap, ◌∙◌, arith}
 use Rattle.std.specs.Prelude.{codes, replicate, ◌==◌}
 use Rattle.std.specs.Fmt.{digits}
 use Rattle.std.proofs.lemmas.List.Elements.{All-map}
@@ -89,5 +89,5 @@ replies_are_whole_before_a_failed_read_is_told = (
     more_than_one : (between : Option (List ℕ)) → between ≡ Some (codes "ab\n") → (count : ℕ) → Some (codes "a") ≡ known_then between (take count (codes "fault read\n")) → ⊥
     more_than_one between whole count taken =
         let behind : Some (codes "a") ≡ Some (codes "ab\n" ++ take count (codes "fault read\n")) = taken ∙ ap (λ known. known_then known (take count (codes "fault read\n"))) whole in
-        let e : ◌≡◌ {A = ℕ} 1 (3 + length (take count (codes "fault read\n"))) = ap count_known behind in
+        let e : ◌≡◌ {A = ℕ} 1 (suc (suc (suc (length (take count (codes "fault read\n")))))) = ap count_known behind in
         omega (arith, e)
