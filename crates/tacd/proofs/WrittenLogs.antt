@@ -36,4 +36,4 @@ module _ (game : GameFile) (played : Played) (s0 s1 s2 : SinkState) (first : Too
 
   -- memory was refused for the second part, which is to be told
   pub without_second : WritesSheet game played.closed s1 s2 (Err log.Memory) → EndsOrStops (LogAllows game played) s0 s2 (ends.Refused Memory)
-  without_second same = inr (inl (first_part played, Memory, refl, refl, subst (λ (s : SinkState). TookWhole s0 s (first_part played)) (sym same) first))
+  without_second same = inr (inl (first_part played, Memory, refl, (refl, subst (λ (s : SinkState). TookWhole s0 s (first_part played)) (sym same) first)))

@@ -16,7 +16,7 @@ may_select None name Short fresh short within = tt
 may_select (Some given) name Short fresh short within = (rw fresh (omega arith), within short)
 
 pub serve-requires-clause-names : goal.serve-requires-clause-names
-serve-requires-clause-names g c =
+serve-requires-clause-names g c κs within =
     may_select (g.F.Files.state c.args.files.now).names c.in-Some.service.game.now _ c.requires.names c.requires.short c.in-Some.ensures.short
 
 pub returns-in-Some-clause-outcome : goal.returns-in-Some-clause-outcome
