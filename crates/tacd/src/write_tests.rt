@@ -4,12 +4,12 @@ use crate::std_sink::StdSink;
 use crate::tests::{FIRST_CLIENT, Faults, NO_FAULT, ONE_SEAT, TRADES, check, plain_game, run};
 use crate::top::tac;
 use std::alloc::Global;
-use std::fs;
 use std::fs::File;
 use std::rt::Clock;
 use std::sync::Wait;
 use std::test::Fail;
 use std::thread::Threads;
+use std::{fs, rt};
 use tac_io::{Files, MemLink, MemLinks, MemSink, MemTicker, Sink, read_file, write_all};
 
 // Agent 0 buys 15 rooms.
@@ -100,8 +100,11 @@ fn the_ends_of_the_system_pass_bytes_on_and_count_faults(rt: HostRuntime) -> Res
 }
 
 // Plays the game of a file of the system, by no script: the code, and what was written.
-fn play_file(rt: &HostRuntime, path: String) -> Result<(u8, Vec<u8>), Fail> {
-    let alloc = rt.alloc();
+fn play_file<R: Threads + Sync + Wait + Clock + rt::Files<File = File>>(
+    rt: &R,
+    alloc: Global,
+    path: String,
+) -> Result<(u8, Vec<u8>), Fail> {
     let mut words = Vec::new(alloc);
     words.push(String::from_str(alloc, "play")?)?;
     words.push(path)?;
@@ -140,8 +143,8 @@ fn a_path_is_as_long_as_the_system_allows(rt: HostRuntime) -> Result<(), Fail> {
     assert!(rt; write_all(&mut sink, game.as_bytes()).is_ok());
     let path = long_path(alloc, 740, name)?;
     assert_eq!(rt; path.len(), 1_500);
-    let played = play_file(&rt, path)?;
-    let refused = play_file(&rt, long_path(alloc, 2_100, name)?)?;
+    let played = play_file(&rt, alloc, path)?;
+    let refused = play_file(&rt, alloc, long_path(alloc, 2_100, name)?)?;
     fs::remove_file(&rt, name)?;
     assert_eq!(rt; played.0, 0);
     assert_eq!(rt; played.1.as_slice(), due.text.as_slice());
