@@ -5,7 +5,7 @@ import unittest
 from typing import List, Tuple
 
 from geesefuton.learning.books import Books, Flight, Night, Tickets, text_of
-from geesefuton.records.games import CLOCK, FLIGHTS, GOODS, HOTELS, HOUSE, TICKETS, Game, read_game
+from geesefuton.records.games import CLOCK, FLIGHTS, GOODS, HOTELS, HOUSE, Game, read_game
 from geesefuton.records.logs import Entry, Log, read_log
 from geesefuton.records.replies import No, Own
 from geesefuton.records.rules import prices_of

@@ -2,7 +2,7 @@
 
 import unittest
 
-from geesefuton.records.games import GOODS, TICKS, Flight
+from geesefuton.records.games import GOODS, Flight
 from geesefuton.records.rules import Rooms, clock_ticks, next_price, prices_of
 from tests.helpers import served_game
 
