@@ -187,7 +187,7 @@ parent = Connection(int(sys.argv[1]))
 name = re.search(rb"[0-9]+[.][0-9]", parent.recv_bytes())[0].decode()
 with open(os.environ["BEGUN"], "a") as begun:
     begun.write(name + "\\n")
-time.sleep(random.random() * 0.1)
+time.sleep(random.random() * 0.3)
 parent.send_bytes(open(os.environ["RESULT"], "rb").read())
 time.sleep(60)
 """
@@ -202,7 +202,7 @@ sys.exit(tournament.main())
 class Killed(unittest.TestCase):
     """Runs of the command that are killed, with a stand-in for games and for the program."""
 
-    KILLS, GAMES = 20, 60
+    KILLS, GAMES = 20, 120
 
     def setUp(self) -> None:
         folder = tempfile.TemporaryDirectory()
