@@ -66,7 +66,8 @@ TRUTHS = """\
   by good, that their posts are in the order of the schedule, and that the ticks were waited for.
   The order of all calls across the goods, and that a tick's calls come after its due, are clauses
   of `run_clock` (`crates/clock_events`), and not of `tac`. That it is a due of the clock's own
-  ticker, and that the calls are made before the next tick is waited for, is tested (`docs/PROOFS.md`, "What is not proved").
+  ticker, and that the calls are made before the next tick is waited for, is tested
+  (`docs/PROOFS.md`, "What is not proved").
 - **How far a reading of cash may lag.** The desk's clause bounds it, and not that of `tac`: every
   desk has posted what is due before its call returns. A body that appended the clock's posts at the
   end, in the order of the schedule, would meet the clauses of `tac`.
@@ -377,8 +378,8 @@ BESIDE: List[Tuple[str, str, List[str]]] = [
 
 STEP_TRUTHS = """\
 The command `step` plays by the same definitions as `play`, over the lines that came; its promise by
-half sentences comes first. That a reply is written before the next read is said where a read failed:
-the replies to all lines that came were taken whole, and only then is the failure told. Any read may
+half sentences comes first. That a reply is written before the next read is said where a read
+failed: the replies to all lines that came were taken whole, and only then is the failure told. Any read may
 fail, and a write after it, so no body can keep to that which holds replies back. Where nothing
 failed it is said where it is known how much of the script came: of what one read gave, some may be
 unanswered. Of the system's own files that is not known, as of all their bytes."""

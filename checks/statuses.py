@@ -3,8 +3,8 @@
 with.
 
 A contract says that the exit status is made of the code that `tac` answers, but not what `main` and
-the system make of that. It ends with 0 if each status is the one due, and with 1 if one differs, or there is no
-program.
+the system make of that. It ends with 0 if each status is the one due, and with 1 if one differs, or
+there is no program.
 """
 
 import resource

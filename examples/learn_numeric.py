@@ -87,8 +87,8 @@ def main():
     gains = [own - other for own, other in zip(mine, theirs)]
     error = statistics.stdev(gains) / len(gains) ** 0.5
     print(f"levels by phase: flights {best[:, 0]}, hotel nights {best[:, 1]}, tickets {best[:, 2]}")
-    print(f"{len(gains)} games that it has not seen: {statistics.mean(mine):.0f} dollars a game, the "
-          f"planner in its seat {statistics.mean(theirs):.0f}: {statistics.mean(gains):.0f} more, "
+    print(f"{len(gains)} games that it has not seen: {statistics.mean(mine):.0f} dollars a game, "
+          f"the planner in its seat {statistics.mean(theirs):.0f}: {statistics.mean(gains):.0f} more, "
           f"with a standard error of {error:.0f} by pairs")
     return 0
 

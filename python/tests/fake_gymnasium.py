@@ -160,7 +160,7 @@ def array(numbers: Any, dtype: object = None) -> Any:
 
 @contextlib.contextmanager
 def installed() -> Iterator[None]:
-    """Lets these stand for `gymnasium` and `numpy`, and modules that import them be imported anew."""
+    """Lets these stand for `gymnasium` and `numpy`, and their importers be imported anew."""
     spaces = types.ModuleType("gymnasium.spaces")
     vars(spaces).update(Space=Space, Discrete=Discrete, Text=Text, Sequence=Sequence, Tuple=Tuple,
                         Dict=Dict, Box=Box, MultiDiscrete=MultiDiscrete)

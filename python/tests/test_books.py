@@ -1,4 +1,4 @@
-"""The books of games in steps, beside logs that the proved program wrote, and on worked examples."""
+"""The books of games in steps, beside logs of the proved program, and on worked examples."""
 
 import json
 import unittest

@@ -53,8 +53,8 @@ class Words(Case):
     def test_all_that_may_be_said(self) -> None:
         self.assertEqual(vars(self.given(
             "g", "65535", "60000", "--start", "0", "--after", "1.5", "--patience", "2",
-            "--silence", "3", "--journal", "j", "--page", "1", "--late", "54", "--names", "--by-hand",
-            "2", "--no-advice", "json"
+            "--silence", "3", "--journal", "j", "--page", "1", "--late", "54", "--names",
+            "--by-hand", "2", "--no-advice", "json"
         )), {"game": Path("g"), "port": 65535, "pace": 60000, "form": "json", "start": 0.0,
              "after": 1.5, "patience": 2.0, "silence": 3.0, "journal": Path("j"), "page": 1,
              "late": 54, "names": True, "by_hand": 2, "no_advice": True})

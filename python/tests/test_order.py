@@ -41,7 +41,7 @@ class Order(unittest.TestCase):
                 self.assertEqual(order_of_turn(tick, turn, first),
                                  [(seat + first) % SEATS for seat in order_of_turn(tick, turn)])
 
-    def test_the_first_seat_is_another_from_game_to_game_and_the_same_with_other_words(self) -> None:
+    def test_the_first_seat_changes_from_game_to_game_and_not_with_words(self) -> None:
         game = served_game()
         text = game.text()
         self.assertEqual(first_seat(game.named([f"other{seat}" for seat in range(SEATS)]).text()),

@@ -178,8 +178,8 @@ class Folders(unittest.TestCase):
             self.begin()
 
 
-# A stand-in for the process of a game: it writes that it has begun, and scores soon. It starts fast,
-# since it takes its job and gives its result as bytes.
+# A stand-in for the process of a game: it writes that it has begun, and scores soon. It starts
+# fast, since it takes its job and gives its result as bytes.
 WORKER = """
 import os, random, re, sys, time
 from multiprocessing.connection import Connection

@@ -10,8 +10,9 @@ game is over all viewers are sent the scores, and keep them.
 With --late TICKS the page shows at once only what each agent can ask itself: prices that are
 published, what is closed, the time, and who is here. Scores, trades, numbers of requests and
 standing bids are shown as they were TICKS before, or after the game if TICKS is 54. With --late 0
-all is shown at once: then no agent may see the page. Seat words are passwords: an agent is called by the letters before the
-digits of its word, if these differ, or by its number, and with --names by its word.
+all is shown at once: then no agent may see the page. Seat words are passwords: the page calls an
+agent by the letters before the digits of its word, if these differ, or by its number, and with
+--names by its word.
 """
 
 from __future__ import annotations

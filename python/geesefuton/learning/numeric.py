@@ -1,7 +1,8 @@
 """Games in steps in numbers, for learners that take arrays.
 
 `numpy` has to be installed, and for the spaces `gymnasium` (`pip install 'geesefuton[learn]'`).
-Where they are installed, `Seat` is an `Env` of Gymnasium, and `Seats` a `ParallelEnv` of PettingZoo.
+Where they are installed, `Seat` is an `Env` of Gymnasium, and `Seats` a `ParallelEnv` of
+PettingZoo.
 
     environment = Seat(rivals=dict.fromkeys(SEATS[1:], "planner"))
     observation, info = environment.reset(seed=42)
