@@ -4,8 +4,8 @@ import unittest
 from typing import Callable, Dict, List, Tuple
 
 from geesefuton.hosting.events import End
-from geesefuton.hosting.links import KEEPALIVE
 from geesefuton.hosting.seats import PROBED, Action, Close, Give, Over, Refuse, Seat, Seats, State
+from geesefuton.link import KEEPALIVE
 
 FREE, WAIVED, HELD, CLOSING = State.FREE, State.WAIVED, State.HELD, State.CLOSING
 CLAIMED, OVER = State.CLAIMED, State.OVER

@@ -11,9 +11,9 @@ import time
 from typing import Optional
 
 from geesefuton.hosting.seats import Seat
+from geesefuton.link import KEEPALIVE
 from geesefuton.records.dialects import MOST_LINE
 
-KEEPALIVE = {"TCP_KEEPIDLE": 5, "TCP_KEEPINTVL": 3, "TCP_KEEPCNT": 3}  # seconds, seconds, probes
 UNACKNOWLEDGED = 14_000  # milliseconds, the same time for a link with something on its way
 
 
