@@ -72,7 +72,7 @@ pub const LOG_LINKS: u32 = 255;
 /// The most files that a command reads: a game and a log of each of 64 games.
 pub const FILE_NAMES: usize = 128;
 
-/// The most bytes of a word of the command line, a file's name among them.
+/// The most bytes of a file's name, for files that show which names were selected.
 pub const NAME_BYTES: usize = 1_024;
 
 /// The highest port that a game is served at; the lowest is 1.
