@@ -61,7 +61,7 @@ def scripts(hanger: str) -> Iterator[List[str]]:
     journal = str(TOP / "python" / "tests" / "data" / "lobby.journal")
     game = str(TOP / "examples" / "first.game")
     planner = str(TOP / "examples" / "agents" / "planner.py")
-    yield ["quick start", "quickstart"]
+    yield ["quick start", "tools/quickstart"]
     yield ["tournament", "tools/tournament", "--games", "3", "--pace", "40", "--after", "1",
            hanger, planner]
     yield ["tournament in turns", "tools/tournament", "--games", "3", "--turns", "10", "--patience",

@@ -1,8 +1,10 @@
 #!/usr/bin/env python3
 """Whether a release can be made, and whether it tells a change: from a stand-in for the program.
 
-It makes the archive and the wheel twice and compares them, runs the archive's commands, and looks
-at the wheel's list of files. The Debian package is made too, where there is dpkg-deb.
+What a release needs is committed in a repository of its own, and cloned. One of both makes the
+archive, the wheel and, where there is dpkg-deb, the Debian package; the other one makes them again
+and compares. The archive's commands are run, the wheel's list of files is looked at, and clones and
+logs of which no release can be made are refused.
 """
 
 import os
@@ -13,20 +15,95 @@ import tarfile
 import tempfile
 import zipfile
 from pathlib import Path
-from typing import List
+from typing import Iterator, List, Tuple
 
 from trying import TOP, Parser
 
-from geesefuton.processes import command
+sys.path.insert(0, str(TOP / "packaging"))
+
+import gate_log  # noqa: E402
+
+from geesefuton.processes import command  # noqa: E402
 
 STANDIN = "#!/bin/sh\n[ $# = 2 ] && [ $1 = make ] && echo 'tac 1' && exit 0\necho usage\nexit 1\n"
+PARTS = ("README.md", "LICENSE", "CHANGELOG.md", "CITATION.cff", ".gitignore", "quickstart",
+         "tools", "examples", "docs", "python/geesefuton", "python/README.md",
+         "python/pyproject.toml", "packaging")
+WORK = "handles allowed: Net; must-fail edits: 1 refused; every proof was done in this run"
+PASSED = f"rt: ok; {WORK}\n3 passed, 0 failed\n"
+TIMES = "\nreal\t2m30.000s\nuser\t5m0.500s\nsys\t0m29.500s\n"  # 2.5 minutes, and 5.5 of processors
 
 
-def release(*words: object) -> "subprocess.CompletedProcess[str]":
-    """Runs tools/release."""
-    return subprocess.run([sys.executable, TOP / "tools" / "release", "--changed",
-                           *map(str, words)], check=False, text=True, stdin=subprocess.DEVNULL,
+def git(place: Path, *words: str) -> str:
+    """Runs git in a folder, as somebody, and gives what it prints."""
+    name = ["-c", "user.name=somebody", "-c", "user.email=somebody@example.invalid"]
+    return subprocess.run(["git", "-C", str(place), *name, *words], check=True, text=True,
+                          stdin=subprocess.DEVNULL, stdout=subprocess.PIPE).stdout
+
+
+def clones(place: Path) -> Tuple[Path, Path]:
+    """Two clones, in different folders, of a commit of what a release needs."""
+    first, second = place / "first", place / "other" / "second"
+    for name in git(TOP, "ls-files", "--cached", "--others", "--exclude-standard",
+                    *PARTS).splitlines():
+        if (TOP / name).is_file():
+            (first / name).parent.mkdir(parents=True, exist_ok=True)
+            shutil.copy2(TOP / name, first / name)
+    git(first, "init", "--quiet")
+    git(first, "add", "--all")
+    git(first, "commit", "--quiet", "--message", "A commit")
+    git(place, "clone", "--quiet", str(first), str(second))
+    return first, second
+
+
+def release(clone: Path, *words: object) -> "subprocess.CompletedProcess[str]":
+    """Runs tools/release of a clone."""
+    return subprocess.run([sys.executable, clone / "tools" / "release", *map(str, words)],
+                          check=False, text=True, stdin=subprocess.DEVNULL,
                           stdout=subprocess.PIPE, stderr=subprocess.PIPE)
+
+
+def refused_logs(commit: str) -> Iterator[Tuple[str, str]]:
+    """Logs of which no release of a commit is made, and what is said of each after its name."""
+    yield PASSED + TIMES, " names no commit; "
+    yield f"{'0' * 40}\n{PASSED}{TIMES}", f" is of commit {'0' * 40}, and this clone is at {commit}"
+    yield (f"{commit}\nrt: FAILED: tacd\n2 passed, 1 failed\n{TIMES}",
+           ": the gate did not pass: 2 passed, 1 failed")
+    some = "3 passed, 0 failed (floor and the crates below alone: not the gate)"
+    yield f"{commit}\n{some}\n{TIMES}", f": the gate did not pass: {some}"
+    yield f"{commit}\n{PASSED}{TIMES}{commit}\n", ": the gate did not pass: it has no last line"
+    yield f"{commit}\n{PASSED}", " has no minutes; "
+
+
+def faults_of_logs(log: Path) -> List[str]:
+    """Which logs are not refused as they should be."""
+    commit, faults = "0123456789abcdef" * 2 + "01234567", []
+    for text, due in refused_logs(commit):
+        log.write_text(text)
+        try:
+            faults.append(f"{text!r} is read as {gate_log.read(log, commit)}")
+        except gate_log.GateError as fault:
+            if not str(fault).startswith(f"{log}{due}") or "\n" in str(fault):
+                faults.append(f"{due!r} is due: {fault}")
+    return faults
+
+
+def faults_of_refusals(clone: Path, log: Path) -> List[str]:
+    """Which words and clones are not refused as they should be, in one line; the log is good."""
+    faults = faults_of_line(release(clone), "--gate LOG is due")
+    faults += faults_of_line(release(clone, "--gate", log.parent), "Is a directory")
+    faults += faults_of_line(release(clone, "--gate", log), "tacd: No such file or directory;")
+    (clone / "README.md").write_text("changed")
+    faults += faults_of_line(release(clone, "--gate", log), "not committed, such as 'M README.md'")
+    git(clone, "checkout", "--quiet", "README.md")
+    return faults
+
+
+def faults_of_line(done: "subprocess.CompletedProcess[str]", due: str) -> List[str]:
+    """Whether a run ended with an error of one line that has a part."""
+    is_due = (done.returncode and not done.stdout and due in done.stderr
+              and done.stderr.startswith("release: ") and done.stderr.count("\n") == 1)
+    return [] if is_due else [f"{due!r} is due: {done}"]
 
 
 def run(top: Path, *words: str) -> "subprocess.CompletedProcess[str]":
@@ -72,28 +149,35 @@ def faults_of_wheel(wheel: Path) -> List[str]:
 
 def faults_in(place: Path) -> List[str]:
     """What is wrong with releases that are made in a folder."""
-    program = place / "standin"
+    program, log, made = place / "standin", place / "gate.log", place / "made"
     program.write_text(STANDIN)
     program.chmod(0o755)
-    first, second = place / "first", place / "second"
-    for folder in (first, second):
-        done = release("--program", program, "--out", folder,
-                       *([] if shutil.which("dpkg-deb") else ["--no-deb"]))
-        if done.returncode:
-            return [f"no release was made: {done.stderr.strip()}"]
-    faults = [f"{file.name}: two runs differ" for file in sorted(first.iterdir())
-              if file.read_bytes() != (second / file.name).read_bytes()]
-    faults += faults_of_archive(next(first.glob("*.tar.gz")), place / "unpacked")
-    faults += faults_of_wheel(next(first.glob("*.whl")))
-    wheel = next(second.glob("*.whl"))
+    first, second = clones(place)
+    faults = faults_of_logs(log)
+    commit = git(first, "rev-parse", "HEAD").strip()
+    log.write_text(f"{commit}\n{PASSED}{TIMES}")
+    faults += faults_of_refusals(first, log)
+    done = release(first, "--gate", log, "--program", program, "--out", made,
+                   *([] if shutil.which("dpkg-deb") else ["--no-deb"]))
+    if done.returncode:
+        return [*faults, f"no release was made: {done.stderr.strip()}"]
+    told = (made / "PROVENANCE").read_text().splitlines()
+    for line in (f"commit: {commit}", "gate: 3 passed, 0 failed", f"gate-work: {WORK}",
+                 "gate-minutes: 2.5 by the clock, 5.5 of processors"):
+        if line not in told:
+            faults.append(f"PROVENANCE lacks {line!r}: {told}")
+    checked = release(second, "--program", program, "--check", made)
+    if checked.returncode:
+        faults.append(f"two clones differ: {checked.stderr.strip()}")
+    faults += faults_of_archive(next(made.glob("*.tar.gz")), place / "unpacked")
+    wheel = next(made.glob("*.whl"))
+    faults += faults_of_wheel(wheel)
     data = bytearray(wheel.read_bytes())
     data[len(data) // 2] ^= 1
     wheel.write_bytes(data)
-    checked = release("--program", program, "--check", second)
-    if checked.returncode != 1 or f"{wheel.name}: differs" not in checked.stderr:
+    checked = release(second, "--program", program, "--check", made)
+    if (checked.returncode, checked.stderr) != (1, f"release: {wheel.name}: differs\n"):
         faults.append(f"a changed byte is not found: {checked.stderr.strip()}")
-    if release("--program", program, "--check", first).returncode:
-        faults.append("a release differs from itself")
     return faults
 
 

@@ -1,15 +1,17 @@
 #!/usr/bin/env python3
 """Makes a release of a clone: an archive, a wheel and a Debian package, with the program in each.
 
-    tools/release --gate gate.log              # into release/VERSION
+    (git rev-parse HEAD; time rt ci) > ../gate.log 2>&1      # in bash
+    tools/release --gate ../gate.log           # into release/VERSION
     tools/release --check release/1.1.0        # builds again, and compares
 
-GATE is what `rt ci` printed for this commit; its last lines go into PROVENANCE. The program is
-`crates/tacd/out/tacd`, as `(cd crates/tacd && rt run -- make 42)` builds it. Two clones of a commit
-give the same bytes, if they are given the same gate. It needs Python 3.11, git and dpkg-deb, and
-fetches nothing.
+PROVENANCE has the last line of the gate, its minutes, and how much of it was done anew. The program
+is `crates/tacd/out/tacd`, as `(cd crates/tacd && rt run -- make 42)` builds it. Two clones of a
+commit give the same bytes, if they are given the same gate. It needs Python 3.11, git and dpkg-deb,
+and fetches nothing.
 """
 
+import argparse
 import contextlib
 import gzip
 import hashlib
@@ -23,13 +25,16 @@ import sys
 import tarfile
 import tempfile
 from pathlib import Path
-from typing import Dict, Iterator, List, NamedTuple, Optional, Sequence
+from typing import Dict, Iterator, List, NamedTuple, Sequence
 
+if sys.version_info < (3, 11):
+    sys.exit("release: it needs Python 3.11 or later")
 TOP = Path(__file__).resolve().parent.parent
 sys.path.insert(0, str(TOP / "python"))
 sys.path.insert(0, str(TOP / "packaging"))
 
 import debian  # noqa: E402
+import gate_log  # noqa: E402
 import wheel_file  # noqa: E402
 
 from geesefuton.arguments import Parser  # noqa: E402
@@ -38,6 +43,7 @@ from geesefuton.processes import command, tell  # noqa: E402
 PROGRAM = TOP / "crates" / "tacd" / "out" / "tacd"
 TREE = ("README.md", "LICENSE", "CHANGELOG.md", "CITATION.cff", "quickstart", "tools", "examples",
         "docs", "python/geesefuton", "python/README.md", "python/pyproject.toml")
+NOT_TAKEN = ("tools/release",)  # a clone alone can make a release
 PACKAGE = Path("python/geesefuton")
 
 
@@ -75,7 +81,7 @@ def git(*words: str) -> str:
     except OSError as fault:
         raise ReleaseError(f"git: {fault.strerror}") from None
     if done.returncode:
-        raise ReleaseError(f"git {words[0]}: {done.stderr.strip()}")
+        raise ReleaseError(f"git {words[0]}: " + done.stderr.strip().split("\n")[0])
     return done.stdout.strip()
 
 
@@ -88,48 +94,69 @@ def version_of() -> str:
     return found[1]
 
 
-def gate_of(file: Optional[Path]) -> str:
-    """The last lines of the gate: `N passed, 0 failed`, and what was done.
-
-    Raises:
-        ReleaseError: The file cannot be read, or the gate did not pass.
-    """
-    if file is None:
-        return "not told"
-    lines = [line for line in file.read_text(errors="replace").split("\n") if line.strip()]
-    last = next((line for line in reversed(lines) if re.search(r"\d+ passed, \d+ failed", line)),
-                "")
-    if not re.search(r"\d+ passed, 0 failed", last):
-        raise ReleaseError(f"{file}: the gate did not pass: {last or 'it has no last line'}")
-    return last.strip()
-
-
 def kit() -> str:
-    """The line of `rt version`, or that there is no toolchain."""
+    """What `rt version` says, or that there is no toolchain."""
     try:
-        return subprocess.run(["rt", "version"], check=True, text=True,
-                              stdout=subprocess.PIPE).stdout.strip()
+        told = subprocess.run(["rt", "version"], check=True, text=True,
+                              stdout=subprocess.PIPE).stdout
+        return "; ".join(told.splitlines())
     except (OSError, subprocess.CalledProcessError):
         return "no toolchain"
 
 
-def gather(program: Path, provenance: Dict[str, str], is_clean: bool) -> Release:
-    """What the release is made of.
+def commit_of(may_change: bool) -> str:
+    """The commit at which the clone stands; ` with changes` follows if it has any.
+
+    Args:
+        may_change: Whether a clone with changes is no error.
 
     Raises:
-        ReleaseError: The clone has changes, or there is no program.
+        ReleaseError: The clone has changes, or is none.
     """
-    if is_clean and git("status", "--porcelain"):
-        raise ReleaseError("the clone has changes that are not committed (git status)")
+    commit, changes = git("rev-parse", "HEAD"), git("status", "--porcelain")
+    if not changes:
+        return commit
+    if may_change:
+        return f"{commit} with changes"
+    first = changes.split("\n")[0]
+    raise ReleaseError(f"the clone has changes that are not committed, such as {first!r}")
+
+
+def gate_of(given: argparse.Namespace, commit: str) -> Dict[str, str]:
+    """What is known of the gate, by the names of `gate_log.FACTS`.
+
+    Raises:
+        ReleaseError: There is no log of it, although the clone's own release is asked for.
+        GateError: The log is not that of a gate which passed at the commit.
+    """
+    if given.gate is not None:
+        minutes = gate_log.minutes_text(*given.minutes) if given.minutes else None
+        return gate_log.read(given.gate, commit.split()[0], minutes)
+    if given.changed:
+        return gate_log.UNTOLD
+    raise ReleaseError(f"--gate LOG is due, which {gate_log.HOW} makes in bash")
+
+
+def gather(program: Path, commit: str, facts: Dict[str, str]) -> Release:
+    """What the release is made of.
+
+    Args:
+        program: The program's file.
+        commit: The commit, as `commit_of` gives it.
+        facts: What else it says of its origin.
+
+    Raises:
+        ReleaseError: There is no program.
+    """
     try:
         data = program.read_bytes()
     except OSError as fault:
         raise ReleaseError(f"{program}: {fault.strerror}; build it first: "
                            "(cd crates/tacd && rt run -- make 42)") from None
-    told = {"commit": git("rev-parse", "HEAD"), "sha256": hashlib.sha256(data).hexdigest(),
-            **provenance}
-    files = [file for file in git("ls-files", *TREE).split("\n") if (TOP / file).is_file()]
-    return Release(version_of(), int(git("log", "-1", "--format=%ct")), files, data, told)
+    provenance = {**facts, "commit": commit, "sha256": hashlib.sha256(data).hexdigest()}
+    files = [file for file in git("ls-files", *TREE).split("\n")
+             if file not in NOT_TAKEN and (TOP / file).is_file()]
+    return Release(version_of(), int(git("log", "-1", "--format=%ct")), files, data, provenance)
 
 
 def provenance_text(release: Release) -> bytes:
@@ -197,17 +224,16 @@ def make(release: Release, place: Path, with_debian: bool = True) -> List[Path]:
 
 
 def told_in(folder: Path) -> Dict[str, str]:
-    """What the PROVENANCE of a release says of the kit and the gate, which a build cannot know.
+    """The facts in the PROVENANCE of a release.
 
     Raises:
         ReleaseError: It has none.
     """
     try:
-        lines = (folder / "PROVENANCE").read_text().split("\n")
+        lines = (folder / "PROVENANCE").read_text(errors="replace").split("\n")
     except OSError as fault:
         raise ReleaseError(f"{folder}: no release: {fault.strerror}") from None
-    told = dict(line.split(": ", 1) for line in lines if ": " in line)
-    return {key: told[key] for key in ("kit", "gate") if key in told}
+    return dict(line.split(": ", 1) for line in lines if ": " in line)
 
 
 def differences(folder: Path, made: Sequence[Path]) -> List[str]:
@@ -225,24 +251,42 @@ def differences(folder: Path, made: Sequence[Path]) -> List[str]:
     return lines
 
 
-def check(folder: Path, program: Path, is_clean: bool) -> int:
-    """Builds a release again and compares; gives the exit status."""
-    release = gather(program, told_in(folder), is_clean)
+def check(folder: Path, program: Path, commit: str) -> int:
+    """Builds a release again and compares; gives the exit status.
+
+    Raises:
+        ReleaseError: It is no release, or one of another commit.
+    """
+    told = told_in(folder)
+    if told.get("commit") != commit:
+        raise ReleaseError(f"{folder} is of commit {told.get('commit', 'unknown')}, and this clone "
+                           f"is at {commit}")
+    # A build cannot know these facts.
+    release = gather(program, commit, {key: told[key] for key in ("kit", *gate_log.FACTS)
+                                       if key in told})
     with tempfile.TemporaryDirectory() as place:
         has_debian = any(folder.glob("*.deb"))
         lines = differences(folder, make(release, Path(place), has_debian))
     for line in lines:
         tell(f"release: {line}")
     if not lines:
-        commit = release.provenance["commit"]
         print(f"{folder}: the same, byte by byte, as this clone's at {commit}")
     return int(bool(lines))
+
+
+def _minutes(text: str) -> float:
+    """Reads a number of minutes, such as 39.2."""
+    if not re.fullmatch(r"\d{1,6}(\.\d+)?", text, re.ASCII):
+        raise argparse.ArgumentTypeError(f"a number of minutes is due, not {text!r}")
+    return float(text)
 
 
 def _main() -> int:
     parser = Parser("release", __doc__ or "")
     add = parser.add_argument
-    add("--gate", type=Path, metavar="LOG", help="what `rt ci` printed for this commit")
+    add("--gate", type=Path, metavar="LOG", help="the commit, and what `time rt ci` printed for it")
+    add("--minutes", type=_minutes, nargs=2, metavar=("WALL", "PROCESSORS"),
+        help="how long the gate took, if its log has no times")
     add("--out", type=Path, metavar="FOLDER", help="a new folder; release/VERSION")
     add("--check", type=Path, metavar="FOLDER", help="build again, and compare with that release")
     add("--program", type=Path, default=PROGRAM, metavar="FILE", help="the program's file")
@@ -250,10 +294,10 @@ def _main() -> int:
     add("--changed", action="store_true", help="also from a clone with changes, to try it")
     given = parser.parse_args()
     try:
+        commit = commit_of(given.changed)
         if given.check is not None:
-            return check(given.check, given.program, not given.changed)
-        facts = {"kit": kit(), "gate": gate_of(given.gate)}
-        release = gather(given.program, facts, not given.changed)
+            return check(given.check, given.program, commit)
+        release = gather(given.program, commit, {**gate_of(given, commit), "kit": kit()})
         place = given.out or TOP / "release" / release.version
         place.mkdir(parents=True)
         with contextlib.ExitStack() as stack:
@@ -265,7 +309,7 @@ def _main() -> int:
     except FileExistsError as fault:
         tell(f"release: {fault.filename} is there already")
         return 1
-    except (ReleaseError, debian.DebianError) as fault:
+    except (ReleaseError, gate_log.GateError, debian.DebianError) as fault:
         tell(f"release: {fault}")
         return 1
     return 0

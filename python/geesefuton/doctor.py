@@ -15,7 +15,6 @@ from geesefuton import program
 from geesefuton.arguments import Parser
 from geesefuton.processes import Output, command, free_port, tell
 
-LEAST_LIBRARY = (2, 34)  # the C library that the released program needs
 PROVENANCE = Path(__file__).resolve().with_name("provenance.json")  # written by tools/release
 PORT = 7000  # the port of the documents' examples
 
@@ -109,11 +108,10 @@ def _system() -> Finding:
 
 
 def _library() -> Finding:
-    name, number = platform.libc_ver()
-    parts = tuple(int(part) for part in number.split(".")[:2] if part.isdigit())
-    if name == "glibc" and parts >= LEAST_LIBRARY:
+    name, parts = program.library()
+    number, least = (".".join(map(str, each)) for each in (parts, program.LEAST_LIBRARY))
+    if name == "glibc" and parts >= program.LEAST_LIBRARY:
         return True, f"C library: glibc {number}"
-    least = ".".join(map(str, LEAST_LIBRARY))
     return False, (f"C library: {name or 'unknown'} {number}; the program needs glibc {least} or "
                    "later: use a newer system, or build it here with the toolchain")
 

@@ -50,7 +50,7 @@ def _epilog() -> str:
 
 def _run_tac(words: List[str]) -> int:
     """Becomes the program, so that its output and its exit status are untouched."""
-    file = program.find()
+    file = program.find_runnable()
     try:
         os.execv(file, [file, *words])
     except OSError as fault:

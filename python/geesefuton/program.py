@@ -7,6 +7,7 @@ release has in the package, or crates/tacd/out/tacd of the clone that the packag
 import contextlib
 import errno
 import os
+import platform
 import shutil
 import signal
 import subprocess
@@ -15,9 +16,9 @@ from pathlib import Path
 from typing import Iterator, List, Optional, Sequence, Tuple, Union
 
 __all__ = [
-    "INPUT", "MEANINGS", "OK", "CLOCK", "UNSOUND", "ProgramError", "audit", "ended", "examples",
-    "find", "make", "play", "run", "served_words", "show", "solve", "table", "top", "upgrade",
-    "why_not_run", "worth",
+    "INPUT", "LEAST_LIBRARY", "MEANINGS", "OK", "CLOCK", "UNSOUND", "ProgramError", "audit",
+    "ended", "examples", "find", "find_runnable", "library", "make", "play", "run", "served_words",
+    "show", "solve", "table", "top", "upgrade", "why_not_run", "worth",
 ]
 
 Word = Union[str, int, "os.PathLike[str]"]
@@ -25,6 +26,7 @@ Word = Union[str, int, "os.PathLike[str]"]
 OK, CLOCK, UNSOUND = 0, 6, 9  # exit statuses
 INPUT = "/dev/stdin"  # the file that has what a command is given
 BUNDLED = Path(__file__).resolve().parent / "bin" / "tac"  # in a release
+LEAST_LIBRARY = (2, 34)  # the version of glibc that a released program needs
 STOPPING = (signal.SIGINT, signal.SIGTERM, signal.SIGHUP)
 MEANINGS = {
     1: "the words are no command",
@@ -97,6 +99,30 @@ def find() -> str:
     return os.path.abspath(file)
 
 
+def library() -> Tuple[str, Tuple[int, ...]]:
+    """The system's C library: its name, such as `glibc`, or "", and its version, such as 2, 36."""
+    name, number = platform.libc_ver()
+    return name, tuple(int(part) for part in number.split(".")[:2] if part.isdigit())
+
+
+def find_runnable() -> str:
+    """The file of tac, on a system whose C library is not too old for it.
+
+    Raises:
+        ProgramError: There is no such file, it is no program, or it needs a later glibc.
+    """
+    file = find()
+    name, number = library()
+    least = ".".join(map(str, LEAST_LIBRARY))
+    # A program names the versions that it needs. One that was built on an older system needs less.
+    if name == "glibc" and number < LEAST_LIBRARY and (
+            f"GLIBC_{least}\0".encode() in Path(file).read_bytes()):
+        raise ProgramError(f"{file} needs glibc {least} or later, and this system has "
+                           f"{'.'.join(map(str, number))}: use a newer system, or build it here "
+                           "with the toolchain")
+    return file
+
+
 def run(command: str, *words: Word, given: bytes = b"", allowed: Sequence[int] = (OK,),
         timeout: Optional[float] = None) -> str:
     """Runs a command of tac, and gives its output.
@@ -111,7 +137,7 @@ def run(command: str, *words: Word, given: bytes = b"", allowed: Sequence[int] =
     Raises:
         ProgramError: There is no program, it ended with another status, or took too long.
     """
-    file = find()
+    file = find_runnable()
     child: "Optional[subprocess.Popen[bytes]]" = None
     try:
         with _held_signals():
@@ -233,4 +259,5 @@ def served_words(game: Word, port: int, pace: int, form: str = "words") -> List[
         pace: The milliseconds from tick to tick, 1 to 60000.
         form: What agents speak, `words` or `json`.
     """
-    return [find(), "serve", str(game), str(port), str(pace)] + (["json"] if form == "json" else [])
+    return [find_runnable(), "serve", str(game), str(port), str(pace),
+            *(["json"] if form == "json" else [])]

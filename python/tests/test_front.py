@@ -4,6 +4,7 @@ import contextlib
 import io
 import json
 import os
+import re
 import subprocess
 import sys
 import tempfile
@@ -15,9 +16,7 @@ from unittest import mock
 import geesefuton
 from geesefuton import doctor, front, program
 
-from .helpers import fake_program
-
-PACKAGE = Path(__file__).resolve().parents[1]
+from .helpers import PACKAGE, TOP, fake_program
 
 
 class Front(unittest.TestCase):
@@ -67,6 +66,64 @@ class Front(unittest.TestCase):
                 done = self.run_front(word, "--help")
                 self.assertEqual((done.returncode, done.stderr), (0, ""))
                 self.assertIn(f"usage: {word}", done.stdout)
+
+
+class Pages(unittest.TestCase):
+    """What names the programs beside the command: all of them name the same."""
+
+    def setUp(self) -> None:
+        self.words = {*front.PROGRAMS, "tac"}
+
+    def test_the_man_page(self) -> None:
+        page = (TOP / "packaging" / "geesefuton.1").read_text()
+        self.assertEqual(re.findall(r"(?m)^\.B geesefuton ([a-z]+)", page),
+                         ["tac", *front.PROGRAMS])
+
+    def test_completion(self) -> None:
+        text = (TOP / "packaging" / "completion.bash").read_text()
+        known = {name: words.split() for name, words in re.findall(r'local (\w+)="(.*)"', text)}
+        self.assertEqual(known["programs"], sorted(self.words))
+        table = (TOP / "README.md").read_text().split("## Commands and", 1)[1].split("Numbers", 1)
+        commands = re.findall(r"(?m)^\| `([a-z]+) [A-Z]", table[0])
+        self.assertEqual(known["commands"], sorted(set(commands)))
+
+    def test_each_tool_and_script_is_a_program(self) -> None:
+        tools = {file.name for file in (TOP / "tools").iterdir()}
+        self.assertEqual(tools - self.words, {"release"})  # for clones alone
+        settings = (PACKAGE / "pyproject.toml").read_text()
+        scripts = dict(re.findall(r'(?m)^tac-(\w+) = "(.*):main"', settings))
+        self.assertLessEqual(scripts.items(), {word: each.module for word, each in
+                                               front.PROGRAMS.items()}.items())
+
+
+class Quickstart(unittest.TestCase):
+    """The first command that most people type."""
+
+    def run_with(self, python: str) -> "subprocess.CompletedProcess[str]":
+        """Runs ./quickstart where `python3` is a shell script; "" for none."""
+        with tempfile.TemporaryDirectory() as place:
+            for name in ("dirname", "readlink"):
+                os.symlink(f"/usr/bin/{name}", f"{place}/{name}")
+            if python:
+                file = Path(place) / "python3"
+                file.write_text(f"#!/bin/sh\n{python}\n")
+                file.chmod(0o755)
+            return subprocess.run(["/bin/sh", TOP / "quickstart", "a", "b c"], check=False,
+                                  text=True, stdin=subprocess.DEVNULL, stdout=subprocess.PIPE,
+                                  stderr=subprocess.PIPE, env={"PATH": place})
+
+    def test_without_python_it_says_in_a_line_what_to_install(self) -> None:
+        for python in ("", "exit 1"):  # none, and one that is too old
+            with self.subTest(python=python):
+                done = self.run_with(python)
+                self.assertEqual((done.returncode, done.stdout), (1, ""))
+                self.assertEqual(done.stderr, "quickstart: it needs Python 3.9 or later (sudo apt "
+                                 "install python3); the program tac runs without\n")
+
+    def test_with_python_it_hands_its_words_on(self) -> None:
+        done = self.run_with('[ "$1" = -c ] || echo "$#:$1:$2:$3"')
+        self.assertEqual((done.returncode, done.stderr), (0, ""))
+        self.assertEqual(done.stdout, f"3:{TOP / 'tools' / 'quickstart'}:a:b c\n")
 
 
 class Doctor(unittest.TestCase):

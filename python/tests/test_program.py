@@ -74,6 +74,20 @@ class Commands(unittest.TestCase):
         self.assertEqual(str(program.ended("play", 77, "a line")),
                          "tac play ended with exit status 77 (a line)")
 
+    def test_a_library_that_is_too_old_for_the_program(self) -> None:
+        self.use("echo some\n# GLIBC_2.34\0")
+        due = " needs glibc 2.34 or later, and this system has 2.31: use a newer system, or build "
+        with mock.patch("platform.libc_ver", lambda: ("glibc", "2.31")):
+            self.assertIn(due, str(self.refused("make", 1)))
+            with self.assertRaises(ProgramError):
+                program.served_words("game", 7000, 500)
+            self.use("echo some\n# GLIBC_2.31\0")  # one that was built there
+            self.assertEqual(program.make(1), "some\n")
+        self.use("echo some\n# GLIBC_2.34\0")
+        for name, number in (("glibc", "2.34"), ("glibc", "2.41"), ("", "")):
+            with mock.patch("platform.libc_ver", lambda told=(name, number): told):
+                self.assertEqual(program.make(1), "some\n")
+
     def test_bytes_that_are_no_text_are_no_error(self) -> None:
         self.use(r"printf 'a\377b\n'")
         self.assertEqual(program.show("x"), "a\ufffdb\n")

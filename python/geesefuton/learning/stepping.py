@@ -20,7 +20,7 @@ import weakref
 from types import TracebackType
 from typing import List, NoReturn, Optional, Sequence, Type, Union
 
-from geesefuton.program import INPUT, OK, ProgramError, Word, ended, find
+from geesefuton.program import INPUT, OK, ProgramError, Word, ended, find_runnable
 
 GAME = 3  # the descriptor at which the process finds the text of a game
 MOST_READ = 1 << 16  # bytes read at once, which is what a pipe holds
@@ -54,7 +54,7 @@ class Stepped:
                 held.append(_above(_kept(game)))
                 moves.append((os.POSIX_SPAWN_DUP2, held[-1], GAME))
                 game = f"/dev/fd/{GAME}"
-            self._process = _spawn(find(), ["tac", "step", str(game), INPUT], moves)
+            self._process = _spawn(find_runnable(), ["tac", "step", str(game), INPUT], moves)
         except BaseException:
             self.close()
             raise
