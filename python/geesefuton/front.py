@@ -1,12 +1,13 @@
 """The command `geesefuton`: every program of the package under one word.
 
-`geesefuton WORD --help` tells about one of them. `geesefuton tac` passes its words to the proved
-program, and ends as that does.
+`geesefuton WORD --help` tells about one of those below. `geesefuton tac` passes its words to the
+proved program, and ends as that does.
 """
 
 import importlib
 import os
 import sys
+from argparse import SUPPRESS
 from typing import Dict, List, NamedTuple
 
 from geesefuton import program
@@ -65,8 +66,8 @@ def main() -> int:
 def _main() -> int:
     parser = Parser("geesefuton", __doc__)
     parser.epilog = _epilog()
-    parser.add_argument("word", nargs="?", help="one of the programs below")
-    parser.add_argument("words", nargs="...", help="what it is given")
+    parser.add_argument("word", nargs="?", help=SUPPRESS)
+    parser.add_argument("words", nargs="...", help=SUPPRESS)
     if len(sys.argv) < 2 or sys.argv[1] in ("-h", "--help"):
         parser.print_help()
         return 0

@@ -51,7 +51,7 @@ class Front(unittest.TestCase):
     def test_help_lists_the_programs_in_a_screenful(self) -> None:
         done = self.run_front("--help")
         self.assertEqual(done.returncode, 0)
-        self.assertLessEqual(len(done.stdout.splitlines()), 30)
+        self.assertLessEqual(len(done.stdout.splitlines()), 24)
         for word in (*front.PROGRAMS, "tac"):
             self.assertIn(f"\n  {word}", done.stdout)
 
