@@ -42,7 +42,8 @@ from geesefuton.processes import command, tell  # noqa: E402
 
 PROGRAM = TOP / "crates" / "tacd" / "out" / "tacd"
 TREE = ("README.md", "LICENSE", "CHANGELOG.md", "CITATION.cff", "quickstart", "tools", "examples",
-        "docs", "python/geesefuton", "python/README.md", "python/pyproject.toml")
+        "docs", "python/geesefuton", "python/README.md", "python/pyproject.toml",
+        "packaging/Containerfile")
 NOT_TAKEN = ("tools/release",)  # a clone alone can make a release
 PACKAGE = Path("python/geesefuton")
 

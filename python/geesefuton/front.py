@@ -65,7 +65,7 @@ def main() -> int:
 
 def _main() -> int:
     parser = Parser("geesefuton", __doc__)
-    parser.epilog = _epilog()
+    parser.usage, parser.epilog = "geesefuton [-h] WORD [WORDS ..]", _epilog()
     parser.add_argument("word", nargs="?", help=SUPPRESS)
     parser.add_argument("words", nargs="...", help=SUPPRESS)
     if len(sys.argv) < 2 or sys.argv[1] in ("-h", "--help"):
