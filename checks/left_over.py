@@ -5,20 +5,21 @@ or a folder that it made is left.
     checks/left_over.py
 
 Each script runs to its end, and is ended by SIGINT, SIGTERM, SIGHUP and SIGKILL at three moments;
-in the tournament an agent hangs, and ignores every signal that can be ignored. All that a script
-starts inherits an environment variable, by which it is found in /proc, so this needs Linux; its
-temporary files stand in a folder of its own. It takes some three minutes, and ends with 0 if
-nothing is left, and with 1 if something is, or there is no program.
+in the tournament an agent hangs, and ignores every signal that can be ignored. The room has a guest
+beside it, and the seat a lobby and a browser. All that a script starts inherits an environment
+variable, by which it is found in /proc, so this needs Linux; its temporary files stand in a folder
+of its own. It takes some five minutes, and ends with 0 if nothing is left, and with 1 if something
+is, or there is no program.
 """
 
+import contextlib
 import os
 import signal
 import subprocess
 import sys
 import time
 from concurrent.futures import ThreadPoolExecutor
-from pathlib import Path
-from typing import Iterator, List, NamedTuple, Optional
+from typing import Any, Dict, Iterator, List, NamedTuple, Optional
 
 from trying import MARK, TOP, Parser, what_is_left
 
@@ -27,6 +28,7 @@ from geesefuton.arguments import whole
 from geesefuton.processes import Children, command, free_port
 
 MOST = 300.0  # seconds that a script may take to end
+ENDING = 20.0  # seconds that what stands beside a script may take to end
 MOMENTS = (0.2, 1.5, 4.0)  # seconds after its start at which a script is ended
 ENDS = (None, signal.SIGINT, signal.SIGTERM, signal.SIGHUP, signal.SIGKILL)
 HANGER = """import signal, socket, sys, time
@@ -37,13 +39,44 @@ link.sendall(f"hello {sys.argv[3]}\\n".encode())
 while True:
     time.sleep(1)
 """
+# A browser: it opens the seat whose address it reads, asks the solver, and stays until the game is
+# over.
+BROWSER = """import json, sys, time, urllib.request
+def ask(what, given):
+    body = json.dumps(given).encode()
+    head = {"Content-Type": "application/json"}
+    with urllib.request.urlopen(urllib.request.Request(place + what, body, head)) as answer:
+        return json.load(answer)
+place = sys.stdin.readline().split()[1]
+page, phase = ask("open", {})["page"], ""
+while phase not in ("over", "failed"):
+    phase = ask("state", {"page": page})["phase"]
+    if phase == "running":
+        ask("advice", {"page": page})
+    time.sleep(0.2)
+"""
+
+
+class Script(NamedTuple):
+    """A script that is tried.
+
+    Attributes:
+        name: What it is called here.
+        words: Its file and its words. PORT and PAGE stand for free ports.
+        beside: The same of a script that it plays with, which is started before it.
+        reader: The file of a script that reads what it prints; "" for none.
+    """
+
+    name: str
+    words: List[str]
+    beside: List[str] = []
+    reader: str = ""
 
 
 class Run(NamedTuple):
     """A script that is ended in one way: by a signal after some seconds, or by itself."""
 
-    name: str
-    words: List[str]
+    script: Script
     number: Optional[signal.Signals]
     moment: float
 
@@ -55,25 +88,37 @@ class Run(NamedTuple):
         return f"{self.number.name} after {self.moment:g} s"
 
 
-def scripts(hanger: str) -> Iterator[List[str]]:
-    """Each script's name and its words; the lobby comes three times, waiting for its agents,
-    running a game, and showing one on a page."""
+def scripts(hanger: str, browser: str) -> Iterator[Script]:
+    """Each script; the lobby comes three times, waiting for its agents, running a game, and showing
+    one on a page.
+
+    Args:
+        hanger: The file of an agent that hangs.
+        browser: The file of the browser.
+    """
     journal = str(TOP / "python" / "tests" / "data" / "lobby.journal")
     game = str(TOP / "examples" / "first.game")
-    planner = str(TOP / "examples" / "agents" / "planner.py")
-    yield ["quick start", "tools/quickstart"]
-    yield ["tournament", "tools/tournament", "--games", "3", "--pace", "40", "--after", "1",
-           hanger, planner]
-    yield ["tournament in turns", "tools/tournament", "--games", "3", "--turns", "10", "--patience",
-           "1", "--after", "1", hanger, planner]
-    yield ["lobby, waiting", "tools/lobby", game, "PORT", "100", "--start", "4", "--after", "1"]
-    yield ["lobby, game", "tools/lobby", game, "PORT", "100", "--start", "0.1", "--after", "1"]
-    yield ["lobby, page", "tools/lobby", game, "PORT", "100", "--start", "0.1", "--after", "1",
-           "--page", "PORT"]
-    yield ["live page", "tools/live", journal, "PORT", "--until-over"]
-    yield ["recovery", "tools/recover", journal]
-    yield ["learner", "examples/learner.py", "--rounds", "2", "--games", "2", "--unseen", "10"]
-    yield ["game in steps", "examples/step.py"]
+    planner = "examples/agents/planner.py"
+    lobby = ["tools/lobby", game, "PORT", "100", "--after", "1"]
+    yield Script("quick start", ["tools/quickstart"])
+    yield Script("tournament", ["tools/tournament", "--games", "3", "--pace", "40", "--after", "1",
+                                hanger, str(TOP / planner)])
+    yield Script("tournament in turns", ["tools/tournament", "--games", "3", "--turns", "10",
+                                         "--patience", "1", "--after", "1", hanger,
+                                         str(TOP / planner)])
+    yield Script("lobby, waiting", [*lobby, "--start", "4"])
+    yield Script("lobby, game", [*lobby, "--start", "0.1"])
+    yield Script("lobby, page", [*lobby, "--start", "0.1", "--page", "PAGE"])
+    yield Script("live page", ["tools/live", journal, "PORT", "--until-over"])
+    yield Script("recovery", ["tools/recover", journal])
+    yield Script("room", ["tools/room", "--port", "PORT", "--page", "PAGE", "--pace", "50",
+                          "--wait", "0.3", "--after", "1", "--games", "1"],
+                 [planner, "localhost", "PORT", "seat0", "--pause", "0.05", "--again"])
+    yield Script("seat", ["tools/seat", "localhost", "PORT", "seat0", "--until-over"],
+                 [*lobby, "--start", "1.5"], browser)
+    yield Script("learner", ["examples/learner.py", "--rounds", "2", "--games", "2", "--unseen",
+                             "10"])
+    yield Script("game in steps", ["examples/step.py"])
 
 
 def tell(script: "subprocess.Popen[bytes]", number: signal.Signals) -> None:
@@ -95,48 +140,72 @@ def end(script: "subprocess.Popen[bytes]", number: Optional[signal.Signals]) -> 
     script.wait(MOST)
 
 
-def tried(run: Run, place: Path) -> List[str]:
+def tried(run: Run, children: Children) -> List[str]:
     """Ends a script, and gives what is left of it.
 
     Args:
         run: The script, and how it ends.
-        place: A folder for its files.
+        children: By which a folder is made, and what stands beside the script is started.
     """
+    script, place = run.script, children.folder("run")
     mark, temporary = place.name, place / "temporary"
     temporary.mkdir()
-    words = [word if word != "PORT" else str(free_port()) for word in run.words]
-    variables = {**os.environ, MARK: mark, "TMPDIR": str(temporary), "TAC": program.find()}
-    script = subprocess.Popen([sys.executable, str(TOP / words[0]), *words[1:]], env=variables,
-                              cwd=place, stdin=subprocess.DEVNULL, stdout=subprocess.DEVNULL,
-                              stderr=subprocess.DEVNULL, start_new_session=True)
-    time.sleep(run.moment)
-    try:
-        end(script, run.number)
-    except subprocess.TimeoutExpired:
-        pass  # it is among the processes that are left
-    return what_is_left(mark, temporary)
+    ports = {name: str(free_port()) for name in ("PORT", "PAGE")}
+
+    def words_of(words: List[str]) -> List[str]:
+        return [sys.executable, str(TOP / words[0]), *(ports.get(word, word) for word in words[1:])]
+
+    variables = {**os.environ, "TAC": program.find()}
+    quiet: Dict[str, Any] = {"stdout": subprocess.DEVNULL, "stderr": subprocess.DEVNULL}
+    beside = []
+    if script.beside:
+        beside.append(children.start(words_of(script.beside), env=variables, cwd=place,
+                                     stdin=subprocess.DEVNULL, **quiet))
+    with subprocess.Popen(
+            words_of(script.words), cwd=place, stdin=subprocess.DEVNULL, start_new_session=True,
+            env={**variables, MARK: mark, "TMPDIR": str(temporary)},
+            **{**quiet, **({"stdout": subprocess.PIPE} if script.reader else {})}) as process:
+        if script.reader:
+            beside.append(children.start([sys.executable, script.reader], stdin=process.stdout,
+                                         **quiet))
+        time.sleep(run.moment)
+        try:
+            end(process, run.number)
+        except subprocess.TimeoutExpired:
+            pass  # it is among the processes that are left
+        left = what_is_left(mark, temporary)
+    for other in beside:
+        tell(other, signal.SIGTERM)
+        with contextlib.suppress(subprocess.TimeoutExpired):
+            other.wait(ENDING)
+        children.end(other)
+    return left
 
 
 def main() -> int:
     parser = Parser("left_over", __doc__)
     parser.add_argument("--at-once", type=whole(1, 16), default=2, metavar="N",
                         help="how many scripts at a time; 2")
+    parser.add_argument("--only", metavar="NAME", help="the scripts whose names begin so")
     given = parser.parse_args()
     program.find()
     with Children() as children:
-        hanger = children.folder("agent") / "hanger.py"
+        folder = children.folder("agents")
+        hanger, browser = folder / "hanger.py", folder / "browser.py"
         hanger.write_text(HANGER)
-        runs = [Run(name, words, number, moment) for name, *words in scripts(str(hanger))
-                for number in ENDS for moment in (MOMENTS if number else (0.0,))]
+        browser.write_text(BROWSER)
+        runs = [Run(script, number, moment) for script in scripts(str(hanger), str(browser))
+                for number in ENDS for moment in (MOMENTS if number else (0.0,))
+                if script.name.startswith(given.only or "")]
         bad = 0
         with ThreadPoolExecutor(given.at_once) as pool:
-            found = pool.map(lambda run: tried(run, children.folder("run")), runs)
+            found = pool.map(lambda run: tried(run, children), runs)
             for run, rest in zip(runs, found):
                 bad += bool(rest)
                 for what in rest:
-                    print(f"{run.name}, {run.how}: left: {what}", flush=True)
-                if run == [other for other in runs if other.name == run.name][-1]:
-                    print(f"{run.name}: done", flush=True)
+                    print(f"{run.script.name}, {run.how}: left: {what}", flush=True)
+                if run == [other for other in runs if other.script == run.script][-1]:
+                    print(f"{run.script.name}: done", flush=True)
     print(f"{len(runs) - bad} of {len(runs)} leave nothing")
     return 1 if bad else 0
 
