@@ -45,6 +45,8 @@ class GameClocks(unittest.TestCase):
         clock.close(105.0, 3)
         self.assertEqual((clock.tick, clock.pace, clock.is_exact), (18, 2.0, True))
         self.assertEqual(clock.now(106.0), (105.0, 18))
+        clock.close(119.0, 4)  # 18 seconds for the 8 ticks since the first move that was seen
+        self.assertEqual((clock.tick, clock.pace), (24, 2.25))
 
     def test_a_closing_as_the_first_thing_that_is_seen(self) -> None:
         clock = GameClock(1.0)

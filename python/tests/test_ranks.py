@@ -1,4 +1,5 @@
 import itertools
+import math
 import random
 import unittest
 from typing import Sequence
@@ -14,10 +15,11 @@ def chance(values: Sequence[float]) -> float:
 
 
 def by_all_signs(values: Sequence[float]) -> float:
-    """The probability by its definition, for values of different sizes."""
-    ranked = sorted(values, key=abs)
-    ranks = range(1, len(values) + 1)
-    seen = abs(sum(rank if value > 0 else -rank for rank, value in zip(ranks, ranked)))
+    """The probability by its definition. A size that several share has the mean of their ranks."""
+    sizes = sorted(map(abs, values))
+    ranks = [sum(place for place, other in enumerate(sizes, 1) if other == abs(value))
+             / sizes.count(abs(value)) for value in values]
+    seen = abs(sum(math.copysign(rank, value) for rank, value in zip(ranks, values)))
     sums = [abs(sum(rank * sign for rank, sign in zip(ranks, signs)))
             for signs in itertools.product((1, -1), repeat=len(values))]
     return sum(one >= seen for one in sums) / len(sums)
@@ -30,6 +32,9 @@ class SignedRanks(unittest.TestCase):
             for _ in range(5):
                 values = [source.gauss(0.5, 1.0) for _ in range(count)]
                 self.assertAlmostEqual(chance(values), by_all_signs(values), places=12)
+                shared = [value for value in map(round, values) if value]
+                if shared:
+                    self.assertAlmostEqual(chance(shared), by_all_signs(shared), places=12)
 
     def test_printed_tables(self) -> None:
         # Critical sums for 5 % of both sides, from printed tables: 6 has 0, 8 has 3, 10 has 8.
@@ -57,6 +62,22 @@ class SignedRanks(unittest.TestCase):
                 exact = chance(values)
             self.assertAlmostEqual(chance(values), exact, delta=0.003)
         self.assertLess(chance([1.0] * 60), 1e-9)
+
+    def test_many_values_by_the_formula_of_textbooks(self) -> None:
+        # n (n + 1) / 4 and n (n + 1) (2 n + 1) / 24, less (t^3 - t) / 48 for each t that share a
+        # size, and half a rank for continuity.
+        source = random.Random(3)
+        for is_shared in (False, True):
+            values = [source.gauss(0.1, 1.0) for _ in range(60)]
+            values = [round(value, 1) or 0.1 for value in values] if is_shared else values
+            sizes = [abs(value) for value in values]
+            ranks = [sum(other < size for other in sizes) + (sizes.count(size) + 1) / 2
+                     for size in sizes]
+            above = sum(rank for rank, value in zip(ranks, values) if value > 0)
+            shared = sum(count ** 3 - count for count in map(sizes.count, set(sizes)))
+            deviation = math.sqrt(60 * 61 * 121 / 24 - shared / 48)
+            far = (abs(above - 60 * 61 / 4) - 0.5) / deviation
+            self.assertAlmostEqual(chance(values), math.erfc(far / math.sqrt(2)), places=12)
 
 
 if __name__ == "__main__":

@@ -1,3 +1,4 @@
+import queue
 import threading
 import time
 import unittest
@@ -9,6 +10,8 @@ from geesefuton.playing.answers import Answer
 from geesefuton.playing.seat import Seat
 from geesefuton.records.replies import Request
 from tests.seat_server import SeatServer
+
+MOST = 60.0  # seconds that anything may take, on a machine that is busy with other work
 
 
 class Case(unittest.TestCase):
@@ -35,7 +38,7 @@ class Case(unittest.TestCase):
 
     def wait(self, holds: Callable[[Dict[str, Any]], bool]) -> Dict[str, Any]:
         """The first state that is so."""
-        version, until = -1, time.monotonic() + 10
+        version, until = -1, time.monotonic() + MOST
         while time.monotonic() < until:
             state = self.seat.state(version, 1)
             version = state["version"]
@@ -123,6 +126,53 @@ class Seats(Case):
             self.server.quotes[3][1] += 7
             self.wait(lambda state: state["tick"] >= tick and state["pace"])
 
+    def test_prices_that_stay_are_no_tick(self) -> None:
+        self.begin()
+        looks = len(self.server.heard)
+        state = self.wait(lambda _: self.server.heard[looks:].count("quote 7") > 3)
+        self.assertEqual((state["tick"], state["pace"]), (0, None))
+
+    def test_where_nothing_stands_nothing_is_read(self) -> None:
+        self.begin()
+        looks = len(self.server.heard)
+        for good in (8, 20):
+            self.server.call(good)
+        self.server.closed.append(8)
+        self.wait(lambda _: self.server.heard[looks:].count("quote 20") > 3)
+        self.assertFalse({"own 8", "own 20", "quote 8"} & set(self.server.heard[looks + 60:]))
+
+    def test_how_long_the_server_has_not_answered(self) -> None:
+        silent, send = list[float](), Link.send
+
+        def slow(link: Link, request: Request) -> Any:
+            if request.do == "bid":
+                time.sleep(0.1)
+                silent.append(self.seat.state(-1, 0)["silent"])
+            return send(link, request)
+
+        with mock.patch.object(Link, "send", slow):
+            self.begin()
+            self.bid(9, (1, 50))
+        self.assertTrue(0.1 <= silent[0] < 10, silent)
+        self.end()
+        self.assertEqual(self.seat.state(-1, 0)["silent"], 0)
+
+    def test_looks_are_a_quarter_of_a_tick_apart_within_bounds(self) -> None:
+        waits = list[float]()
+
+        def get(timeout: float) -> None:
+            waits.append(timeout)
+            raise queue.Empty
+
+        self.seat._orders = mock.Mock(get=get)
+        with mock.patch("geesefuton.playing.seat.LEAST", 0.2), \
+                mock.patch("time.monotonic", return_value=100.0):
+            for pace, took, due in ((None, 0.0, 0.02), (4.0, 0.0, 1.0), (0.1, 0.0, 0.2),
+                                    (60.0, 0.0, 2.0), (4.0, 1.5, 1.5)):
+                self.seat._clock.pace, self.seat._took, self.seat._looked = pace, took, 100.0
+                self.seat._wait(mock.Mock())
+                self.assertAlmostEqual(waits.pop(), due)
+
     def test_a_lost_link_is_connected_again(self) -> None:
         self.begin()
         self.server.refusals["quote 5"] = ""
@@ -144,6 +194,14 @@ class Seats(Case):
         self.assertEqual(state["fault"], "red: refused wrongword")
         self.assertFalse(self.bid(0, (1, 400)).is_done)
         self.begin()
+
+    def test_it_may_be_taken_again_as_soon_as_its_end_is_told(self) -> None:
+        self.server.refusals["hello"] = "refused wrongword"
+        refuse = Seat._refuse_rest
+        with mock.patch.object(Seat, "_refuse_rest", lambda seat: (time.sleep(0.2), refuse(seat))):
+            self.seat.begin()
+            self.wait(lambda state: state["phase"] == "failed")
+            self.begin()
 
     def test_the_game_ends_with_quit(self) -> None:
         self.begin()

@@ -18,6 +18,7 @@ from tests.seat_server import SeatServer
 
 CODE = "import sys; from geesefuton.playing.seat_command import main; sys.exit(main())"
 CODER = "#!/bin/sh\necho CODE OF $3\n"
+MOST = 60.0  # seconds that anything may take, on a machine that is busy with other work
 
 
 class SeatCommands(unittest.TestCase):
@@ -52,11 +53,11 @@ class SeatCommands(unittest.TestCase):
                  for line in lines]
         self.assertEqual([each and each[1] for each in found], ["red", "blue"])
         assert found[1] is not None
-        with urllib.request.urlopen(found[1][2], timeout=10) as page:
+        with urllib.request.urlopen(found[1][2], timeout=MOST) as page:
             self.assertIn(b"<title>Your seat</title>", page.read())
         self.assertEqual(self.server.heard, [])
         process.send_signal(signal.SIGINT)
-        self.assertEqual(process.wait(10), 130)
+        self.assertEqual(process.wait(MOST), 130)
 
     def test_it_ends_once_the_game_is_over_and_was_told(self) -> None:
         process = self.start("red", "--until-over", "--no-advice")
@@ -67,13 +68,13 @@ class SeatCommands(unittest.TestCase):
         self.server.closed = list(range(28))
         while self.ask(address + "state", f'{{"page":"{page}","after":-1}}')["phase"] != "over":
             pass
-        self.assertEqual(process.wait(10), 0)
+        self.assertEqual(process.wait(MOST), 0)
         self.assertEqual(self.server.heard[-1], "quit")
 
     def ask(self, address: str, body: str) -> Dict[str, Any]:
         """What the page is answered."""
         given = urllib.request.Request(address, body.encode(), {"Content-Type": "application/json"})
-        with urllib.request.urlopen(given, timeout=10) as answer:
+        with urllib.request.urlopen(given, timeout=MOST) as answer:
             told: Dict[str, Any] = json.loads(answer.read())
             return told
 

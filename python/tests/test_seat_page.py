@@ -1,15 +1,18 @@
 import http.client
 import json
 import re
+import socket
 import threading
+import time
 import unittest
 from typing import Any, Dict, Optional, Tuple
 from unittest import mock
 
 from geesefuton.link import Link
-from geesefuton.playing.seat_page import LETTERS, MOST_EACH, TOKEN, Pages, Site, Table
+from geesefuton.playing.seat_page import (LETTERS, MOST_BODY, MOST_EACH, TOKEN, WAIT, Pages, Site,
+                                           Table)
 from geesefuton.program import ProgramError
-from tests.test_seat import Case
+from tests.test_seat import MOST, Case
 
 
 class OpenPages(unittest.TestCase):
@@ -32,7 +35,9 @@ class OpenPages(unittest.TestCase):
 
     def test_a_page_that_is_gone_gives_way(self) -> None:
         self.pages.open("")
-        self.time += 10
+        self.time += 8.9
+        self.assertFalse(self.pages.plays(self.pages.open("")))
+        self.time += 0.2
         self.assertTrue(self.pages.plays(self.pages.open("")))
 
     def test_the_pages_that_are_known_are_few(self) -> None:
@@ -59,7 +64,7 @@ class Served(Case):
     def fetch(self, method: str, path: str, body: Any = None,
               kind: str = "application/json") -> Tuple[int, str]:
         """The status and the text of an answer."""
-        link = http.client.HTTPConnection("127.0.0.1", self.site.server_address[1], timeout=10)
+        link = http.client.HTTPConnection("127.0.0.1", self.site.server_address[1], timeout=MOST)
         try:
             text = body if isinstance(body, (bytes, type(None))) else json.dumps(body).encode()
             link.request(method, path, text, {"Content-Type": kind})
@@ -89,7 +94,12 @@ class Served(Case):
         status, text = self.fetch("GET", f"/{self.table.token}/")
         self.assertEqual(status, 200)
         self.assertEqual(re.findall(r"(?:src|href)=\"(?!data:)|https?://(?!www.w3.org)", text), [])
-        self.assertEqual(self.fetch("GET", f"/{self.table.token}")[0], 308)
+        link = http.client.HTTPConnection("127.0.0.1", self.site.server_address[1], timeout=MOST)
+        self.addCleanup(link.close)
+        link.request("GET", f"/{self.table.token}")
+        moved = link.getresponse()
+        self.assertEqual((moved.status, moved.getheader("Location")),
+                         (308, f"/{self.table.token}/"))
         for path, due in (("/", 404), ("/wrong/", 403), (f"/{self.table.token}x/", 403),
                           (f"/{self.table.token}/more", 404)):
             self.assertEqual(self.fetch("GET", path)[0], due, path)
@@ -140,7 +150,20 @@ class Served(Case):
         self.assertEqual(self.fetch("POST", path, b"{")[0], 400)
         self.assertEqual(self.fetch("POST", path, b"[" * 4000)[0], 400)
         self.assertEqual(self.fetch("POST", path, b"{}", "text/plain")[0], 415)
-        self.assertEqual(self.fetch("POST", path, b" " * 5000)[0], 413)
+        self.assertEqual(self.fetch("POST", path, b"{}" + b" " * (MOST_BODY - 2))[0], 409)
+        self.assertEqual(self.fetch("POST", path, b"{}" + b" " * (MOST_BODY - 1))[0], 413)
+        for length in ("", "Content-Length: -1\r\n", "Content-Length: x\r\n"):
+            with socket.create_connection(self.site.server_address[:2], MOST) as link:
+                link.sendall(f"POST {path} HTTP/1.1\r\n{length}\r\n".encode())
+                answer = link.makefile("rb").read()  # the link is ended
+            self.assertTrue(answer.startswith(b"HTTP/1.1 413 "), answer)
+
+    def test_news_is_waited_for_by_the_version_that_the_page_has(self) -> None:
+        page = self.open()
+        with mock.patch.object(self.seat, "state", wraps=self.seat.state) as state:
+            for given, due in ({"after": 7}, 7), ({"after": "7"}, -1), ({}, -1):
+                self.ask("state", page=page, **given)
+                self.assertEqual(state.call_args[0], (due, WAIT))
 
     def test_advice_is_asked_for_and_can_be_switched_off(self) -> None:
         page = self.open()
@@ -170,7 +193,7 @@ class Served(Case):
         self.assertFalse(self.ask("bid", page=page, good=9, points=[[1, 70]])[1]["done"])
 
     def test_links_of_one_address_are_limited(self) -> None:
-        links = [http.client.HTTPConnection("127.0.0.1", self.site.server_address[1], timeout=10)
+        links = [http.client.HTTPConnection("127.0.0.1", self.site.server_address[1], timeout=MOST)
                  for _ in range(MOST_EACH)]
         for link in links:
             link.request("GET", "/")
@@ -178,14 +201,14 @@ class Served(Case):
         with self.assertRaises(OSError):
             self.fetch("GET", "/")
         links[0].close()
-        for _ in range(100):
+        deadline = time.monotonic() + MOST
+        while True:
             try:
                 self.assertEqual(self.fetch("GET", "/")[0], 404)
                 break
             except OSError:
-                pass
-        else:
-            self.fail("no link is taken any more")
+                self.assertLess(time.monotonic(), deadline, "no link is taken any more")
+                time.sleep(0.01)
         for link in links:
             link.close()
 

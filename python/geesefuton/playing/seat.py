@@ -98,12 +98,14 @@ class Seat:
     def begin(self) -> None:
         """Takes the seat, unless it is taken already. After a game it is taken for the next."""
         with self._changed:
-            if self._thread is not None and self._thread.is_alive():
-                return
+            if self._thread is not None:
+                if self._thread.is_alive() and self.phase not in ("over", "failed"):
+                    return
+                self._thread.join()  # it has told its end, and ends now
             self._reset()
+            self.publish()
             self._thread = threading.Thread(target=self._play, daemon=True)
             self._thread.start()
-        self.publish()
 
     @property
     def phase(self) -> str:
