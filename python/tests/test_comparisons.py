@@ -172,11 +172,12 @@ class Sizes(unittest.TestCase):
     def test_how_many_values_tell_a_difference(self) -> None:
         # From printed tables of the power of Student's test: a difference of one standard deviation
         # needs 10 pairs, of half of one 34, of a fifth of one 199.
-        value = Estimate(0.0, student_quantile(24) / 5.0, 25)  # a standard deviation of 1
-        for difference, count in ((1.0, 10), (0.5, 34), (0.2, 199)):
-            found = deals_to_detect(value, difference)
-            assert found is not None
-            self.assertLessEqual(abs(found - count), 1)
+        for deals in (3, 25):  # with a standard deviation of 1
+            value = Estimate(0.0, student_quantile(deals - 1) / math.sqrt(deals), deals)
+            for difference, count in ((1.0, 10), (0.5, 34), (0.2, 199)):
+                found = deals_to_detect(value, difference)
+                assert found is not None
+                self.assertLessEqual(abs(found - count), 1)
         self.assertIsNone(deals_to_detect(Estimate(7.0, None, 1), 1.0))
         self.assertEqual(deals_to_detect(estimate([3.0] * 4), 1.0), 2)
 

@@ -35,6 +35,22 @@ class Commands(test_relay.Case):
         with mock.patch("time.monotonic", lambda: now + 25.5):
             self.assertRegex(self.who(0), "silent for 2[56] s$")
 
+    def test_an_agent_is_silent_after_ten_seconds_in_the_game(self) -> None:
+        seat = self.relay.seats.seats[0]
+        for heard, is_playing, due in ((109.0, True, ""), (110.0, True, ", silent for 10 s"),
+                                       (900.0, False, "")):
+            seat.heard, seat.playing = 100.0, is_playing
+            with mock.patch("time.monotonic", lambda: heard):
+                self.assertEqual(self.who(0), f"seat0 is here from 127.0.0.1{due}")
+
+    def test_who_else_asks_for_a_seat_and_which_are_over(self) -> None:
+        self.connect(b"hello seat1\n")
+        self.turns()
+        self.assertEqual(self.who(1),
+                         "seat1 is here from 127.0.0.1, and another link asks for its seat")
+        self.console.obey("without seat5")
+        self.assertEqual((self.who(4), self.who(5)), ("seat4 is missing", "seat5 is over"))
+
     def test_who_came_from_another_address(self) -> None:
         link = self.relay.links[0]
         link.source = "10.0.0.9"
@@ -51,9 +67,23 @@ class Commands(test_relay.Case):
                          "no link from 127.0.0.1 is taken; 2 ended")
         self.assertTrue(self.has_ended(self.connect(b"hello seat1\n")))
         self.assertEqual(self.of(events.Rejoined), [])
-        self.console.obey("allow 127.0.0.1")
+        with self.assertRaisesRegex(NotDone, "banned are: 10.0.0.1 127.0.0.1$"):
+            self.console.obey("ban 10.0.0.1")
+            self.console.obey("allow 10.0.0.2")
+        self.assertEqual(self.console.obey("allow 127.0.0.1"),
+                         "links from 127.0.0.1 are taken again")
         self.connect(b"hello seat1\n")
         self.turn_until_told(events.Rejoined)
+
+    def test_a_ban_of_another_address_ends_nobody(self) -> None:
+        self.relay.links[1].source = "10.0.0.9"
+        self.connect(b"hel")  # a link that has no seat yet
+        self.turns()
+        self.assertEqual(self.console.obey("ban 10.0.0.9"), "no link from 10.0.0.9 is taken; 1 "
+                         "ended")
+        self.assertFalse(self.has_ended(self.agents[0]))
+        self.assertTrue(self.has_ended(self.agents[1]))
+        self.assertEqual(len(self.relay.links), 2)
 
     def test_a_new_word(self) -> None:
         self.console.obey("word 1 red7k")
@@ -63,6 +93,13 @@ class Commands(test_relay.Case):
         self.turn_until(old, b"refused wrongword\n")
         self.connect(b"hello red7k\n")
         self.turn_until_told(events.Rejoined)
+
+    def test_a_seat_may_keep_its_word_and_have_that_of_nobody(self) -> None:
+        for word in ("seat1", "red7k", "seat1"):
+            self.assertEqual(self.console.obey(f"word seat1 {word}"),
+                             "seat1 is taken by its new word from now on")
+        with self.assertRaisesRegex(NotDone, "of another seat"):
+            self.console.obey("word seat2 seat1")
 
     def test_what_cannot_be_done(self) -> None:
         for line, told in (("dance", "'dance' is no command; `help` tells them"),
@@ -81,6 +118,10 @@ class Commands(test_relay.Case):
             self.control.is_begin_asked = False
             self.console.obey(line)
             self.assertTrue(self.control.is_begin_asked)
+        self.control.is_begin_asked, self.control.phase = False, Phase.PLAYING
+        for line in ("", "begin", "finish"):
+            self.console.obey(line)
+        self.assertFalse(self.control.is_begin_asked or self.control.is_end_asked)
         self.control.phase = Phase.ENDING
         self.console.obey("")
         self.assertTrue(self.control.is_end_asked)

@@ -32,6 +32,18 @@ class Texts(unittest.TestCase):
         self.assertIn("110 +- ?", as_text(summarize(SWAPPED[:1])))
         self.assertIn("difference, by games", as_text(summarize(SWAPPED[:2])))
 
+    def test_cells_stand_below_one_another_the_names_to_the_left(self) -> None:
+        rows = [row(str(deal), 0, seat, agent, score * deal) for deal in (1, 2)
+                for seat, (agent, score) in enumerate([("a", 2000), ("longest", -3)])]
+        lines = as_text(summarize(rows)).splitlines()
+        for first, last, end in ((2, 5, "mean"), (6, 8, "mean")):
+            table = lines[first:last]
+            self.assertEqual(len({len(line) for line in table}), 1, table)
+            place = table[0].index(end) + len(end)
+            for line in table[1:]:
+                self.assertNotEqual((line[0], line[place - 1]), (" ", " "), line)
+                self.assertEqual(line[place:place + 2], "  ", line)
+
     def test_why_seats_did_not_play_is_told_in_one_order(self) -> None:
         ends = [Outcome.REFUSED, Outcome.HUNG, Outcome.CRASHED, Outcome.PLAYED, Outcome.HUNG]
         rows = [row("1", 0, seat, "a", 7, end) for seat, end in enumerate(ends)]

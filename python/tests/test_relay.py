@@ -246,6 +246,28 @@ class Passing(Case):
         self.assertTrue(self.has_ended(self.agents[0]))
         self.assertTrue(self.is_sent_nothing(self.servers[0]))  # and is not told of an end
 
+    def test_one_that_ends_its_side_is_sent_the_reply_that_is_on_its_way(self) -> None:
+        self.agents[0].sendall(b"own 1\n")
+        self.turn_until(self.servers[0], b"own 1\n")
+        self.agents[0].shutdown(socket.SHUT_WR)
+        self.turns()
+        self.assertEqual(self.relay._select.select(0.0), [])  # its end is heard once
+        self.servers[0].sendall(b"@0 own 0 ()\n")
+        self.turn_until(self.agents[0], b"@0 own 0 ()\n")
+        self.turn_until_told(events.Departed)
+        self.assertTrue(self.has_ended(self.agents[0]))
+
+    def test_one_that_ends_its_side_is_sent_all_that_it_has_not_read(self) -> None:
+        link = self.relay.links[0]
+        link.held += b"x" * (8 << 20)  # more than the system keeps
+        self.relay._watch(link)
+        self.turns()
+        self.agents[0].shutdown(socket.SHUT_WR)
+        self.turns()
+        self.turn_until(self.agents[0], b"x" * (8 << 20))
+        self.turn_until_told(events.Departed)
+        self.assertTrue(self.has_ended(self.agents[0]))
+
     def test_nothing_is_passed_on_before_the_whole_welcome_has_come(self) -> None:
         late = self.connect(b"hello seat2\nown 1\n")
         self.turn_until_told(events.Arrived, 3)
@@ -500,6 +522,12 @@ class Strangers(Case):
         waits.close()  # and the first keeps its seat
         self.turns()
         self.ask(1, b"own 1\n", b"@0 own 0 ()\n")
+        waits = self.connect(b"hello seat1\nown 4\n")
+        self.turns()
+        waits.shutdown(socket.SHUT_WR)  # nor has it the seat if it has asked something
+        self.turns()
+        self.assertTrue(self.has_ended(waits))
+        self.ask(1, b"own 1\n", b"@0 own 0 ()\n")
         self.assertEqual([event.word for event in self.of(events.Departed)], ["seat0"])
 
     def test_one_that_says_nothing_is_let_go(self) -> None:
@@ -541,6 +569,10 @@ class Strangers(Case):
         self.relay.pass_time(time.monotonic() + 1.0)
         self.servers[2].sendall(b"w\n" * ADMISSION)
         self.turn_until(link, b"w\n" * ADMISSION)
+
+    def test_one_that_goes_before_it_is_taken_holds_nobody(self) -> None:
+        self.relay._accept()  # as if a link had been there a moment before
+        self.ask(0, b"own 1\n", b"@0 own 0 ()\n")
 
     def test_an_error_costs_one_link(self) -> None:
         with mock.patch.object(self.relay.seats, "admit", side_effect=RuntimeError("a fault")):

@@ -1,7 +1,7 @@
 import random
 import unittest
 from dataclasses import replace
-from typing import List
+from typing import Any, List
 
 from geesefuton.experiments.comparisons import adjusted, estimate, holm_halves, student_p
 from geesefuton.experiments.ranks import signed_rank_p
@@ -136,6 +136,30 @@ class Luck(unittest.TestCase):
             self.assertEqual(standing.luck, sum(lucks[standing.agent]) / 3)
         pair = summary.differences[0]
         self.assertEqual(pair.adjusted, adjusted([50, 50, 190], [[100, 100, 500]], [0.0]))
+
+    def test_a_pair_is_adjusted_to_equal_draws_that_are_as_those_of_all_made_games(self) -> None:
+        # Agent a scores 7 more than b at equal draws, and then what its own draw gives it; and what
+        # both draws and the flights give in the mean has a part in their difference, too.
+        source, rows = random.Random(8), list[Row]()
+        for deal in range(30):
+            first, draws = source.uniform(300.0, 350.0), []
+            for seat, agent in enumerate("ab"):
+                draws.append((source.randrange(1500, 2500), source.choice([1.5, 2.0, 2.5])))
+                score: Any = 2.0 * draws[seat][0] + 30.0 * draws[seat][1]
+                if agent == "b":
+                    luck, nights = (sum(values) / 2 for values in zip(*draws))
+                    score -= 7.0 + 0.5 * (first - 325.0) + 10.0 * (nights - 2.0) \
+                        + 0.25 * (luck - 2153.43)
+                rows.append(replace(row(str(deal), 0, seat, agent, 0, luck=draws[seat][0]),
+                                    score=score, nights=draws[seat][1], first_price=first))
+        pair, = summarize(rows).differences
+        sign = 1.0 if pair.first == "a" else -1.0
+        assert pair.adjusted is not None and pair.adjusted.half is not None
+        self.assertAlmostEqual(pair.adjusted.mean, sign * 7.0, places=6)
+        self.assertAlmostEqual(pair.adjusted.half, 0.0, places=5)
+        a = next(each for each in summarize(rows).standings if each.agent == "a")
+        assert a.adjusted is not None
+        self.assertAlmostEqual(a.adjusted.mean, 2.0 * 2153.43 + 30.0 * 2.0, places=5)
 
     def test_luck_of_all_seats_counts(self) -> None:
         # A score is its luck less 50, so at the mean luck of 100, 200, 600 and 1100 it is 450.
