@@ -1,15 +1,16 @@
 import unittest
+from dataclasses import replace
 from typing import List, Optional, Tuple
 
 from geesefuton.records.accounts import Accounts, Offers, entries_by_tick, ticks_of
-from geesefuton.records.games import HOTELS, SEATS, TICKETS, TICKS, Game
-from geesefuton.records.logs import Call, Entry, Log, Trade, read_log
+from geesefuton.records.games import CLOCK, HOTELS, SEATS, TICKETS, TICKS, Game
+from geesefuton.records.logs import Call, Entry, Log, Post, Trade, read_log
 from geesefuton.records.replies import Reply, read_entry_reply
 from geesefuton.records.rules import prices_of
 from tests.helpers import DATA, served_game, served_log
 from tests.journals import GAME
 
-TAKEN, WITHDRAWN = read_entry_reply("taken 0 0"), read_entry_reply("done")
+TAKEN, DONE = read_entry_reply("taken 0 0"), read_entry_reply("done")
 GAMES: List[Tuple[Game, Log]] = [(served_game(), served_log()),
                                  (GAME, read_log((DATA / "lobby.log").read_bytes()))]
 
@@ -34,7 +35,7 @@ class Asks(unittest.TestCase):
 
     def test_a_new_bid_replaces_the_old_one_and_a_withdrawal_takes_it_away(self) -> None:
         self.assertEqual(self.asks(bid(0, (-1, 50)), bid(0, (-1, 70)))[1], 70)
-        self.assertIsNone(self.asks(bid(0, (-1, 50)), Entry(0, Call("withdraw"), WITHDRAWN))[1])
+        self.assertIsNone(self.asks(bid(0, (-1, 50)), Entry(0, Call("withdraw"), DONE))[1])
         refused = bid(0, (-1, 10), reply=read_entry_reply("no selfcross"))
         self.assertEqual(self.asks(bid(0, (-1, 50)), refused)[1], 50)
 
@@ -45,6 +46,58 @@ class Asks(unittest.TestCase):
         # Who sells to a standing bid keeps what nobody took.
         self.assertEqual(self.asks(bid(1, (1, 55)), bid(0, (-1, 90), (-1, 40),
                                                         trades=(Trade(1, 0, 1, 55),)))[1], 90)
+
+
+class Markets(unittest.TestCase):
+    """What goods cost, call by call."""
+
+    def costs(self, live: bool, *entries: Entry) -> List[Optional[int]]:
+        """What night 8 costs after each of these entries, where each night has two rooms."""
+        accounts, costs = Accounts(GAME.with_rooms([2] * 8, live)), list[Optional[int]]()
+        for entry in entries:
+            accounts.take(8, entry)
+            costs.append(accounts.prices_for(0)[8])
+        return costs
+
+    def test_a_hotel_costs_what_was_published(self) -> None:
+        entries = [bid(0, (2, 50)), Entry(CLOCK, Call("publish"), DONE), bid(1, (1, 70)),
+                   bid(2, (2, 90), reply=read_entry_reply("no belowquote 1 51 0")),
+                   Entry(CLOCK, Call("publish"), DONE), Entry(CLOCK, Call("close"), DONE)]
+        self.assertEqual(self.costs(False, *entries), [0, 50, 50, 50, 50, None])
+        self.assertEqual(self.costs(True, *entries), [50, 50, 50, 50, 50, None])
+        entries[2] = bid(1, (2, 70))
+        self.assertEqual(self.costs(False, *entries), [0, 50, 50, 50, 70, None])
+        self.assertEqual(self.costs(True, *entries), [50, 50, 70, 70, 70, None])
+
+    def test_a_ticket_costs_what_another_agent_asks(self) -> None:
+        accounts = Accounts(GAME)
+        accounts.take(20, bid(1, (-1, 90)))
+        self.assertEqual([accounts.prices_for(agent)[20] for agent in (0, 1)], [90, None])
+        self.assertEqual(accounts.prices_for(0)[21], None)
+        accounts.take(20, bid(0, (1, 95), trades=(Trade(0, 1, 1, 90),)))
+        self.assertEqual((accounts.cash[:2], accounts.held[0][20] - GAME.endow[0][4],
+                          accounts.held[1][20] - GAME.endow[1][4]), ([-90, 90], 1, -1))
+
+
+class Times(unittest.TestCase):
+    def test_tickets_have_the_tick_of_the_last_flight_or_room_that_was_paid_before(self) -> None:
+        def update(tick: int) -> Entry:
+            return Entry(CLOCK, Call("update", tick=tick), DONE)
+
+        histories: List[Tuple[Entry, ...]] = [()] * 28
+        histories[0] = (update(1), update(2), bid(1, (1, 900)), update(3))
+        histories[1] = (update(1), bid(1, (1, 900)))
+        histories[8] = (bid(0, (1, 9)), Entry(CLOCK, Call("publish"), DONE), bid(0, (1, 19)))
+        end = Entry(CLOCK, Call("close"), DONE)
+        histories[20] = (bid(1, (-1, 5)), bid(2, (1, 5)), bid(3, (1, 5)), end)
+        histories[21] = (bid(1, (-1, 5)), bid(2, (1, 5)), end)
+        histories[22] = (bid(1, (-1, 5)), bid(2, (1, 5)), end)
+        posts = [(21, 1), (0, 2), (1, 1), (20, 1), (8, 2), (22, 1)]  # goods, and positions there
+        log = replace(served_log(), histories=tuple(histories),
+                      cash=tuple(Post(2, good, at, (0,) * 9) for good, at in posts))
+        ticks = ticks_of(GAME, log)
+        self.assertEqual([ticks[good] for good in (0, 1, 8, 20, 21, 22)], [
+            [1, 2, 2, 3], [1, 1], [0, 6, 6], [0, 2, 2, 54], [0, 0, 54], [0, 6, 54]])
 
 
 class Played(unittest.TestCase):
