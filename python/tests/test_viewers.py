@@ -3,6 +3,7 @@
 import asyncio
 import asyncio.selector_events
 import contextlib
+import re
 import resource
 import socket
 import unittest
@@ -150,6 +151,32 @@ class Answering(Case):
 
         self.assertEqual(self.run_it(work), 8 << 20)
 
+    def test_one_that_reads_slowly_misses_states_and_gets_the_newest(self) -> None:
+        async def work(port: int) -> List[int]:
+            reader, writer = await self.open(port)
+            writer.write(GET % b"/events")
+            await reader.readuntil(b"retry: 1000\n\n")
+            for number in range(50):
+                await self.viewers.show(b"%d " % number + b"x" * (1 << 20), number == 49)
+                await asyncio.sleep(0.001)
+            return list(map(int, re.findall(rb"data: (\d+) x", await reader.read())))
+
+        numbers = self.run_it(work)
+        self.assertEqual((numbers, numbers[-1]), (sorted(set(numbers)), 49))
+        self.assertLess(len(numbers), 25)
+
+    def test_one_that_reads_no_more_states_is_let_go(self) -> None:
+        async def work(port: int) -> None:
+            reader, writer = await self.open(port)
+            writer.write(GET % b"/events")
+            await reader.readuntil(b"retry: 1000\n\n")
+            while self.viewers.count:
+                await self.viewers.show(b"x" * (1 << 20), False)
+                await asyncio.sleep(0.01)
+
+        with mock.patch("geesefuton.hosting.viewers.STALLED", 0.1):
+            self.run_it(work)
+
     def test_a_link_on_which_nothing_happens_is_kept(self) -> None:
         wait = asyncio.wait_for
 
@@ -189,15 +216,16 @@ class Crowds(Case):
     def test_silent_links_do_not_keep_a_viewer_out(self) -> None:
         async def work(port: int) -> "List[Any]":
             await self.viewers.show(b"{}", False)
-            for number in range(4):  # as many as there may be
-                await self.fill(port, 50, b"", f"127.0.0.{number + 2}")
+            (eldest, _), *_ = [link for number in range(4)  # as many as there may be
+                               for link in await self.fill(port, 50, b"", f"127.0.0.{number + 2}")]
             more = [await self.open(port) for _ in range(20)]
-            return [(await self.ask(port, GET % b"/", address))[0]
-                    for address in ("127.0.0.1", "127.0.0.2")] + [self.viewers.count, len(more)]
+            answers = [(await self.ask(port, GET % b"/", address))[0]
+                       for address in ("127.0.0.1", "127.0.0.2")]
+            return [*answers, await eldest.read(), self.viewers.count, len(more)]
 
         with mock.patch("geesefuton.hosting.viewers.FIRST", MOST):
-            first, second, count, _ = self.run_it(work)
-        self.assertEqual((first, second), ("HTTP/1.1 200 OK",) * 2)
+            first, second, rest, count, _ = self.run_it(work)
+        self.assertEqual((first, second, rest), (*["HTTP/1.1 200 OK"] * 2, b""))
         self.assertLessEqual(count, MOST_VIEWERS)
 
     def test_there_are_up_to_200_viewers(self) -> None:
