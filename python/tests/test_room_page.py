@@ -1,0 +1,176 @@
+"""The page of a practice room: what its screens are sent, by a clock that the test moves."""
+
+import asyncio
+import json
+import tempfile
+import unittest
+from pathlib import Path
+from typing import Any, Callable, Dict, List, Optional, Sequence, Tuple
+from unittest import mock
+
+from geesefuton.hosting.journal import JournalError
+from geesefuton.hosting.viewers import Faults, Viewers
+from geesefuton.practice import page
+from geesefuton.practice.page import RoomPage, Screens
+from tests.helpers import TOP
+
+Step = Tuple[float, Callable[[], None]]
+ROOM = (TOP / "python/geesefuton/practice/room.html").read_bytes()
+LIVE = (TOP / "python/geesefuton/hosting/live.html").read_bytes()
+
+
+class Live:
+    """Stands for the page of a game, which goes on until the test says that it is over.
+
+    Attributes:
+        made: The journals and the views for which one was made.
+        is_done: Whether the last one is over.
+        fault: What its reading fails with.
+    """
+
+    made: List[Tuple[str, Any]] = []
+    is_done = False
+    fault: Optional[Exception] = None
+
+    def __init__(self, journal: Any, view: Any, player: Any, screens: Any, faults: Any) -> None:
+        Live.made.append((Path(journal.name).name, view))
+        Live.is_done = False
+
+    def is_over(self) -> bool:
+        return Live.is_done
+
+    async def follow(self) -> None:
+        if Live.fault is not None:
+            raise Live.fault
+        await asyncio.Event().wait()
+
+    async def project(self) -> None:
+        await asyncio.Event().wait()
+
+
+class Pages(unittest.TestCase):
+    def setUp(self) -> None:
+        place = tempfile.TemporaryDirectory()
+        self.addCleanup(place.cleanup)
+        self.place = Path(place.name)
+        self.now, self.told = 1000.0, list[str]()
+        self.steps: List[Step] = []
+        self.screens = Screens(b"", Faults(self.fail))
+        self.until, sleep = 0.0, asyncio.sleep
+        self.shown: List[Tuple[float, Dict[str, Any], bytes]] = []
+        Live.made, Live.fault = [], None
+
+        async def wait(seconds: float) -> None:
+            self.now += seconds
+            while self.steps and self.steps[0][0] <= self.now - 1000.0:
+                self.steps.pop(0)[1]()
+            if self.now - 1000.0 > self.until:
+                raise asyncio.CancelledError
+            for _ in range(3):
+                await sleep(0)
+
+        async def show(viewers: Screens, state: bytes, is_final: bool) -> None:
+            self.assertFalse(is_final)  # no state is a screen's last
+            self.shown.append((self.now - 1000.0, json.loads(state), viewers.page))
+
+        for place_of, name, what in (
+                (page, "Live", Live), (page.asyncio, "sleep", wait), (Viewers, "show", show),
+                (page.time, "monotonic", lambda: self.now), (page.time, "time", lambda: self.now)):
+            change = mock.patch.object(place_of, name, what)
+            change.start()
+            self.addCleanup(change.stop)
+
+    def board(self, journal: Optional[str] = None, names: Sequence[str] = (),
+              begins: Optional[float] = None, **room: Any) -> None:
+        """The room shows this."""
+        file = self.place / (journal or "")
+        (self.place / "board").write_text(json.dumps({
+            "journal": journal and str(file), "names": names,
+            "room": {"phase": "room", "begins": begins, **room}}))
+
+    def run_it(self, until: float, *steps: Step) -> None:
+        """Runs the page for some seconds, in which the steps happen at their times."""
+        self.until, self.steps = until, list(steps)
+        made = RoomPage(self.place / "board", self.screens, mock.Mock(), 6,
+                        Faults(self.told.append))
+        with self.assertRaises(asyncio.CancelledError):
+            asyncio.run(made.follow())
+
+    def journal(self, name: str) -> str:
+        (self.place / name).touch()
+        return name
+
+    def over(self) -> None:
+        Live.is_done = True
+        self.board()
+
+    def test_the_room_is_shown_once_with_the_seconds_until_its_game(self) -> None:
+        self.board(game=1)
+        self.run_it(6.0, (2.0, lambda: self.board(begins=1004.0, game=1)))
+        self.assertEqual([(state["left"], state["game"]) for _, state, _ in self.shown],
+                         [(None, 1), (2, 1), (1, 1), (0, 1)])
+        self.assertEqual({shown for *_, shown in self.shown}, {ROOM})
+        self.assertTrue(2.0 <= self.shown[1][0] <= 2.3)
+
+    def test_a_game_is_shown_until_its_scores_have_stayed(self) -> None:
+        self.board()
+        self.run_it(40.0, (2.0, lambda: self.board(self.journal("0001.journal"), ["red"])),
+                    (10.0, self.over))
+        self.assertEqual([(name, view.late, view.by_word) for name, view in Live.made],
+                         [("0001.journal", 6, True)])
+        first, again = self.shown
+        self.assertEqual((first[0], first[2], again[2]), (0.0, ROOM, ROOM))
+        self.assertTrue(30.0 <= again[0] <= 30.8, again[0])
+
+    def test_the_next_game_is_shown_at_once(self) -> None:
+        self.board(self.journal("0001.journal"))
+        self.run_it(8.0, (3.0, self.over),
+                    (5.0, lambda: self.board(self.journal("0002.journal"))))
+        self.assertEqual([name for name, _ in Live.made], ["0001.journal", "0002.journal"])
+        self.assertEqual(self.shown, [])
+
+    def test_a_game_that_was_stopped_stays_a_moment(self) -> None:
+        self.board(self.journal("0001.journal"))
+        self.run_it(20.0, (6.0, self.board))
+        (at, _, shown), = self.shown
+        self.assertTrue(9.0 <= at <= 9.8, at)
+        self.assertEqual((shown, len(Live.made)), (ROOM, 1))
+
+    def test_seats_are_called_by_their_players_as_these_come(self) -> None:
+        sent: List[Any] = []
+
+        def send() -> None:
+            state = {"phase": "running", "agents": [{"name": "x"}, {"name": "y"}]}
+            sent.append(asyncio.ensure_future(self.screens.show(json.dumps(state).encode(), True)))
+
+        name = self.journal("0001.journal")
+        self.board(name, ["red", "house planner"])
+        self.run_it(5.0, (1.0, send), (2.0, lambda: self.board(name, ["red", "blue"])), (3.0, send))
+        self.assertEqual([[agent["name"] for agent in state["agents"]]
+                          for _, state, _ in self.shown],
+                         [["red", "house planner"], ["red", "blue"]])
+        self.assertEqual({shown for *_, shown in self.shown}, {LIVE})
+
+    def test_a_game_that_cannot_be_shown_is_told_once_and_the_room_is(self) -> None:
+        self.board("none.journal")
+        self.run_it(4.0)
+        self.assertEqual(self.told, [f"room: {self.place / 'none.journal'} cannot be shown: No "
+                                     "such file or directory"])
+        self.assertEqual([shown for *_, shown in self.shown], [ROOM])
+
+    def test_a_journal_that_is_none_is_told(self) -> None:
+        Live.fault = JournalError("line 1 is none of a journal")
+        self.board(self.journal("0001.journal"))
+        self.run_it(4.0)
+        self.assertEqual(self.told, [f"room: {self.place / '0001.journal'} cannot be shown: line 1 "
+                                     "is none of a journal"])
+        self.assertEqual([shown for *_, shown in self.shown], [ROOM])
+
+    def test_a_file_that_is_not_there_yet_is_told_and_waited_for(self) -> None:
+        self.run_it(3.0, (1.0, self.board))
+        self.assertEqual(self.told, ["room: the page cannot be made: No such file or directory"])
+        self.assertEqual(len(self.shown), 1)
+
+
+if __name__ == "__main__":
+    unittest.main()
