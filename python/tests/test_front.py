@@ -5,16 +5,18 @@ import io
 import json
 import os
 import re
+import socket
 import subprocess
 import sys
 import tempfile
 import unittest
 from pathlib import Path
-from typing import Tuple
+from typing import Any, Tuple
 from unittest import mock
 
 import geesefuton
 from geesefuton import doctor, front, program
+from geesefuton.processes import free_port
 
 from .helpers import PACKAGE, TOP, fake_program
 
@@ -187,6 +189,53 @@ class Doctor(unittest.TestCase):
         with mock.patch("platform.libc_ver", lambda: ("glibc", "2.31")):
             self.assertIn("MEND C library: glibc 2.31; the program needs glibc 2.34 or later",
                           self.tell(is_doctor=True)[1])
+
+    def test_the_status_is_0_only_if_nothing_is_missing(self) -> None:
+        for findings, due in (([(True, "a"), (True, "b")], (0, "ok   a\nok   b\n")),
+                              ([(False, "a"), (True, "b")], (1, "MEND a\nok   b\n"))):
+            looks = [lambda found=found: found for found in findings]
+            with mock.patch.object(doctor, "FINDINGS", looks):
+                self.assertEqual(self.tell(is_doctor=True), due)
+
+    def test_what_each_look_finds(self) -> None:
+        with socket.create_server(("", 0)) as taken, \
+                mock.patch.object(doctor, "PORT", taken.getsockname()[1]):
+            self.check(doctor._ports, False, f"port {doctor.PORT}: Address already in use; take "
+                       "another, such as ")
+        with mock.patch.object(doctor, "PORT", free_port()):
+            self.check(doctor._ports, True, f"port {doctor.PORT}: free")
+        for name, number, is_due in (("glibc", "2.33", False), ("glibc", "2.34", True),
+                                     ("glibc", "2.100", True), ("glibc", "3.1", True),
+                                     ("", "", False), ("musl", "9.9", False)):
+            with mock.patch("platform.libc_ver", lambda: (name, number)):
+                self.check(doctor._library, is_due, "C library: ")
+        for soft, is_due in ((255, False), (256, True), (-1, True)):
+            with mock.patch("resource.getrlimit", return_value=(soft, soft)):
+                self.check(doctor._files, is_due, f"open files: {soft} at most")
+        for system, machine, is_due in (("Linux", "x86_64", True), ("Linux", "aarch64", False),
+                                        ("Darwin", "x86_64", False)):
+            with mock.patch("platform.system", return_value=system), \
+                    mock.patch("platform.machine", return_value=machine):
+                self.check(doctor._system, is_due, f"platform: {system} {machine}")
+        for version, is_due in (((3, 8, 9), False), ((3, 9), True), ((4, 0), True)):
+            with mock.patch("sys.version_info", version):
+                self.check(doctor._python, is_due, "Python: ")
+        for may_write in (False, True):
+            with mock.patch("os.access", return_value=may_write):
+                self.check(doctor._folder, may_write, "this folder: can")
+        with mock.patch("socket.socket.connect", side_effect=OSError):
+            self.check(doctor._addresses, False, "addresses: none but this machine's own")
+        with mock.patch.dict(os.environ, {"TAC": str(self.place / "none")}):
+            for look in (doctor._file, doctor._runs):
+                self.check(look, False, "program")
+            self.check(doctor._hash, True, "hash: nothing to compare with")
+            self.released("0" * 64)
+            self.check(doctor._hash, False, "hash: there is no program")
+
+    def check(self, look: Any, is_due: bool, text: str) -> None:
+        """What one look finds: whether all is as it should be, and the beginning of its line."""
+        found, told = look()
+        self.assertEqual((found, told[:len(text)]), (is_due, text))
 
     def test_a_program_that_does_not_start(self) -> None:
         fake_program(self.place, "exit 1")
