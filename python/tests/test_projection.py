@@ -12,7 +12,8 @@ from unittest import mock
 from geesefuton.hosting.journal import JournalReader
 from geesefuton.hosting.projection import Projection, View, project
 from geesefuton.hosting.recovery import Player, RecoveryError
-from geesefuton.records.games import DRAWS
+from geesefuton.records.accounts import Accounts, ticks_of
+from geesefuton.records.games import CLOCK, DRAWS
 from geesefuton.records.logs import read_log
 from geesefuton.records.rules import prices_of
 from tests.helpers import DATA, CountingPlayer, needs_program
@@ -100,6 +101,41 @@ class Projecting(unittest.TestCase):
             text = text.replace(bid, f"{bid}trade {agent} 1 1 5\n")
         made = project(begun(*lines), [], mock.Mock(play=mock.Mock(return_value=([], text))))
         self.assertEqual(made.trades, [[3.1, 20, 2, 1, 5], [3.1, 20, 3, 1, 5]])
+
+
+class Plans(unittest.TestCase):
+    """What the plans of a kept game are worth, by its log, which goes on to its end."""
+
+    LOG = read_log((DATA / "lobby.log").read_text())
+
+    def plans(self, tick: int) -> List[List[int]]:
+        text = (DATA / "lobby.log").read_text()
+        player = mock.Mock(play=mock.Mock(return_value=([], text)))
+        return project(begun(tick=tick), [], player).plans
+
+    def test_in_the_end_they_are_the_scores(self) -> None:
+        self.assertEqual(self.plans(54), [[row.score, row.cash, 0] for row in self.LOG.scores])
+
+    def test_before_it_the_clocks_later_calls_do_not_count(self) -> None:
+        ticks = ticks_of(GAME, self.LOG)
+        for tick in (0, 30):
+            accounts, cash = Accounts(GAME), [0] * 8
+            for good, history in enumerate(self.LOG.histories):
+                for at, entry in zip(ticks[good], history):
+                    if at > tick and (good < 16 or entry.caller == CLOCK):
+                        continue
+                    accounts.take(good, entry)
+                    for trade in entry.trades:
+                        for agent, sign in ((trade.buyer, -1), (trade.seller, 1)):
+                            if agent < 8:
+                                cash[agent] += sign * trade.units * trade.price
+            plans = self.plans(tick)
+            self.assertEqual([plan[1] for plan in plans], cash)
+            for agent, (total, _, to_buy) in enumerate(plans):
+                best, prices = accounts.plan(agent), accounts.prices_for(agent)
+                due = sum(units * (prices[good] or 0) for good, units in enumerate(best.missing))
+                self.assertEqual((total - cash[agent], to_buy), (best.value, due))
+            self.assertTrue(all(to_buy for *_, to_buy in plans) or tick)
 
 
 def replies_to_bids() -> Dict[Tuple[int, int], float]:
