@@ -146,6 +146,26 @@ class Hosting(Case):
         self.assertEqual(len(lines), journal.count('"r":'))
 
 
+class Limits(Case):
+    """How long a link may say nothing."""
+
+    def test_a_seat_is_kept_for_two_ticks_if_they_are_longer(self) -> None:
+        for pace, silence, due in ((1000, 10.0, 10.0), (5000, 10.0, 10.0), (10000, 10.0, 20.0),
+                                   (60000, 10.0, 120.0), (60000, 300.0, 300.0), (100, 0.0, 0.2)):
+            settings = LobbySettings(GAME, 0, pace, None, silence=silence)
+            self.assertAlmostEqual(settings.longest_silence(), due)
+        self.assertEqual(LobbySettings(GAME, 0, 1, None).longest_silence(), 10.0)
+
+    def test_the_relay_is_told_them(self) -> None:
+        with mock.patch.object(lobby, "Relay", side_effect=lobby.Relay) as made:
+            host = Host(self.folder, pace=100, start=0, patience=7.0, silence=9.0, linger=0)
+            host.hurry()
+            host.end()
+        words, _, _, journal, patience, silence = made.call_args[0]
+        self.assertEqual((words, journal.file, patience, silence),
+                         (WORDS, self.folder / "my.journal", 7.0, 9.0))
+
+
 class Outputs(unittest.TestCase):
     """Where the processes beside the game print."""
 
