@@ -36,7 +36,6 @@ def start_server(children: Children, place: Path, port: int,
         ProgramError: There is neither a program nor the toolchain.
     """
     game = place / "my.game"
-    log = (place / "log").open("wb")
     try:
         file = program.find()
     except program.ProgramError as fault:
@@ -47,15 +46,17 @@ def start_server(children: Children, place: Path, port: int,
             raise program.ProgramError(f"{fault}{MISSING}") from None
         out.write("The server is built for a quick run; it takes a minute or so, and longer on a "
                   "busy machine.\n")
-        first = program.examples() / "first.game"
-        game.write_text("".join(line for line in first.open() if not line.startswith("#")))
+        first = (program.examples() / "first.game").read_text()
+        game.write_text("".join(line for line in first.splitlines(keepends=True)
+                                if not line.startswith("#")))
         crate = clone / "crates" / "tacd"
         words = ["rt", "try", "--seconds", "300", "--", "serve", str(game), str(port), str(PACE)]
-        told = (place / "told").open("wb")
-        quick = children.start(words, stdout=log, stderr=told, cwd=crate)
+        with (place / "log").open("wb") as log, (place / "told").open("wb") as told:
+            quick = children.start(words, stdout=log, stderr=told, cwd=crate)
         return quick, 600, QUICK
     game.write_text(program.make(42))
-    served = children.start(program.served_words(game, port, PACE), stdout=log)
+    with (place / "log").open("wb") as log:
+        served = children.start(program.served_words(game, port, PACE), stdout=log)
     return served, 120, PROVED.format(file)
 
 
@@ -74,17 +75,39 @@ def play(children: Children, out: Output) -> int:
     """Plays the game, and gives the exit status."""
     port, place = free_port(), children.folder("quickstart")
     server, most, told = start_server(children, place, port, out)
-    while server.poll() is None and not listens(port):
-        time.sleep(0.05)  # a quick run is built first
-    for seat, agent in enumerate(AGENTS):
-        file = program.examples() / "agents" / f"{agent}.py"
-        words = [sys.executable, str(file), "127.0.0.1", str(port), f"seat{seat}", "--pause", "0.1"]
-        with (place / f"agent{seat}").open("wb") as printed:
-            children.start(words, stdout=printed)
+    processes = [server]
     try:
-        status = f"with exit status {server.wait(most)}"
-    except subprocess.TimeoutExpired:
-        status = "only because it was out of time"
+        while server.poll() is None and not listens(port):
+            time.sleep(0.05)  # a quick run is built first
+        processes += [start_agent(children, place, port, seat) for seat in range(len(AGENTS))]
+        try:
+            status = f"with exit status {server.wait(most)}"
+        except subprocess.TimeoutExpired:
+            status = "only because it was out of time"
+        return show(place, status, told, out)
+    finally:
+        for process in processes:
+            children.end(process)
+
+
+def start_agent(children: Children, place: Path, port: int,
+                seat: int) -> "subprocess.Popen[bytes]":
+    """The agent of a seat."""
+    file = program.examples() / "agents" / f"{AGENTS[seat]}.py"
+    words = [sys.executable, str(file), "127.0.0.1", str(port), f"seat{seat}", "--pause", "0.1"]
+    with (place / f"agent{seat}").open("wb") as printed:
+        return children.start(words, stdout=printed)
+
+
+def show(place: Path, status: str, told: str, out: Output) -> int:
+    """Shows what the agents say and the scores, and gives the exit status.
+
+    Args:
+        place: The folder of what was printed.
+        status: How the server ended.
+        told: What is printed about it in the end.
+        out: Where it is shown.
+    """
     log = (place / "log").read_bytes()
     try:
         read_scores(log)

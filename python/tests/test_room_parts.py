@@ -3,18 +3,19 @@ and its house agents, without their processes."""
 
 import json
 import os
+import signal
 import sys
 import tempfile
 import unittest
 from pathlib import Path
 from types import SimpleNamespace
-from typing import Any, List, Optional
+from typing import Any, Dict, List, Optional
 from unittest import mock
 
 from geesefuton import program
 from geesefuton.hosting.control import STOPPED
 from geesefuton.hosting.journal import Journal
-from geesefuton.practice import house
+from geesefuton.practice import house, room_command
 from geesefuton.practice.board import Board
 from geesefuton.practice.folder import Finished, Folder, FolderError, write_whole
 from geesefuton.practice.house import HouseServer
@@ -262,6 +263,72 @@ class Houses(Case):
         none = HouseServer([])
         self.assertEqual(none.play(self.game), 6)
         self.assertEqual((self.started(), self.game.relay.seats.own), ([], {}))
+
+
+class Commands(Case):
+    """What the command makes of signals and of its words."""
+
+    def setUp(self) -> None:
+        super().setUp()
+        self.handlers: Dict[int, Any] = {}
+        self.said: List[str] = []
+        self.patch(room_command.signal, "signal", self.handlers.__setitem__)
+        self.patch(room_command, "_say", self.said.append)
+
+    def test_a_first_ctrl_c_closes_the_room_and_a_second_one_at_once(self) -> None:
+        made = mock.Mock(close=mock.Mock(return_value="the room closes"))
+        signals = room_command._Signals(made)
+        self.assertEqual(set(self.handlers), {signal.SIGINT, signal.SIGTERM, signal.SIGHUP})
+        for _ in range(2):
+            self.handlers[signal.SIGINT](signal.SIGINT, None)
+        made.close.return_value = ""
+        self.handlers[signal.SIGTERM](signal.SIGTERM, None)
+        self.assertEqual([call[0][0] for call in made.close.call_args_list], [False, True, True])
+        self.assertEqual((self.said, signals.number),
+                         (["ctrl-C: the room closes"] * 2, signal.SIGTERM))
+
+    def test_other_signals_close_it_at_once(self) -> None:
+        for number in (signal.SIGTERM, signal.SIGHUP):
+            made = mock.Mock(close=mock.Mock(return_value=""))
+            self.assertEqual(room_command._Signals(made).number, 0)
+            self.handlers[number](number, None)
+            made.close.assert_called_once_with(True)
+
+    def test_what_is_ignored_stays_so(self) -> None:
+        self.patch(room_command.signal, "getsignal", lambda number: (
+            signal.SIG_IGN if number == signal.SIGHUP else signal.SIG_DFL))
+        room_command._Signals(mock.Mock())
+        self.assertEqual(set(self.handlers), {signal.SIGINT, signal.SIGTERM})
+
+    def test_the_house_is_the_planner_others_or_none(self) -> None:
+        planner = TOP / "examples" / "agents" / "planner.py"
+        for given, due in ((None, [planner]), (["", ""], []), (["trader.py", "cat"], [
+                planner.with_name("trader.py"), Path("cat")])):
+            found = [each.words[-1] for each in room_command._house(given)]
+            self.assertEqual([Path(word).name for word in found], [file.name for file in due])
+        own = self.path.with_name("planner.py")
+        own.touch()
+        before = os.getcwd()
+        os.chdir(own.parent)
+        self.addCleanup(os.chdir, before)
+        self.assertEqual(Path(room_command._house(["planner.py"])[0].words[-1]).resolve(),
+                         own.resolve())  # a file that is there is none of the examples
+
+    def test_the_exit_status_is_that_of_the_signal(self) -> None:
+        self.patch(program, "find", lambda: "tac")
+        words = ["room", "--folder", str(self.path), "--house", "", "--wait", "7", "--after", "8",
+                 "--pace", "9", "--port", "7001", "--seed", "3", "--games", "2"]
+        for number, due in ((0, 0), (signal.SIGINT, 130), (signal.SIGTERM, 143)):
+            signals = mock.Mock(number=number)
+            with mock.patch("sys.argv", words), \
+                    mock.patch.object(room_command, "Room") as made, \
+                    mock.patch.object(room_command, "_Signals", return_value=signals):
+                self.assertEqual(room_command._main(), due)
+            given, folder = made.call_args[0][:2]
+            self.assertEqual((given.port, given.pace, given.wait, given.after, given.games,
+                              given.house, given.teams, folder.seed),
+                             (7001, 9, 7.0, 8.0, 2, [], [], 3))
+            made.return_value.run.assert_called_once_with()
 
 
 if __name__ == "__main__":
