@@ -233,6 +233,21 @@ class Passing(Case):
         self.servers[0].sendall(b"@0 own 0 ()\n")
         self.turn_until(again, b"@0 own 0 ()\n")
 
+    def test_one_that_reconnects_and_ends_its_side_is_asked_after_what_is_on_its_way(self) -> None:
+        self.agents[0].sendall(b"bid 8 ((1 1))\n")
+        self.turn_until(self.servers[0], b"bid 8 ((1 1))\n")
+        self.agents[0].close()
+        self.turns()
+        again = self.connect(b"hello seat0\nown 9\nown 10\n")
+        again.shutdown(socket.SHUT_WR)
+        self.turn_until(again, b"w\n" * ADMISSION)
+        self.turns()
+        self.servers[0].sendall(b"@3 taken 0 0\n")
+        for line in (b"own 9\n", b"own 10\n"):
+            self.turn_until(self.servers[0], line)
+            self.servers[0].sendall(b"@0 own 0 ()\n")
+        self.turn_until(again, b"@0 own 0 ()\n" * 2)
+
     def test_one_that_ends_its_side_is_still_answered(self) -> None:
         self.agents[0].sendall(b"own 1\nown 2\nown 3")
         self.agents[0].shutdown(socket.SHUT_WR)
