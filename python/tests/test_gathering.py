@@ -131,20 +131,6 @@ class Hosting(Case):
         self.assertEqual([event.text for event in host.of(events.Warned)],
                          ["the page has ended", "the page for playing by hand has ended"])
 
-    def test_what_an_agent_is_sent_last_comes_though_the_server_has_ended(self) -> None:
-        with mock.patch.object(lobby, "ENDING", 20.0):
-            host = Host(self.folder, pace=5, linger=0.2)
-            agent = self.agents(host, "seat0")[0]
-            agent.welcome()
-            agent.send(b"own 1\n" * 500)
-            host.wait(events.Ended, 8)
-            lines = agent.lines.read().decode().splitlines()
-            agent.close()
-            host.end()
-        self.assertEqual(set(lines), {"@1 own 0 ()"})
-        journal = (self.folder / "my.journal").read_text()
-        self.assertEqual(len(lines), journal.count('"r":'))
-
 
 class Limits(Case):
     """How long a link may say nothing."""
