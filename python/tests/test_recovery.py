@@ -148,9 +148,9 @@ class Making(unittest.TestCase):
     def setUp(self) -> None:
         self.player = CountingPlayer()
 
-    def make(self, reader: JournalReader, pending: bool = False, live: bool = False) -> Recovery:
+    def make(self, reader: JournalReader, **how: bool) -> Recovery:
         player: Any = self.player
-        return Recovery(reader, player, pending, live)
+        return Recovery(reader, player, **how)
 
     def lines(self, recovery: Recovery, quotes: bool = True) -> List[str]:
         return recovery.script(quotes).text.splitlines()
