@@ -4,6 +4,7 @@ The file is the one that the environment variable TAC names. Without it, it is t
 release has in the package, or crates/tacd/out/tacd of the clone that the package stands in.
 """
 
+import atexit
 import contextlib
 import errno
 import os
@@ -13,7 +14,7 @@ import signal
 import subprocess
 import threading
 from pathlib import Path
-from typing import Iterator, List, Optional, Sequence, Tuple, Union
+from typing import Iterator, List, Optional, Sequence, Set, Tuple, Union
 
 __all__ = [
     "INPUT", "LEAST_LIBRARY", "MEANINGS", "OK", "CLOCK", "UNSOUND", "ProgramError", "audit",
@@ -39,6 +40,9 @@ MEANINGS = {
     8: "a script, an account or a log is refused",
     9: "the log is not sound",
 }
+
+_starting = threading.Lock()  # held while a process is started
+_running: "Set[subprocess.Popen[bytes]]" = set()  # what was started and has not ended
 
 
 class ProgramError(Exception):
@@ -140,9 +144,10 @@ def run(command: str, *words: Word, given: bytes = b"", allowed: Sequence[int] =
     file = find_runnable()
     child: "Optional[subprocess.Popen[bytes]]" = None
     try:
-        with _held_signals():
+        with _held_signals(), _starting:
             child = subprocess.Popen([file, command, *map(str, words)], stdout=subprocess.PIPE,
                                      stdin=subprocess.PIPE if given else subprocess.DEVNULL)
+            _running.add(child)
         data, _ = child.communicate(given or None, timeout)
     except subprocess.TimeoutExpired:
         raise ProgramError(f"tac {command} took longer than {timeout:g} seconds") from None
@@ -152,6 +157,7 @@ def run(command: str, *words: Word, given: bytes = b"", allowed: Sequence[int] =
         if child is not None:
             child.kill()  # does nothing if it has ended
             child.__exit__(None, None, None)
+            _running.discard(child)
     text = data.decode("ascii", "replace")
     if child.returncode not in allowed:
         raise ended(command, child.returncode, text.split("\n", 1)[0])
@@ -177,6 +183,14 @@ def _held_signals() -> Iterator[None]:
             signal.signal(number, handler)
         for each in came:
             signal.raise_signal(each)
+
+
+@atexit.register
+def _end_running() -> None:
+    """Ends what daemon threads have started when their script ends: they go no further."""
+    _starting.acquire()  # for good: nothing more is started
+    for child in list(_running):
+        child.kill()
 
 
 def why_not_run(file: str, fault: OSError) -> str:

@@ -2,6 +2,7 @@ import os
 import signal
 import subprocess
 import tempfile
+import time
 import unittest
 from pathlib import Path
 from typing import Any, Dict, List
@@ -9,7 +10,10 @@ from unittest import mock
 
 from geesefuton import program
 from geesefuton.program import ProgramError
-from tests.helpers import SERVED_GAME, SERVED_LOG, fake_program, needs_program, served_game
+from tests.helpers import (SERVED_GAME, SERVED_LOG, fake_program, needs_program, python,
+                           served_game, variables)
+
+MOST = 60.0  # seconds that anything may take, on a machine that is busy with other work
 
 
 class Commands(unittest.TestCase):
@@ -174,6 +178,23 @@ class Commands(unittest.TestCase):
             self.assertEqual(program.make(1), "built\n")
         with mock.patch("geesefuton.program.top", return_value=None):
             self.assertIn("set the variable TAC", str(self.refused("make", 1)))
+
+    def test_what_a_thread_has_started_ends_with_its_script(self) -> None:
+        self.use(f"echo $$ > {self.place}/new; mv {self.place}/new {self.place}/number; "
+                 f"exec sleep {MOST}")
+        code = ("import os, sys, threading, time; from geesefuton import program; "
+                "threading.Thread(target=program.make, args=(1,), daemon=True).start()\n"
+                "while not os.path.exists(sys.argv[1]): time.sleep(0.01)")
+        subprocess.run(python(code, self.place / "number"), env=variables(), check=True,
+                       timeout=MOST)
+        number, deadline = int((self.place / "number").read_text()), time.monotonic() + MOST / 2
+        while True:
+            try:
+                os.kill(number, 0)
+            except ProcessLookupError:
+                break
+            self.assertLess(time.monotonic(), deadline, "it still runs")
+            time.sleep(0.01)
 
     def test_the_clone_is_found(self) -> None:
         top = program.top()
