@@ -1,4 +1,4 @@
-"""When the live page makes projections, and what it shows of time, by a clock that the test moves."""
+"""When the live page makes projections, and what it shows of time, by a clock of the test."""
 
 import asyncio
 import json
@@ -52,8 +52,8 @@ class Clock(unittest.TestCase):
 
 class Pace(Clock):
     def projections(self, pace: int, took: float, within: float) -> List[float]:
-        """The seconds between the beginnings of projections, each of which takes some seconds, while
-        the journal goes on all the time."""
+        """The seconds between the beginnings of projections, each of which takes some seconds,
+        while the journal goes on all the time."""
         made, begun = self.page('{"begin":[]}', '{"tick":0,"t":0}', pace=pace), list[float]()
         end = self.now + within
 
