@@ -111,8 +111,8 @@ class Stories(unittest.TestCase):
         log = replace(log_of({0: (bought,), 16: (sold,)}), cash=(
             Post(2, 0, 0, (0,) * 9), Post(2, 16, 0, (0,) * 9)))
         story, other = (stories(GAME, log)[agent] for agent in (2, 1))
-        self.assertIn(f"Tick 0: bought 3 of {name_of(0)} at {price}, sold 4 of {name_of(16)} at 1. ",
-                      story.decisions[0].text)
+        self.assertIn(f"Tick 0: bought 3 of {name_of(0)} at {price}, sold 4 of {name_of(16)} at "
+                      "1. ", story.decisions[0].text)
         self.assertEqual(story.decisions[0].cost,
                          stories(GAME, log_of({}))[2].moments[0].worth - story.moments[0].worth)
         self.assertEqual([decision for decision in other.decisions if "bought 3" in decision.text],
