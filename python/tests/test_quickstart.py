@@ -25,9 +25,12 @@ sys.stdout.write(open(log).read())
 AGENT = """
 import os, socket, sys
 print(os.path.basename(sys.argv[0]), *sys.argv[3:], flush=True)
-link = socket.create_connection((sys.argv[1], int(sys.argv[2])))
-link.sendall(f"hello {sys.argv[3]}\\n".encode())
-link.recv(1)
+try:
+    link = socket.create_connection((sys.argv[1], int(sys.argv[2])))
+    link.sendall(f"hello {sys.argv[3]}\\n".encode())
+    link.recv(1)
+except OSError:
+    pass  # the server has ended
 """
 
 
