@@ -56,10 +56,9 @@ def bid_for_rooms(link, needs, standing, most):
 class Planner:
     """The agent: it begins with what it holds, and then acts again and again."""
 
-    most = MOST_FOR_A_ROOM
-
     def __init__(self, link):
         self.link, self.needs, self.standing = link, plan(link.clients), Counter()
+        self.most = MOST_FOR_A_ROOM
         buy_seats(link, self.needs)
 
     def act(self):

@@ -75,11 +75,9 @@ def trade(link, kind, standing):
 class Trader(Planner):
     """The agent: a planner that trades tickets, too."""
 
-    most = MOST_FOR_A_ROOM
-
     def __init__(self, link):
         super().__init__(link)
-        self.offers, self.rounds = {}, 0
+        self.most, self.offers, self.rounds = MOST_FOR_A_ROOM, {}, 0
 
     def act(self):
         """Bids and trades, unless the game is over, and tells whether it goes on."""

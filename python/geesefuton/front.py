@@ -38,6 +38,8 @@ PROGRAMS: Dict[str, Program] = {
     "seat": Program("geesefuton.playing.seat_command", "lets a person play a seat in a browser"),
     "report": Program("geesefuton.records.report", "makes a page of a game and its log"),
     "tournament": Program("geesefuton.experiments.tournament", "plays many games of some agents"),
+    "profiles": Program("geesefuton.experiments.profiles",
+                        "plays all profiles of some strategies, and finds equilibria"),
     "doctor": Program("geesefuton.doctor", "says what is at hand on this machine"),
     "version": Program("geesefuton.doctor", "tells the version, the program and its hash"),
 }

@@ -15,6 +15,7 @@ came of it.
 """
 
 import argparse
+import ast
 import os
 import random
 import socket
@@ -22,7 +23,7 @@ import sys
 import time
 from dataclasses import dataclass, field
 from types import TracebackType
-from typing import BinaryIO, Callable, Dict, List, NamedTuple, Optional, Sequence, Tuple, Type
+from typing import Any, BinaryIO, Callable, Dict, List, NamedTuple, Optional, Sequence, Tuple, Type
 
 from geesefuton import program as tac
 from geesefuton.arguments import seconds
@@ -388,12 +389,14 @@ def solve(holdings: Sequence[int], clients: Sequence[Client]) -> Optional[int]:
 def arguments(what: str) -> Tuple[str, int, str, float]:
     """The host, the port, the seat word and the pause in seconds of an agent's command line.
 
-    With `--seed` in it, or the variable AGENT_SEED, Python's `random` draws from that number.
+    With `--seed` in it, or the variable AGENT_SEED, Python's `random` draws from that number. With
+    `--set SHADE=1.0` the name SHADE of the agent's file has that value from now on.
 
     Args:
         what: What the agent does, for its help text.
     """
-    return _begin(_parser(what).parse_args())
+    parser = _parser(what)
+    return _begin(parser, parser.parse_args())
 
 
 def _parser(what: str) -> argparse.ArgumentParser:
@@ -408,13 +411,34 @@ def _parser(what: str) -> argparse.ArgumentParser:
     parser.add_argument("--seed", type=int, default=os.environ.get("AGENT_SEED"),
                         help="the number from which the agent draws, if it draws; default: the "
                              "variable AGENT_SEED, and without it anew each time")
+    parser.add_argument("--set", action="append", default=[], metavar="NAME=VALUE",
+                        help="play with another value of a number, or of several in brackets, that "
+                             "the agent's file names in capitals; may be given again")
     return parser
 
 
-def _begin(given: argparse.Namespace) -> Tuple[str, int, str, float]:
+def _begin(parser: argparse.ArgumentParser, given: argparse.Namespace
+           ) -> Tuple[str, int, str, float]:
+    for text in given.set:
+        _change(parser, vars(sys.modules["__main__"]), text)
     if given.seed is not None:
         random.seed(given.seed)
     return given.host, given.port, given.word, given.pause
+
+
+def _change(parser: argparse.ArgumentParser, names: Dict[str, Any], text: str) -> None:
+    """Gives a name of the agent's file another value of its kind, by a text such as `SHADE=1.0`."""
+    name, _, value = text.partition("=")
+    kinds = next((kinds for kinds in ((int, float), (tuple, list)) if name.isupper()
+                  and isinstance(names.get(name), kinds)), None)
+    if kinds is None:
+        parser.error(f"--set {text}: the agent's file names no number {name} in capitals")
+    try:
+        names[name] = ast.literal_eval(value)
+    except (ValueError, SyntaxError):
+        names[name] = None
+    if not isinstance(names[name], kinds):
+        parser.error(f"--set {text}: a value like the one of {name} is due")
 
 
 def run(what: str, play: Callable[[Link, float], None]) -> None:
@@ -432,7 +456,7 @@ def run(what: str, play: Callable[[Link, float], None]) -> None:
                         help="ask for a seat in the next game after each, until there is no server "
                              f"for {PATIENCE} seconds")
     given = parser.parse_args()
-    host, port, word, pause = _begin(given)
+    host, port, word, pause = _begin(parser, given)
     told = ""
     while True:
         try:

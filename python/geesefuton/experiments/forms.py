@@ -13,7 +13,8 @@ MARK = "*"  # at a mean with seats that nobody took
 ADJUSTED = "adjusted for the draw"
 
 
-def _number(value: Optional[Estimate]) -> str:
+def number_text(value: Optional[Estimate]) -> str:
+    """A mean in whole dollars with its interval; `-` where there is none."""
     if value is None:
         return "-"
     half = "?" if value.half is None else f"{value.half:.0f}"
@@ -25,14 +26,15 @@ def _chance(value: Optional[float]) -> str:
 
 
 def _marked(standing: Standing) -> str:
-    return _number(standing.score) + (MARK if standing.untaken else "")
+    return number_text(standing.score) + (MARK if standing.untaken else "")
 
 
-def _count(number: int, what: str) -> str:
+def count_text(number: int, what: str) -> str:
+    """A number of things."""
     return f"{number} {what}" if number == 1 else f"{number} {what}s"
 
 
-def _columns(rows: Sequence[Sequence[str]]) -> List[str]:
+def columns(rows: Sequence[Sequence[str]]) -> List[str]:
     """Lines with the cells of each column one below the other, the first aligned left."""
     widths = [max(map(len, column)) for column in zip(*rows)]
     return ["  ".join(cell.ljust(width) if place == 0 else cell.rjust(width)
@@ -54,7 +56,7 @@ def _kinds(summary: Summary) -> List[str]:
                          (Kind.FORMER_TURNS, Kind.FORMER_UNREPEATABLE))):
         turns, broken = (summary.kinds.get(kind, 0) for kind in kinds)
         if turns + broken:
-            lines.append(f"{name}: {_count(turns, 'game')} that can be repeated" +
+            lines.append(f"{name}: {count_text(turns, 'game')} that can be repeated" +
                          (f", and {broken} in which an agent was passed over" if broken else ""))
     return lines
 
@@ -69,8 +71,8 @@ def _of_pairs(pairs: Sequence[Difference], summary: Summary) -> List[List[str]]:
         holm = "?" if pair.holm is None else f"+- {pair.holm:.0f}"
         games = "?" if pair.needed is None else str(
             math.ceil(pair.needed * summary.games / summary.deals))
-        rows.append([f"{pair.first} less {pair.second}", _number(pair.score),
-                     *([holm] if are_many else []), _number(pair.adjusted),
+        rows.append([f"{pair.first} less {pair.second}", number_text(pair.score),
+                     *([holm] if are_many else []), number_text(pair.adjusted),
                      str(pair.score.count if pair.score else 0), _chance(pair.student),
                      _chance(pair.wilcoxon), *([games] if detect else [])])
     return rows
@@ -90,19 +92,19 @@ def _below_pairs(pairs: Sequence[Difference], summary: Summary) -> List[str]:
 
 def as_text(summary: Summary) -> str:
     """The summary in lines for a reader."""
-    lines = [f"{_count(summary.games, 'game')} of {_count(summary.deals, 'deal')}; dollars with "
+    lines = [f"{count_text(summary.games, 'game')} of {count_text(summary.deals, 'deal')}; dollars with "
              "95 % intervals by deals (Student's t)", *_kinds(summary), ""]
     rows = [["agent", "mean", "of seats that played", "luck", f"mean {ADJUSTED}",
              "did not play"]]
-    rows += [[standing.agent, _marked(standing), _number(standing.played),
-              f"{standing.luck:.0f}", _number(standing.adjusted), _reasons(standing)]
+    rows += [[standing.agent, _marked(standing), number_text(standing.played),
+              f"{standing.luck:.0f}", number_text(standing.adjusted), _reasons(standing)]
              for standing in summary.standings]
-    lines += _columns(rows)
+    lines += columns(rows)
     if any(standing.untaken for standing in summary.standings):
         lines.append(f"{MARK} with seats that nobody took, by the scores of their logs")
     pairs = [pair for pair in summary.differences if pair.score]
     if pairs:
-        lines += ["", *_columns(_of_pairs(pairs, summary)), *_below_pairs(pairs, summary)]
+        lines += ["", *columns(_of_pairs(pairs, summary)), *_below_pairs(pairs, summary)]
     lines += ["", *summary.lost] if summary.lost else []
     return "\n".join(lines) + "\n"
 

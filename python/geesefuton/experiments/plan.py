@@ -8,7 +8,7 @@ from typing import Dict, List, Mapping, Optional, Sequence, Tuple
 
 from geesefuton import program
 from geesefuton.arguments import Parser, seconds, whole
-from geesefuton.experiments.deals import DealError, Rule, read_rooms, tables
+from geesefuton.experiments.deals import DealError, Rule, Table, read_rooms, seated, tables
 from geesefuton.experiments.entrants import Entrant, EntrantError, read_entrants
 from geesefuton.experiments.forms import FORMS
 from geesefuton.experiments.match import PATIENCE
@@ -49,6 +49,8 @@ class Plan:
         settings: What else decides what can be compared.
         agents: What the agents are, by their names.
         detect: The difference of which the summary tells how many games tell it.
+        lineups: The agents of the eight seats in each game of a deal, where these are not the same;
+            each deal moves them on.
     """
 
     entrants: Sequence[Entrant]
@@ -69,6 +71,13 @@ class Plan:
     settings: Mapping[str, object] = field(default_factory=dict)
     agents: Mapping[str, Agent] = field(default_factory=dict)
     detect: Optional[int] = None
+    lineups: Sequence[Sequence[Entrant]] = ()
+
+    def seated(self, table: Table) -> List[Entrant]:
+        """The agents of the eight seats of a game."""
+        if not self.lineups:
+            return seated(self.entrants, table)
+        return seated(self.lineups[table.rotation], replace(table, rotation=0))
 
     def seconds(self) -> float:
         """The seconds that a game may take, and in turns those until it has its next tick."""
@@ -90,18 +99,17 @@ def _summary_file(text: str) -> Path:
     return Path(text)
 
 
-def make_parser(description: Optional[str]) -> Parser:
-    """The words of the command, which the description explains."""
-    parser = Parser("tournament", description or "")
+def add_playing(parser: Parser, games: str) -> None:
+    """Adds the words that say which games are played, and how.
+
+    Args:
+        parser: The parser of a command.
+        games: What the number of games counts.
+    """
     add = parser.add_argument
-    add("agents", nargs="*", metavar="AGENT",
-        help="default: planner, trader and watcher of examples/agents, in a clone")
-    add("--games", type=whole(1), default=4, metavar="N",
-        help="how many games; 4. With swapped seats a multiple of the number of agents")
+    add("--games", type=whole(1), default=4, metavar="N", help=games)
     add("--seed", type=whole(0, MOST_SEED), default=1, metavar="N",
         help="the seed of the first deal; 1")
-    add("--swap", action=argparse.BooleanOptionalAction, default=None,
-        help="play each deal once for each agent, with other seats each time; on for two agents")
     add("--rooms", type=_rooms, metavar="N..M",
         help="the rooms of each hotel night, drawn by the seed, as 3..6; default: 16")
     add("--live", action="store_true", help="hotel prices move with each bid")
@@ -120,13 +128,24 @@ def make_parser(description: Optional[str]) -> Parser:
     add("--after", type=seconds, metavar="SECONDS",
         help=f"how long after the last tick links are ended; {LINGER:g}, in turns "
              f"{LINGER_IN_TURNS:g}")
+    add("--resume", action="store_true",
+        help="with --out: play what FOLDER lacks, if it was begun with the same words and files")
+
+
+def make_parser(description: Optional[str]) -> Parser:
+    """The words of the command, which the description explains."""
+    parser = Parser("tournament", description or "")
+    add = parser.add_argument
+    add("agents", nargs="*", metavar="AGENT",
+        help="default: planner, trader and watcher of examples/agents, in a clone")
+    add_playing(parser, "how many games; 4. With swapped seats a multiple of the number of agents")
+    add("--swap", action=argparse.BooleanOptionalAction, default=None,
+        help="play each deal once for each agent, with other seats each time; on for two agents")
     add("--keep", type=Path, metavar="FOLDER",
         help="where to keep game files, logs, events and what agents printed")
     add("--out", type=Path, metavar="FOLDER",
         help="where the run stands: run.json with all that it was played with, scores.csv with the "
              "lines of each game as it ends, and the files of games")
-    add("--resume", action="store_true",
-        help="with --out: play what FOLDER lacks, if it was begun with the same words and files")
     add("--summary", type=_summary_file, action="append", default=[], metavar="FILE",
         help="a file for the summary: .txt, .csv or .json; may be given again")
     add("--detect", type=whole(1), metavar="DOLLARS",

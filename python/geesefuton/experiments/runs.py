@@ -55,6 +55,20 @@ def is_run(folder: Path) -> bool:
     return (folder / RUN).is_file()
 
 
+def is_being_written(folder: Path) -> bool:
+    """Whether a tournament, or one of its games, holds the lock of a folder."""
+    number = os.open(folder, os.O_RDONLY)
+    try:
+        fcntl.flock(number, fcntl.LOCK_SH | fcntl.LOCK_NB)
+        return False
+    except BlockingIOError:
+        return True
+    except OSError:
+        return False  # a file system that has no locks
+    finally:
+        os.close(number)
+
+
 def read_scores(folder: Path) -> Found:
     """Reads the rows of whole games from the scores.csv of a folder.
 
@@ -93,6 +107,32 @@ def read_scores(folder: Path) -> Found:
     return found
 
 
+def compare(folder: Path, plan: Plan) -> Dict[str, Any]:
+    """Refuses a plan that does not belong to what was played in a folder.
+
+    Returns:
+        What its run.json says.
+
+    Raises:
+        RunError: It says nothing, or something else than the plan.
+        OSError: It cannot be read.
+    """
+    try:
+        value = dict(json.loads((folder / RUN).read_bytes()))
+        if value["tournament"] != FORM or not isinstance(value["runs"], list):
+            raise ValueError
+        settings, digests = value["settings"], {agent["name"]: agent["digest"]
+                                                for agent in value["agents"]}
+        differences = unlike(settings, plan.settings)
+    except (ValueError, LookupError, TypeError, AttributeError):
+        raise RunError(f"its {RUN} is not that of a tournament of this version") from None
+    differences += [f"the files or words of {name} are others" for name, agent in
+                    plan.agents.items() if digests.get(name, agent.digest) != agent.digest]
+    if differences:
+        raise RunError("its run was begun otherwise: " + "; ".join(differences))
+    return value
+
+
 class RunFolder:
     """The folder of a run while it is written.
 
@@ -115,8 +155,8 @@ class RunFolder:
         self._folder.mkdir(parents=True, exist_ok=True)
         self.lock = self._locked()
         try:  # another may have begun it meanwhile
-            self._value = self._read() if self._is_begun(plan.is_resumed) else _record(plan)
-            self._compare(plan)
+            is_begun = self._is_begun(plan.is_resumed)
+            self._value = compare(self._folder, plan) if is_begun else _record(plan)
             self._begin(arguments)
         except BaseException:
             os.close(self.lock)
@@ -170,25 +210,6 @@ class RunFolder:
         if names and not is_resumed:
             raise RunError("it has a run: --resume goes on with it; or name another folder")
         return bool(names)
-
-    def _read(self) -> Dict[str, Any]:
-        try:
-            value = json.loads((self._folder / RUN).read_bytes())
-            if value["tournament"] != FORM or not isinstance(value["runs"], list):
-                raise ValueError
-            value["settings"], value["agents"][0]["digest"]
-        except (ValueError, LookupError, TypeError):
-            raise RunError(f"its {RUN} is not that of a tournament of this version") from None
-        return dict(value)
-
-    def _compare(self, plan: Plan) -> None:
-        """Refuses a plan that does not belong to what was played."""
-        differences = unlike(self._value["settings"], plan.settings)
-        digests = {agent["name"]: agent["digest"] for agent in self._value["agents"]}
-        differences += [f"the files or words of {name} are others" for name, agent in
-                        plan.agents.items() if digests.get(name, agent.digest) != agent.digest]
-        if differences:
-            raise RunError("its run was begun otherwise: " + "; ".join(differences))
 
     def _locked(self) -> int:
         """Locks the folder, and gives the number of its open file.

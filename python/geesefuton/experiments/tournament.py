@@ -43,13 +43,13 @@ from typing import AbstractSet, Dict, Iterator, List, Optional, Sequence, Tuple
 from geesefuton import program
 from geesefuton.arguments import Parser
 from geesefuton.experiments.covariates import covariates_of
-from geesefuton.experiments.deals import DealError, Table, name_of_deal, seated, tables
+from geesefuton.experiments.deals import DealError, Table, name_of_deal, tables
 from geesefuton.experiments.entrants import PACKAGE, Entrant, seat_words
 from geesefuton.experiments.forms import FORMS, as_text
 from geesefuton.experiments.joining import joined, pooled, read_source
 from geesefuton.experiments.match import PROGRAM, Job, Note, Result
 from geesefuton.experiments.plan import Plan, make_parser, read_plan
-from geesefuton.experiments.provenance import SHORT, settings_text
+from geesefuton.experiments.provenance import SHORT, read_settings, settings_text
 from geesefuton.experiments.results import Row
 from geesefuton.experiments.runs import RunError, RunFolder
 from geesefuton.experiments.summary import Summary, summarize
@@ -161,7 +161,7 @@ class Tournament:
 
     def _begin(self, children: Children, number: int, table: Table) -> Running:
         plan = self._plan
-        entrants = seated(plan.entrants, table)
+        entrants = plan.seated(table)
         words = seat_words(entrants)
         folder = plan.keep or children.folder("game")
         job = Job(table.name, folder, table.deal.game.named(words).text(), tuple(entrants),
@@ -275,6 +275,8 @@ def _join(names: Sequence[Path], are_pools: bool, summaries: Sequence[Path],
     sources, told = [], []
     for name in names:
         source, lines = read_source(name)
+        if source and "players" in read_settings(source.rows[0].settings):
+            source, lines = None, [*lines, f"{name}: it has the games of profiles: see that command"]
         sources += [source] if source else []
         told += lines
     rows, refused = (pooled if are_pools else joined)(sources)
@@ -335,16 +337,34 @@ def _play_to_output(parser: Parser, plan: Plan) -> int:
 
 def _play_in_folder(parser: Parser, plan: Plan) -> int:
     """Plays what a folder lacks, with the rows there and the summary on standard output."""
+    status, rows, lost = play_in_folder(parser, plan)
+    failed = _print_summary(summarize(rows, lost, plan.detect), plan.summaries)
+    return status or (1 if failed else 0)
+
+
+def play_in_folder(parser: Parser, plan: Plan, elsewhere: AbstractSet[Tuple[str, int]] = frozenset()
+                   ) -> Tuple[int, List[Row], List[str]]:
+    """Plays what the folder of a plan lacks.
+
+    Args:
+        parser: What refuses the folder if it is another's.
+        plan: The plan, with a folder.
+        elsewhere: The games that are not played here either.
+
+    Returns:
+        The exit status, the rows of all runs of the folder, and what was lost.
+    """
     try:
         folder = RunFolder(plan, sys.argv[1:])
     except RunError as fault:
         parser.error(f"--out {plan.out}: {fault}")
     for text in folder.told:
-        tell(f"tournament: {text}")
+        tell(f"{parser.prog}: {text}")
     if folder.finished:
         tell(f"{len(folder.finished)} games were finished by earlier runs")
     writer = AppendedRows(folder.out)
-    tournament = Tournament(plan, writer, folder.finished, folder.number, [folder.lock])
+    tournament = Tournament(plan, writer, folder.finished | elsewhere, folder.number,
+                            [folder.lock])
     status = _play(tournament, writer)
     report = tournament.report
     status = status or (1 if report.lost else 0)
@@ -354,9 +374,7 @@ def _play_in_folder(parser: Parser, plan: Plan) -> int:
     except OSError as fault:
         report.lose(f"{plan.out}: how the run ended was not written: {why(fault)}")
         status = status or 1
-    rows = folder.rows + report.all_rows()
-    failed = _print_summary(summarize(rows, report.lost, plan.detect), plan.summaries)
-    return status or (1 if failed else 0)
+    return status, folder.rows + report.all_rows(), report.lost
 
 
 def _play(tournament: Tournament, writer: AppendedRows) -> int:

@@ -1,0 +1,143 @@
+import math
+import random
+import unittest
+from typing import List, Sequence
+
+from geesefuton.experiments.equilibria import (RESAMPLES, Mixture, SymmetricGame, counts_of,
+                                               distance, equilibria, find, gains, mean_game,
+                                               replicated, resampled)
+
+
+def of_two(*payoffs: Sequence[float]) -> SymmetricGame:
+    """A game of two players, with a row of payoffs for each strategy."""
+    return SymmetricGame(2, payoffs)
+
+
+def scattered(means: Sequence[Sequence[float]], spread: float, deals: int,
+              seed: int) -> List[List[List[float]]]:
+    """Payoffs of deals about their means."""
+    source = random.Random(seed)
+    return [[[source.gauss(mean, spread) for mean in row] for row in means]
+            for _ in range(deals)]
+
+
+class Games(unittest.TestCase):
+    def agree(self, found: Sequence[Mixture], due: Sequence[Sequence[float]]) -> None:
+        self.assertEqual(len(found), len(due), found)
+        for mixture, shares in zip(found, due):
+            for share, other in zip(mixture, shares):
+                self.assertAlmostEqual(share, other, places=6)
+
+    def test_choices_are_counted(self) -> None:
+        self.assertEqual(counts_of(2, 2), [(2, 0), (1, 1), (0, 2)])
+        self.assertEqual(len(counts_of(7, 3)), 36)
+        self.assertTrue(all(sum(counts) == 7 for counts in counts_of(7, 3)))
+
+    def test_values_are_those_of_drawn_rivals(self) -> None:
+        # Beside two rivals of which each has the first strategy with probability 1/4: both have it
+        # with 1/16, one with 6/16, none with 9/16.
+        game = SymmetricGame(3, [[16.0, 32.0, 48.0], [0.0, 16.0, 0.0]])
+        values = game.values((0.25, 0.75))
+        self.assertAlmostEqual(values[0], 1.0 + 12.0 + 27.0)
+        self.assertAlmostEqual(values[1], 6.0)
+        self.assertAlmostEqual(game.regret((0.25, 0.75)), 40.0 - (10.0 + 4.5))
+
+    def test_rock_paper_scissors(self) -> None:
+        for win in (0.5, 1.0, 2.0):  # the equilibrium repels, is circled, and attracts
+            game = of_two([0, -1, win], [win, 0, -1], [-1, win, 0])
+            self.agree(equilibria(game), [[1 / 3] * 3])
+
+    def test_chicken(self) -> None:
+        # To dare gives 7 (1 - x), to give way 2 x + 6 (1 - x), where x of the others dare.
+        self.agree(equilibria(of_two([0, 7], [2, 6])), [[1 / 3, 2 / 3]])
+
+    def test_a_dominated_strategy(self) -> None:
+        self.agree(equilibria(of_two([3, 0], [5, 1])), [[0, 1]])
+        self.agree(equilibria(of_two([3, 0, 2], [5, 1, 4], [1, 0, 0])), [[0, 1, 0]])
+
+    def test_two_ways_to_agree_and_the_mixture_that_repels(self) -> None:
+        self.agree(equilibria(of_two([2, 0], [0, 1])), [[1, 0], [1 / 3, 2 / 3], [0, 1]])
+
+    def test_more_players(self) -> None:
+        # Eight choose one of two roads, and a player has 7 less the number of others on its road.
+        alone = [[float(7 - counts[road]) for counts in counts_of(7, 2)] for road in range(2)]
+        self.agree(equilibria(SymmetricGame(8, alone)), [[0.5, 0.5]])
+        # Of those on the second road each has 1 less: 7 (1 - 2 x) + 1 = 0.
+        taxed = [alone[0], [value - 1.0 for value in alone[1]]]
+        self.agree(equilibria(SymmetricGame(8, taxed)), [[4 / 7, 3 / 7]])
+        # Somebody has to volunteer at a cost of 1 for a gain of 3 each: among 8, nobody else does
+        # with probability 1/3, so the others' share is the seventh root of 1/3.
+        volunteers = [[2.0] * 8, [0.0 if counts[0] == 0 else 3.0 for counts in counts_of(7, 2)]]
+        rest = (1 / 3) ** (1 / 7)
+        self.agree(equilibria(SymmetricGame(8, volunteers)), [[1 - rest, rest]])
+
+    def test_payoffs_that_are_all_alike(self) -> None:
+        self.assertIn((1.0, 0.0), equilibria(of_two([5, 5], [5, 5])))
+
+    def test_the_replicator_dynamics(self) -> None:
+        game = of_two([0, 7], [2, 6])
+        for start in ((0.9, 0.1), (0.05, 0.95)):
+            self.assertLess(distance(replicated(game, start), (1 / 3, 2 / 3)), 0.02, start)
+        self.assertEqual(replicated(game, (1.0, 0.0)), (1.0, 0.0))
+        self.assertAlmostEqual(sum(replicated(of_two([0, -1, 2], [2, 0, -1], [-1, 2, 0]),
+                                              (0.6, 0.3, 0.1))), 1.0)
+
+    def test_distances(self) -> None:
+        self.assertEqual(distance((1.0, 0.0), (0.0, 1.0)), 1.0)
+        self.assertAlmostEqual(distance((0.5, 0.3, 0.2), (0.4, 0.3, 0.3)), 0.1)
+
+
+class Deals(unittest.TestCase):
+    def test_gains_are_paired_by_deals(self) -> None:
+        # The second strategy has 10 more beside the first in each of three deals but for 10 +- 1.
+        samples = [[[100.0, 0.0], [109.0, 0.0]], [[300.0, 0.0], [310.0, 0.0]],
+                   [[200.0, 0.0], [211.0, 0.0]]]
+        own, other = gains(2, samples, (1.0, 0.0))
+        self.assertEqual((own.mean, own.half), (0.0, 0.0))
+        self.assertAlmostEqual(other.mean, 10.0)
+        self.assertAlmostEqual(other.half or 0.0, 4.30265 / math.sqrt(3), places=4)
+        self.assertEqual(mean_game(2, samples).payoffs, [[200.0, 0.0], [210.0, 0.0]])
+
+    def test_resamples_scatter_as_wide_as_students_intervals(self) -> None:
+        for deals in (2, 3, 8, 30):
+            samples = scattered([[0.0]], 1.0, deals, 5)
+            values = [sample[0][0] for sample in samples]
+            mean = sum(values) / deals
+            error = math.sqrt(sum((value - mean) ** 2 for value in values) / (deals - 1) / deals)
+            drawn = [game.payoffs[0][0] for game in
+                     resampled(1, samples, 2000, random.Random(3))]
+            spread = math.sqrt(sum((value - mean) ** 2 for value in drawn) / 2000)
+            bound = {2: 12.7062, 3: 4.3027, 8: 2.3646, 30: 2.0452}[deals] / 1.95996
+            self.assertAlmostEqual(spread / (bound * error), 1.0, delta=0.07)
+
+    def test_a_large_difference_is_known_from_few_deals(self) -> None:
+        found = find(2, scattered([[4000, 4000], [2000, 2000]], 300.0, 8, 1))
+        self.assertEqual([(each.mixture, each.times) for each in found.equilibria],
+                         [((1.0, 0.0), RESAMPLES)])
+        self.assertEqual((found.others, found.resamples), (0, RESAMPLES))
+        self.assertEqual(found.shares, [(1.0, 1.0), (0.0, 0.0)])
+        self.assertTrue(found.are_known)
+
+    def test_a_single_deal_tells_nothing(self) -> None:
+        found = find(2, scattered([[4000, 4000], [2000, 2000]], 300.0, 1, 1))
+        self.assertEqual((found.resamples, found.are_known, found.shares), (0, False, []))
+        self.assertIsNone(found.equilibria[0].gains[1].half)
+
+    def test_nothing_is_known_of_strategies_that_are_alike(self) -> None:
+        """Of 30 studies of two strategies without a difference at most two find one."""
+        known, wide = 0, 0
+        for seed in range(30):
+            found = find(2, scattered([[4000, 4000], [4000, 4000]], 300.0, (2, 4, 8)[seed % 3],
+                                      seed), 20)
+            known += found.are_known
+            wide += found.shares[0][1] - found.shares[0][0] > 0.5
+        self.assertLessEqual(known, 2)
+        self.assertGreater(wide, 25)
+
+    def test_the_same_payoffs_give_the_same_findings(self) -> None:
+        samples = scattered([[1, 2], [2, 1]], 1.0, 4, 2)
+        self.assertEqual(find(2, samples, 20), find(2, samples, 20))
+
+
+if __name__ == "__main__":
+    unittest.main()
