@@ -428,17 +428,18 @@ def _begin(parser: argparse.ArgumentParser, given: argparse.Namespace
 
 def _change(parser: argparse.ArgumentParser, names: Dict[str, Any], text: str) -> None:
     """Gives a name of the agent's file another value of its kind, by a text such as `SHADE=1.0`."""
-    name, _, value = text.partition("=")
+    name, _, written = text.partition("=")
     kinds = next((kinds for kinds in ((int, float), (tuple, list)) if name.isupper()
                   and isinstance(names.get(name), kinds)), None)
     if kinds is None:
         parser.error(f"--set {text}: the agent's file names no number {name} in capitals")
     try:
-        names[name] = ast.literal_eval(value)
+        value = ast.literal_eval(written)
     except (ValueError, SyntaxError):
-        names[name] = None
-    if not isinstance(names[name], kinds):
+        value = None
+    if not isinstance(value, kinds):
         parser.error(f"--set {text}: a value like the one of {name} is due")
+    names[name] = value
 
 
 def run(what: str, play: Callable[[Link, float], None]) -> None:

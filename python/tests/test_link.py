@@ -1,5 +1,7 @@
+import ast
 import contextlib
 import errno
+import io
 import os
 import random
 import shutil
@@ -8,6 +10,7 @@ import subprocess
 import sys
 import tempfile
 import threading
+import types
 import unittest
 from pathlib import Path
 from typing import Callable, Iterator, List, Optional, Sequence, Tuple
@@ -509,6 +512,41 @@ class Arguments(unittest.TestCase):
         self.assertEqual([drawn("", "--seed", "0"), drawn("0")], [random.Random(0).random()] * 2)
         with mock.patch("sys.stderr"), self.assertRaises(SystemExit):
             drawn("x")
+
+    def test_names_of_the_agent_s_file_are_set(self) -> None:
+        agent = types.ModuleType("__main__")
+        names = vars(agent)
+        names.update(SHADE=0.25, MARGINS=(40, 5), UNITS=17, WORD="red", play=len)
+
+        def setting(*texts: str) -> None:
+            words = [word for text in texts for word in ("--set", text)]
+            with mock.patch("sys.argv", ["mine.py", "there", "7000", "red", *words]), \
+                    mock.patch.dict(sys.modules, {"__main__": agent}):
+                link.arguments("what")
+
+        setting("SHADE=1.0", "MARGINS=(30, 0)", "UNITS=-3")
+        self.assertEqual([names[name] for name in ("SHADE", "MARGINS", "UNITS")], [1.0, (30, 0), -3])
+        setting("SHADE=2")
+        self.assertEqual(names["SHADE"], 2)
+        for text, why in (("SHAED=1", "names no number SHAED in capitals"), ("play=1", "no number"),
+                          ("WORD=1", "no number WORD"), ("SHADE", "like the one of SHADE is due"),
+                          ("SHADE=", "is due"), ("SHADE=high", "is due"), ("=1", "no number"),
+                          ("SHADE=(1, 2)", "is due"), ("MARGINS=3", "like the one of MARGINS")):
+            told = io.StringIO()
+            with mock.patch("sys.stderr", told), self.assertRaises(SystemExit) as caught:
+                setting(text)
+            self.assertEqual(caught.exception.code, 2)
+            self.assertIn(why, told.getvalue())
+
+    def test_numbers_of_the_examples_that_only_a_class_or_a_function_reads_can_be_set(self) -> None:
+        """A name counts where it is read while the agent plays, and not only where it is loaded."""
+        for name, numbers in (("planner", ["MOST_FOR_A_SEAT", "MOST_FOR_A_ROOM"]),
+                              ("trader", ["MOST_FOR_A_ROOM", "MARGIN", "MOST_ROUNDS"]),
+                              ("baseline", ["SHADE", "AHEAD", "PATIENCE", "LEAST_GAIN", "MARGINS"])):
+            tree = ast.parse((TOP / "examples" / "agents" / f"{name}.py").read_text())
+            read = {each.id for function in ast.walk(tree) if isinstance(function, ast.FunctionDef)
+                    for each in ast.walk(function) if isinstance(each, ast.Name)}
+            self.assertEqual(set(numbers) - read, set())
 
     def test_agents_of_the_clone_get_the_same_link(self) -> None:
         text = (TOP / "examples" / "agents" / "link.py").read_text()

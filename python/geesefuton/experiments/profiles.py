@@ -132,7 +132,7 @@ def _of_equilibria(payoffs: Payoffs) -> List[str]:
         return [*columns(rows), *lines, "", "A single deal tells nothing of them: play more."]
     rows.append(["any other", *[""] * len(payoffs.names),
                  f"{findings.others} of {findings.resamples}"])
-    rows.append(["shares in 90 % of all", *(f"{low:.2f} to {high:.2f}"
+    rows.append(["90 % of all shares lie in", *(f"{low:.2f} to {high:.2f}"
                                             for low, high in findings.shares), ""])
     verdict = ("Other deals would most likely give the same." if findings.are_known else
                "NOT KNOWN from these deals which equilibria there are: play more.")
