@@ -1,3 +1,4 @@
+import hashlib
 import tempfile
 import unittest
 from pathlib import Path
@@ -6,8 +7,8 @@ from unittest import mock
 
 from geesefuton.experiments import deals, luck
 from geesefuton.experiments.deals import Deal, DealError, Rule, Table, read_rooms, seated, tables
-from geesefuton.records.drawing import MOST_SEED, drawn_rooms
-from geesefuton.records.games import PACKAGES, Client
+from geesefuton.records.drawing import MOST_SEED, classic_endowments, drawn_rooms
+from geesefuton.records.games import PACKAGES, Client, read_game
 from tests.helpers import SERVED_GAME, TOP, served_game
 
 MADE = SERVED_GAME.read_text()
@@ -114,6 +115,43 @@ class Rooms(unittest.TestCase):
         self.assertNotEqual(drawn_rooms(1, 1, 64), drawn_rooms(2, 1, 64))
         # The draw of a seed is the same on every machine and in every version.
         self.assertEqual(drawn_rooms(1, 3, 6), [6, 3, 4, 3, 4, 5, 5, 6])
+
+
+class Endowments(unittest.TestCase):
+    def test_twelve_tickets_in_four_clumps(self) -> None:
+        met = set()
+        for seed in range(60):
+            endowments = classic_endowments(seed)
+            self.assertEqual(len(endowments), 8)
+            for units in endowments:
+                kinds = [[[units[4 * kind + night - 1] for night in nights] for kind in range(3)]
+                         for nights in ((1, 4), (2, 3))]
+                for side in kinds:  # the outer nights, and the inner ones
+                    self.assertEqual(sorted(sum(nights) for nights in side), [0, 2, 4])
+                    self.assertEqual(sorted(sum(side, [])), [0, 0, 0, 0, 2, 4])
+                met |= {(good, count) for good, count in enumerate(units) if count}
+        self.assertEqual(met, {(good, count) for good in range(12) for count in (2, 4)})
+
+    def test_draws_are_those_of_their_texts(self) -> None:
+        def drawn(part: int, count: int) -> int:
+            digest = hashlib.sha256(f"tickets 7 3 {part}".encode()).digest()
+            return int.from_bytes(digest[:8], "big") % count
+
+        due = [0] * 12
+        for first, nights in ((0, (1, 4)), (4, (2, 3))):
+            kind = drawn(first, 3)
+            others = [kind + 1, kind + 2]
+            for each, part, count in ((kind, 2, 4), (others[drawn(first + 1, 2)] % 3, 3, 2)):
+                due[4 * each + nights[drawn(first + part, 2)] - 1] += count
+        self.assertEqual(classic_endowments(7)[3], due)
+
+    def test_a_made_game_may_have_them(self) -> None:
+        with mock.patch("geesefuton.program.make", made):
+            clumped = deals.made_deal(Rule(seed=3, is_clumped=True), 0).game
+            plain = deals.made_deal(Rule(seed=3), 0).game
+        self.assertEqual(clumped, plain.with_endowments(classic_endowments(3)))
+        self.assertNotEqual(clumped.endow, plain.endow)
+        self.assertEqual(read_game(clumped.text()), clumped)
 
 
 class Lucks(unittest.TestCase):

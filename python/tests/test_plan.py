@@ -38,6 +38,7 @@ class Settings(unittest.TestCase):
         for words, name, value in (
                 (["--no-swap"], "rotations", "1"), (["--rooms", "3..6"], "rooms", "3..6"),
                 (["--rooms", "4"], "rooms", "4..4"), (["--live"], "live", "true"),
+                (["--endow", "classic"], "endow", "classic"),
                 (["--json"], "form", "json"), (["--start", "3.5"], "start", "3.5"),
                 (["--after", "2"], "after", "2"), (["--pace", "50"], "pace", "50")):
             self.assertEqual(self.settings(*words), {**first, name: value})

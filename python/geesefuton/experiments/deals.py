@@ -10,7 +10,7 @@ from pathlib import Path
 from typing import Container, Iterator, List, Optional, Sequence, Tuple, TypeVar
 
 from geesefuton import program
-from geesefuton.records.drawing import drawn_rooms
+from geesefuton.records.drawing import classic_endowments, drawn_rooms
 from geesefuton.records.games import MOST_ROOMS, SEATS, Game, GameError, read_game
 
 Item = TypeVar("Item")
@@ -29,12 +29,14 @@ class Rule:
         file: A game file that is played each time in place of made games.
         rooms: The least and the most rooms of a hotel night; None for 16.
         live: Whether each admitted bid publishes a hotel's price.
+        is_clumped: Whether tickets are endowed as in the original game (`classic_endowments`).
     """
 
     seed: int = 1
     file: Optional[Path] = None
     rooms: Optional[Tuple[int, int]] = None
     live: bool = False
+    is_clumped: bool = False
 
 
 @dataclass(frozen=True)
@@ -100,6 +102,8 @@ def made_deal(rule: Rule, number: int) -> Deal:
     if rule.rooms is not None or rule.live:
         rooms = drawn_rooms(seed, *rule.rooms) if rule.rooms else game.rooms
         game = game.with_rooms(rooms, rule.live)
+    if rule.is_clumped:
+        game = game.with_endowments(classic_endowments(seed))
     return Deal(name, seed, game)
 
 

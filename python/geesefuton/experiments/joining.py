@@ -18,7 +18,7 @@ from geesefuton.processes import why
 WAYS = {Kind.SERVED: "by the clock", Kind.TURNS: "in turns", Kind.UNREPEATABLE: "in turns",
         Kind.FORMER_TURNS: "in turns by the former order",
         Kind.FORMER_UNREPEATABLE: "in turns by the former order"}
-OF_DEALS = ("game", "rooms", "live")  # the settings that make a seed's deal another
+OF_DEALS = ("game", "rooms", "live", "endow")  # the settings that make a seed's deal another
 
 
 @dataclass(frozen=True)

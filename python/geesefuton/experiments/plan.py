@@ -21,6 +21,7 @@ from geesefuton.records.games import ROOMS, SEATS, TICKS, Game
 
 AGENTS = ("planner", "trader", "watcher")  # those of examples/agents that play by default
 SEAT_WORDS = [f"seat{seat}" for seat in range(SEATS)]
+CLASSIC = "classic"
 MARGIN = 300.0  # seconds that a game may take beyond what it is given, on a machine that is full
 PACE = 100  # milliseconds
 LINGER, LINGER_IN_TURNS = 5.0, 30.0  # seconds
@@ -113,6 +114,9 @@ def add_playing(parser: Parser, games: str) -> None:
     add("--rooms", type=_rooms, metavar="N..M",
         help="the rooms of each hotel night, drawn by the seed, as 3..6; default: 16")
     add("--live", action="store_true", help="hotel prices move with each bid")
+    add("--endow", choices=(CLASSIC,),
+        help="tickets at first: clumped as in the original game, as remembered; default: 0 to 2 of "
+             "each")
     add("--game", type=Path, metavar="FILE", help="play this game file in place of made games")
     add("--at-once", type=whole(1), default=2, metavar="N", help="how many games at a time; 2")
     add("--pace", type=whole(1, 60000), metavar="MILLISECONDS",
@@ -170,7 +174,7 @@ def read_plan(parser: Parser, given: argparse.Namespace) -> Plan:
     _refuse(parser, given)
     try:
         entrants = read_entrants(given.agents or _default_agents(parser))
-        rule = Rule(given.seed, given.game, given.rooms, given.live)
+        rule = Rule(given.seed, given.game, given.rooms, given.live, given.endow == CLASSIC)
         first = next(tables(rule, 1, 1)).deal.game  # tells whether deals can be made
         tac = digest_of(Path(program.find()))
         agents = {entrant.name: agent_of(entrant) for entrant in entrants}
@@ -206,7 +210,8 @@ def _settings(plan: Plan, first: Game, tac: str) -> Dict[str, object]:
         "pace": plan.pace}
     game = {"game": hashlib.sha256(first.named(SEAT_WORDS).text().encode()).hexdigest()[:SHORT]}
     low, high = rule.rooms or (ROOMS, ROOMS)
-    rooms = {"rooms": f"{low}..{high}", "live": str(rule.live).lower()}
+    rooms = {"rooms": f"{low}..{high}", "live": str(rule.live).lower(),
+             **({"endow": CLASSIC} if rule.is_clumped else {})}
     return {"agents": names_text([entrant.name for entrant in plan.entrants]),
             "rotations": plan.rotations, **pace, **(game if rule.file else rooms),
             "form": plan.form, "start": f"{plan.start:g}", "after": f"{plan.linger:g}",
@@ -215,8 +220,8 @@ def _settings(plan: Plan, first: Game, tac: str) -> Dict[str, object]:
 
 def _refuse(parser: Parser, given: argparse.Namespace) -> None:
     """Refuses words that do not go together."""
-    if given.game and (given.rooms or given.live):
-        parser.error("--rooms and --live are for made games, not for a game file")
+    if given.game and (given.rooms or given.live or given.endow):
+        parser.error("--rooms, --live and --endow are for made games, not for a game file")
     if given.turns and given.pace is not None:
         parser.error("--pace is for games by the clock, and --turns for those without")
     if given.patience is not None and not given.turns:

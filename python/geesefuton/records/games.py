@@ -189,6 +189,10 @@ class Game:
         """The same game in version 2 with these rooms and quotes."""
         return replace(self, rooms=tuple(rooms), live=live, version=2)
 
+    def with_endowments(self, endowments: Sequence[Sequence[int]]) -> "Game":
+        """The same game with other tickets at first."""
+        return replace(self, endow=tuple(map(tuple, endowments)))
+
     def text(self) -> str:
         """Its canonical text."""
         lines = [f"tac {self.version}", "words " + " ".join(self.words)]
