@@ -106,6 +106,8 @@ def scripts(hanger: str, browser: str) -> Iterator[Script]:
     yield Script("tournament in turns", ["tools/tournament", "--games", "3", "--turns", "10",
                                          "--patience", "1", "--after", "1", hanger,
                                          str(TOP / planner)])
+    yield Script("profiles", ["tools/profiles", "--games", "1", "--turns", "10", "--patience", "1",
+                              "--after", "1", "--out", "study", hanger, str(TOP / planner)])
     yield Script("lobby, waiting", [*lobby, "--start", "4"])
     yield Script("lobby, game", [*lobby, "--start", "0.1"])
     yield Script("lobby, page", [*lobby, "--start", "0.1", "--page", "PAGE"])
