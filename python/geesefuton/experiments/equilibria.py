@@ -68,7 +68,7 @@ class SymmetricGame:
     def __init__(self, players: int, payoffs: Sample) -> None:
         self.players, self.payoffs = players, payoffs
         self.strategies = len(payoffs)
-        self.spread = max(map(max, payoffs)) - min(map(min, payoffs))
+        self.spread = max(max(row) for row in payoffs) - min(min(row) for row in payoffs)
         self._shape = _shape(players, self.strategies)
 
     def values(self, mixture: Sequence[float]) -> List[float]:
@@ -82,7 +82,12 @@ class SymmetricGame:
     def regret(self, mixture: Mixture) -> float:
         """The most that a player gains by a single strategy while the others draw from it."""
         values = self.values(mixture)
-        return max(values) - sum(map(mul, mixture, values))
+        return max(values) - _mean(mixture, values)
+
+
+def _mean(mixture: Sequence[float], values: Sequence[float]) -> float:
+    """What a mixture has, by the values of its strategies."""
+    return sum(map(mul, mixture, values), 0.0)
 
 
 def replicated(game: SymmetricGame, start: Mixture) -> Mixture:
@@ -91,7 +96,7 @@ def replicated(game: SymmetricGame, start: Mixture) -> Mixture:
     rate, mixture = 2.0 / (game.players * (game.spread or 1.0)), start
     for _ in range(STEPS):
         values = game.values(mixture)
-        mean = sum(map(mul, mixture, values))
+        mean = _mean(mixture, values)
         grown = tuple(share * (1.0 + rate * (value - mean))
                       for share, value in zip(mixture, values))
         if max(abs(new - old) for new, old in zip(grown, mixture)) < 1e-5:
@@ -142,9 +147,9 @@ def _balanced(game: SymmetricGame, start: Mixture) -> Optional[Mixture]:
             break
         for place, part in zip(support, step):
             mixture[place] += part
-        if max(map(abs, mixture)) > 2.0:
+        if max(mixture) > 2.0 or min(mixture) < -1.0:
             return None
-        if max(map(abs, step)) < 1e-12:
+        if all(abs(part) < 1e-12 for part in step):
             break
     return tuple(mixture) if min(mixture) >= 0.0 else None
 
@@ -181,7 +186,7 @@ def gains(players: int, samples: Sequence[Sample], mixture: Mixture) -> List[Est
     by_deal = []
     for sample in samples:
         values = SymmetricGame(players, sample).values(mixture)
-        mean = sum(map(mul, mixture, values))
+        mean = _mean(mixture, values)
         by_deal.append([value - mean for value in values])
     return [estimate(values) for values in zip(*by_deal)]
 
