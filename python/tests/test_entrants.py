@@ -62,6 +62,14 @@ class Entrants(unittest.TestCase):
         self.assertEqual([entrant.root for entrant in entrants],
                          ["mine1", "other", "mine2", "mine1"])
 
+    def test_variants_of_one_file_are_told_apart_by_their_words(self) -> None:
+        first, second = self.file("one/mine.py"), self.file("two/mine.py")
+        plain, variant = first, f"{first} --set SHADE=1.0"
+        self.assertEqual([entrant.name for entrant in read_entrants([plain, variant])],
+                         ["mine", "mine --set SHADE=1.0"])
+        self.assertEqual([entrant.name for entrant in read_entrants([plain, variant, second])],
+                         [plain, "mine --set SHADE=1.0", second])
+
     def test_an_agent_that_is_given_twice_keeps_its_name(self) -> None:
         mine = self.file("mine.py")
         entrants = read_entrants([mine, mine, self.file("other.py")])

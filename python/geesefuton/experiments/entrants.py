@@ -66,8 +66,15 @@ def read_entrant(command: str) -> Entrant:
     return Entrant(command, tuple(run + words[1:]), stem, root)
 
 
+def _variant(entrant: Entrant) -> str:
+    """The name of a Python file's agent with the words after the file; else its command."""
+    first, *words = shlex.split(entrant.command)
+    return " ".join([entrant.name, *words]) if first.endswith(".py") else entrant.command
+
+
 def read_entrants(commands: Sequence[str]) -> List[Entrant]:
-    """Reads the agents' commands. Different agents of one name get their commands as names.
+    """Reads the agents' commands. Different agents of one name get the words after their file added
+    to it, and their commands as names where these are the same.
 
     Raises:
         EntrantError: One of them cannot be run.
@@ -75,6 +82,7 @@ def read_entrants(commands: Sequence[str]) -> List[Entrant]:
     entrants = [read_entrant(command) for command in commands]
     different = {entrant.command: entrant for entrant in entrants}  # one may be given twice
     names = Counter(entrant.name for entrant in different.values())
+    variants = Counter(map(_variant, different.values()))
     roots: Dict[str, List[str]] = {}
     for entrant in different.values():
         roots.setdefault(entrant.root, []).append(entrant.command)
@@ -82,7 +90,10 @@ def read_entrants(commands: Sequence[str]) -> List[Entrant]:
     for entrant in entrants:
         alike = roots[entrant.root]
         root = entrant.root + (str(alike.index(entrant.command) + 1) if len(alike) > 1 else "")
-        name = entrant.command if names[entrant.name] > 1 else entrant.name
+        name = entrant.name
+        if names[name] > 1:
+            name = _variant(entrant)
+            name = entrant.command if variants[name] > 1 else name
         apart.append(replace(entrant, name=name, root=root))
     return apart
 
