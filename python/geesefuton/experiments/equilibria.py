@@ -164,13 +164,14 @@ def equilibria(game: SymmetricGame) -> List[Mixture]:
 
     From each of many mixtures, single strategies among them, the replicator dynamics lead to those
     that attract; Newton's method from both ends also finds those that do not. Each is checked by
-    its regret. That there are no others is not certain for mixtures of several strategies.
+    its regret. Single strategies come first, so none is missed; a mixture of several may be.
     """
     steps = 2
     while len(counts_of(steps, game.strategies)) < STARTS:
         steps += 1
     found: List[Mixture] = []
-    for counts in counts_of(steps, game.strategies):
+    starts = sorted(counts_of(steps, game.strategies), key=lambda counts: -counts.count(0))
+    for counts in starts:
         start = tuple(count / steps for count in counts)
         for near in (start, replicated(game, start)):
             mixture = _balanced(game, near)
