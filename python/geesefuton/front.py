@@ -39,7 +39,7 @@ PROGRAMS: Dict[str, Program] = {
     "report": Program("geesefuton.records.report", "makes a page of a game and its log"),
     "tournament": Program("geesefuton.experiments.tournament", "plays many games of some agents"),
     "profiles": Program("geesefuton.experiments.profiles",
-                        "plays all profiles of some strategies, and finds equilibria"),
+                        "plays all profiles of some strategies"),
     "doctor": Program("geesefuton.doctor", "says what is at hand on this machine"),
     "version": Program("geesefuton.doctor", "tells the version, the program and its hash"),
 }

@@ -136,7 +136,7 @@ class Commands(unittest.TestCase):
 
     def test_it_goes_on_where_it_was_stopped(self) -> None:
         text, told = self.run_profiles(status=1, LOSE="2.1")
-        self.assertIn("profiles: 1 deal left out, of which not every profile was scored",
+        self.assertIn("profiles: 1 deal left out: not every profile was scored",
                       told)
         self.assertIn("2 deals of 4 profiles, reduced to 2 players", text)
         scores = self.out / "part-1-of-1" / "scores.csv"
@@ -174,7 +174,7 @@ class Commands(unittest.TestCase):
 
     def test_a_single_deal_tells_no_equilibrium(self) -> None:
         text, told = self.run_profiles("--games", "1")
-        self.assertIn("A single deal tells nothing of them: play more.", text)
+        self.assertIn("A single deal shows nothing of them: play more.", text)
         self.assertIn("+- ?", text)
 
     def test_what_does_not_belong_together_is_refused(self) -> None:

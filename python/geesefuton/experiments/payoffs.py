@@ -61,8 +61,8 @@ class Payoffs:
         names: The strategies.
         players: How many there are in the game, full or reduced.
         profiles: Those that are played; the number of one is the rotation of its games.
-        deals: The deals of which every profile was scored.
-        incomplete: Those of which only some were.
+        deals: The deals whose profiles were all scored.
+        incomplete: Those with only some.
 
     Args:
         rows: Of games whose rotation is the number of their profile.

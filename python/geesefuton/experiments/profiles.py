@@ -1,4 +1,4 @@
-"""Plays every profile of a game between strategies, and tells its symmetric equilibria.
+"""Plays every profile of a game between strategies, and looks for symmetric equilibria.
 
     profiles baseline.py 'baseline.py --set SHADE=1.0' --games 40 --turns 40 --out FOLDER
 
@@ -118,7 +118,7 @@ def _gain_text(value: Estimate) -> str:
 
 
 def _of_equilibria(payoffs: Payoffs) -> List[str]:
-    """What is told of equilibria."""
+    """The lines on equilibria."""
     findings = find(payoffs.players, payoffs.samples())
     rows = [["symmetric equilibria, by shares", *payoffs.names, "of resamples"]]
     lines = []
@@ -129,7 +129,7 @@ def _of_equilibria(payoffs: Payoffs) -> List[str]:
     more = len(findings.equilibria) - MOST_TOLD
     lines += [f"and {more} more"] if more > 0 else []
     if not findings.resamples:
-        return [*columns(rows), *lines, "", "A single deal tells nothing of them: play more."]
+        return [*columns(rows), *lines, "", "A single deal shows nothing of them: play more."]
     rows.append(["any other", *[""] * len(payoffs.names),
                  f"{findings.others} of {findings.resamples}"])
     rows.append(["90 % of all shares lie in", *(f"{low:.2f} to {high:.2f}"
@@ -206,8 +206,8 @@ def _main() -> int:
         return status
     rows += own
     payoffs = Payoffs([entrant.name for entrant in plan.entrants], given.players, rows)
-    failed = [f"{count_text(len(payoffs.incomplete), 'deal')} left out, of which not every profile "
-              "was scored"] if payoffs.incomplete else []
+    failed = [f"{count_text(len(payoffs.incomplete), 'deal')} left out: not every profile was "
+              "scored"] if payoffs.incomplete else []
     if payoffs.deals:
         failed += _write(folder, payoffs)
         out = Output(1)
