@@ -71,6 +71,18 @@ class Games(unittest.TestCase):
         rest = (1 / 3) ** (1 / 7)
         self.agree(equilibria(SymmetricGame(8, volunteers)), [[1 - rest, rest]])
 
+    def test_the_level_of_payoffs_changes_nothing(self) -> None:
+        """Only differences count, also where they are small beside the payoffs."""
+        for level in (-4000.0, 4000.0, 1e6):
+            for payoffs, due in (([[0, 7], [2, 6]], [[1 / 3, 2 / 3]]),
+                                 ([[2, 0], [0, 1]], [[1, 0], [1 / 3, 2 / 3], [0, 1]]),
+                                 ([[0, -1, 1], [1, 0, -1], [-1, 1, 0]], [[1 / 3] * 3])):
+                game = of_two(*([level + value for value in row] for row in payoffs))
+                self.agree(equilibria(game), due)
+                start = tuple(share + 0.1 * (-1) ** place if len(payoffs) == 2 else share
+                              for place, share in enumerate(due[-1]))
+                self.assertAlmostEqual(sum(replicated(game, start)), sum(start))
+
     def test_payoffs_that_are_all_alike(self) -> None:
         self.assertIn((1.0, 0.0), equilibria(of_two([5, 5], [5, 5])))
 

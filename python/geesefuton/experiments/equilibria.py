@@ -97,8 +97,9 @@ def replicated(game: SymmetricGame, start: Mixture) -> Mixture:
     for _ in range(STEPS):
         values = game.values(mixture)
         mean = _mean(mixture, values)
-        grown = tuple(share * (1.0 + rate * (value - mean))
-                      for share, value in zip(mixture, values))
+        parts = [share * (1.0 + rate * (value - mean)) for share, value in zip(mixture, values)]
+        total = sum(parts)  # 1 but for rounding, which would grow from step to step
+        grown = tuple(part / total for part in parts)
         if max(abs(new - old) for new, old in zip(grown, mixture)) < 1e-5:
             break
         mixture = grown
@@ -142,7 +143,7 @@ def _balanced(game: SymmetricGame, start: Mixture) -> Optional[Mixture]:
         first = support[0]
         rows = [[change[place] - change[first] for change in changes]
                 + [values[first] - values[place]] for place in support[1:]]
-        step = _solution([*rows, [1.0] * len(support) + [0.0]])
+        step = _solution([*rows, [1.0] * len(support) + [1.0 - sum(mixture)]])
         if step is None:
             break
         for place, part in zip(support, step):
