@@ -26,7 +26,7 @@ from geesefuton.processes import Children, command
 from geesefuton.records.logs import read_scores as read_log_scores
 
 AGENTS = ("planner.py", "watcher.py")
-MOST = 600.0  # seconds that the last run may take
+MOST = 600.0  # seconds that the last run may take, and a tenth of it a game
 Games = Dict[str, Tuple[int, int]]  # by name: the number of the run, and when the log was written
 
 
@@ -36,7 +36,7 @@ class Killed:
     def __init__(self, tac: str, games: int, place: Path) -> None:
         self.out, self.temporary, self.mark = place / "run", place / "temporary", place.name
         self.temporary.mkdir()
-        self.words = [sys.executable, str(TOP / "tools" / "tournament"), "--turns", "10",
+        self.words = [sys.executable, str(TOP / "tools" / "tournament"), "--turns", "4",
                       "--games", str(games), "--at-once", "2", "--out", str(self.out), "--resume",
                       *(str(TOP / "examples" / "agents" / name) for name in AGENTS)]
         self.variables = {**os.environ, MARK: self.mark, "TMPDIR": str(self.temporary), "TAC": tac}
@@ -57,9 +57,14 @@ class Killed:
         """The file of a game's log."""
         return self.out / "games" / f"{game}.log"
 
-    def kill(self, after: float) -> int:
-        """Kills a run after some seconds, and gives how many games there are then."""
+    def kill(self, more: int, after: float) -> int:
+        """Kills a run some seconds after it finished so many games more, and gives how many games
+        there are then."""
         before, process = self.finished(), self.start()
+        deadline = time.monotonic() + MOST / 10.0
+        while (len(self.finished()) < len(before) + more and process.poll() is None
+               and time.monotonic() < deadline):
+            time.sleep(0.05)
         time.sleep(after)
         process.send_signal(signal.SIGKILL)
         told = process.communicate()[1].decode(errors="replace")
@@ -106,8 +111,9 @@ def main() -> int:
     with Children() as children:
         killed = Killed(tac, games, children.folder("killed"))
         for number in range(given.kills):
-            after = source.uniform(0.1, 6.0)
-            print(f"kill {number + 1} after {after:.1f} s: {killed.kill(after)} games", flush=True)
+            more, after = source.choice((0, 1, 1, 2)), source.uniform(0.0, 3.0)
+            print(f"kill {number + 1}, {after:.1f} s after {more} games more: "
+                  f"{killed.kill(more, after)} games", flush=True)
         killed.end(games)
     for fault in killed.faults:
         print(fault)
