@@ -13,18 +13,18 @@ what they would score if nobody did anything more; and writes for both the mean 
 import math
 import sys
 from pathlib import Path
-from typing import Dict, List, NamedTuple, Sequence
+from typing import List, NamedTuple, Sequence
 
 TOP = Path(__file__).resolve().parent.parent
 sys.path.insert(0, str(TOP / "python"))
 
 from geesefuton.arguments import Parser, whole  # noqa: E402
 from geesefuton.processes import command, tell  # noqa: E402
-from geesefuton.records.accounts import Accounts, entries_by_tick  # noqa: E402
+from geesefuton.records.accounts import Accounts  # noqa: E402
 from geesefuton.records.best_plans import best_plan  # noqa: E402
-from geesefuton.records.games import GOODS, HOTELS, SEATS, TICKS, Game, read_game  # noqa: E402
-from geesefuton.records.logs import Entry, read_log  # noqa: E402
-from geesefuton.records.replies import No  # noqa: E402
+from geesefuton.records.games import GOODS, SEATS, TICKS, Game, read_game  # noqa: E402
+from geesefuton.records.logs import read_log  # noqa: E402
+from geesefuton.records.ticks import entries_by_tick, ticks_by_log  # noqa: E402
 
 
 class Agreement(NamedTuple):
@@ -49,38 +49,17 @@ def correlation(one: Sequence[float], other: Sequence[float]) -> float:
     return sum(x * y for x, y in zip(first, second)) / scale if scale else 0.0
 
 
-def won_rooms(game: Game, good: int, history: Sequence[Entry]) -> Dict[int, List[int]]:
-    """For each agent what it would pay for each room if a hotel night closed now."""
-    bids = {entry.caller: (place, entry.call.points) for place, entry in enumerate(history)
-            if entry.call.do == "bid" and not isinstance(entry.reply, No)}
-    units = sorted((-price, place, agent) for agent, (place, points) in bids.items()
-                   for count, price in points for _ in range(count))
-    rooms = game.rooms[good - HOTELS.start]
-    ask = -units[rooms - 1][0] if len(units) >= rooms else 0
-    won: Dict[int, List[int]] = {}
-    for _, _, agent in units[:rooms]:
-        won.setdefault(agent, []).append(ask)
-    return won
-
-
 def agreement(game: Game, text: bytes, tick: int) -> Agreement:
     """How well the orders at a tick agree with the final one."""
     log = read_log(text)
     accounts = Accounts(game)
-    seen: Dict[int, List[Entry]] = {good: [] for good in GOODS}
-    for entries in entries_by_tick(game, log)[:tick + 1]:
+    for entries in entries_by_tick(ticks_by_log(game, log), log)[:tick + 1]:
         for good, _, entry in entries:
             accounts.take(good, entry)
-            seen[good].append(entry)
     plans = [accounts.cash[seat] + accounts.plan(seat).value for seat in range(SEATS)]
-    for good in HOTELS:
-        if accounts.prices[good] is not None:
-            for agent, paid in won_rooms(game, good, seen[good]).items():
-                accounts.held[agent][good] += len(paid)
-                accounts.cash[agent] -= sum(paid)
-    nothing_more = [accounts.cash[seat] + best_plan(game.clients[seat], accounts.held[seat],
-                                                    [None] * len(GOODS)).value
-                    for seat in range(SEATS)]
+    end = accounts.at_the_end()
+    nothing_more = [end.cash[seat] + best_plan(game.clients[seat], end.holdings[seat],
+                                               [None] * len(GOODS)).value for seat in range(SEATS)]
     final = [score.score for score in log.scores]
     return Agreement(correlation(plans, final), correlation(nothing_more, final))
 

@@ -1,8 +1,10 @@
 # Completion of geesefuton's words for bash.
 _geesefuton() {
     local word=${COMP_WORDS[COMP_CWORD]}
-    local programs="doctor live lobby profiles quickstart recover report room seat tac tournament version"
-    local commands="audit hotel make play serve show solve step table trial upgrade worth"
+    local programs commands
+    programs="data doctor live lobby profiles quickstart recover report room seat tac tournament"
+    programs+=" version"
+    commands="audit hotel make play serve show solve step table trial upgrade worth"
     if [ "$COMP_CWORD" -eq 1 ]; then
         mapfile -t COMPREPLY < <(compgen -W "$programs --help" -- "$word")
     elif [ "$COMP_CWORD" -eq 2 ] && [ "${COMP_WORDS[1]}" = tac ]; then

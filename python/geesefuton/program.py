@@ -12,14 +12,15 @@ import platform
 import shutil
 import signal
 import subprocess
+import tempfile
 import threading
 from pathlib import Path
 from typing import Iterator, List, Optional, Sequence, Set, Tuple, Union
 
 __all__ = [
     "INPUT", "LEAST_LIBRARY", "MEANINGS", "OK", "CLOCK", "UNSOUND", "ProgramError", "audit",
-    "ended", "examples", "find", "find_runnable", "library", "make", "play", "run", "served_words",
-    "show", "solve", "table", "top", "upgrade", "why_not_run", "worth",
+    "ended", "examples", "find", "find_runnable", "library", "make", "nameless_file", "play", "run",
+    "served_words", "show", "solve", "table", "top", "upgrade", "why_not_run", "worth",
 ]
 
 Word = Union[str, int, "os.PathLike[str]"]
@@ -143,12 +144,14 @@ def run(command: str, *words: Word, given: bytes = b"", allowed: Sequence[int] =
     """
     file = find_runnable()
     child: "Optional[subprocess.Popen[bytes]]" = None
+    output = nameless_file()  # through a pipe each line that it writes would wake this process
     try:
         with _held_signals(), _starting:
-            child = subprocess.Popen([file, command, *map(str, words)], stdout=subprocess.PIPE,
+            child = subprocess.Popen([file, command, *map(str, words)], stdout=output,
                                      stdin=subprocess.PIPE if given else subprocess.DEVNULL)
             _running.add(child)
-        data, _ = child.communicate(given or None, timeout)
+        child.communicate(given or None, timeout)
+        data = os.pread(output, os.fstat(output).st_size, 0)
     except subprocess.TimeoutExpired:
         raise ProgramError(f"tac {command} took longer than {timeout:g} seconds") from None
     except OSError as fault:
@@ -158,10 +161,19 @@ def run(command: str, *words: Word, given: bytes = b"", allowed: Sequence[int] =
             child.kill()  # does nothing if it has ended
             child.__exit__(None, None, None)
             _running.discard(child)
+        os.close(output)
     text = data.decode("ascii", "replace")
     if child.returncode not in allowed:
         raise ended(command, child.returncode, text.split("\n", 1)[0])
     return text
+
+
+def nameless_file() -> int:
+    """The descriptor of a new file without a name, so that none is left behind."""
+    if hasattr(os, "memfd_create"):
+        return os.memfd_create("tac")
+    with tempfile.TemporaryFile() as file:
+        return os.dup(file.fileno())
 
 
 @contextlib.contextmanager

@@ -1,12 +1,12 @@
 import unittest
-from dataclasses import replace
 from typing import List, Optional, Tuple
 
-from geesefuton.records.accounts import Accounts, Offers, entries_by_tick, ticks_of
-from geesefuton.records.games import CLOCK, HOTELS, SEATS, TICKETS, TICKS, Game
-from geesefuton.records.logs import Call, Entry, Log, Post, Trade, read_log
+from geesefuton.records.accounts import Accounts
+from geesefuton.records.games import CLOCK, FLIGHTS, HOTELS, SEATS, TICKETS, TICKS, Game
+from geesefuton.records.logs import Call, Entry, Log, read_log
 from geesefuton.records.replies import Reply, read_entry_reply
 from geesefuton.records.rules import prices_of
+from geesefuton.records.ticks import entries_by_tick, ticks_by_log
 from tests.helpers import DATA, served_game, served_log
 from tests.journals import GAME
 
@@ -15,19 +15,18 @@ GAMES: List[Tuple[Game, Log]] = [(served_game(), served_log()),
                                  (GAME, read_log((DATA / "lobby.log").read_bytes()))]
 
 
-def bid(agent: int, *points: Tuple[int, int], trades: Tuple[Trade, ...] = (),
-        reply: Reply = TAKEN) -> Entry:
-    return Entry(agent, Call("bid", points), reply, trades)
+def bid(agent: int, *points: Tuple[int, int], reply: Reply = TAKEN) -> Entry:
+    return Entry(agent, Call("bid", points), reply)
 
 
 class Asks(unittest.TestCase):
     """What an agent has to pay for a ticket."""
 
     def asks(self, *entries: Entry) -> List[Optional[int]]:
-        offers = Offers()
+        accounts = Accounts(served_game())
         for entry in entries:
-            offers.take(entry)
-        return [offers.ask(agent) for agent in (0, 1, 2)]
+            accounts.take(TICKETS[0], entry)
+        return [accounts.prices_for(agent)[TICKETS[0]] for agent in (0, 1, 2)]
 
     def test_the_lowest_of_the_others(self) -> None:
         self.assertEqual(self.asks(), [None, None, None])
@@ -40,12 +39,9 @@ class Asks(unittest.TestCase):
         self.assertEqual(self.asks(bid(0, (-1, 50)), refused)[1], 50)
 
     def test_what_is_sold_no_longer_stands(self) -> None:
-        sold = Trade(1, 0, 1, 50)
-        self.assertEqual(self.asks(bid(0, (-1, 50), (-1, 60)), bid(1, (1, 55), trades=(sold,)))[1],
-                         60)
+        self.assertEqual(self.asks(bid(0, (-1, 50), (-1, 60)), bid(1, (1, 55)))[1], 60)
         # Who sells to a standing bid keeps what nobody took.
-        self.assertEqual(self.asks(bid(1, (1, 55)), bid(0, (-1, 90), (-1, 40),
-                                                        trades=(Trade(1, 0, 1, 55),)))[1], 90)
+        self.assertEqual(self.asks(bid(1, (1, 55)), bid(0, (-1, 90), (-1, 40)))[1], 90)
 
 
 class Markets(unittest.TestCase):
@@ -74,30 +70,9 @@ class Markets(unittest.TestCase):
         accounts.take(20, bid(1, (-1, 90)))
         self.assertEqual([accounts.prices_for(agent)[20] for agent in (0, 1)], [90, None])
         self.assertEqual(accounts.prices_for(0)[21], None)
-        accounts.take(20, bid(0, (1, 95), trades=(Trade(0, 1, 1, 90),)))
-        self.assertEqual((accounts.cash[:2], accounts.held[0][20] - GAME.endow[0][4],
-                          accounts.held[1][20] - GAME.endow[1][4]), ([-90, 90], 1, -1))
-
-
-class Times(unittest.TestCase):
-    def test_tickets_have_the_tick_of_the_last_flight_or_room_that_was_paid_before(self) -> None:
-        def update(tick: int) -> Entry:
-            return Entry(CLOCK, Call("update", tick=tick), DONE)
-
-        histories: List[Tuple[Entry, ...]] = [()] * 28
-        histories[0] = (update(1), update(2), bid(1, (1, 900)), update(3))
-        histories[1] = (update(1), bid(1, (1, 900)))
-        histories[8] = (bid(0, (1, 9)), Entry(CLOCK, Call("publish"), DONE), bid(0, (1, 19)))
-        end = Entry(CLOCK, Call("close"), DONE)
-        histories[20] = (bid(1, (-1, 5)), bid(2, (1, 5)), bid(3, (1, 5)), end)
-        histories[21] = (bid(1, (-1, 5)), bid(2, (1, 5)), end)
-        histories[22] = (bid(1, (-1, 5)), bid(2, (1, 5)), end)
-        posts = [(21, 1), (0, 2), (1, 1), (20, 1), (8, 2), (22, 1)]  # goods, and positions there
-        log = replace(served_log(), histories=tuple(histories),
-                      cash=tuple(Post(2, good, at, (0,) * 9) for good, at in posts))
-        ticks = ticks_of(GAME, log)
-        self.assertEqual([ticks[good] for good in (0, 1, 8, 20, 21, 22)], [
-            [1, 2, 2, 3], [1, 1], [0, 6, 6], [0, 2, 2, 54], [0, 0, 54], [0, 6, 54]])
+        accounts.take(20, bid(0, (1, 95)))
+        self.assertEqual((accounts.cash[:2], accounts.holdings[0][20] - GAME.endow[0][4],
+                          accounts.holdings[1][20] - GAME.endow[1][4]), ([-90, 90], 1, -1))
 
 
 class Played(unittest.TestCase):
@@ -106,7 +81,7 @@ class Played(unittest.TestCase):
     def test_in_the_end_plans_are_worth_the_scores(self) -> None:
         for game, log in GAMES:
             accounts = Accounts(game)
-            for entries in entries_by_tick(game, log):
+            for entries in entries_by_tick(ticks_by_log(game, log), log):
                 for good, _, entry in entries:
                     accounts.take(good, entry)
             self.assertEqual(accounts.cash, [score.cash for score in log.scores])
@@ -117,21 +92,16 @@ class Played(unittest.TestCase):
     def test_prices_are_those_of_the_tick(self) -> None:
         for game, log in GAMES:
             accounts = Accounts(game)
-            for tick, entries in enumerate(entries_by_tick(game, log)[:TICKS]):
+            by_tick = entries_by_tick(ticks_by_log(game, log), log)
+            for tick, entries in enumerate(by_tick[:TICKS]):
                 for good, _, entry in entries:
                     accounts.take(good, entry)
-                self.assertEqual(accounts.prices[:8],
+                self.assertEqual(accounts.tick, tick)
+                prices = accounts.prices_for(0)
+                self.assertEqual([prices[good] for good in FLIGHTS],
                                  [prices_of(flight)[tick] for flight in game.flights])
-                self.assertEqual([accounts.prices[good] is None for good in HOTELS],
+                self.assertEqual([prices[good] is None for good in HOTELS],
                                  [hotel.closes <= tick for hotel in game.hotels])
-
-    def test_tickets_have_the_ticks_of_trades_before_them(self) -> None:
-        for game, log in GAMES:
-            for good, ticks in enumerate(ticks_of(game, log)):
-                self.assertEqual(len(ticks), len(log.histories[good]))
-                self.assertEqual(ticks, sorted(ticks))
-                if good in TICKETS:
-                    self.assertEqual(ticks[-1], TICKS)
 
 
 if __name__ == "__main__":

@@ -11,7 +11,7 @@ import sys
 import tempfile
 import unittest
 from pathlib import Path
-from typing import Any, Tuple
+from typing import Any, Dict, List, Tuple
 from unittest import mock
 
 import geesefuton
@@ -83,7 +83,9 @@ class Pages(unittest.TestCase):
 
     def test_completion(self) -> None:
         text = (TOP / "packaging" / "completion.bash").read_text()
-        known = {name: words.split() for name, words in re.findall(r'local (\w+)="(.*)"', text)}
+        known: Dict[str, List[str]] = {}
+        for name, words in re.findall(r'(\w+)\+?="(.*)"', text):
+            known.setdefault(name, []).extend(words.split())
         self.assertEqual(known["programs"], sorted(self.words))
         table = (TOP / "README.md").read_text().split("## Commands and", 1)[1].split("Numbers", 1)
         commands = re.findall(r"(?m)^\| `([a-z]+) [A-Z]", table[0])

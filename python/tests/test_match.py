@@ -91,6 +91,7 @@ class Turns:
     """
 
     passed: List[int] = [0] * 8
+    script: Sequence[bytes] = (b"0 own 1\n", b"tick\n")
     given: Sequence[float] = ()
 
     def __init__(self, *given: float) -> None:
@@ -143,6 +144,18 @@ class Matches(unittest.TestCase):
 
     def notes(self) -> str:
         return "\n".join(message.text for message in self.sent if isinstance(message, Note))
+
+    def test_what_was_asked_is_kept_with_the_other_files(self) -> None:
+        script, journal = self.place / "7.0.script", self.place / "7.0.journal"
+        self.play(turns=3)
+        self.assertEqual((script.exists(), Lobby.last.journal), (False, None))
+        self.play(turns=3, is_kept=True)
+        self.assertEqual((script.read_text(), Lobby.last.journal), ("0 own 1\ntick\n", None))
+        script.unlink()
+        self.play(is_kept=True)
+        self.assertEqual((script.exists(), Lobby.last.journal), (False, journal))
+        self.play()
+        self.assertIsNone(Lobby.last.journal)
 
     def test_a_game_with_its_scores(self) -> None:
         result = self.play()

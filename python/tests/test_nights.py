@@ -8,8 +8,8 @@ from unittest import mock
 
 from geesefuton.hosting.journal import read_journal
 from geesefuton.hosting.nights import STEP, Night, Nights
+from geesefuton.records.books import NightBook
 from geesefuton.records.logs import read_log
-from geesefuton.records.rules import Rooms
 from tests.helpers import DATA
 from tests.journals import GAME, LINES, asked, begun, nights_of, of_text, place_of
 
@@ -111,9 +111,9 @@ class Following(unittest.TestCase):
     """Nights while the journal grows: each call is worked through once."""
 
     def test_each_bid_is_worked_through_once(self) -> None:
-        reader, worked = begun(), mock.Mock(wraps=Rooms.bid)
+        reader, worked = begun(), mock.Mock(wraps=NightBook.bid)
         nights = Nights(reader)
-        with mock.patch.object(Rooms, "bid", lambda *given: worked(*given)):
+        with mock.patch.object(NightBook, "bid", lambda *given: worked(*given)):
             for number in range(1000):
                 reader.read("\n".join(map(json.dumps, asked(
                     number % 8, f"bid {GAME.closing[7]} ((1 {number + 1}))",

@@ -96,6 +96,14 @@ class Commands(unittest.TestCase):
         self.use(r"printf 'a\377b\n'")
         self.assertEqual(program.show("x"), "a\ufffdb\n")
 
+    def test_a_long_output_is_read_whole_and_no_file_stays_open(self) -> None:
+        self.use("yes 0123456 | head -n 20000; cat /dev/stdin")
+        before = sorted(os.listdir("/dev/fd"))
+        self.assertEqual(program.run("make", 1, given=b"given\n"), "0123456\n" * 20000 + "given\n")
+        self.set({"TAC": str(self.place / "none")})
+        self.refused("make", 1)
+        self.assertEqual(sorted(os.listdir("/dev/fd")), before)
+
     def test_an_end_without_output(self) -> None:
         self.use("kill -9 $$")
         fault = self.refused("make", 1)

@@ -204,7 +204,7 @@ class Command(unittest.TestCase):
         self.tac = fake_program(self.place, "echo sound")
 
     def ran(self, *words: object, **how: Any) -> "subprocess.CompletedProcess[str]":
-        return run("records.report", *words, env={"TAC": self.tac}, **how)
+        return run("experiments.report_command", *words, env={"TAC": self.tac}, **how)
 
     def refused(self, told: str, *words: object) -> None:
         with mock.patch.dict(os.environ, {"TAC": self.tac}), \
@@ -309,22 +309,22 @@ class Command(unittest.TestCase):
 @needs_program
 class Real(unittest.TestCase):
     def test_the_page_of_a_sound_log(self) -> None:
-        self.assertEqual(run("records.report", SERVED_GAME, SERVED_LOG).returncode, 0)
+        self.assertEqual(run("experiments.report_command", SERVED_GAME, SERVED_LOG).returncode, 0)
 
     def test_another_game_and_another_score(self) -> None:
-        done = run("records.report", TOP / "examples" / "first.game", SERVED_LOG)
+        done = run("experiments.report_command", TOP / "examples" / "first.game", SERVED_LOG)
         self.assertEqual(done.returncode, 1)
         self.assertIn("is not sound by", done.stderr)
         with tempfile.NamedTemporaryFile("w", suffix=".log") as other:
             other.write(SERVED_LOG.read_text().replace("score 0 1302 -795 0 507",
                                                        "score 0 1302 -795 0 508"))
             other.flush()
-            done = run("records.report", SERVED_GAME, other.name)
+            done = run("experiments.report_command", SERVED_GAME, other.name)
             self.assertEqual(done.returncode, 1)
             self.assertIn("unsound score 0", done.stderr)
 
     def test_what_play_writes_is_shown_as_it_is(self) -> None:
-        done = run("records.report", TOP / "examples" / "first.game", PLAYED)
+        done = run("experiments.report_command", TOP / "examples" / "first.game", PLAYED)
         self.assertEqual((done.returncode, done.stderr), (0, ""))
 
 

@@ -3,7 +3,7 @@
 import unittest
 
 from geesefuton.records.games import GOODS, Flight
-from geesefuton.records.rules import Rooms, clock_ticks, next_price, prices_of
+from geesefuton.records.rules import clock_ticks, next_price, prices_of
 from tests.helpers import served_game
 
 
@@ -41,24 +41,6 @@ class Clock(unittest.TestCase):
         self.assertEqual((ticks[first], ticks[last]), ([6], [6, 12, 18, 24, 30, 36, 42, 48]))
         self.assertEqual((ticks[0], ticks[7]), ([*range(1, 55)], [*range(1, 55)]))
         self.assertEqual(ticks[16:], [[54]] * 12)
-
-
-class Hotels(unittest.TestCase):
-    def rooms(self, count: int) -> Rooms:
-        """A night in which three units stand at 90, 70 and 50 dollars, and a fourth at 50."""
-        rooms = Rooms(count)
-        for agent, points in ((0, ((1, 10),)), (0, ((2, 50), (1, 90))), (3, ((1, 70),))):
-            rooms.bid(agent, points)
-        return rooms
-
-    def test_the_ask_is_that_of_the_last_unit_that_gets_a_room(self) -> None:
-        self.assertEqual([self.rooms(count).ask() for count in (1, 2, 3, 4, 5)],
-                         [90, 70, 50, 50, 0])
-        self.assertEqual(Rooms(1).ask(), 0)
-
-    def test_no_more_rooms_are_sold_than_there_are(self) -> None:
-        self.assertEqual([self.rooms(count).sold() for count in (1, 4, 5)], [1, 4, 4])
-        self.assertEqual(Rooms(1).sold(), 0)
 
 
 if __name__ == "__main__":

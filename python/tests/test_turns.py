@@ -148,6 +148,8 @@ class Turns(Case):
             agents = self.agents(host, *own)
             self.assertEqual(host.end(), [End.LEFT] * 8)
             self.assertEqual(host.asked(), due(count, *own))
+            script = b"".join(host.server.script).decode("ascii").splitlines()
+            self.assertEqual(script, host.asked())
             self.assertEqual((host.status, host.server.passed), (0, [0] * 8))
             for seat, agent in enumerate(agents):
                 told = agent.rest()

@@ -44,8 +44,8 @@ class Job:
 
     Attributes:
         name: The name of its files.
-        folder: Where they are written: NAME.game, NAME.log, NAME.events, and NAME.out.WORD with
-            what an agent printed.
+        folder: Where they are written: NAME.game, NAME.log, NAME.events, NAME.out.WORD with what
+            an agent printed, and if all is kept NAME.script in turns or NAME.journal by the clock.
         game: The text of the game file.
         entrants: The agents of the eight seats.
         words: Their seat words.
@@ -55,6 +55,7 @@ class Job:
         linger: The seconds after the last tick until the links that are left are ended.
         turns: How many turns each agent has between two ticks; 0 for a game by the clock.
         patience: In turns: the seconds without a word after which an agent is passed over.
+        is_kept: Whether the files are kept, and so all that was asked is written.
     """
 
     name: str
@@ -68,6 +69,7 @@ class Job:
     linger: float = 5.0
     turns: int = 0
     patience: float = PATIENCE
+    is_kept: bool = False
 
 
 @dataclass(frozen=True)
@@ -185,10 +187,11 @@ class Match:
         with open(reading, encoding="ascii") as orders, open(writing, "wb", 0) as self._orders, \
                 self._events:
             try:
+                journal = job.folder / f"{job.name}.journal"
                 settings = LobbySettings(
                     game=self._game, port=0, pace=job.pace, log=self._log, form=job.form,
                     start=job.start, linger=job.linger, patience=max(job.start, PATIENCE),
-                    orders=orders)
+                    journal=journal if job.is_kept and not job.turns else None, orders=orders)
                 turns = TurnServer(job.turns, job.patience) if job.turns else None
                 lobby = Lobby(settings, turns)
                 self._start_agents(lobby.port)
@@ -200,6 +203,9 @@ class Match:
                 finally:
                     over.set()
                     watcher.join()
+                if turns and job.is_kept:
+                    script = b"".join(turns.script)
+                    (job.folder / f"{job.name}.script").write_bytes(script)
             except (LobbyError, program.ProgramError) as fault:
                 return Result(fault=str(fault))
         return self._result(status, turns.passed if turns else None)

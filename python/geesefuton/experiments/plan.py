@@ -146,7 +146,7 @@ def make_parser(description: Optional[str]) -> Parser:
     add("--swap", action=argparse.BooleanOptionalAction, default=None,
         help="play each deal once for each agent, with other seats each time; on for two agents")
     add("--keep", type=Path, metavar="FOLDER",
-        help="where to keep game files, logs, events and what agents printed")
+        help="where to keep game files, logs, what was asked and printed, and events")
     add("--out", type=Path, metavar="FOLDER",
         help="where the run stands: run.json with all that it was played with, scores.csv with the "
              "lines of each game as it ends, and the files of games")

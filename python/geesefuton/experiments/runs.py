@@ -30,7 +30,7 @@ from geesefuton.records.tables import csv_of
 FORM = 1  # of run.json
 MOST_WAIT = 10.0  # seconds for the games of an earlier run to end
 RUN, SCORES, GAMES = "run.json", "scores.csv", "games"
-FILE = re.compile(r"(.+)\.(?:game|log|events|out\.[a-z0-9]+)")
+FILE = re.compile(r"(.+)\.(?:game|log|events|script|journal|out\.[a-z0-9]+)")
 
 
 class RunError(Exception):

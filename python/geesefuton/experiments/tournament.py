@@ -58,7 +58,7 @@ from geesefuton.hosting import events
 from geesefuton.processes import Children, Output, Stopped, command, tell, why
 
 LEAVE = 5.0  # seconds that a game has to end its agents
-SUFFIXES = (".game", ".log", ".events")
+SUFFIXES = (".game", ".log", ".events", ".script", ".journal")
 
 
 @dataclass
@@ -166,7 +166,7 @@ class Tournament:
         folder = plan.keep or children.folder("game")
         job = Job(table.name, folder, table.deal.game.named(words).text(), tuple(entrants),
                   tuple(words), plan.form, plan.pace, plan.start, plan.linger, plan.turns,
-                  plan.patience)
+                  plan.patience, plan.keep is not None)
         ours, theirs = Pipe()
         path = os.pathsep.join(filter(None, [str(PACKAGE), os.environ.get("PYTHONPATH")]))
         process = children.start(

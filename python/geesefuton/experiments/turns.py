@@ -82,10 +82,14 @@ class TurnServer:
         turns: How many turns each agent has between two ticks, 1 to `MOST_TURNS`, and before the
             first. After the last it has `LAST_TURNS`.
         patience: The seconds without a word after which an agent is passed over.
+
+    Attributes:
+        script: What was asked so far, and the ticks: pieces of a game script (docs/FORMATS.md).
     """
 
     def __init__(self, turns: int, patience: float) -> None:
         self._turns, self._patience = turns, patience
+        self.script: List[bytes] = []
         self._turners: List[Turner] = []
         self._first = 0  # the seat that is asked first
 
@@ -128,7 +132,7 @@ class TurnServer:
             self._take_turns(game, table, tick - 1, range(self._turns))
             if game.is_stopped:
                 return
-            table.ask(["tick"])
+            self._exchange(table, b"tick\n", 0)
             lines = [turner.asked for turner in self._turners]
             if tick == TICKS:
                 game.last_tick()
@@ -147,7 +151,21 @@ class TurnServer:
                 if game.is_stopped:
                     return
                 if line is not None:
-                    _answer(table, turner, line, game.settings.form)
+                    self._answer(table, turner, line, game.settings.form)
+
+    def _answer(self, table: Stepped, turner: Turner, line: bytes, form: str) -> None:
+        """Asks a line, and tells its agent the reply."""
+        reply = b"no toolong"
+        if len(line) <= MOST_LINE:
+            asked = b"%d %b\n" % (turner.seat, words_for(line, form))
+            reply = self._exchange(table, asked, 1).split(b" ", 1)[1][:-1]
+        turner.say(said_in(reply, form) + b"\n")
+        turner.is_over = reply == b"bye"
+
+    def _exchange(self, table: Stepped, line: bytes, due: int) -> bytes:
+        """Plays a line, and keeps it."""
+        self.script.append(line)
+        return table.exchange(line, due)
 
     def _wait(self, game: HostedGame, turner: Turner) -> Optional[bytes]:
         """The line of an agent whose turn it is; None if it is over or passed over."""
@@ -170,13 +188,3 @@ def welcome(text: str, agent: int) -> bytes:
     own = [line for line in text.split("\n")
            if line.startswith((f"endow {agent} ", f"client {agent} "))]
     return "\n".join([f"welcome {agent}", *own, ""]).encode("ascii")
-
-
-def _answer(table: Stepped, turner: Turner, line: bytes, form: str) -> None:
-    """Asks a line, and tells its agent the reply."""
-    reply = b"no toolong"
-    if len(line) <= MOST_LINE:
-        asked = b"%d %b\n" % (turner.seat, words_for(line, form))
-        reply = table.exchange(asked, 1).split(b" ", 1)[1][:-1]
-    turner.say(said_in(reply, form) + b"\n")
-    turner.is_over = reply == b"bye"

@@ -11,9 +11,9 @@ from dataclasses import dataclass
 from typing import Dict, List, Optional
 
 from geesefuton.hosting.journal import Exchange, JournalReader
+from geesefuton.records.books import NightBook
 from geesefuton.records.games import HOTELS, TICKS
 from geesefuton.records.replies import read_points
-from geesefuton.records.rules import Rooms
 
 STEP = 0.1  # ticks; of prices that are nearer to one another only the last is kept
 
@@ -96,7 +96,7 @@ class _RunningNight:
 
     def _start(self) -> None:
         """Begins with the first position."""
-        self._rooms, self._ask = Rooms(self._hotel.rooms), 0
+        self._book, self._ask = NightBook(self._hotel.rooms, False), 0
         self._published: PriceSteps = [[0, 0]]
         self._asks: PriceSteps = [[0, 0]]
         self._closed: Optional[List[int]] = None
@@ -106,8 +106,8 @@ class _RunningNight:
         """The next entry is an agent's."""
         if call.asked is None or call.reply is None or " taken " not in call.reply:
             return
-        self._rooms.bid(call.agent, read_points(call.asked.text.split(" ", 2)[2]))
-        self._ask = self._rooms.ask()
+        self._book.bid(call.agent, read_points(call.asked.text.split(" ", 2)[2]))
+        self._ask = self._book.ask()
         self._last = tick_of(call, self._pace, self._last)
         _note(self._asks, self._last, self._ask)
         if self._live:
@@ -118,7 +118,7 @@ class _RunningNight:
         self._clocks, self._last = self._clocks + 1, max(self._last, float(tick))
         self._published.append([tick, self._ask])
         if tick == self._hotel.closes:
-            self._closed = [tick, self._ask, self._rooms.sold()]
+            self._closed = [tick, self._ask, self._book.sold()]
 
 
 def tick_of(call: Exchange, pace: int, least: float) -> float:

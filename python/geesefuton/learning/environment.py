@@ -37,11 +37,11 @@ from types import TracebackType
 from typing import Any, Callable, Dict, List, Mapping, Optional, Sequence, Tuple, Type, Union
 
 from geesefuton import program
-from geesefuton.learning.books import Books, text_of
 from geesefuton.learning.interfaces import ParallelEnv
 from geesefuton.learning.market import LimitError, Market, score_rows
 from geesefuton.learning.rivals import Maker, Players, Rivals, maker_of
 from geesefuton.learning.scores import Scorer
+from geesefuton.records.books import Books, text_of
 from geesefuton.records.drawing import MOST_SEED, drawn_rooms
 from geesefuton.records.games import (CLIENTS, GOODS, HOTELS, MOST_ROOMS, ROOMS, SEATS, TICKS, Game,
                                       read_game)

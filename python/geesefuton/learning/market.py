@@ -6,8 +6,8 @@ import copy
 from typing import List, Sequence, Tuple
 
 from geesefuton import program
-from geesefuton.learning.books import Books
 from geesefuton.learning.stepping import Stepped
+from geesefuton.records.books import Books
 from geesefuton.records.dialects import MOST_LINE
 from geesefuton.records.games import SEATS, TICKS, Game
 from geesefuton.records.logs import MOST_BYTES

@@ -3,9 +3,9 @@
 from typing import Dict, List, Tuple
 
 from geesefuton import program
-from geesefuton.learning.books import Books
 from geesefuton.link import solve
-from geesefuton.records.games import TICKS, Game
+from geesefuton.records.books import Books
+from geesefuton.records.games import Game
 from geesefuton.records.rules import PENALTY
 
 
@@ -23,9 +23,7 @@ class Scorer:
         Raises:
             ProgramError: There is no program, or it ended with an error.
         """
-        end = books.copied()
-        while end.tick < TICKS:
-            end.advance()
+        end = books.at_the_end()
         owed = [sum(-units for units in held if units < 0) for held in end.holdings]
         return [self._best(seat, tuple(held)) + cash - PENALTY * short
                 for seat, (held, cash, short) in enumerate(zip(end.holdings, end.cash, owed))]

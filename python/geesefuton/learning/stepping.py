@@ -15,15 +15,17 @@ import fcntl
 import os
 import select
 import signal
-import tempfile
+import time
 import weakref
 from types import TracebackType
 from typing import List, NoReturn, Optional, Sequence, Type, Union
 
-from geesefuton.program import INPUT, OK, ProgramError, Word, ended, find_runnable
+from geesefuton.program import (INPUT, OK, ProgramError, Word, ended, find_runnable,
+                                nameless_file)
 
 GAME = 3  # the descriptor at which the process finds the text of a game
 MOST_READ = 1 << 16  # bytes read at once, which is what a pipe holds
+PAUSE = 0.0004  # seconds between two reads of a log
 
 
 class Stepped:
@@ -163,13 +165,16 @@ class Stepped:
         return parts
 
     def _rest(self) -> bytes:
-        """What the process still writes, to its end."""
+        """What the process still writes, to its end. It writes each line by itself, and a line that
+        is waited for costs a change of processes: so it gets the time to write several."""
         parts: List[bytes] = []
         while True:
             part = os.read(self._replies, MOST_READ)
             if not part:
                 return b"".join(parts)
             parts.append(part)
+            if len(part) < MOST_READ:
+                time.sleep(PAUSE)
 
     def _wait(self) -> int:
         """The exit status of the process, negative for a signal."""
@@ -232,11 +237,7 @@ def _closed(number: int) -> int:
 
 def _kept(text: bytes) -> int:
     """A descriptor of a file without a name that holds a text, so that none is left behind."""
-    if hasattr(os, "memfd_create"):
-        number = os.memfd_create("game")
-    else:
-        with tempfile.TemporaryFile() as file:
-            number = os.dup(file.fileno())
+    number = nameless_file()
     try:
         rest = memoryview(text)
         while rest:

@@ -9,14 +9,14 @@ waited with.
 
 from typing import Dict, Iterable, List, NamedTuple, Tuple
 
-from geesefuton.records.accounts import Accounts, entries_by_tick
+from geesefuton.records.accounts import Accounts
 from geesefuton.records.best_plans import Plan
 from geesefuton.records.games import CLOCK, FLIGHTS, HOTELS, SEATS, TICKETS, Game, name_of
 from geesefuton.records.logs import Entry, Log
 from geesefuton.records.replies import No
+from geesefuton.records.ticks import Placed, entries_by_tick, ticks_by_log
 
 MOST = 3  # decisions that are told of a team
-Placed = Tuple[int, int, Entry]  # good, position and entry
 
 
 class Moment(NamedTuple):
@@ -55,7 +55,7 @@ def stories(game: Game, log: Log) -> List[Story]:
     """The story of each of the eight teams."""
     accounts = Accounts(game)
     teams = [_Team(accounts, agent) for agent in range(SEATS)]
-    for tick, entries in enumerate(entries_by_tick(game, log)):
+    for tick, entries in enumerate(entries_by_tick(ticks_by_log(game, log), log)):
         for part in _parts(entries):
             for entry in part:
                 accounts.take(entry[0], entry[2])
@@ -117,7 +117,7 @@ class _Team:
         bids = {good: ", ".join(f"{units} at {price}" for units, price in points)
                 for good, points in self._bids.items() if points and good < TICKETS.start}
         self._moments.append(Moment(self._worth(), accounts.cash[agent],
-                                    tuple(accounts.held[agent]), self._plan.missing, bids))
+                                    tuple(accounts.holdings[agent]), self._plan.missing, bids))
 
     def story(self) -> Story:
         """What was seen."""

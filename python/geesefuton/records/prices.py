@@ -7,10 +7,11 @@ sixth for a hotel. Ticket auctions have no such call before their end, so their 
 
 from typing import Iterator, List, NamedTuple, Optional, Sequence, Tuple
 
+from geesefuton.records.books import NightBook
 from geesefuton.records.games import CLOCK, FLIGHTS, GOODS, HOTELS, HOUSE, Game
 from geesefuton.records.logs import Entry, Log
 from geesefuton.records.replies import No
-from geesefuton.records.rules import MINUTE, Rooms, next_price
+from geesefuton.records.rules import MINUTE, next_price
 
 
 class MarketEvent(NamedTuple):
@@ -66,19 +67,18 @@ def _flight_prices(game: Game, good: int, history: Sequence[Entry]) -> Iterator[
 
 
 def _hotel_prices(game: Game, good: int, history: Sequence[Entry]) -> Iterator[Step]:
-    rooms, tick, price = Rooms(game.rooms[good - HOTELS.start]), 0, 0
-    yield tick, price, "price"
+    night, tick = NightBook(game.rooms[good - HOTELS.start], game.live), 0
+    yield tick, night.published, "price"
     for entry in history:
-        call, before = entry.call.do, price
+        call, before = entry.call.do, night.published
         what = ""
         if entry.caller == CLOCK and call in ("publish", "close"):
             tick += MINUTE
-            price = rooms.ask()
+            night.publish()
             what = "close" if call == "close" else "price"
         elif call == "bid" and not isinstance(entry.reply, No):
-            rooms.bid(entry.caller, entry.call.points)
-            price = rooms.ask() if game.live else price
-        yield tick, price, what or ("price" if price != before else "")
+            night.bid(entry.caller, entry.call.points)
+        yield tick, night.published, what or ("price" if night.published != before else "")
 
 
 def _no_prices(history: Sequence[Entry]) -> Iterator[Step]:

@@ -4,6 +4,8 @@
     report --why my.game my.log > page.html    with what each team held, wanted and bid over the
                                                ticks, and what cost it most
     report --csv my.game my.log > rows.csv     lines `what,tick,good,position,agent,units,dollars`
+    report --over runs/1 > page.html           what the games of a tournament's folder have in
+                                               common
 
 The log is that of `tac serve` or `tac play`, whose reply lines may stand before it. It is audited
 first, and if it is not sound the report says why and makes no page. With --unaudited it makes one
@@ -19,12 +21,15 @@ In the CSV `price` is the published price from that entry on, `close` that of a 
 `trade` what an agent bought (units above 0) or sold (below 0), with the dollars for each unit, and
 `score` a score. A log has no times: a call has the tick of the clock's last call in its auction,
 so trades of tickets have none.
+
+With --over the page has the parts of the agents' scores, prices over the ticks, how many of the
+units that they asked for they got, and how far they were from the best plans. It takes a second or
+two for each deal.
 """
 
-import sys
 import time
 from pathlib import Path
-from typing import Tuple
+from typing import Callable, List, Tuple
 
 from geesefuton import program
 from geesefuton.arguments import Parser
@@ -38,6 +43,8 @@ from geesefuton.records.seat_names import names_of
 from geesefuton.records.tables import csv_of
 
 START = b"taclog 1\n"
+# Makes the page of a folder: its text, "" if there is none, and faults, each in a line.
+Over = Callable[[Path], Tuple[str, List[str]]]
 
 
 class ReportError(Exception):
@@ -95,7 +102,11 @@ def csv_text(game: Game, log: Log) -> str:
     return csv_of([*lines, *scores])
 
 
-def _main() -> int:
+def _no_page(folder: Path) -> Tuple[str, List[str]]:
+    return "", [f"{folder}: the pages of tournaments are not at hand"]
+
+
+def _main(over: Over) -> int:
     parser = Parser("report", __doc__)
     parser.add_argument("--csv", action="store_true", help="write CSV in place of the page")
     parser.add_argument("--why", action="store_true",
@@ -104,9 +115,17 @@ def _main() -> int:
                         help="show a log that is not sound, or was not audited, too")
     parser.add_argument("--names", action="store_true",
                         help="call agents by their seat words, which are passwords")
-    parser.add_argument("game", type=Path, help="the game file")
-    parser.add_argument("log", type=Path, help="the log")
+    parser.add_argument("--over", type=Path, metavar="FOLDER",
+                        help="show what the games of a tournament's run have in common")
+    parser.add_argument("game", type=Path, nargs="?", help="the game file")
+    parser.add_argument("log", type=Path, nargs="?", help="the log")
     given = parser.parse_args()
+    if given.over is not None and (given.game or given.csv or given.why):
+        parser.error("--over takes a folder alone")
+    if given.over is None and given.log is None:
+        parser.error("a game file and a log are due, or --over and a folder")
+    if given.over is not None:
+        return _write(*over(given.over))
     try:
         game, log, text = read_both(given.game, given.log)
         warning = "This log was not audited." if given.unaudited else ""
@@ -123,25 +142,29 @@ def _main() -> int:
     except ReportError as fault:
         tell(f"report: {fault}")
         return 1
-    out = Output(1)
     if given.csv:
-        out.write(csv_text(game, log))
-    else:
-        written = time.strftime("%Y-%m-%d at %H:%M", time.localtime(given.log.stat().st_mtime))
-        heading = Heading(given.game.name, written, warning)
-        names = names_of(game.words, given.names)
-        told = stories(game, log) if given.why else []
-        out.write(page(game, log, all_events(game, log), heading, names, told))
-    if out.fault is not None:
-        tell(f"report: {out.name}: {out.fault}")
-        return 1
-    return 0
+        return _write(csv_text(game, log), [])
+    written = time.strftime("%Y-%m-%d at %H:%M", time.localtime(given.log.stat().st_mtime))
+    heading = Heading(given.game.name, written, warning)
+    names = names_of(game.words, given.names)
+    told = stories(game, log) if given.why else []
+    return _write(page(game, log, all_events(game, log), heading, names, told), [])
 
 
-def main() -> int:
-    """The command `report`."""
-    return command("report", _main)
+def _write(text: str, told: List[str]) -> int:
+    """Writes the text, reports the faults of before and of writing, and gives the exit status."""
+    out = Output(1)
+    out.write(text)
+    told = [*told, *([f"{out.name}: {out.fault}"] if out.fault is not None else [])]
+    for each in told:
+        tell(f"report: {each}")
+    return 1 if told else 0
 
 
-if __name__ == "__main__":
-    sys.exit(main())
+def main(over: Over = _no_page) -> int:
+    """The command `report`.
+
+    Args:
+        over: Makes the page of a tournament's folder.
+    """
+    return command("report", lambda: _main(over))

@@ -155,22 +155,34 @@ def _tickets(events: Sequence[MarketEvent]) -> str:
             + table(["ticket", "traded", "lowest", "mean", "highest"], rows, (0,)))
 
 
-PricePath = List[Tuple[int, int]]  # ticks and dollars
+PricePath = Sequence[Tuple[int, float]]  # ticks and dollars
 
 
-def _round_up(number: int, step: int) -> int:
-    return -(-number // step) * step
+def round_up(number: float, step: int) -> int:
+    """The least multiple of a step that is not below a number."""
+    return -int(-number // step) * step
 
 
-def _chart(title: str, points: PricePath, low: int, high: int, steps: bool) -> str:
+def chart(title: str, points: PricePath, low: int, high: int, steps: bool,
+          band: Tuple[PricePath, PricePath] = ([], [])) -> str:
     """A small chart of one price over the ticks, with its labels in HTML, so that they keep their
-    size."""
-    def y(dollars: int) -> float:
+    size.
+
+    Args:
+        title: What stands above it, as HTML.
+        points: Ticks and dollars.
+        low: The least dollars that are shown, and `high` the most.
+        steps: Whether a price holds until the next point, and the last point has a dot.
+        band: Points below and above between which the chart is shaded.
+    """
+    def y(dollars: float) -> float:
         return 100 - 100 * (dollars - low) / (high - low)
 
     path = f"M{points[0][0]} {y(points[0][1]):.1f}"
     for tick, dollars in points[1:]:
         path += f"H{tick}V{y(dollars):.1f}" if steps else f"L{tick} {y(dollars):.1f}"
+    corners = " ".join(f"{tick} {y(dollars):.1f}" for tick, dollars in [*band[0], *band[1][::-1]])
+    shade = f'<path class="band" d="M{corners}Z"/>' if corners else ""
     grid = "".join(f"M0 {level}H{TICKS}" for level in (0, 50, 100))
     grid += "".join(f"M{tick} 0V100" for tick in range(0, TICKS + 1, 18))
     last, dollars = points[-1]
@@ -178,12 +190,12 @@ def _chart(title: str, points: PricePath, low: int, high: int, steps: bool) -> s
            if steps else "")
     return (f'<figure><figcaption>{title}</figcaption><div class="plot">'
             f'<svg viewBox="0 0 {TICKS} 100" preserveAspectRatio="none" aria-hidden="true">'
-            f'<path class="grid" d="{grid}"/><path class="line" d="{path}"/></svg>{dot}'
+            f'{shade}<path class="grid" d="{grid}"/><path class="line" d="{path}"/></svg>{dot}'
             f'<span class="top">{high}</span><span class="low">{low}</span></div></figure>')
 
 
 def _price_rows(game: Game, events: Sequence[MarketEvent]) -> Iterator[str]:
-    paths: Dict[int, PricePath] = defaultdict(list)
+    paths: Dict[int, List[Tuple[int, int]]] = defaultdict(list)
     for event in events:
         if event.what in ("price", "close") and event.tick is not None:
             paths[event.good].append((event.tick, event.dollars))
@@ -191,7 +203,7 @@ def _price_rows(game: Game, events: Sequence[MarketEvent]) -> Iterator[str]:
         paths[good].append((TICKS, paths[good][-1][1]))
     for goods, step in ((FLIGHTS, 50), (HOTELS, 100)):
         top = max([step, *(dollars for good in goods for _, dollars in paths[good])])
-        high = _round_up(top, step)
+        high = round_up(top, step)
         low = 0
         if goods is FLIGHTS:
             low = min(dollars for good in goods for _, dollars in paths[good]) // step * step
@@ -204,8 +216,8 @@ def _price_rows(game: Game, events: Sequence[MarketEvent]) -> Iterator[str]:
                 last = paths[good][-1][1]
                 closes = (f"{last} at tick {game.hotels[good - 8].closes}" if good in HOTELS
                           else f"{paths[good][0][1]} to {last}")
-                charts.append(_chart(f"{title}: <b>{closes}</b>", paths[good], low, high,
-                                     good in HOTELS))
+                charts.append(chart(f"{title}: <b>{closes}</b>", paths[good], low, high,
+                                    good in HOTELS))
             yield f'<h3>{AUCTIONS[group[0]].group}</h3><div class="charts">{"".join(charts)}</div>'
 
 

@@ -1,22 +1,25 @@
 """The books of a game: what stands, what is held and paid, and the boards, by docs/GAME.md.
 
-They are kept beside a game in steps from its admitted calls, so that nobody has to ask what an
-agent holds. What `tac` plays by is proved in its crates; that these books agree with it is tested.
+They are kept from the admitted calls: of a game in steps, so that nobody has to ask what an agent
+holds, and of a log. What `tac` plays by is proved in its crates; that these books agree with it is
+tested.
 """
 
 from __future__ import annotations
 
-from typing import Dict, List, Sequence, Tuple
+from typing import Dict, List, Optional, Sequence, Tuple
 
-from geesefuton.records.games import AUCTIONS, FLIGHTS, HOTELS, SEATS, TICKETS, TICKS, Auction, Game
-from geesefuton.records.replies import Points
+from geesefuton.records.games import (AUCTIONS, CLOCK, FLIGHTS, HOTELS, SEATS, TICKETS, TICKS,
+                                      Auction, Game)
+from geesefuton.records.logs import Entry
+from geesefuton.records.replies import No, Points
 from geesefuton.records.rules import MINUTE, prices_of
 
 Board = Tuple[int, int, bool]  # the bid, the ask, and whether the auction is closed
-Trade = Tuple[int, int, int]  # an agent, its units (below 0: sold), and the dollars for each
+Side = Tuple[int, int, int]  # an agent, its units (below 0: sold), and the dollars for each
 
 
-class Flight:
+class FlightBook:
     """A flight: one seller, who takes every bid at the price or above.
 
     Attributes:
@@ -27,9 +30,9 @@ class Flight:
         self.price, self._prices = prices[0], prices
         self._bids: Dict[int, List[Tuple[int, int]]] = {}
 
-    def copied(self) -> Flight:
+    def copied(self) -> FlightBook:
         """The same flight, which goes on by itself."""
-        other = Flight(self._prices)
+        other = FlightBook(self._prices)
         other.price, other._bids = self.price, dict(self._bids)
         return other
 
@@ -37,7 +40,7 @@ class Flight:
         """The bid and the ask."""
         return 0, self.price
 
-    def bid(self, agent: int, points: Points) -> List[Trade]:
+    def bid(self, agent: int, points: Points) -> List[Side]:
         """An agent's bid is admitted, and replaces its earlier one."""
         self._bids[agent] = list(points)
         return self._sell([agent])
@@ -46,12 +49,12 @@ class Flight:
         """What stands of an agent's bid is taken back."""
         self._bids.pop(agent, None)
 
-    def update(self, tick: int) -> List[Trade]:
+    def update(self, tick: int) -> List[Side]:
         """The price of a tick comes, 1 to 53."""
         self.price = self._prices[tick]
         return self._sell(list(self._bids)) if self._bids else []
 
-    def _sell(self, agents: List[int]) -> List[Trade]:
+    def _sell(self, agents: List[int]) -> List[Side]:
         trades = []
         for agent in agents:
             trades += [(agent, units, self.price)
@@ -62,7 +65,7 @@ class Flight:
         return trades
 
 
-class Night:
+class NightBook:
     """A hotel night: an ascending auction of its rooms, all sold at one price.
 
     Attributes:
@@ -75,9 +78,9 @@ class Night:
         self._rooms, self._is_live = rooms, is_live
         self._bids: Dict[int, Points] = {}  # the latest last
 
-    def copied(self) -> Night:
+    def copied(self) -> NightBook:
         """The same night, which goes on by itself."""
-        other = Night(self._rooms, self._is_live)
+        other = NightBook(self._rooms, self._is_live)
         other.published, other.is_closed = self.published, self.is_closed
         other._bids = dict(self._bids)
         return other
@@ -86,7 +89,7 @@ class Night:
         """The bid and the ask."""
         return 0, self.published
 
-    def bid(self, agent: int, points: Points) -> List[Trade]:
+    def bid(self, agent: int, points: Points) -> List[Side]:
         """An agent's bid is admitted, and replaces its earlier one."""
         self._bids.pop(agent, None)
         self._bids[agent] = points
@@ -96,13 +99,21 @@ class Night:
 
     def publish(self) -> None:
         """The ask becomes the published price."""
-        self.published = self._ask(self._units())
+        self.published = self.ask()
 
-    def close(self) -> List[Trade]:
-        """The units that precede the others get the rooms, at the ask."""
+    def ask(self) -> int:
+        """The price of the last unit that would get a room, in dollars; 0 if fewer units stand."""
         units = self._units()
-        self.published, self.is_closed, self._bids = self._ask(units), True, {}
-        won = [agent for _, agent in units[:self._rooms]]
+        return -units[self._rooms - 1][0] if len(units) >= self._rooms else 0
+
+    def sold(self) -> int:
+        """How many rooms are sold if it closes now."""
+        return min(len(self._units()), self._rooms)
+
+    def close(self) -> List[Side]:
+        """The units that precede the others get the rooms, at the ask."""
+        won = [agent for _, agent in self._units()[:self._rooms]]
+        self.published, self.is_closed, self._bids = self.ask(), True, {}
         return [(agent, won.count(agent), self.published) for agent in sorted(set(won))]
 
     def _units(self) -> List[Tuple[int, int]]:
@@ -111,11 +122,8 @@ class Night:
                  for count, price in points for _ in range(count)]
         return sorted(units, key=lambda unit: unit[0])  # at equal prices the earlier bid's first
 
-    def _ask(self, units: List[Tuple[int, int]]) -> int:
-        return -units[self._rooms - 1][0] if len(units) >= self._rooms else 0
 
-
-class Tickets:
+class TicketBook:
     """The tickets of a type and night: a continuous double auction between the agents."""
 
     def __init__(self) -> None:
@@ -123,9 +131,9 @@ class Tickets:
         self._buying: List[Tuple[int, int]] = []
         self._selling: List[Tuple[int, int]] = []
 
-    def copied(self) -> Tickets:
+    def copied(self) -> TicketBook:
         """The same tickets, which go on by themselves."""
-        other = Tickets()
+        other = TicketBook()
         other._buying, other._selling = self._buying[:], self._selling[:]
         return other
 
@@ -134,12 +142,20 @@ class Tickets:
         return (max(self._buying)[0] if self._buying else 0,
                 min(self._selling)[0] if self._selling else 0)
 
+    def ask_for(self, agent: int) -> Optional[int]:
+        """The lowest price at which another agent sells; None if none does."""
+        return min((price for price, seller in self._selling if seller != agent), default=None)
+
+    def close(self) -> None:
+        """Nothing stands any more."""
+        self._buying, self._selling = [], []
+
     def withdraw(self, agent: int) -> None:
         """What stands of an agent's bid is taken back."""
         self._buying = [unit for unit in self._buying if unit[1] != agent]
         self._selling = [unit for unit in self._selling if unit[1] != agent]
 
-    def bid(self, agent: int, points: Points) -> List[Trade]:
+    def bid(self, agent: int, points: Points) -> List[Side]:
         """An agent's bid is admitted, and replaces its earlier one. Its new units do not meet each
         other, since those that buy are below those that sell."""
         self.withdraw(agent)
@@ -149,7 +165,7 @@ class Tickets:
                 trades += self._arrive(agent, price, count > 0)
         return trades
 
-    def _arrive(self, agent: int, price: int, is_buying: bool) -> List[Trade]:
+    def _arrive(self, agent: int, price: int, is_buying: bool) -> List[Side]:
         others = self._selling if is_buying else self._buying
         # The first of the best: they stand in the order in which they arrived.
         best = (min if is_buying else max)((unit for unit in others if unit[1] != agent),
@@ -177,9 +193,9 @@ class Books:
         self.holdings = [[0] * TICKETS.start + list(endow) for endow in game.endow]
         self.cash = [0] * SEATS
         self._closing = game.closing
-        self._flights = [Flight(prices_of(flight)) for flight in game.flights]
-        self._nights = [Night(rooms, game.live) for rooms in game.rooms]
-        self._tickets = [Tickets() for _ in TICKETS]
+        self._flights = [FlightBook(prices_of(flight)) for flight in game.flights]
+        self._nights = [NightBook(rooms, game.live) for rooms in game.rooms]
+        self._tickets = [TicketBook() for _ in TICKETS]
         self.boards: List[Board] = [(0, flight.price, False) for flight in self._flights]
         self.boards += [(0, 0, False)] * (len(HOTELS) + len(TICKETS))
 
@@ -189,10 +205,44 @@ class Books:
         self._book(good, auction.bid(seat, points))
         self.boards[good] = (*auction.board(), False)
 
+    def take(self, good: int, entry: Entry) -> None:
+        """Works through the next entry of an auction in a log."""
+        call, auction = entry.call, self._auction(good)
+        if isinstance(entry.reply, No):
+            return
+        if call.do == "bid":
+            self.bid(entry.caller, good, call.points)
+        elif call.do == "withdraw" and not isinstance(auction, NightBook):
+            self.withdraw(entry.caller, good)
+        elif entry.caller == CLOCK:
+            self._take_clock(good, entry)
+
+    def _take_clock(self, good: int, entry: Entry) -> None:
+        """Works through a call of the clock."""
+        call, auction = entry.call, self._auction(good)
+        if isinstance(auction, FlightBook):
+            self.tick = max(self.tick, call.tick)
+            self._book(good, auction.update(call.tick) if call.do == "update" else [])
+        elif isinstance(auction, TicketBook):
+            auction.close()
+        elif call.do == "close":
+            self._book(good, auction.close())
+        else:
+            auction.publish()
+        self.boards[good] = (*auction.board(), call.do == "close")
+
+    def price_for(self, good: int, agent: int) -> Optional[int]:
+        """What a unit more of a good costs an agent, in dollars; None if there is none."""
+        _, ask, is_closed = self.boards[good]
+        auction = self._auction(good)
+        if isinstance(auction, TicketBook):
+            return auction.ask_for(agent)
+        return None if is_closed else ask
+
     def withdraw(self, seat: int, good: int) -> None:
         """A withdrawal of a flight's or a ticket's bid is admitted."""
         auction = self._auction(good)
-        assert not isinstance(auction, Night)
+        assert not isinstance(auction, NightBook)
         auction.withdraw(seat)
         self.boards[good] = (*auction.board(), False)
 
@@ -200,11 +250,15 @@ class Books:
         """A tick passes: the clock makes its calls."""
         self.tick += 1
         if self.tick == TICKS:
-            self.boards = [(bid, ask, True) for bid, ask, _ in self._closed_boards()]
+            for tickets in self._tickets:
+                tickets.close()
+            self.boards = [*((bid, ask, True) for bid, ask, _ in self.boards[:TICKETS.start]),
+                           *[(0, 0, True)] * len(TICKETS)]
             return
-        for good in FLIGHTS:
-            flight = self._flights[good]
-            self._book(good, flight.update(self.tick))
+        for good, flight in enumerate(self._flights):
+            trades = flight.update(self.tick)
+            if trades:
+                self._book(good, trades)
             self.boards[good] = (0, flight.price, False)
         if self.tick % MINUTE == 0 and self.tick <= MINUTE * len(HOTELS):
             closing = self._closing[self.tick // MINUTE - 1]
@@ -214,9 +268,12 @@ class Books:
                     night.publish()
                 self.boards[good] = (0, night.published, night.is_closed)
 
-    def _closed_boards(self) -> List[Board]:
-        """The boards after the last tick: of tickets nothing stands any more."""
-        return [*self.boards[:TICKETS.start], *((0, 0, True) for _ in TICKETS)]
+    def at_the_end(self) -> Books:
+        """The books of the end of the game, if nobody asks anything more."""
+        end = self.copied()
+        while end.tick < TICKS:
+            end.advance()
+        return end
 
     def copied(self) -> Books:
         """The same books, which go on by themselves."""
@@ -228,13 +285,13 @@ class Books:
         other._tickets = [tickets.copied() for tickets in self._tickets]
         return other
 
-    def _auction(self, good: int) -> "Flight | Night | Tickets":
+    def _auction(self, good: int) -> "FlightBook | NightBook | TicketBook":
         if good in FLIGHTS:
             return self._flights[good]
         return (self._nights[good - HOTELS.start] if good in HOTELS
                 else self._tickets[good - TICKETS.start])
 
-    def _book(self, good: int, trades: List[Trade]) -> None:
+    def _book(self, good: int, trades: List[Side]) -> None:
         for agent, units, price in trades:
             self.holdings[agent][good] += units
             self.cash[agent] -= units * price

@@ -1,0 +1,215 @@
+"""The command `data`: writes what a tournament's games have as tables of CSV.
+
+    tournament --turns 40 --games 20 --out runs/1 mine.py theirs.py
+    data runs/1 tables
+
+FOLDER is that of a run (`tournament --out`), and OUT a new folder. It gets the tables `games`,
+`deals`, `goods`, `quotes`, `bids`, `trades`, `cash`, `scores` and `trips`, and `schema.json` with
+the version of their form, which is written last (docs/FORMATS.md, "The tables of a tournament").
+Each call has its tick. `geesefuton.records.data.read_data` reads the tables back, and any program
+that reads CSV.
+
+A game whose files are missing or do not belong together is named, and the others go on. The exit
+status is 0 if all games are there.
+"""
+
+import os
+import sys
+from pathlib import Path
+from typing import Dict, Iterable, Iterator, List, Sequence, Set
+
+from geesefuton.arguments import Parser
+from geesefuton.experiments.joining import read_source
+from geesefuton.experiments.kept import KeptGame, read_games
+from geesefuton.processes import Output, command, tell, why
+from geesefuton.records.accounts import gains_of
+from geesefuton.records.data import SCHEMA, TABLES, file_of, schema_text
+from geesefuton.records.games import AUCTIONS, CLOCK, FLIGHTS, GOODS, HOTELS, HOUSE, TICKETS
+from geesefuton.records.logs import Post, Score
+from geesefuton.records.replies import No, entry_words
+from geesefuton.records.rules import PENALTY
+from geesefuton.records.tables import csv_of
+from geesefuton.records.ticks import boards_by_tick
+
+Cells = Sequence[object]
+
+
+class Tables:
+    """The files of the tables.
+
+    Args:
+        folder: A new or empty folder.
+
+    Attributes:
+        games: How many games were written.
+    """
+
+    def __init__(self, folder: Path) -> None:
+        self._folder = folder
+        self._files = {table: Output(file_of(folder, table)) for table in TABLES}
+        self._deals: Set[str] = set()
+        self.games = 0
+        for table, columns in TABLES.items():
+            self._put(table, [list(columns)])
+
+    def write(self, kept: KeptGame) -> None:
+        """Writes a game."""
+        self.games += 1
+        if kept.rows[0].deal not in self._deals:
+            self._deals.add(kept.rows[0].deal)
+            self._put("deals", _clients(kept))
+            self._put("goods", _goods(kept))
+        for table, rows in ROWS.items():
+            self._put(table, ((self.games, *row) for row in rows(kept)))
+
+    def end(self) -> str:
+        """Writes the schema and closes all; gives what failed, "" if nothing did."""
+        files = list(self._files.values())
+        if all(file.fault is None for file in files):
+            files.append(Output(self._folder / SCHEMA))
+            files[-1].write(schema_text())
+        for file in files:
+            file.close()
+        return next((f"{file.name}: {file.fault}" for file in files if file.fault is not None), "")
+
+    def _put(self, table: str, rows: Iterable[Cells]) -> None:
+        self._files[table].write(csv_of(rows))
+
+
+def _clients(kept: KeptGame) -> Iterator[Cells]:
+    for seat, clients in enumerate(kept.game.clients):
+        for number, client in enumerate(clients):
+            yield (kept.rows[0].deal, seat, number, client.premium, client.arrive, client.depart,
+                   *client.values)
+
+
+def _goods(kept: KeptGame) -> Iterator[Cells]:
+    game = kept.game
+    for good, group, day, _ in AUCTIONS:
+        first = bound = rooms = ""
+        closes, endow = 54, [0] * 8
+        if good in FLIGHTS:
+            first, bound = str(game.flights[good].first), str(game.flights[good].bound)
+        elif good in HOTELS:
+            night = game.hotels[good - HOTELS.start]
+            rooms, closes = str(night.rooms), night.closes
+        else:
+            endow = [units[good - TICKETS.start] for units in game.endow]
+        yield (kept.rows[0].deal, good, group, day, first, bound, rooms, closes, *endow)
+
+
+def _game(kept: KeptGame) -> Iterator[Cells]:
+    row = kept.rows[0]
+    yield (kept.name, row.deal, row.rotation, row.kind.value, kept.source, kept.log.missed,
+           int(kept.game.live), row.run, row.settings)
+
+
+def _quotes(kept: KeptGame) -> Iterator[Cells]:
+    for tick, boards in enumerate(boards_by_tick(kept.game, kept.log, kept.ticks)):
+        for good, (bid, ask, is_closed) in enumerate(boards):
+            yield tick, good, bid, ask, int(is_closed)
+
+
+def _bids(kept: KeptGame) -> Iterator[Cells]:
+    for good in GOODS:
+        ticks = kept.ticks.entries[good]
+        for position, entry in enumerate(kept.log.histories[good]):
+            seat, call, reply = entry.caller, entry.call, entry.reply
+            if seat == CLOCK or call.do not in ("bid", "withdraw"):
+                continue
+            said = reply.reason if isinstance(reply, No) else entry_words(reply).split(" ")[0]
+            points: Iterable[Cells] = call.points or [("", "")]
+            for units, price in points:
+                yield (ticks[position], good, position, seat, kept.agents[seat], call.do, units,
+                       price, said)
+
+
+def _trades(kept: KeptGame) -> Iterator[Cells]:
+    for good in GOODS:
+        for position, entry in enumerate(kept.log.histories[good]):
+            tick = kept.ticks.entries[good][position]
+            for trade in entry.trades:
+                sides = ((trade.buyer, trade.seller, trade.units),
+                         (trade.seller, trade.buyer, -trade.units))
+                for seat, other, units in sides:
+                    if seat != HOUSE:
+                        yield (tick, good, position, seat, kept.agents[seat], other, units,
+                               trade.price, -units * trade.price)
+
+
+def _cash(kept: KeptGame) -> Iterator[Cells]:
+    for position, (tick, entry) in enumerate(zip(kept.ticks.cash, kept.log.cash)):
+        if not isinstance(entry, Post):
+            yield (tick, position, entry.agent, kept.agents[entry.agent], "read", "",
+                   entry.dollars)
+            continue
+        for seat, dollars in enumerate(entry.nets[:HOUSE]):
+            if dollars:
+                yield tick, position, seat, kept.agents[seat], "post", entry.good, dollars
+
+
+def _scores(kept: KeptGame) -> Iterator[Cells]:
+    for row, score, gains in zip(kept.rows, kept.log.scores, gains_of(kept.log)):
+        yield (row.seat, row.agent, score.best, gains.flights, gains.hotels, gains.tickets,
+               score.short, PENALTY * score.short, score.cash, score.score, row.end.value, row.luck,
+               _number(row.nights), _number(row.first_price), row.files)
+
+
+def _number(value: object) -> object:
+    return "" if value is None else value
+
+
+def _trips(kept: KeptGame) -> Iterator[Cells]:
+    for score in kept.log.scores:
+        for number, trip in enumerate(_trips_of(kept, score)):
+            yield (score.agent, kept.agents[score.agent], number, *trip)
+
+
+def _trips_of(kept: KeptGame, score: Score) -> List[Cells]:
+    return [("", "", "", "", "", "", 0) if package is None else
+            (package.hotel, package.arrive, package.depart, *package.nights, client.worth(package))
+            for client, package in zip(kept.game.clients[score.agent], score.packages)]
+
+
+ROWS = {"games": _game, "quotes": _quotes, "bids": _bids, "trades": _trades, "cash": _cash,
+        "scores": _scores, "trips": _trips}
+
+
+def _make(parser: Parser, folder: Path) -> None:
+    """Makes the folder of the tables. No table is written over."""
+    try:
+        folder.mkdir(parents=True, exist_ok=True)
+        names = sorted(os.listdir(folder))
+    except OSError as fault:
+        parser.error(f"{folder}: {why(fault)}")
+    if names:
+        parser.error(f"{folder} has {names[0]}: name a new folder")
+
+
+def _main() -> int:
+    parser = Parser("data", __doc__)
+    parser.add_argument("folder", type=Path, metavar="FOLDER", help="the folder of a run")
+    parser.add_argument("out", type=Path, metavar="OUT", help="a new folder for the tables")
+    given = parser.parse_args()
+    if not given.folder.is_dir():
+        parser.error(f"{given.folder} is no folder")
+    source, told = read_source(given.folder)
+    if source is not None:
+        _make(parser, given.out)
+        tables = Tables(given.out)
+        for kept in read_games(given.folder, source.rows, told):
+            tables.write(kept)
+        fault = tables.end()
+        told += [fault] if fault else []
+    for text in told:
+        tell(f"data: {text}")
+    return 1 if told else 0
+
+
+def main() -> int:
+    """The command `data`."""
+    return command("data", _main)
+
+
+if __name__ == "__main__":
+    sys.exit(main())

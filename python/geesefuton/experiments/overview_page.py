@@ -1,0 +1,190 @@
+"""The page of the games of a run: HTML that stands alone, as the report of a game."""
+
+import html
+from statistics import mean, median, quantiles
+from typing import Dict, Iterator, List, Optional, Sequence, Tuple
+
+from geesefuton.experiments.joining import WAYS
+from geesefuton.experiments.overview import (MINUTES, PREDICTORS, SIDES, Efficiency, Fill, Overview,
+                                             Parts)
+from geesefuton.experiments.results import Row
+from geesefuton.records.games import AUCTIONS, FLIGHTS, HOTELS, TICKETS, TICKS, name_of
+from geesefuton.records.report_page import STYLE, Cell, bar, chart, round_up, table
+
+SHOWN = range(0, TICKS + 1, 6)  # the ticks of a table of prices
+KINDS = ("trips", "flights", "rooms", "tickets", "penalties")  # the parts of a score
+
+
+def page(overview: Overview, name: str, row: Row) -> str:
+    """The page of a run.
+
+    Args:
+        overview: Its figures.
+        name: The name of its folder.
+        row: One of its rows.
+    """
+    agents = [html.escape(agent) for agent in overview.order()]
+    title = html.escape(name)
+    return "\n".join([
+        '<!doctype html><html lang="en"><meta charset="utf-8">'
+        '<meta name="viewport" content="width=device-width, initial-scale=1">'
+        f"<title>Games of {', '.join(agents)}</title>"
+        f"<style>{STYLE.read_text(encoding='ascii')}</style>",
+        f"<h1>Games of {', '.join(agents)}</h1><p>The folder {title}: {_games(overview.games)} of "
+        f"{_count(len(overview.deals), 'deal')}, played {WAYS[row.kind]}. All amounts are in "
+        "dollars.</p>",
+        *_parts(overview), *_prices(overview), *_tickets(overview), *_fills(overview),
+        *_errors(overview), *_distances(overview), *_efficiencies(overview)]) + "</html>\n"
+
+
+def _count(number: int, what: str) -> str:
+    return f"{number:,} {what}{'' if number == 1 else 's'}"
+
+
+def _games(number: int) -> str:
+    return _count(number, "game")
+
+
+def _bars(values: Dict[str, Sequence[float]], heads: Sequence[str]) -> str:
+    """Bars of several values of each name, all on one scale."""
+    numbers = [round(value) for row in values.values() for value in row]
+    low, high = min([0, *numbers]), max([1, *numbers])
+    rows = [[html.escape(name), *(bar(round(value), low, high) for value in row)]
+            for name, row in values.items()]
+    return table(["", *heads], rows, range(len(heads) + 1))
+
+
+def _parts(overview: Overview) -> Iterator[str]:
+    means: Dict[str, Parts] = {agent: overview.mean_parts(agent) for agent in overview.order()}
+    yield ("<h2>The parts of scores</h2><p>Means over an agent's seats: what the trips are worth, "
+           "what was earned less what was paid for each kind of goods, and 200 for each ticket "
+           "short. The score is their sum.</p>")
+    yield _bars(dict(means.items()), KINDS)
+    rows: List[List[Cell]] = [
+        [html.escape(agent), len(overview.parts[agent]), *(f"{part:.0f}" for part in parts),
+         f"<b>{parts.score:.0f}</b>"] for agent, parts in means.items()]
+    yield table(["agent", "seats", *KINDS, "score"], rows, (0,))
+
+
+def _prices(overview: Overview) -> Iterator[str]:
+    yield ("<h2>Prices</h2><p>The median of all games at each tick, 0 at the left to 54, in the "
+           "band of the middle half of the games. A night that is closed keeps its price.</p>")
+    for goods, step in ((FLIGHTS, 50), (HOTELS, 100)):
+        bands = {good: [_quartiles(at) for at in zip(*(path.prices
+                                                       for path in overview.paths[good]))]
+                 for good in goods}
+        high = round_up(max([step, *(top for band in bands.values() for _, _, top in band)]), step)
+        low = 0
+        if goods is FLIGHTS:
+            low = int(min(least for band in bands.values() for least, _, _ in band)) // step * step
+            high = max(high, low + step)
+        for group in (goods[:4], goods[4:]):
+            charts = []
+            for good in group:
+                below, middle, above = (list(enumerate(each)) for each in zip(*bands[good]))
+                day = f"{'day' if good in FLIGHTS else 'night'} {AUCTIONS[good].day}"
+                charts.append(chart(f"{day}: <b>{middle[0][1]:.0f} to {middle[-1][1]:.0f}</b>",
+                                    middle, low, high, False, (below, above)))
+            yield f"<h3>{AUCTIONS[group[0]].group}</h3>"
+            yield f'<div class="charts">{"".join(charts)}</div>'
+            yield table(["median at tick", *map(str, SHOWN)],
+                        [[name_of(good), *(f"{bands[good][tick][1]:.0f}" for tick in SHOWN)]
+                         for good in group], (0,))
+
+
+def _quartiles(values: Sequence[float]) -> Tuple[float, float, float]:
+    """The lower quartile, the median and the upper quartile."""
+    if len(values) == 1:
+        return values[0], values[0], values[0]
+    first, second, third = quantiles(values, n=4, method="inclusive")
+    return first, second, third
+
+
+def _tickets(overview: Overview) -> Iterator[str]:
+    yield "<h2>Ticket prices</h2><p>Units traded in a game, in the mean, and what each cost.</p>"
+    if not any(overview.trades.values()):
+        yield "<p>No ticket was traded.</p>"
+        return
+    means: Dict[str, Sequence[float]] = {}
+    rows: List[List[Cell]] = []
+    for good in TICKETS:
+        trades = overview.trades[good]
+        units = sum(count for count, _ in trades)
+        prices = [price for _, price in trades]
+        cost = sum(count * price for count, price in trades)
+        means[name_of(good)] = [cost / units if units else 0]
+        rows.append([name_of(good), f"{units / overview.games:.1f}", *(
+            [min(prices), f"{cost / units:.0f}", max(prices)] if units else ["–"] * 3)])
+    yield _bars(means, ["mean price"])
+    yield table(["ticket", "traded", "lowest", "mean", "highest"], rows, (0,))
+
+
+def _fills(overview: Overview) -> Iterator[str]:
+    yield ("<h2>Units asked for, and got</h2><p>A bid asks for the units that it has more than "
+           "stood there of its agent before. The bars show which part of them traded.</p>")
+    rates, rows = {}, []
+    for agent in overview.order():
+        fills = [overview.fills[agent].get(side, Fill()) for side in SIDES]
+        rates[agent] = [100 * fill.filled / fill.asked if fill.asked else 0 for fill in fills]
+        seats = len(overview.parts[agent])
+        for side, fill, rate in zip(SIDES, fills, rates[agent]):
+            rows.append([html.escape(agent), side, f"{fill.asked / seats:.1f}",
+                         f"{fill.filled / seats:.1f}", f"{rate:.0f} %" if fill.asked else "–"])
+    yield _bars(rates, SIDES)
+    yield table(["agent", "", "asked for<br>a seat", "got<br>a seat", "rate"], rows, (0, 1))
+
+
+def _errors(overview: Overview) -> Iterator[str]:
+    yield ("<h2>Errors of predicted room prices</h2><p>By how many dollars three predictions of a "
+           "night's closing price are wrong, in the mean over the nights that are open after a "
+           "tick: its quote of the tick, the mean closing price of that night in the games of "
+           "other deals, and the quote with its mean rise there.</p>")
+    errors = overview.errors()
+    most = max([1.0, *(error for each in errors.values() for error in each if error is not None)])
+    high, charts = round_up(most, 50), []
+    for predictor in PREDICTORS:
+        points = [(tick, error) for tick, error in zip(MINUTES, errors[predictor])
+                  if error is not None]
+        if points:
+            charts.append(chart(f"{predictor}: <b>{points[0][1]:.0f} to {points[-1][1]:.0f}</b>",
+                                points, 0, high, False))
+    yield f'<div class="charts">{"".join(charts)}</div>'
+    yield table(["mean error at tick", *map(str, MINUTES)],
+                [[predictor, *map(_whole, errors[predictor])] for predictor in PREDICTORS], (0,))
+
+
+def _whole(number: Optional[float]) -> str:
+    return "–" if number is None else f"{number:.0f}"
+
+
+def _distances(overview: Overview) -> Iterator[str]:
+    yield ("<h2>The distance to the best plan at closing prices</h2><p>By how much a seat's score "
+           "is less than its best plan is worth, if that bought all it lacks at the last prices of "
+           "flights and rooms and the mean prices of tickets. Below 0 it did better, as by seats "
+           "that became dearer later.</p>")
+    rows: List[List[Cell]] = []
+    for agent in overview.order():
+        each = overview.distances[agent]
+        rows.append([html.escape(agent), len(each), f"<b>{mean(each):.0f}</b>", min(each),
+                     f"{median(each):.0f}", max(each)])
+    yield _bars({agent: [mean(overview.distances[agent])] for agent in overview.order()}, ["mean"])
+    yield table(["agent", "seats", "mean", "least", "median", "most"], rows, (0,))
+
+
+def _efficiencies(overview: Overview) -> Iterator[str]:
+    yield ("<h2>Efficiency over the 64 clients</h2><p>What all trips of a game are worth, less all "
+           "seats at the flights' first prices and 200 for each ticket short, of the most that is "
+           "known that its 64 clients might have had of its rooms and tickets. No allocation is "
+           "worth more than the bound.</p>")
+    tables = overview.efficiencies
+    rates = {agents: [100 * each.had / each.best for each in tables[agents] if each.best]
+             for agents in sorted(tables)}
+    yield _bars({agents: [mean(each or [0])] for agents, each in rates.items()}, ["mean, in %"])
+    rows: List[List[Cell]] = []
+    for agents, each in rates.items():
+        games: Sequence[Efficiency] = tables[agents]
+        rows.append([html.escape(agents), len(games), f"<b>{mean(each or [0]):.0f} %</b>",
+                     f"{min(each, default=0):.0f} %", f"{max(each, default=0):.0f} %",
+                     *(f"{mean(values):.0f}" for values in zip(*games))])
+    yield table(["agents", "games", "mean", "least", "most", "they had", "might have had", "bound"],
+                rows, (0,))

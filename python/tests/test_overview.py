@@ -1,0 +1,158 @@
+"""What the games of a run have in common, by games that are kept as data."""
+
+import re
+import unittest
+from collections import defaultdict
+from typing import Dict, List, Optional, Tuple
+
+from geesefuton.experiments.kept import games_of, read_kept
+from geesefuton.experiments.overview import (PREDICTORS, SIDES, Fill, Overview, Parts, GamePrices,
+                                             fills_of, optimum, table_of)
+from geesefuton.experiments.overview_page import page
+from geesefuton.experiments.runs import read_scores
+from geesefuton.records.best_plans import best_plan
+from geesefuton.records.games import Client, read_game
+from geesefuton.records.logs import Call, Entry, Trade
+from geesefuton.records.replies import read_entry_reply
+from geesefuton.records.rules import prices_of
+from tests.helpers import cells_of, refusal, run, served_game
+from tests.test_data import NAMES, TEXTS, Case, numbers
+
+TAKEN, DONE = read_entry_reply("taken 0 0"), read_entry_reply("done")
+
+
+def bid(agent: int, *points: Tuple[int, int], trades: Tuple[Trade, ...] = ()) -> Entry:
+    return Entry(agent, Call("bid", points), TAKEN, trades)
+
+
+class Fills(unittest.TestCase):
+    def test_a_bid_that_stands_is_asked_once(self) -> None:
+        history = [bid(2, (3, 50)), bid(2, (3, 60)), bid(2, (4, 70)), bid(2, (1, 70)),
+                   Entry(8, Call("close"), DONE, (Trade(2, 8, 1, 40),))]
+        self.assertEqual(fills_of(history), {(2, False): Fill(4, 1)})
+
+    def test_what_has_traded_may_be_asked_again(self) -> None:
+        sold = (Trade(2, 5, 2, 50),)
+        history = [bid(5, (-2, 50), (1, 20)), bid(2, (2, 50), trades=sold), bid(2, (2, 50)),
+                   Entry(2, Call("withdraw"), DONE), bid(2, (1, 50)),
+                   Entry(5, Call("bid", ((-9, 1),)), read_entry_reply("no closed"))]
+        self.assertEqual(fills_of(history), {(5, True): Fill(2, 2), (5, False): Fill(1, 0),
+                                             (2, False): Fill(5, 2)})
+
+
+class Optima(unittest.TestCase):
+    def test_all_clients_share_what_there_is(self) -> None:
+        # One room a night in each hotel; a seat costs 300 each way.
+        client = Client(1, 2, 100, (0, 0, 0))
+        game = served_game()
+        text = re.sub(r"(?m)^(flight \d) \d+ ", r"\1 300 ", game.text())
+        text = re.sub(r"(?m)^(endow \d).*$", r"\1" + " 0" * 12, text)
+        text = re.sub(r"(?m)^rooms .*$", "rooms" + " 1" * 8, text)
+        text = re.sub(r"(?m)^(client \d \d).*$", r"\1 1 2 100 0 0 0", text)
+        same = read_game(text)
+        self.assertEqual(same.clients[7][7], client)
+        # Each of the four nights has two rooms. For a stay of a night with the wished day in or
+        # out a client gets 1000 or 1000 less 200 for each day later, less the two seats.
+        nights = [1000 - 200 * night - 600 for night in range(4)]
+        due = sum(2 * worth + 100 for worth in nights if worth > 0)
+        due += max(0, nights[2] + 100)  # the third night gains only in the better hotel
+        found = optimum(same)
+        self.assertEqual(found.value, due)
+        self.assertGreaterEqual(found.bound, due)
+
+
+class Games(Case):
+    overview = Overview()
+
+    def setUp(self) -> None:
+        super().setUp()
+        if not self.overview.games:
+            for rows in games_of(read_scores(self.folder).rows):
+                self.overview.add(read_kept(self.folder, rows))
+
+    def test_the_parts_add_up_to_the_scores_of_the_logs(self) -> None:
+        scores: Dict[str, List[int]] = defaultdict(list)
+        trips: Dict[str, List[int]] = defaultdict(list)
+        for texts in TEXTS.values():
+            for seat, best, *_, score in numbers("score", texts["log"]):
+                scores[NAMES[seat]].append(score)
+                trips[NAMES[seat]].append(best)
+        for agent in NAMES:
+            self.assertEqual([parts.score for parts in self.overview.parts[agent]], scores[agent])
+            means = self.overview.mean_parts(agent)
+            self.assertAlmostEqual(means.score, sum(scores[agent]) / 3)
+            self.assertAlmostEqual(means.utility, sum(trips[agent]) / 3)
+        means_of_all = [sum(scores[agent]) for agent in self.overview.order()]
+        self.assertEqual(means_of_all, sorted(means_of_all, reverse=True))
+
+    def test_the_distance_is_that_to_the_best_plan_at_closing_prices(self) -> None:
+        game, text = served_game(), TEXTS["9"]["log"]
+        prices: List[Optional[int]] = [prices_of(flight)[-1] for flight in game.flights]
+        parts = re.split(r"(?m)^(?:auction|cash) ", text)
+        for part in parts[9:17]:
+            prices += [int(price) for price in re.findall(r"close = sold \d+ (\d+)", part)]
+        for part in parts[17:29]:
+            trades = [(units, price) for *_, units, price in numbers("trade", part)]
+            count = sum(units for units, _ in trades)
+            prices.append(round(sum(units * price for units, price in trades) / count)
+                          if trades else None)
+        for seat, agent in enumerate(NAMES):
+            plan = best_plan(game.clients[seat], [0] * 16 + list(game.endow[seat]), prices)
+            score = numbers("score", text)[seat][-1]
+            self.assertEqual(self.overview.distances[agent][0], plan.value - score)
+
+    def test_nobody_has_more_than_the_bound(self) -> None:
+        (each,) = self.overview.efficiencies.values()
+        for game in each:
+            self.assertLessEqual(game.had, game.bound)
+            self.assertLessEqual(game.best, game.bound)
+        self.assertEqual(table_of(["b", "a", "b"]), "1 a, 2 b")
+
+    def test_the_page_has_a_picture_and_a_table_for_each_figure(self) -> None:
+        text = page(self.overview, "<run>", read_scores(self.folder).rows[0])
+        self.assertIn("&lt;run&gt;: 3 games of 3 deals, played by the clock.", text)
+        sections = dict(re.findall(r"<h2>(.*?)</h2>(.*?)(?=<h2>|</html>)", text, re.DOTALL))
+        self.assertEqual(len(sections), 7)
+        for name, section in sections.items():
+            pictures = max(section.count('class="bar"'), section.count("<figure>"))
+            self.assertGreater(pictures, 0, name)
+            self.assertGreaterEqual(section.count("<table>"), 1, name)
+        self.assertEqual(sections["Prices"].count("<figure>"), 16)
+        rows = cells_of(sections["The parts of scores"].split("</table>")[1])[1:]
+        best = self.overview.order()[0]
+        parts: Parts = self.overview.mean_parts(best)
+        self.assertEqual(rows[0], [best, "3", *(f"{part:.0f}" for part in parts),
+                                   f"{parts.score:.0f}"])
+
+    def test_the_command(self) -> None:
+        done = run("experiments.report_command", "--over", self.folder / "games")
+        self.assertEqual((done.returncode, done.stdout, done.stderr), (
+            1, "", f"report: {self.folder}/games: it is no folder of a tournament's run\n"))
+        for words in (("--over", self.folder, "my.game"), ("--over", self.folder, "--csv"), (),
+                      ("a",)):
+            self.assertEqual(refusal("records.report", *words)[0], 2)
+        (self.folder / "games" / "9.0.log").unlink()
+        (self.folder / "games" / "10.0.game").write_text("no game\n")
+        done = run("experiments.report_command", "--over", self.folder)
+        self.assertEqual((done.returncode, done.stderr.count("\n")), (1, 2))
+        self.assertIn("10.0.game: line 1: ", done.stderr)
+        self.assertIn("The folder run: 1 game of 1 deal", done.stdout)
+
+
+class Errors(unittest.TestCase):
+    def test_three_predictions_of_a_night(self) -> None:
+        overview = Overview()
+        # Night 8 of three games of two deals closes at tick 48, the others at once.
+        for deal, start, end in (("1", 10, 50), ("1", 20, 40), ("2", 30, 100)):
+            overview.paths[8].append(GamePrices(deal, 48, [start] * 48 + [end] * 7))
+        errors = overview.errors()
+        # The quotes err by 40, 20 and 70. The other deal closes at 100, or at 45 in the mean, and
+        # rises by 70, or by 30.
+        self.assertEqual([errors[way][0] for way in PREDICTORS],
+                         [(40 + 20 + 70) / 3, (50 + 60 + 55) / 3, (30 + 50 + 40) / 3])
+        self.assertEqual({len(each) for each in errors.values()}, {8})
+        self.assertEqual(len(SIDES), 4)
+
+
+if __name__ == "__main__":
+    unittest.main()
