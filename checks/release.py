@@ -1,10 +1,12 @@
 #!/usr/bin/env python3
-"""Whether a release can be made, and whether it tells a change: from a stand-in for the program.
+"""Whether a release can be made, and whether it tells a change: from stand-ins for the program and
+for the toolchain that builds it.
 
 What a release needs is committed in a repository of its own, and cloned. One of both makes the
 archive, the wheel and, where there is dpkg-deb, the Debian package; the other one makes them again
-and compares. The archive's commands are run, the wheel's list of files is looked at, and clones and
-logs of which no release can be made are refused.
+and compares. Both have another program where the built one is due, which must not get into a
+release. The archive's commands are run, the wheel's list of files is looked at, and clones and logs
+of which no release can be made are refused, and so are clones without a toolchain.
 """
 
 import os
@@ -26,6 +28,15 @@ import gate_log  # noqa: E402
 from geesefuton.processes import command  # noqa: E402
 
 STANDIN = "#!/bin/sh\n[ $# = 2 ] && [ $1 = make ] && echo 'tac 1' && exit 0\necho usage\nexit 1\n"
+SOURCE, PROGRAM = "crates/tacd/source", "crates/tacd/out/tacd"  # of the stand-in for rt
+RT = """#!/bin/sh
+case "$*" in
+    version) echo 'a kit'; echo 'of two lines';;
+    'run -- make 42') mkdir -p out && cp source out/tacd && echo 'tac 1';;
+    *) exit 9;;
+esac
+"""
+BROKEN = "#!/bin/sh\n[ $1 = version ] || { echo proving; echo 'no proof of main'; exit 3; } >&2\n"
 PARTS = ("README.md", "LICENSE", "CHANGELOG.md", "CITATION.cff", ".gitignore", "quickstart",
          "tools", "examples", "docs", "python/geesefuton", "python/README.md",
          "python/pyproject.toml", "packaging")
@@ -49,6 +60,9 @@ def clones(place: Path) -> Tuple[Path, Path]:
         if (TOP / name).is_file():
             (first / name).parent.mkdir(parents=True, exist_ok=True)
             shutil.copy2(TOP / name, first / name)
+    (first / SOURCE).parent.mkdir(parents=True)
+    (first / SOURCE).write_text(STANDIN)
+    (first / SOURCE).chmod(0o755)
     git(first, "init", "--quiet")
     git(first, "add", "--all")
     git(first, "commit", "--quiet", "--message", "A commit")
@@ -56,11 +70,28 @@ def clones(place: Path) -> Tuple[Path, Path]:
     return first, second
 
 
-def release(clone: Path, *words: object) -> "subprocess.CompletedProcess[str]":
-    """Runs tools/release of a clone."""
+def release(clone: Path, *words: object, path: str = "") -> "subprocess.CompletedProcess[str]":
+    """Runs tools/release of a clone, with another PATH if one is given."""
     return subprocess.run([sys.executable, clone / "tools" / "release", *map(str, words)],
                           check=False, text=True, stdin=subprocess.DEVNULL,
+                          env={**os.environ, "PATH": path or os.environ["PATH"]},
                           stdout=subprocess.PIPE, stderr=subprocess.PIPE)
+
+
+def toolchain(place: Path, text: str) -> str:
+    """A PATH with a stand-in for rt before all else."""
+    place.mkdir()
+    (place / "rt").write_text(text)
+    (place / "rt").chmod(0o755)
+    return f"{place}{os.pathsep}{os.environ['PATH']}"
+
+
+def git_alone(place: Path) -> str:
+    """A PATH with git and the shell, and no toolchain."""
+    place.mkdir()
+    for name in ("git", "sh"):
+        (place / name).symlink_to(shutil.which(name) or "/nowhere")
+    return str(place)
 
 
 def refused_logs(commit: str) -> Iterator[Tuple[str, str]]:
@@ -92,7 +123,16 @@ def faults_of_refusals(clone: Path, log: Path) -> List[str]:
     """Which words and clones are not refused as they should be, in one line; the log is good."""
     faults = faults_of_line(release(clone), "--gate LOG is due")
     faults += faults_of_line(release(clone, "--gate", log.parent), "Is a directory")
-    faults += faults_of_line(release(clone, "--gate", log), "tacd: No such file or directory;")
+    faults += faults_of_line(release(clone, "--gate", log, "--program", "nothing"),
+                             "nothing: No such file or directory")
+    faults += faults_of_line(release(clone, "--gate", log, path=git_alone(clone.parent / "git")),
+                             "the toolchain's command rt is not here")
+    broken = release(clone, "--gate", log, path=toolchain(clone.parent / "broken", BROKEN))
+    if (broken.returncode, broken.stdout) != (1, "") or not broken.stderr.endswith(
+            "run -- make 42) ended with 3: no proof of main\n"):
+        faults.append(f"a program that is not proved: {broken}")
+    if (clone / "release" / "1.1.0").exists():
+        faults.append("a release that was refused leaves a folder")
     (clone / "README.md").write_text("changed")
     faults += faults_of_line(release(clone, "--gate", log), "not committed, such as 'M README.md'")
     git(clone, "checkout", "--quiet", "README.md")
@@ -149,24 +189,27 @@ def faults_of_wheel(wheel: Path) -> List[str]:
 
 def faults_in(place: Path) -> List[str]:
     """What is wrong with releases that are made in a folder."""
-    program, log, made = place / "standin", place / "gate.log", place / "made"
-    program.write_text(STANDIN)
-    program.chmod(0o755)
+    log, made = place / "gate.log", place / "made"
     first, second = clones(place)
     faults = faults_of_logs(log)
     commit = git(first, "rev-parse", "HEAD").strip()
     log.write_text(f"{commit}\n{PASSED}{TIMES}")
     faults += faults_of_refusals(first, log)
-    done = release(first, "--gate", log, "--program", program, "--out", made,
-                   *([] if shutil.which("dpkg-deb") else ["--no-deb"]))
+    path = toolchain(place / "rt", RT)
+    for clone in (first, second):
+        (clone / PROGRAM).parent.mkdir(exist_ok=True)
+        (clone / PROGRAM).write_text("a program of another commit")
+    done = release(first, "--gate", log, "--out", made,
+                   *([] if shutil.which("dpkg-deb") else ["--no-deb"]), path=path)
     if done.returncode:
         return [*faults, f"no release was made: {done.stderr.strip()}"]
     told = (made / "PROVENANCE").read_text().splitlines()
     for line in (f"commit: {commit}", "gate: 3 passed, 0 failed", f"gate-work: {WORK}",
-                 "gate-minutes: 2.5 by the clock, 5.5 of processors"):
+                 "gate-minutes: 2.5 by the clock, 5.5 of processors", "kit: a kit; of two lines",
+                 "program: proved and built"):
         if line not in told:
             faults.append(f"PROVENANCE lacks {line!r}: {told}")
-    checked = release(second, "--program", program, "--check", made)
+    checked = release(second, "--check", made, path=path)
     if checked.returncode:
         faults.append(f"two clones differ: {checked.stderr.strip()}")
     faults += faults_of_archive(next(made.glob("*.tar.gz")), place / "unpacked")
@@ -175,8 +218,9 @@ def faults_in(place: Path) -> List[str]:
     data = bytearray(wheel.read_bytes())
     data[len(data) // 2] ^= 1
     wheel.write_bytes(data)
-    checked = release(second, "--program", program, "--check", made)
-    if (checked.returncode, checked.stderr) != (1, f"release: {wheel.name}: differs\n"):
+    checked = release(second, "--check", made, path=path)
+    if checked.returncode != 1 or not checked.stderr.endswith(
+            f"\nrelease: {wheel.name}: differs\n"):
         faults.append(f"a changed byte is not found: {checked.stderr.strip()}")
     return faults
 

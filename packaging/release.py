@@ -5,10 +5,11 @@
     tools/release --gate ../gate.log           # into release/VERSION
     tools/release --check release/1.1.0        # builds again, and compares
 
-PROVENANCE has the last line of the gate, its minutes, and how much of it was done anew. The program
-is `crates/tacd/out/tacd`, as `(cd crates/tacd && rt run -- make 42)` builds it. Two clones of a
-commit give the same bytes, if they are given the same gate. It needs Python 3.11, git and dpkg-deb,
-and fetches nothing.
+PROVENANCE has the last line of the gate, its minutes, and how much of it was done anew. Both ways
+prove and build the program first, by `(cd crates/tacd && rt run -- make 42)`: that takes seconds if
+nothing has changed since, and a quarter of an hour or more in a fresh clone. Two clones of a commit
+give the same bytes, if they are given the same gate. It needs the toolchain, Python 3.11, git and
+dpkg-deb, and fetches nothing.
 """
 
 import argparse
@@ -25,7 +26,7 @@ import sys
 import tarfile
 import tempfile
 from pathlib import Path
-from typing import Dict, Iterator, List, NamedTuple, Sequence
+from typing import Dict, Iterator, List, NamedTuple, Optional, Sequence
 
 if sys.version_info < (3, 11):
     sys.exit("release: it needs Python 3.11 or later")
@@ -35,12 +36,12 @@ sys.path.insert(0, str(TOP / "packaging"))
 
 import debian  # noqa: E402
 import gate_log  # noqa: E402
+import toolchain  # noqa: E402
 import wheel_file  # noqa: E402
 
 from geesefuton.arguments import Parser  # noqa: E402
 from geesefuton.processes import command, tell  # noqa: E402
 
-PROGRAM = TOP / "crates" / "tacd" / "out" / "tacd"
 TREE = ("README.md", "LICENSE", "CHANGELOG.md", "CITATION.cff", "quickstart", "tools", "examples",
         "docs", "python/geesefuton", "python/README.md", "python/pyproject.toml",
         "packaging/Containerfile")
@@ -95,16 +96,6 @@ def version_of() -> str:
     return found[1]
 
 
-def kit() -> str:
-    """What `rt version` says, or that there is no toolchain."""
-    try:
-        told = subprocess.run(["rt", "version"], check=True, text=True,
-                              stdout=subprocess.PIPE).stdout
-        return "; ".join(told.splitlines())
-    except (OSError, subprocess.CalledProcessError):
-        return "no toolchain"
-
-
 def commit_of(may_change: bool) -> str:
     """The commit at which the clone stands; ` with changes` follows if it has any.
 
@@ -138,26 +129,41 @@ def gate_of(given: argparse.Namespace, commit: str) -> Dict[str, str]:
     raise ReleaseError(f"--gate LOG is due, which {gate_log.HOW} makes in bash")
 
 
-def gather(program: Path, commit: str, facts: Dict[str, str]) -> Release:
+def program_of(given: Optional[Path], commit: str) -> bytes:
+    """The bytes of the program: of the given file, or as the toolchain builds it now.
+
+    Args:
+        given: The file; None for the program of the clone.
+        commit: The commit, as `commit_of` gives it.
+
+    Raises:
+        ReleaseError: There is no such file, or the clone has changed meanwhile.
+        ToolchainError: There is no toolchain, or it builds no program.
+    """
+    if given is not None:
+        try:
+            return given.read_bytes()
+        except OSError as fault:
+            raise ReleaseError(f"{given}: {fault.strerror}") from None
+    data = toolchain.build(TOP)
+    if commit_of(True) != commit:
+        raise ReleaseError(f"the clone was at {commit} before the program was built, and is no "
+                           "longer")
+    return data
+
+
+def gather(program: bytes, commit: str, facts: Dict[str, str]) -> Release:
     """What the release is made of.
 
     Args:
-        program: The program's file.
+        program: The program.
         commit: The commit, as `commit_of` gives it.
         facts: What else it says of its origin.
-
-    Raises:
-        ReleaseError: There is no program.
     """
-    try:
-        data = program.read_bytes()
-    except OSError as fault:
-        raise ReleaseError(f"{program}: {fault.strerror}; build it first: "
-                           "(cd crates/tacd && rt run -- make 42)") from None
-    provenance = {**facts, "commit": commit, "sha256": hashlib.sha256(data).hexdigest()}
+    provenance = {**facts, "commit": commit, "sha256": hashlib.sha256(program).hexdigest()}
     files = [file for file in git("ls-files", *TREE).split("\n")
              if file not in NOT_TAKEN and (TOP / file).is_file()]
-    return Release(version_of(), int(git("log", "-1", "--format=%ct")), files, data, provenance)
+    return Release(version_of(), int(git("log", "-1", "--format=%ct")), files, program, provenance)
 
 
 def provenance_text(release: Release) -> bytes:
@@ -252,26 +258,34 @@ def differences(folder: Path, made: Sequence[Path]) -> List[str]:
     return lines
 
 
-def check(folder: Path, program: Path, commit: str) -> int:
+def check(folder: Path, given: Optional[Path], commit: str) -> int:
     """Builds a release again and compares; gives the exit status.
+
+    Args:
+        folder: The release.
+        given: The program's file; None for the program of the clone, which is built.
+        commit: The commit, as `commit_of` gives it.
 
     Raises:
         ReleaseError: It is no release, or one of another commit.
+        ToolchainError: There is no toolchain, or it builds no program.
     """
     told = told_in(folder)
     if told.get("commit") != commit:
         raise ReleaseError(f"{folder} is of commit {told.get('commit', 'unknown')}, and this clone "
                            f"is at {commit}")
     # A build cannot know these facts.
-    release = gather(program, commit, {key: told[key] for key in ("kit", *gate_log.FACTS)
-                                       if key in told})
+    release = gather(program_of(given, commit), commit,
+                     {key: told[key] for key in ("kit", "program", *gate_log.FACTS)
+                      if key in told})
     with tempfile.TemporaryDirectory() as place:
         has_debian = any(folder.glob("*.deb"))
         lines = differences(folder, make(release, Path(place), has_debian))
     for line in lines:
         tell(f"release: {line}")
     if not lines:
-        print(f"{folder}: the same, byte by byte, as this clone's at {commit}")
+        what = f" with the program {given}, which was not built here" if given else ""
+        print(f"{folder}: the same, byte by byte, as this clone's at {commit}{what}")
     return int(bool(lines))
 
 
@@ -290,7 +304,8 @@ def _main() -> int:
         help="how long the gate took, if its log has no times")
     add("--out", type=Path, metavar="FOLDER", help="a new folder; release/VERSION")
     add("--check", type=Path, metavar="FOLDER", help="build again, and compare with that release")
-    add("--program", type=Path, default=PROGRAM, metavar="FILE", help="the program's file")
+    add("--program", type=Path, metavar="FILE",
+        help="this program in place of the built one, to try it; PROVENANCE says so")
     add("--no-deb", action="store_true", help="without the Debian package")
     add("--changed", action="store_true", help="also from a clone with changes, to try it")
     given = parser.parse_args()
@@ -298,19 +313,21 @@ def _main() -> int:
         commit = commit_of(given.changed)
         if given.check is not None:
             return check(given.check, given.program, commit)
-        release = gather(given.program, commit, {**gate_of(given, commit), "kit": kit()})
-        place = given.out or TOP / "release" / release.version
+        facts = {**gate_of(given, commit), "kit": toolchain.kit(),
+                 "program": toolchain.GIVEN if given.program else toolchain.BUILT}
+        place = given.out or TOP / "release" / version_of()
         place.mkdir(parents=True)
         with contextlib.ExitStack() as stack:
-            undo = stack.callback(shutil.rmtree, place, ignore_errors=True)
+            stack.callback(shutil.rmtree, place, ignore_errors=True)
+            release = gather(program_of(given.program, commit), commit, facts)
             for file in make(release, place, not given.no_deb):
                 print(f"{file.stat().st_size:>9} {file}")
             stack.pop_all()
-            del undo
     except FileExistsError as fault:
         tell(f"release: {fault.filename} is there already")
         return 1
-    except (ReleaseError, gate_log.GateError, debian.DebianError) as fault:
+    except (ReleaseError, gate_log.GateError, toolchain.ToolchainError,
+            debian.DebianError) as fault:
         tell(f"release: {fault}")
         return 1
     return 0

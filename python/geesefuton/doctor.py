@@ -20,8 +20,8 @@ PORT = 7000  # the port of the documents' examples
 
 
 def provenance() -> Optional[Dict[str, str]]:
-    """What a release says of itself: `commit`, `kit`, `gate` and the program's `sha256`. None in a
-    clone."""
+    """What a release says of itself: `commit`, `kit`, `gate`, whether its `program` was built for
+    it, and the program's `sha256`. None in a clone."""
     try:
         told = json.loads(PROVENANCE.read_text(encoding="ascii"))
     except (OSError, ValueError):
@@ -53,7 +53,7 @@ def _origin(digest: str) -> str:
         commit = _clone_commit()
         return f"built in a clone at commit {commit}" if commit else "of unknown origin"
     if told.get("sha256") == digest:
-        return f"as released, proved at commit {told['commit']} with {told['kit']}"
+        return f"as released, {told['program']} at commit {told['commit']} with {told['kit']}"
     return "not the released one, whose hash is " + told.get("sha256", "unknown")
 
 

@@ -145,7 +145,8 @@ class Doctor(unittest.TestCase):
     def released(self, digest: str) -> None:
         """Lets the package be of a release whose program has this hash."""
         file = self.place / "provenance.json"
-        file.write_text(json.dumps({"commit": "c0ffee", "kit": "kit", "sha256": digest}))
+        file.write_text(json.dumps({"commit": "c0ffee", "kit": "kit", "sha256": digest,
+                                    "program": "proved and built"}))
         patch = mock.patch.object(doctor, "PROVENANCE", file)
         patch.start()
         self.addCleanup(patch.stop)
@@ -166,7 +167,7 @@ class Doctor(unittest.TestCase):
         self.assertEqual(status, 0)
         self.assertIn(f"geesefuton {geesefuton.__version__}\n", text)
         self.assertIn(f"sha256 {doctor.hash_of(self.tac)}\n", text)
-        self.assertIn("as released, proved at commit c0ffee with kit\n", text)
+        self.assertIn("as released, proved and built at commit c0ffee with kit\n", text)
 
     def test_a_hash_that_differs(self) -> None:
         self.released("0" * 64)
