@@ -1,5 +1,6 @@
 """The lobby with links of every kind, before a server that answers by no rules."""
 
+import errno
 import io
 import json
 import os
@@ -517,6 +518,18 @@ class TheEnd(Case):
             self.assertEqual([0 < call[0][0] <= 60 for call in page.wait.call_args_list],
                              [] if is_stopped else [True])
             self.assertEqual(len(host.of(events.Finished)), 1)
+
+    def test_while_the_page_shows_the_scores_nobody_listens_for_agents(self) -> None:
+        port, tries = free_port(), list[int]()
+
+        def wait(_: float, __: object) -> None:
+            with socket.socket() as link:
+                tries.append(link.connect_ex(("127.0.0.1", port)))
+
+        page = mock.Mock(fault=mock.Mock(return_value=""), wait=wait)
+        with mock.patch("geesefuton.hosting.lobby.PageProcess", return_value=page):
+            Host(self.folder, pace=2, start=0, linger=0, page=free_port(), port=port).end()
+        self.assertEqual(tries, [errno.ECONNREFUSED])
 
     def test_interrupt_before_the_game(self) -> None:
         host = Host(self.folder, start=None)

@@ -161,6 +161,7 @@ class Lobby:
             status = 128 - status
         game.relay.settle()
         self._end_all(game)
+        self._listener.close()  # a link would wait in vain while the page shows the scores
         if game.relay.journal:
             game.relay.journal.timed(over=status)
         self._control.phase = Phase.SHOWING
