@@ -5,13 +5,16 @@
 //
 // It buys the trip of its first client: both seats at once, and a room for each night, for which it bids again when the quote has reached
 // its bid. When the game is over it prints what it holds, and ends. It needs Node 18 or later, and nothing else.
+import fs from "node:fs";
 import net from "node:net";
+import path from "node:path";
 import readline from "node:readline";
 import { setTimeout as sleep } from "node:timers/promises";
 import { parseArgs } from "node:util";
 
 const MOST_FOR_A_SEAT = 600; // dollars
 const MOST_FOR_A_ROOM = 300; // dollars
+const SIDES = ["asked", "said"]; // of a link
 
 // A connection to the server, which may still be starting: it retries for two minutes.
 async function connect(host, port) {
@@ -27,11 +30,61 @@ async function connect(host, port) {
   }
 }
 
+// What is kept of a link if the variable AGENT_RECORD names a folder: the bytes that were sent and
+// those that came, in the files WORD.asked and WORD.said, or WORD.2.asked and WORD.2.said where one
+// of them is there already, and so on. A line is written before it is sent. Once a file takes no
+// more, that is told in a line, and nothing more is kept.
+class LinkRecord {
+  constructor(folder) {
+    this.folder = folder;
+    this.files = {};
+    this.held = { asked: [], said: [] }; // until the link has its seat
+  }
+
+  // The link has its seat: the files are made, with what was sent and came so far.
+  seat(word) {
+    this.attempt(() => {
+      fs.mkdirSync(this.folder, { recursive: true });
+      const file = (name, side) => path.join(this.folder, `${name}.${side}`);
+      let name = word;
+      for (let number = 2; SIDES.some((side) => fs.existsSync(file(name, side))); number += 1) {
+        name = `${word}.${number}`;
+      }
+      const { held } = this;
+      this.held = undefined;
+      for (const side of SIDES) {
+        this.files[side] = file(name, side);
+        const how = { flag: "wx", mode: 0o600 }; // it has the word, which is a password
+        fs.writeFileSync(this.files[side], Buffer.concat(held[side]), how);
+      }
+    });
+  }
+
+  // Bytes that are about to be sent (`asked`), or that came (`said`).
+  keep(side, bytes) {
+    this.attempt(() => {
+      if (this.held) this.held[side].push(bytes);
+      else fs.appendFileSync(this.files[side], bytes);
+    });
+  }
+
+  attempt(work) {
+    try {
+      if (this.folder) work();
+    } catch (error) {
+      this.folder = "";
+      console.error(`asker.mjs: ${error.message}: the agent plays on without its record`);
+    }
+  }
+}
+
 // A seated link: one reply line for each request line.
 class Link {
   constructor(socket) {
     const lines = readline.createInterface({ input: socket });
     this.socket = socket;
+    this.record = new LinkRecord(process.env.AGENT_RECORD);
+    socket.on("data", (bytes) => this.record.keep("said", bytes));
     this.lines = lines[Symbol.asyncIterator]();
     socket.on("error", () => {}); // then the link closes
     socket.on("close", () => lines.close());
@@ -44,11 +97,18 @@ class Link {
     return value;
   }
 
+  send(line) {
+    const bytes = Buffer.from(`${line}\n`);
+    this.record.keep("asked", bytes);
+    this.socket.write(bytes);
+  }
+
   // Takes a seat by its word, and waits until the game begins. Admission is in lines of words for every agent.
   async greet(word) {
-    this.socket.write(`hello ${word}\n`);
+    this.send(`hello ${word}`);
     const first = await this.line();
     if (!first.startsWith("welcome ")) throw new Error(first);
+    this.record.seat(word);
     this.agent = Number(first.split(" ")[1]);
     await this.line(); // the tickets that it has at first
     this.clients = [];
@@ -61,7 +121,7 @@ class Link {
   // Sends a request, and returns its reply. If the server had no memory to read the line, nothing was asked, and it is sent again.
   async ask(request) {
     for (;;) {
-      this.socket.write(JSON.stringify(request) + "\n");
+      this.send(JSON.stringify(request));
       const reply = JSON.parse(await this.line());
       if (reply.no !== "memory") return reply;
     }

@@ -12,6 +12,8 @@ A link that is lost, since it ends or a reply takes longer than its limit, is co
 the lobby allows (docs/HOSTING.md). What was asked is asked again, but for a bid: it may have been
 admitted, and to bid twice may buy twice. So a lost bid raises `Unanswered`, and `own` tells what
 came of it.
+
+With the variable AGENT_RECORD a link keeps its bytes (`geesefuton.link_record`).
 """
 
 import argparse
@@ -27,6 +29,7 @@ from typing import Any, BinaryIO, Callable, Dict, List, NamedTuple, Optional, Se
 
 from geesefuton import program as tac
 from geesefuton.arguments import seconds
+from geesefuton.link_record import LinkRecord, usual_folder
 from geesefuton.processes import tell
 from geesefuton.records.games import (FLIGHTS, HOTELS, INBOUND, OUTBOUND, TICKETS, Client, inbound,
                                       outbound, room, ticket)
@@ -93,6 +96,7 @@ class Link:
         address: The server's name or address, and its port; None if the link cannot be connected
             again.
         limit: The seconds that a reply may take; None for no limit.
+        record: What is kept of its bytes.
     """
 
     stream: socket.socket
@@ -104,6 +108,10 @@ class Link:
     clients: List[Client] = field(default_factory=list)
     address: Optional[Tuple[str, int]] = None
     limit: Optional[float] = None
+    record: LinkRecord = field(init=False, repr=False, compare=False)
+
+    def __post_init__(self) -> None:
+        self.record = LinkRecord(self.word, usual_folder())
 
     @classmethod
     def greet(cls, host: str, port: int, word: str, form: str = "words",
@@ -137,10 +145,12 @@ class Link:
     def _take_welcome(self, limit: Optional[float]) -> None:
         """Takes the seat. Each line may take so many seconds."""
         _prepare(self.stream, limit)
+        self.record.begin()
         first = self._exchange(f"hello {self.word}").split()
         if first[:1] != ["welcome"]:
             kind = LinkError if first == ["refused", "taken"] else Hopeless
             raise kind(f"{self.word}: {' '.join(first)}")
+        self.record.seat()
         self.agent = int(first[1])
         self.endow = [int(units) for units in self.line().split()[2:]]
         self.clients = []
@@ -217,13 +227,16 @@ class Link:
             line = b""
         except ValueError:  # it was closed here
             raise LinkError(f"{self.word}: the link was closed") from None
+        self.record.hear(line)
         if not line.endswith(b"\n"):
             raise _Lost(f"{self.word}: the link was closed")
         return line[:-1].decode("ascii", "replace")
 
     def _exchange(self, line: str) -> str:
+        data = line.encode("ascii", "replace") + b"\n"
+        self.record.ask(data)
         try:
-            self.stream.sendall(line.encode("ascii", "replace") + b"\n")
+            self.stream.sendall(data)
         except OSError:
             pass  # then no reply line comes either
         return self.line()
@@ -314,6 +327,7 @@ class Link:
         """Ends the link without a word."""
         self.lines.close()
         self.stream.close()
+        self.record.close()
 
     def __enter__(self) -> "Link":
         return self

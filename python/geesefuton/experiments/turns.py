@@ -23,7 +23,7 @@ from geesefuton.hosting.hosted_game import HostedGame
 from geesefuton.hosting.sessions import Session
 from geesefuton.learning.stepping import Stepped
 from geesefuton.records.dialects import MOST_LINE, said_in, words_for
-from geesefuton.records.games import TICKS
+from geesefuton.records.games import TICKS, welcome
 from geesefuton.records.order import first_seat, order_of_turn
 
 MOST_TURNS = 1000  # between two ticks, so that the 65,536 lines of a session last
@@ -180,11 +180,3 @@ class TurnServer:
                 turner.pass_over()
                 break
         return line
-
-
-def welcome(text: str, agent: int) -> bytes:
-    """The ten lines that an agent is sent first, by the canonical text of the game file."""
-    # It has the tickets of all agents before the clients.
-    own = [line for line in text.split("\n")
-           if line.startswith((f"endow {agent} ", f"client {agent} "))]
-    return "\n".join([f"welcome {agent}", *own, ""]).encode("ascii")

@@ -323,3 +323,11 @@ def _read_client(lines: _Lines, agent: int, number: int) -> Client:
     if depart <= arrive:
         raise GameError(lines.number, f"the departure {depart} is not after the arrival {arrive}")
     return Client(arrive, depart, premium, (values[0], values[1], values[2]))
+
+
+def welcome(text: str, agent: int) -> bytes:
+    """The ten lines that an agent is sent first, by the canonical text of the game file."""
+    # It has the tickets of all agents before the clients.
+    own = [line for line in text.split("\n")
+           if line.startswith((f"endow {agent} ", f"client {agent} "))]
+    return "\n".join([f"welcome {agent}", *own, ""]).encode("ascii")

@@ -1,6 +1,7 @@
 package se.sics.tac.aw;
 
 import java.io.BufferedInputStream;
+import java.io.ByteArrayOutputStream;
 import java.io.IOException;
 import java.io.InputStream;
 import java.io.OutputStream;
@@ -18,6 +19,7 @@ final class Link {
   private final Socket socket;
   private final InputStream from;
   private final OutputStream to;
+  private final LinkRecord record = new LinkRecord();
   private int sent; // request lines
 
   private Link(Socket socket) throws IOException {
@@ -52,6 +54,9 @@ final class Link {
   String greet(String word) throws IOException {
     send("hello " + word);
     String answer = line();
+    if (answer.startsWith("welcome ")) {
+      record.seat(word);
+    }
     socket.setSoTimeout(PATIENCE);
     return answer;
   }
@@ -72,14 +77,17 @@ final class Link {
   }
 
   synchronized String line() throws IOException {
-    StringBuilder line = new StringBuilder();
+    ByteArrayOutputStream line = new ByteArrayOutputStream();
     for (int read = from.read(); read != '\n'; read = from.read()) {
       if (read < 0) {
         throw new IOException("the link was closed");
       }
-      line.append((char) read);
+      line.write(read);
     }
-    return line.toString();
+    String text = line.toString(StandardCharsets.ISO_8859_1.name());
+    line.write('\n');
+    record.hear(line.toByteArray());
+    return text;
   }
 
   /** How many request lines were sent. */
@@ -88,10 +96,13 @@ final class Link {
   }
 
   void close() throws IOException {
+    record.close();
     socket.close();
   }
 
   private void send(String line) throws IOException {
-    to.write((line + "\n").getBytes(StandardCharsets.US_ASCII));
+    byte[] bytes = (line + "\n").getBytes(StandardCharsets.US_ASCII);
+    record.ask(bytes);
+    to.write(bytes);
   }
 }
