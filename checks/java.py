@@ -6,12 +6,14 @@
 Four games over links: eight Java agents; Java agents at four seats and Python agents at the
 others; the same in a game with few rooms and live quotes; and one of an agent that tests the layer
 from within. Each has to end with status 0 or 6, its log has to be sound, no Java agent may print a
-fault, and the cash that each prints has to be that of its score. It builds into a temporary folder,
+fault, the cash that each prints has to be that of its score, and the bytes that each agent keeps of
+its link have to be those of the log (`vouching.py`). It builds into a temporary folder,
 and takes about a minute. It uses the program that the variable TAC names, or crates/tacd/out/tacd.
 It ends with 0 if all is as it should be and with 1 if not; without a program or a JDK it says so in
 a line, and ends with 0.
 """
 
+import os
 import re
 import shutil
 import subprocess
@@ -20,10 +22,12 @@ from pathlib import Path
 from typing import Dict, Iterator, List
 
 from trying import TOP, Parser, ProgramError
+from vouching import Boards, vouching
 
 from geesefuton import program
-from geesefuton.records.games import TICKS
 from geesefuton.processes import Children, command, free_port
+from geesefuton.records.games import TICKS, read_game
+from geesefuton.records.logs import read_log
 
 LAYER = TOP / "examples/java"
 TESTS = TOP / "checks/java"
@@ -63,7 +67,7 @@ class Game:
         self.children, self.place, self.classes, self.game = children, place, classes, game
         self.port = free_port()
         self.agents: Dict[str, "subprocess.Popen[bytes]"] = {}
-        self.log = place / "log"
+        self.log, self.links = place / "log", place / "links"
         words = [program.find(), "serve", str(game), str(self.port), str(pace)]
         with self.log.open("wb") as log:
             self.server = children.start(words, stdout=log)
@@ -71,7 +75,8 @@ class Game:
     def start(self, word: str, words: List[str]) -> None:
         """Starts an agent, which prints into a file that has the name of its seat word."""
         with (self.place / word).open("wb") as out:
-            child = self.children.start(words, stdout=out, stderr=subprocess.STDOUT)
+            child = self.children.start(words, stdout=out, stderr=subprocess.STDOUT,
+                                        env={**os.environ, "AGENT_RECORD": str(self.links)})
         self.agents[word] = child
 
     def start_java(self, seat: int, name: str) -> None:
@@ -107,6 +112,7 @@ class Game:
         audit = program.audit(self.game, self.log)
         if audit != "sound":
             yield f"the log is {audit}"
+        yield from self.link_faults()
         scores = re.findall(r"^score (\d) \d+ (-?\d+) ", self.log.read_text(), re.MULTILINE)
         cash = {int(agent): dollars for agent, dollars in scores}
         for seat in java:
@@ -118,6 +124,20 @@ class Game:
                 thrown = "Exception" in line and PURPOSE not in line
                 if thrown or line.startswith("fault: "):
                     yield f"seat{seat}: {line}"
+
+    def link_faults(self) -> Iterator[str]:
+        """Yields what is wrong with the bytes that the agents have kept of their links."""
+        boards = Boards(read_game(self.game.read_text()), read_log(self.log.read_bytes()))
+        for word in self.agents:
+            try:
+                asked, said = ((self.links / f"{word}.{side}").read_bytes()
+                               for side in ("asked", "said"))
+            except OSError as fault:
+                yield f"{word} has kept nothing: {fault}"
+                continue
+            found = vouching(boards, asked, said)
+            if not found.startswith(f"vouched {word[4:]} whole "):
+                yield f"what {word} has kept is {found}"
 
 
 def play(children: Children, place: Path) -> Iterator[str]:

@@ -1,7 +1,8 @@
 """One game by the real program, through all that hosts and shows it: the lobby, an agent that
-reconnects, the journal, the page, the recovery and the report."""
+reconnects, the journal, the bytes of the links, the page, the recovery and the report."""
 
 import contextlib
+import importlib
 import json
 import subprocess
 import sys
@@ -13,9 +14,11 @@ import urllib.request
 from dataclasses import dataclass, field
 from pathlib import Path
 from typing import Any, Dict, List, Tuple
+from unittest import mock
 
 from geesefuton import program
 from geesefuton.hosting.journal import read_journal
+from geesefuton.hosting.server_links import server_links
 from geesefuton.link import Link
 from geesefuton.processes import free_port
 from geesefuton.records.dialects import position_of
@@ -23,6 +26,9 @@ from geesefuton.records.games import FLIGHTS, HOTELS, TICKETS, read_game
 from geesefuton.records.logs import Log, read_log
 from geesefuton.records.replies import entry_words
 from tests.helpers import TOP, needs_program
+
+with mock.patch.object(sys, "path", [str(TOP / "checks"), *sys.path]):
+    reading = importlib.import_module("vouching")
 
 WORDS = ["red7k", "orange3x", "yellow9m", "green4", "blue77", "violet5", "brown8q", "grey0"]
 NAMES = ["red", "orange", "yellow", "green", "blue", "violet", "brown", "grey"]
@@ -92,13 +98,15 @@ class WholeGame(unittest.TestCase):
     def test_a_game_from_its_first_link_to_its_report(self) -> None:
         agents = [Agent(word, self.port) for word in WORDS[:6]]
         agents[2].gap = 25
-        states = self.host(agents)
+        with mock.patch.dict("os.environ", {"AGENT_RECORD": str(self.folder)}):
+            states = self.host(agents)
         log = read_log(self.log.read_bytes())
         self.assertEqual(program.audit(self.game, self.log), "sound")
         self.check_replies(agents, log)
         self.assertEqual([len(agent.wishes) for agent in agents], [1, 1, 2, 1, 1, 1])
         self.assertEqual(agents[2].wishes[0], agents[2].wishes[1])
         self.check_journal(agents)
+        self.check_links(log)
         self.check_states(states, log)
         self.check_recovery()
         self.check_report(log)
@@ -178,6 +186,25 @@ class WholeGame(unittest.TestCase):
         replies = {(call.agent, call.reply) for call in reader.calls}
         for number, agent in enumerate(agents):
             self.assertLessEqual({(number, reply) for _, reply in agent.said}, replies)
+
+    def check_links(self, log: Log) -> None:
+        """Whether the log is right about the links of the lobby to its server, and about those of
+        the agents, as they have kept them."""
+        boards = reading.Boards(read_game(self.game.read_text()), log)
+        links = server_links(self.journal)
+        self.assertEqual([reading.vouching(boards, *link) for link in links],
+                         [f"vouched {seat} whole {link.asked.count(bytes([10])) - 1}"
+                          for seat, link in enumerate(links)])
+        self.assertEqual([link.asked.count(bytes([10])) for link in links[6:]], [1, 1])
+        for seat in (0, 1, 3, 4, 5):
+            kept = [(self.folder / f"{WORDS[seat]}.{side}").read_bytes()
+                    for side in ("asked", "said")]
+            self.assertEqual(kept, list(links[seat]))
+        # Together the two links of the agent that reconnected are that of the lobby.
+        pieces = [[(self.folder / f"{WORDS[2]}{number}.{side}").read_bytes()
+                   for number in ("", ".2")] for side in ("asked", "said")]
+        for (first, second), whole, rest in zip(pieces, links[2], (1, 10)):
+            self.assertEqual(first + b"".join(second.splitlines(True)[rest:]), whole)
 
     def check_states(self, states: List[Dict[str, Any]], log: Log) -> None:
         phases = [state["phase"] for state in states]

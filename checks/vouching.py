@@ -1,0 +1,374 @@
+#!/usr/bin/env python3
+"""Whether a log is right about one link, by the bytes that the link asked and those that it was
+said: a plain reading of the rules, which shares no line with what is proved.
+
+    checks/vouching.py GAME LOG ASKED SAID [json]
+    checks/vouching.py GAME LOG --journal JOURNAL
+
+The first prints `vouched A whole N` or `vouched A cut N M`, with status 0, or the first difference,
+with status 9. The second judges the links of the lobby to its server, by its journal: a line for
+each of the eight seats, and how many of them are vouched for. The log is audited first, by the
+program that the variable TAC names, or the built one; a refusal or a flaw is printed as it is told.
+
+A log is right about a link if its head gives the seat of the first line, the link was sent the
+agent's ten lines, and the lines behind the first led to the agent's whole part of the log, each
+entry once and in order, with the replies that came. The replies to the last lines may be missing,
+and half a line behind the last line end of either file is not compared.
+
+- `vouched A whole N`: agent A; each of N lines, up to `quit` if that was asked, has its reply, and
+  no half reply stands behind these.
+- `vouched A cut N M`: N replies came. Of the lines behind these, M left an entry or a reading.
+- `unvouched seat`: the first line takes no seat of the game, or the log gives that seat to nobody.
+- `unvouched welcome`: the ten lines of that agent did not come.
+- `unvouched line N`: the N-th line behind the greeting was not answered so, or there is none; those
+  before it were answered as they should be.
+- `unvouched entry G P`, `unvouched cash P`: no line asked this entry of the agent. It is the lowest
+  of those that are left where the reading stopped, the cash book last.
+"""
+
+import argparse
+import re
+import sys
+from collections import deque
+from pathlib import Path
+from typing import Deque, Iterator, List, Optional, Sequence, Tuple, Union
+
+from trying import Parser, ProgramError
+
+from geesefuton import program
+from geesefuton.hosting.journal import JournalError, read_journal
+from geesefuton.hosting.server_links import server_links
+from geesefuton.learning.books import Board, Flight, Night, Tickets
+from geesefuton.processes import command, tell
+from geesefuton.records.dialects import MOST_LINE, said_in, words_for
+from geesefuton.records.games import FLIGHTS, GOODS, HOTELS, Game, read_game, welcome
+from geesefuton.records.logs import MOST_BYTES, Entry, Log, Post, Reading, read_log
+from geesefuton.records.replies import No, Points, Request, entry_words, read_points
+from geesefuton.records.rules import prices_of
+
+MOST_CALLS = 1024  # of an agent at a good, and as many readings of its cash
+MOST_LINES = 65_536  # of a session
+MEMORY = b'{"no":"memory"}'
+TEXT_REFUSED, READ_FAULT = 8, 3  # exit statuses
+
+_GOOD = r"(0|[1-9][0-9]{0,4})"
+_LINE = re.compile(rf"(cash|quit)|(withdraw|own|quote) {_GOOD}|bid {_GOOD} (.*)", re.DOTALL)
+_POINT = r"\((?:0|-?[1-9][0-9]{0,4}) (?:0|[1-9][0-9]{0,4})\)"
+_POINTS = re.compile(rf"\({_POINT}(?: {_POINT})*\)")
+
+
+# What lines ask.
+
+
+def fault_of(points: Points) -> int:
+    """The first fault of a bid's points; 0 if they have none."""
+    total = 0
+    for number, (units, price) in enumerate(points):
+        total += abs(units)
+        if number == 16:
+            return 2
+        if units == 0:
+            return 5
+        if not 1 <= price <= 10_000:
+            return 4
+        if total > 16:
+            return 3
+    return 0
+
+
+def asked_by(line: bytes, form: str) -> Union[Request, str]:
+    """What a line asks, in a form, `words` or `json`; for one that asks nothing, its reply in
+    words."""
+    if len(line) > MOST_LINE:
+        return "no toolong"
+    found = _LINE.fullmatch(words_for(line, form).decode("latin-1"))
+    if found is None:
+        return "no syntax"
+    plain, keyword, good, auction, points = found.groups()
+    if plain:
+        return Request(plain)
+    if int(good or auction) not in GOODS:
+        return "no auction"
+    if keyword:
+        return Request(keyword, int(good))
+    bid = read_points(points) if _POINTS.fullmatch(points) else ()
+    fault = fault_of(bid) if bid else 1
+    return f"no bid {fault}" if fault else Request("bid", int(auction), bid)
+
+
+# What quotes show.
+
+
+def boards_of(game: Game, good: int, history: Sequence[Entry]) -> Iterator[Board]:
+    """The board of each prefix of a good's history, the empty one first."""
+    auction: Union[Flight, Night, Tickets] = (
+        Flight(prices_of(game.flights[good])) if good in FLIGHTS
+        else Night(game.rooms[good - HOTELS.start], game.live) if good in HOTELS else Tickets())
+    is_closed = False
+    yield (*auction.board(), is_closed)
+    for entry in history:
+        call, is_refused = entry.call, isinstance(entry.reply, No)
+        if is_refused or call.do == "own":
+            pass
+        elif call.do == "bid":
+            auction.bid(entry.caller, call.points)
+        elif call.do == "close":
+            is_closed = True
+            if isinstance(auction, Night):
+                auction.close()
+            elif isinstance(auction, Tickets):
+                auction = Tickets()  # nothing stands any more
+        elif isinstance(auction, Night):
+            auction.publish()
+        elif call.do == "withdraw":
+            auction.withdraw(entry.caller)
+        elif isinstance(auction, Flight):
+            auction.update(call.tick)
+        yield (*auction.board(), is_closed)
+
+
+class Boards:
+    """The boards of all prefixes of a log's histories; those of a good are made when they are first
+    asked for."""
+
+    def __init__(self, game: Game, log: Log) -> None:
+        self.game, self.log = game, log
+        self._made: List[List[Board]] = [[] for _ in GOODS]
+
+    def of(self, good: int) -> List[Board]:
+        """The board of each prefix of a good's history."""
+        if not self._made[good]:
+            self._made[good] = list(boards_of(self.game, good, self.log.histories[good]))
+        return self._made[good]
+
+
+# A link against a log.
+
+
+class Part:
+    """An agent's part of a log, of which the lines of its link take one entry after the other.
+
+    Attributes:
+        has_left: Whether a line was `quit`.
+        taken: How many entries and readings were taken; posts are not counted.
+    """
+
+    def __init__(self, boards: Boards, agent: int, form: str) -> None:
+        log = boards.log
+        self._boards, self._form = boards, form
+        self._entries: List[Deque[Tuple[int, Entry]]] = [
+            deque((at, entry) for at, entry in enumerate(history) if entry.caller == agent)
+            for history in log.histories]
+        self._cash: Deque[Tuple[int, Union[Post, Reading]]] = deque(
+            (at, entry) for at, entry in enumerate(log.cash)
+            if (entry.caller if isinstance(entry, Post) else entry.agent) == agent)
+        self._made, self._readings = [0] * len(GOODS), 0
+        self._length = [0] * len(GOODS)  # of each history, at least, by what was answered
+        self.has_left, self.taken = False, 0
+
+    def left(self) -> str:
+        """The lowest entry that is left, as it is told; "" if there is none."""
+        for good, entries in enumerate(self._entries):
+            if entries:
+                return f"entry {good} {entries[0][0]}"
+        return f"cash {self._cash[0][0]}" if self._cash else ""
+
+    def take(self, line: bytes, reply: Optional[bytes]) -> bool:
+        """Takes what a line left in the log.
+
+        Args:
+            line: The line, without its end.
+            reply: Its reply, without its end; None if that did not come.
+
+        Returns:
+            Whether the log has it so.
+        """
+        asked = asked_by(line, self._form)
+        if self._form == "json" and reply == MEMORY and asked != "no toolong":
+            return True
+        if isinstance(asked, str):
+            return self._fits(asked, reply)
+        if asked.do == "quit":
+            self.has_left = True
+            return self._fits("bye", reply)
+        if asked.do == "cash":
+            return self._take_reading(reply)
+        assert asked.auction is not None
+        if asked.do == "quote":
+            return self._take_quote(asked.auction, reply)
+        return self._take_call(asked, asked.auction, reply)
+
+    def _fits(self, words: str, reply: Optional[bytes]) -> bool:
+        """Whether a reply is this one; one that did not come is any."""
+        return reply is None or said_in(words.encode("ascii"), self._form) == reply
+
+    def _take_call(self, asked: Request, good: int, reply: Optional[bytes]) -> bool:
+        if self._made[good] == MOST_CALLS:
+            return self._fits("no spent", reply)
+        if not self._entries[good]:
+            return False
+        at, entry = self._entries[good].popleft()
+        self._made[good] += 1
+        self.taken += 1
+        if entry.trades:
+            post = self._cash.popleft()[1] if self._cash else None
+            if not isinstance(post, Post) or (post.good, post.position) != (good, at):
+                return False
+        is_behind, self._length[good] = at < self._length[good], at + 1
+        return (not is_behind and (entry.call.do, entry.call.points) == (asked.do, asked.points)
+                and self._fits(f"@{at} {entry_words(entry.reply)}", reply))
+
+    def _take_reading(self, reply: Optional[bytes]) -> bool:
+        if self._readings == MOST_CALLS:
+            return self._fits("no spent", reply)
+        at, entry = self._cash.popleft() if self._cash else (0, None)
+        self._readings += 1
+        self.taken += 1
+        return isinstance(entry, Reading) and self._fits(f"@{at} cash {entry.dollars}", reply)
+
+    def _take_quote(self, good: int, reply: Optional[bytes]) -> bool:
+        """A quote shows the board of a prefix, as long at least as what was answered before. If it
+        did not come, nobody knows of which one, and the shortest forbids least."""
+        boards = self._boards.of(good)
+        for count in range(self._length[good], len(boards)):
+            bid, ask, is_closed = boards[count]
+            state = "closed" if is_closed else "open"
+            if self._fits(f"@{count} quote {bid} {ask} {state}", reply):
+                self._length[good] = count
+                return True
+        return False
+
+
+def lines_of(text: bytes) -> List[bytes]:
+    """The whole lines of a text, without their ends."""
+    return text.split(b"\n")[:-1]
+
+
+def seat_of(boards: Boards, lines: Sequence[bytes]) -> Optional[int]:
+    """The agent whose seat the first line takes, if the head of the log gives it to a link."""
+    for agent, word in enumerate(boards.game.words):
+        if lines and lines[0] == b"hello %b" % word.encode("ascii"):
+            is_listed = any(link.agent == agent for link in boards.log.links)
+            return agent if is_listed else None
+    return None
+
+
+def vouching(boards: Boards, asked: bytes, said: bytes, form: str = "words") -> str:
+    """What is said of a link of a sound log, without a line end.
+
+    Args:
+        boards: Those of the game and the log.
+        asked: What the link asked.
+        said: What it was said.
+        form: How its lines were written, `words` or `json`.
+    """
+    lines, replies = lines_of(asked), lines_of(said)
+    agent = seat_of(boards, lines)
+    if agent is None:
+        return "unvouched seat"
+    due = lines_of(welcome(boards.game.text(), agent))
+    if replies[:len(due)] != due:
+        return "unvouched welcome"
+    lines, replies = lines[1:], replies[len(due):]
+    part = Part(boards, agent, form)
+    for number, reply in enumerate(replies, 1):
+        if (part.has_left or number > min(len(lines), MOST_LINES)
+                or not part.take(lines[number - 1], reply)):
+            return f"unvouched line {number}"
+    answered, is_whole = part.taken, part.has_left or len(replies) == len(lines)
+    left = left_behind(part, lines[len(replies):MOST_LINES])
+    if left:
+        return f"unvouched {left}"
+    if is_whole and said.endswith(b"\n"):
+        return f"vouched {agent} whole {len(replies)}"
+    return f"vouched {agent} cut {len(replies)} {part.taken - answered}"
+
+
+def left_behind(part: Part, lines: Sequence[bytes]) -> str:
+    """The lowest entry that lines whose replies did not come leave over; "" if there is none."""
+    for line in lines:
+        left = part.left()
+        if part.has_left or not left or not part.take(line, None) or part.has_left:
+            return left
+    return part.left()
+
+
+# The command.
+
+
+def is_vouched(said: str) -> bool:
+    """Whether what is said of a link is a yes."""
+    return said.startswith("vouched ")
+
+
+def _read(file: Path) -> bytes:
+    """The bytes of a file of a link.
+
+    Raises:
+        OSError: It cannot be read.
+    """
+    with file.open("rb") as stream:
+        return stream.read(MOST_BYTES)
+
+
+def _arguments() -> argparse.Namespace:
+    parser = Parser("vouching", __doc__)
+    for name in ("game", "log"):
+        parser.add_argument(name, type=Path)
+    for name in ("asked", "said"):
+        parser.add_argument(name, type=Path, nargs="?")
+    parser.add_argument("form", choices=["words", "json"], nargs="?", default="words")
+    parser.add_argument("--journal", type=Path)
+    given = parser.parse_args()
+    if (given.journal is None) == (given.said is None):
+        parser.error("either ASKED and SAID or --journal is due")
+    return given
+
+
+def _judge_journal(boards: Boards, journal: Path) -> int:
+    try:
+        form, links = read_journal(journal).form, server_links(journal)
+    except JournalError as fault:
+        tell(f"vouching: {journal}: {fault}")
+        return 1
+    said = [vouching(boards, link.asked, link.said, form) for link in links]
+    for seat, each in enumerate(said):
+        print(f"{boards.game.words[seat]}: {each}")
+    count = sum(map(is_vouched, said))
+    print(f"vouched: {count} of {len(said)}")
+    return program.OK if said and count == len(said) else program.UNSOUND
+
+
+def main() -> int:
+    given = _arguments()
+    try:
+        audit = program.audit(given.game, given.log)
+    except ProgramError as fault:
+        if not fault.line or fault.status is None:
+            raise
+        print(fault.line)
+        return fault.status
+    if audit != "sound":
+        print(audit)
+        return program.UNSOUND
+    game = read_game(given.game.read_text(encoding="latin-1"))
+    boards = Boards(game, read_log(given.log.read_bytes()))
+    if given.journal is not None:
+        return _judge_journal(boards, given.journal)
+    texts = []
+    for file in (given.asked, given.said):
+        try:
+            texts.append(_read(file))
+        except OSError:
+            print("fault read")
+            return READ_FAULT
+        if len(texts[-1]) == MOST_BYTES:
+            print("text too long")
+            return TEXT_REFUSED
+    said = vouching(boards, *texts, given.form)
+    print(said)
+    return program.OK if is_vouched(said) else program.UNSOUND
+
+
+if __name__ == "__main__":
+    sys.exit(command("vouching", main))
