@@ -21,8 +21,8 @@ from geesefuton.processes import command
 PACKAGE = TOP / "python" / "geesefuton"
 MAP = TOP / "python" / "README.md"
 # A name is a room if it is a folder, and otherwise a module of the package's own folder.
-ORDER = (("program", "processes", "arguments"), ("link_record", "records"), ("link",),
-         ("hosting", "learning", "playing"), ("experiments",), ("practice",),
+ORDER = (("program", "processes", "arguments"), ("agent_arguments", "link_record", "records"),
+         ("link",), ("hosting", "learning", "playing"), ("experiments",), ("practice",),
          ("doctor", "quickstart"), ("front",), ("__main__",))
 BASE = 0  # modules of one room, and those of the base, may import each other
 MOST_LINES = 500

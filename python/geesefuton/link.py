@@ -17,17 +17,16 @@ With the variable AGENT_RECORD a link keeps its bytes (`geesefuton.link_record`)
 """
 
 import argparse
-import ast
 import os
-import random
 import socket
 import sys
 import time
 from dataclasses import dataclass, field
 from types import TracebackType
-from typing import Any, BinaryIO, Callable, Dict, List, NamedTuple, Optional, Sequence, Tuple, Type
+from typing import BinaryIO, Callable, Dict, List, NamedTuple, Optional, Sequence, Tuple, Type
 
 from geesefuton import program as tac
+from geesefuton.agent_arguments import agent_parser, begin
 from geesefuton.arguments import seconds
 from geesefuton.link_record import LinkRecord, usual_folder
 from geesefuton.processes import tell
@@ -409,51 +408,8 @@ def arguments(what: str) -> Tuple[str, int, str, float]:
     Args:
         what: What the agent does, for its help text.
     """
-    parser = _parser(what)
-    return _begin(parser, parser.parse_args())
-
-
-def _parser(what: str) -> argparse.ArgumentParser:
-    raw = argparse.RawDescriptionHelpFormatter
-    parser = argparse.ArgumentParser(description=what, formatter_class=raw)
-    parser.add_argument("host")
-    parser.add_argument("port", type=int)
-    parser.add_argument("word", help="the seat word of the agent")
-    # A session has 65,536 lines: with a pause of two seconds they last for the slowest game.
-    parser.add_argument("--pause", type=seconds, default=2.0, metavar="SECONDS",
-                        help="the time between two rounds of requests; a tick or less is good")
-    parser.add_argument("--seed", type=int, default=os.environ.get("AGENT_SEED"),
-                        help="the number from which the agent draws, if it draws; default: the "
-                             "variable AGENT_SEED, and without it anew each time")
-    parser.add_argument("--set", action="append", default=[], metavar="NAME=VALUE",
-                        help="play with another value of a number, or of several in brackets, that "
-                             "the agent's file names in capitals; may be given again")
-    return parser
-
-
-def _begin(parser: argparse.ArgumentParser, given: argparse.Namespace
-           ) -> Tuple[str, int, str, float]:
-    for text in given.set:
-        _change(parser, vars(sys.modules["__main__"]), text)
-    if given.seed is not None:
-        random.seed(given.seed)
-    return given.host, given.port, given.word, given.pause
-
-
-def _change(parser: argparse.ArgumentParser, names: Dict[str, Any], text: str) -> None:
-    """Gives a name of the agent's file another value of its kind, by a text such as `SHADE=1.0`."""
-    name, _, written = text.partition("=")
-    kinds = next((kinds for kinds in ((int, float), (tuple, list)) if name.isupper()
-                  and isinstance(names.get(name), kinds)), None)
-    if kinds is None:
-        parser.error(f"--set {text}: the agent's file names no number {name} in capitals")
-    try:
-        value = ast.literal_eval(written)
-    except (ValueError, SyntaxError):
-        value = None
-    if not isinstance(value, kinds):
-        parser.error(f"--set {text}: a value like the one of {name} is due")
-    names[name] = value
+    parser = agent_parser(what)
+    return begin(parser, parser.parse_args())
 
 
 def run(what: str, play: Callable[[Link, float], None]) -> None:
@@ -466,12 +422,12 @@ def run(what: str, play: Callable[[Link, float], None]) -> None:
         play: Plays a game with a link and a pause in seconds. It is called again after a lost bid,
             so it should begin with `own`.
     """
-    parser = _parser(what)
+    parser = agent_parser(what)
     parser.add_argument("--again", action="store_true",
                         help="ask for a seat in the next game after each, until there is no server "
                              f"for {PATIENCE} seconds")
     given = parser.parse_args()
-    host, port, word, pause = _begin(parser, given)
+    host, port, word, pause = begin(parser, given)
     told = ""
     while True:
         try:
