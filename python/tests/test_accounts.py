@@ -3,7 +3,7 @@ from typing import List, Optional, Tuple
 
 from geesefuton.records.accounts import Accounts
 from geesefuton.records.games import CLOCK, FLIGHTS, HOTELS, SEATS, TICKETS, TICKS, Game
-from geesefuton.records.logs import Call, Entry, Log, read_log
+from geesefuton.records.logs import Call, Entry, Log, Trade, read_log
 from geesefuton.records.replies import Reply, read_entry_reply
 from geesefuton.records.rules import prices_of
 from geesefuton.records.ticks import entries_by_tick, ticks_by_log
@@ -15,8 +15,9 @@ GAMES: List[Tuple[Game, Log]] = [(served_game(), served_log()),
                                  (GAME, read_log((DATA / "lobby.log").read_bytes()))]
 
 
-def bid(agent: int, *points: Tuple[int, int], reply: Reply = TAKEN) -> Entry:
-    return Entry(agent, Call("bid", points), reply)
+def bid(agent: int, *points: Tuple[int, int], trades: Tuple[Trade, ...] = (),
+        reply: Reply = TAKEN) -> Entry:
+    return Entry(agent, Call("bid", points), reply, trades)
 
 
 class Asks(unittest.TestCase):
@@ -70,7 +71,7 @@ class Markets(unittest.TestCase):
         accounts.take(20, bid(1, (-1, 90)))
         self.assertEqual([accounts.prices_for(agent)[20] for agent in (0, 1)], [90, None])
         self.assertEqual(accounts.prices_for(0)[21], None)
-        accounts.take(20, bid(0, (1, 95)))
+        accounts.take(20, bid(0, (1, 95), trades=(Trade(0, 1, 1, 90),)))
         self.assertEqual((accounts.cash[:2], accounts.holdings[0][20] - GAME.endow[0][4],
                           accounts.holdings[1][20] - GAME.endow[1][4]), ([-90, 90], 1, -1))
 

@@ -12,10 +12,11 @@ from unittest import mock
 from geesefuton.hosting.journal import JournalReader
 from geesefuton.hosting.projection import Projection, View, project
 from geesefuton.hosting.recovery import Player, RecoveryError
-from geesefuton.records.accounts import Accounts, ticks_of
+from geesefuton.records.accounts import Accounts
 from geesefuton.records.games import CLOCK, DRAWS
 from geesefuton.records.logs import read_log
 from geesefuton.records.rules import prices_of
+from geesefuton.records.ticks import ticks_by_log
 from tests.helpers import DATA, CountingPlayer, needs_program
 from tests.journals import BEGIN, GAME, HEAD, LINES, asked, begun, nights_of, of_text
 
@@ -117,7 +118,7 @@ class Plans(unittest.TestCase):
         self.assertEqual(self.plans(54), [[row.score, row.cash, 0] for row in self.LOG.scores])
 
     def test_before_it_the_clocks_later_calls_do_not_count(self) -> None:
-        ticks = ticks_of(GAME, self.LOG)
+        ticks = ticks_by_log(GAME, self.LOG).entries
         for tick in (0, 30):
             accounts, cash = Accounts(GAME), [0] * 8
             for good, history in enumerate(self.LOG.histories):

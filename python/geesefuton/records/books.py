@@ -9,11 +9,11 @@ from __future__ import annotations
 
 from typing import Dict, List, Optional, Sequence, Tuple
 
-from geesefuton.records.games import (AUCTIONS, CLOCK, FLIGHTS, HOTELS, SEATS, TICKETS, TICKS,
-                                      Auction, Game)
-from geesefuton.records.logs import Entry
+from geesefuton.records.games import (AUCTIONS, CLOCK, FLIGHTS, HOTELS, HOUSE, SEATS, TICKETS,
+                                      TICKS, Auction, Game)
+from geesefuton.records.logs import Call, Entry
 from geesefuton.records.replies import No, Points
-from geesefuton.records.rules import MINUTE, prices_of
+from geesefuton.records.rules import MINUTE, next_price, prices_of
 
 Board = Tuple[int, int, bool]  # the bid, the ask, and whether the auction is closed
 Side = Tuple[int, int, int]  # an agent, its units (below 0: sold), and the dollars for each
@@ -51,7 +51,11 @@ class FlightBook:
 
     def update(self, tick: int) -> List[Side]:
         """The price of a tick comes, 1 to 53."""
-        self.price = self._prices[tick]
+        return self.move(self._prices[tick])
+
+    def move(self, price: int) -> List[Side]:
+        """A price comes."""
+        self.price = price
         return self._sell(list(self._bids)) if self._bids else []
 
     def _sell(self, agents: List[int]) -> List[Side]:
@@ -192,7 +196,7 @@ class Books:
         self.tick = 0
         self.holdings = [[0] * TICKETS.start + list(endow) for endow in game.endow]
         self.cash = [0] * SEATS
-        self._closing = game.closing
+        self._closing, self._drawn = game.closing, game.flights
         self._flights = [FlightBook(prices_of(flight)) for flight in game.flights]
         self._nights = [NightBook(rooms, game.live) for rooms in game.rooms]
         self._tickets = [TicketBook() for _ in TICKETS]
@@ -206,30 +210,34 @@ class Books:
         self.boards[good] = (*auction.board(), False)
 
     def take(self, good: int, entry: Entry) -> None:
-        """Works through the next entry of an auction in a log."""
+        """Works through the next entry of an auction in a log, whose draws and trades count."""
         call, auction = entry.call, self._auction(good)
-        if isinstance(entry.reply, No):
-            return
-        if call.do == "bid":
-            self.bid(entry.caller, good, call.points)
-        elif call.do == "withdraw" and not isinstance(auction, NightBook):
-            self.withdraw(entry.caller, good)
-        elif entry.caller == CLOCK:
-            self._take_clock(good, entry)
+        is_clock = entry.caller == CLOCK
+        if not isinstance(entry.reply, No):
+            if call.do == "bid":
+                auction.bid(entry.caller, call.points)
+            elif call.do == "withdraw" and not isinstance(auction, NightBook):
+                auction.withdraw(entry.caller)
+            elif is_clock:
+                self._take_clock(good, call)
+            is_closed = self.boards[good][2] or is_clock and call.do == "close"
+            self.boards[good] = (*auction.board(), is_closed)
+        for trade in entry.trades:
+            self._book(good, [side for side in ((trade.buyer, trade.units, trade.price),
+                                                (trade.seller, -trade.units, trade.price))
+                              if side[0] != HOUSE])
 
-    def _take_clock(self, good: int, entry: Entry) -> None:
+    def _take_clock(self, good: int, call: Call) -> None:
         """Works through a call of the clock."""
-        call, auction = entry.call, self._auction(good)
+        auction = self._auction(good)
         if isinstance(auction, FlightBook):
-            self.tick = max(self.tick, call.tick)
-            self._book(good, auction.update(call.tick) if call.do == "update" else [])
-        elif isinstance(auction, TicketBook):
+            if call.do == "update":
+                self.tick = max(self.tick, call.tick)
+                auction.move(next_price(self._drawn[good], auction.price, call.tick, call.draw))
+        elif isinstance(auction, TicketBook) or call.do == "close":
             auction.close()
-        elif call.do == "close":
-            self._book(good, auction.close())
         else:
             auction.publish()
-        self.boards[good] = (*auction.board(), call.do == "close")
 
     def price_for(self, good: int, agent: int) -> Optional[int]:
         """What a unit more of a good costs an agent, in dollars; None if there is none."""
@@ -279,6 +287,7 @@ class Books:
         """The same books, which go on by themselves."""
         other = object.__new__(Books)
         other.tick, other._closing, other.boards = self.tick, self._closing, self.boards[:]
+        other._drawn = self._drawn
         other.holdings, other.cash = [held[:] for held in self.holdings], self.cash[:]
         other._flights = [flight.copied() for flight in self._flights]
         other._nights = [night.copied() for night in self._nights]
