@@ -22,8 +22,7 @@ AGENTS = ["planner"] * 4 + ["trader"] * 3 + ["watcher"]
 MISSING = """. To build it, or to run it at once, takes the toolchain, Rattle, and there is no \
 command `rt` in PATH (its page is START-HERE.md in its folder, looked for in /opt/rattle); with a \
 program that was built elsewhere: TAC=/path/to/tac ./quickstart"""
-PROVED = """That was the program {}: one file that stands alone. While it is there, ./quickstart \
-runs it."""
+PROVED = "That was the program {}: one file that stands alone."
 QUICK = """That was a quick run, which proves nothing. The proved program: \
 (cd crates/tacd && rt run -- make 42), and then ./quickstart again."""
 
