@@ -1,5 +1,5 @@
-"""The table of the rules, docs/RULES.md: where each rule of docs/GAME.md is told, defined, carried
-out, proved and tried.
+"""The table of the rules, docs/RULES.md: where each rule of docs/GAME.md is stated, defined,
+implemented, proved and tried.
 
 A place is written as CRATE/FILE:NAME, without `src/`, `specs/` or endings. A definition stands in
 `specs/`, code in `src/`, and so does a clause, as CALL.CLAUSE or as the call whose clause has no
@@ -16,7 +16,7 @@ from definitions import CRATES, ROOT, line_of
 
 
 class Rule(NamedTuple):
-    """A rule of a heading of GAME.md, with its places; `words` are the other pages that tell it."""
+    """A rule of a heading of GAME.md, with its places; `words` are the other pages that state it."""
 
     heading: str
     rule: str
@@ -237,7 +237,7 @@ RULES = [
          "each entry with trades has one post",
          ["FORMATS/The histories"],
          ["trade_ledger/Posts:Matched"],
-         ["floor/desk:clock_call"],
+         ["floor/desk:call", "floor/cash_turns:post"],
          ["floor/floor:close.matched"],
          ["floor/never_posts", "floor/posts_twice", "floor/posts_for_another"],
          ["worked_rows/Logs:posts_match_in_any_order"]),
@@ -314,11 +314,11 @@ RULES = [
 ]
 
 INTRODUCTION = """\
-A row for each rule of `docs/GAME.md`: the pages that tell it in words, its definition, the code
-that carries it out, the clause that ties the two, an edit that the clause refuses (a wrong body,
-which fails the gate if it is still proved), and a worked row that computes, or a test. Whoever
-changes a rule changes each of them, and its choice in `docs/DECISIONS.md`. `checks/reading.py
---write` makes this page, and fails if one of these places is not there."""
+A row for each rule of `docs/GAME.md`: the pages that state it in words, its definition, the code
+that implements it, the clause that ties the two, for most rules an edit that the clause refuses (a
+wrong body; the gate fails if it is still proved), and a worked row that computes, or a test. To
+change a rule, change all of them, and its choice in `docs/DECISIONS.md`. `checks/reading.py
+--write` makes this page, and fails if one of these places is missing."""
 
 OTHERS = ["FORMATS/Game script"]  # headings of other pages that have rules, with their page
 
@@ -354,7 +354,7 @@ def place_of(kind: str, place: str) -> Tuple[str, Optional[int], str]:
 
 
 def words_cell(rule: Rule, faults: List[str]) -> str:
-    """Links to where a rule is told: its heading of GAME.md, and the other pages."""
+    """Links to where a rule is stated: its heading of GAME.md, and the other pages."""
     shown = []
     for place in [f"GAME/{rule.heading}", *rule.words]:
         document, heading = place.split("/", 1)
