@@ -38,13 +38,12 @@ from trying import Parser, ProgramError
 from geesefuton import program
 from geesefuton.hosting.journal import JournalError, read_journal
 from geesefuton.hosting.server_links import server_links
-from geesefuton.learning.books import Board, Flight, Night, Tickets
 from geesefuton.processes import command, tell
+from geesefuton.records.books import Board, Books
 from geesefuton.records.dialects import MOST_LINE, said_in, words_for
-from geesefuton.records.games import FLIGHTS, GOODS, HOTELS, Game, read_game, welcome
+from geesefuton.records.games import GOODS, Game, read_game, welcome
 from geesefuton.records.logs import MOST_BYTES, Entry, Log, Post, Reading, read_log
-from geesefuton.records.replies import No, Points, Request, entry_words, read_points
-from geesefuton.records.rules import prices_of
+from geesefuton.records.replies import Points, Request, entry_words, read_points
 
 MOST_CALLS = 1024  # of an agent at a good, and as many readings of its cash
 MOST_LINES = 65_536  # of a session
@@ -101,30 +100,11 @@ def asked_by(line: bytes, form: str) -> Union[Request, str]:
 
 def boards_of(game: Game, good: int, history: Sequence[Entry]) -> Iterator[Board]:
     """The board of each prefix of a good's history, the empty one first."""
-    auction: Union[Flight, Night, Tickets] = (
-        Flight(prices_of(game.flights[good])) if good in FLIGHTS
-        else Night(game.rooms[good - HOTELS.start], game.live) if good in HOTELS else Tickets())
-    is_closed = False
-    yield (*auction.board(), is_closed)
+    books = Books(game)
+    yield books.boards[good]
     for entry in history:
-        call, is_refused = entry.call, isinstance(entry.reply, No)
-        if is_refused or call.do == "own":
-            pass
-        elif call.do == "bid":
-            auction.bid(entry.caller, call.points)
-        elif call.do == "close":
-            is_closed = True
-            if isinstance(auction, Night):
-                auction.close()
-            elif isinstance(auction, Tickets):
-                auction = Tickets()  # nothing stands any more
-        elif isinstance(auction, Night):
-            auction.publish()
-        elif call.do == "withdraw":
-            auction.withdraw(entry.caller)
-        elif isinstance(auction, Flight):
-            auction.update(call.tick)
-        yield (*auction.board(), is_closed)
+        books.take(good, entry)
+        yield books.boards[good]
 
 
 class Boards:
