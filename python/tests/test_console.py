@@ -1,5 +1,6 @@
 """The host's commands, before a relay whose agents have begun to play."""
 
+import socket
 import time
 import unittest
 from unittest import mock
@@ -9,6 +10,15 @@ from geesefuton.hosting.console import Console, NotDone
 from geesefuton.hosting.control import Control, Phase
 from geesefuton.hosting.seats import State
 from tests import test_relay
+
+
+def has_ipv6() -> bool:
+    """Whether the machine has IPv6, and listeners for it and IPv4."""
+    try:
+        socket.create_server(("::1", 0), family=socket.AF_INET6).close()
+    except OSError:
+        return False
+    return socket.has_dualstack_ipv6()
 
 
 class Commands(test_relay.Case):
@@ -74,6 +84,17 @@ class Commands(test_relay.Case):
                          "links from 127.0.0.1 are taken again")
         self.connect(b"hello seat1\n")
         self.turn_until_told(events.Rejoined)
+
+    @unittest.skipUnless(has_ipv6(), "the machine has no IPv6")
+    def test_addresses_of_both_kinds_are_banned_each_by_itself(self) -> None:
+        for banned, other in (("127.0.0.1", "::1"), ("::1", "127.0.0.1")):
+            before = self.connect(b"", banned)
+            self.turns()
+            self.console.obey(f"ban {banned}")
+            kept = self.connect(b"", other)
+            self.assertEqual([self.has_ended(link) for link in
+                              (before, self.connect(b"", banned), kept)], [True, True, False])
+            self.console.obey(f"allow {banned}")
 
     def test_a_ban_of_another_address_ends_nobody(self) -> None:
         self.relay.links[1].source = "10.0.0.9"

@@ -25,6 +25,7 @@ from geesefuton.hosting.relay import MOST_STRANGERS
 from geesefuton.hosting.server import TRIES
 from geesefuton.hosting.settings import LobbySettings
 from geesefuton.processes import free_port
+from tests.helpers import fake_program
 
 HERE = Path(__file__).resolve().parent
 TOP = HERE.parents[1]
@@ -440,7 +441,7 @@ class TheEnd(Case):
         self.assertEqual((host.status, taken.exists()), (6, False))
 
     def test_a_port_that_is_taken_is_tried_five_times(self) -> None:
-        with mock.patch.dict(os.environ, {"FAKE_EARLY": "5"}), \
+        with mock.patch.dict(os.environ, {"TAC": fake_program(self.folder, "exit 5\n")}), \
                 mock.patch("geesefuton.hosting.server.free_port", side_effect=free_port) as ports:
             host = Host(self.folder, pace=5, start=0)
             host.end()

@@ -3,6 +3,7 @@
 import re
 import unittest
 from collections import defaultdict
+from dataclasses import replace
 from typing import Dict, List, Optional, Tuple
 
 from geesefuton.experiments.kept import games_of, read_kept
@@ -123,6 +124,15 @@ class Games(Case):
         parts: Parts = self.overview.mean_parts(best)
         self.assertEqual(rows[0], [best, "3", *(f"{part:.0f}" for part in parts),
                                    f"{parts.score:.0f}"])
+
+    def test_names_are_escaped(self) -> None:
+        overview, all_rows = Overview(), read_scores(self.folder).rows
+        for rows in games_of(all_rows):
+            overview.add(read_kept(self.folder, [
+                replace(row, agent=f"<zz{row.agent} & co") for row in rows]))
+        text = page(overview, "<zz & run", all_rows[0])
+        self.assertEqual(("<zz" in text, "& " in text), (False, False))
+        self.assertIn("&lt;zz &amp; run", text)
 
     def test_the_command(self) -> None:
         done = run("experiments.report_command", "--over", self.folder / "games")

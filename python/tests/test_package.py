@@ -6,6 +6,7 @@ import unittest
 from typing import Iterator, List
 
 import geesefuton
+from geesefuton.records import hindsight_page
 from tests.helpers import PACKAGE, TOP
 
 OLDEST = (3, 9)  # the version of Python that pyproject.toml asks for
@@ -42,6 +43,14 @@ class Package(unittest.TestCase):
                 name = ".".join(file.parent.relative_to(PACKAGE).parts)
                 line = next(line for line in data.split("\n") if line.startswith(f'"{name}"'))
                 self.assertTrue(f'"*{file.suffix}"' in line or f'"{file.name}"' in line, file)
+
+    def test_scripts_of_pages_put_texts_in_as_texts(self) -> None:
+        pages = [file.read_text() for file in (PACKAGE / "geesefuton").rglob("*.html")]
+        self.assertEqual(len(pages), 3)
+        for page in (*pages, hindsight_page.SCRIPT):
+            self.assertIn("<script>", page)
+            self.assertNotRegex(page, r"innerHTML|outerHTML|insertAdjacentHTML|document\.write|"
+                                      r"createContextualFragment|\beval\(|setHTML|srcdoc")
 
     def test_the_oldest_python_can_read_everything(self) -> None:
         self.assertIn(f'requires-python = ">={OLDEST[0]}.{OLDEST[1]}"',

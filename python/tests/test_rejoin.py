@@ -6,7 +6,7 @@ from unittest import mock
 
 from geesefuton.hosting.events import End
 from geesefuton.link import Link, LinkError, Unanswered
-from tests.test_lobby import Case, Host
+from tests.test_lobby import MOST, Case, Host
 
 
 class Rejoining(Case):
@@ -35,6 +35,7 @@ class Rejoining(Case):
                 agent.stream.dup():  # the lobby does not hear that the link has ended
             with self.assertRaises(Unanswered):
                 agent.bid(4, (1, 50))  # its reply takes longer
+            agent.stream.settimeout(MOST)
             self.assertEqual(agent.holding(4).at, 4)
             agent.quit()
         host.hurry()

@@ -22,6 +22,7 @@ from geesefuton.records.dialects import MOST_LINE
 
 WORDS = [f"seat{number}" for number in range(8)]
 MOST = 60.0  # seconds that anything may take, on a machine that is busy with other work
+MUCH = b"x" * (1 << 20)  # more than the system keeps of a link with small buffers
 
 
 class Case(unittest.TestCase):
@@ -30,7 +31,9 @@ class Case(unittest.TestCase):
     def setUp(self) -> None:
         place = tempfile.TemporaryDirectory()
         self.addCleanup(place.cleanup)
-        self.listener = socket.create_server(("127.0.0.1", 0))
+        both = socket.has_dualstack_ipv6()  # then it is one for IPv4 and IPv6, as the lobby's
+        self.listener = socket.create_server(
+            ("", 0), family=socket.AF_INET6 if both else socket.AF_INET, dualstack_ipv6=both)
         self.addCleanup(self.listener.close)
         self.journal = Journal(Path(place.name, "journal"), self.fail)
         self.addCleanup(self.journal.close)
@@ -51,9 +54,9 @@ class Case(unittest.TestCase):
             self.servers[number].sendall(b"w\n" * ADMISSION)
             self.turn_until(agent, b"w\n" * ADMISSION)
 
-    def connect(self, first: bytes) -> socket.socket:
-        """A new link that sends something."""
-        link = socket.create_connection(self.listener.getsockname())
+    def connect(self, first: bytes, address: str = "127.0.0.1") -> socket.socket:
+        """A new link from this address of the machine, which sends something."""
+        link = socket.create_connection((address, self.listener.getsockname()[1]))
         self.addCleanup(link.close)
         link.settimeout(MOST)
         link.sendall(first)
@@ -611,12 +614,22 @@ class Strangers(Case):
         self.assertTrue(8000 <= link.getsockopt(socket.IPPROTO_TCP, socket.TCP_USER_TIMEOUT)
                         <= 15000)
 
-    def test_an_agent_that_does_not_read_is_told_of_in_the_game(self) -> None:
+    def overfill(self) -> OuterLink:
+        """A link for which more is held than the system keeps, once it takes nothing more."""
         link = self.relay.links[0]
-        link.held += b"x" * (8 << 20)  # more than the system keeps
+        for end, buffer in ((link.socket, socket.SO_SNDBUF), (self.agents[0], socket.SO_RCVBUF)):
+            end.setsockopt(socket.SOL_SOCKET, buffer, 1 << 16)  # the system does not enlarge it
+        link.held += MUCH
         self.relay._watch(link)
-        self.turns()
-        self.relay.pass_time(time.monotonic() + UNREAD - 1)
+        deadline = time.monotonic() + MOST
+        while link.stuck is None:
+            self.assertLess(time.monotonic(), deadline, len(link.held))
+            self.relay.turn(0.01)
+        return link
+
+    def test_an_agent_that_does_not_read_is_told_of_in_the_game(self) -> None:
+        stuck = self.overfill().stuck or 0.0
+        self.relay.pass_time(stuck + UNREAD - 1)
         self.assertEqual(self.of(events.Warned), [])
         for _ in range(2):
             self.relay.pass_time(time.monotonic() + UNREAD + 1)
@@ -624,25 +637,18 @@ class Strangers(Case):
         self.assertIn("seat0 has not read what it was sent", event.text)
 
     def test_one_that_has_read_all_is_not_told_of(self) -> None:
-        link = self.relay.links[0]
-        link.held += b"x" * (8 << 20)  # more than the system keeps
-        self.relay._watch(link)
-        self.turns()
-        self.assertIsNotNone(link.stuck)
-        self.turn_until(self.agents[0], b"x" * (8 << 20))
+        self.overfill()
+        self.turn_until(self.agents[0], MUCH)
         self.relay.pass_time(time.monotonic() + UNREAD + 1)
         self.assertEqual(self.of(events.Warned), [])
 
     def test_one_that_stops_reading_again_is_told_of_again(self) -> None:
-        link = self.relay.links[0]
         for count in (1, 2):
-            link.held += b"x" * (8 << 20)  # more than the system keeps
-            self.relay._watch(link)
-            self.turns()
+            self.overfill()
             self.relay.pass_time(time.monotonic() + UNREAD + 1)
             self.relay.pass_time(time.monotonic() + UNREAD + 2)
             self.assertEqual(len(self.of(events.Warned)), count)
-            self.turn_until(self.agents[0], b"x" * (8 << 20))
+            self.turn_until(self.agents[0], MUCH)
 
     def test_a_seat_is_told_of_before_its_lines_are_used_up(self) -> None:
         self.assertEqual(NEAR_MOST, 60000)

@@ -1,5 +1,6 @@
 """The page of a game, of trades and scores that are made up here."""
 
+import html
 import re
 import unittest
 from dataclasses import replace
@@ -7,6 +8,7 @@ from typing import Dict, List, Optional, Tuple
 
 from geesefuton.records import report_page
 from geesefuton.records.games import FLIGHTS, HOTELS, TICKS, Package
+from geesefuton.records.hindsight import Decision, Moment, Story
 from geesefuton.records.logs import Log, Score
 from geesefuton.records.prices import MarketEvent, all_events
 from geesefuton.records.report_page import Heading
@@ -211,9 +213,17 @@ class Parts(unittest.TestCase):
                       f"Towers {' '.join(rooms[4:])}. 3 ticks lapsed. ", text)
         self.assertNotIn("lapsed", text_of())
         self.assertIn(f"<title>A game of {', '.join(GAME.words)}</title>", text)
-        names = [f"<{number}>" for number in range(8)]
-        text = report_page.page(GAME, LOG, PRICES, Heading("my.game", "today"), names)
-        self.assertEqual((text.count("&lt;3&gt;"), "<3>" in text), (4, False))
+
+    def test_texts_of_others_are_escaped(self) -> None:
+        names = [f"<zz{number} & co" for number in range(8)]
+        heading = Heading("<zz & b.game", "<zz & today", "<zz & unsound")
+        story = Story([Moment(0, 0, (0,) * 28, (0,) * 28, {})] * (TICKS + 1),
+                      [Decision(9, "<zz & lost")])
+        text = report_page.page(GAME, LOG, PRICES, heading, names, [story] * 8)
+        for due, count in ((heading.game, 1), (heading.written, 1), (heading.warning, 1),
+                           (story.decisions[0].text, 8), *((name, 4) for name in names)):
+            self.assertEqual(text.count(html.escape(due)), count, due)
+        self.assertEqual(("<zz" in text, "& " in text), (False, False))
 
     def test_live_quotes_are_told_only_of_games_that_have_them(self) -> None:
         for live in (False, True):

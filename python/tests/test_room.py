@@ -174,13 +174,14 @@ class Teams(Case):
 
     def test_slips(self) -> None:
         file = self.place / "teams.csv"
-        file.write_text("<Red>,r3d\nBlue,b7\n")
+        file.write_text("<Red>,r3d\nB & C,b7\n")
         teams = read_teams(file, self.path)
         text = slips_of(teams, "10.0.0.1", 7000, False)
         self.assertIn("python3 mine.py 10.0.0.1 7000 r3d --again", text)
         page = slips_of(teams, "10.0.0.1", 7000, True)
-        self.assertEqual((page.count("<section>"), "<Red>" in page, "&lt;Red&gt;" in page),
-                         (2, False, True))
+        self.assertEqual((page.count("<section>"), page.count("&lt;Red&gt;"), "<Red>" in page),
+                         (2, 1, False))
+        self.assertIn("<h2>B &amp; C</h2>", page)
 
 
 # An agent for rooms: it bids once in each round, and then does what its third word says.

@@ -41,13 +41,14 @@ class OpenPages(unittest.TestCase):
         self.assertTrue(self.pages.plays(self.pages.open("")))
 
     def test_the_pages_that_are_known_are_few(self) -> None:
-        first = self.pages.open("")
+        first, eldest = self.pages.open(""), self.pages.open("")
         for _ in range(60):
             self.time += 1
             self.pages.hear(first)
             self.pages.open("")
         self.assertTrue(self.pages.plays(first))
         self.assertTrue(self.pages.hear(first))
+        self.assertFalse(self.pages.hear(eldest))
 
 
 class Served(Case):

@@ -201,6 +201,13 @@ class Answering(Case):
 class Crowds(Case):
     """Who is served if there are many links."""
 
+    def setUp(self) -> None:
+        super().setUp()
+        for name in ("FIRST", "STALLED"):  # a busy machine is no reason to let a link go
+            patch = mock.patch(f"geesefuton.hosting.viewers.{name}", MOST)
+            patch.start()
+            self.addCleanup(patch.stop)
+
     async def fill(self, port: int, count: int, path: bytes = b"", address: str = "127.0.0.1"
                    ) -> List[Link]:
         """Links that look at a path, or say nothing, once all are taken."""
@@ -223,8 +230,7 @@ class Crowds(Case):
                        for address in ("127.0.0.1", "127.0.0.2")]
             return [*answers, await eldest.read(), self.viewers.count, len(more)]
 
-        with mock.patch("geesefuton.hosting.viewers.FIRST", MOST):
-            first, second, rest, count, _ = self.run_it(work)
+        first, second, rest, count, _ = self.run_it(work)
         self.assertEqual((first, second, rest), (*["HTTP/1.1 200 OK"] * 2, b""))
         self.assertLessEqual(count, MOST_VIEWERS)
 
@@ -265,6 +271,19 @@ class Crowds(Case):
             return len(silent), (await self.ask(port, GET % b"/", "127.0.0.2"))[0]
 
         self.assertEqual(self.run_it(work), (MOST_REFUSED, "HTTP/1.1 200 OK"))
+
+    def test_refusals_one_after_the_other_are_all_told(self) -> None:
+        async def work(port: int) -> List[str]:
+            await self.fill(port, MOST_EACH, b"/events")
+            asked = [(await self.ask(port, GET % b"/"))[0] for _ in range(40)]
+            for _ in range(40):  # and those that go without a word are forgotten, too
+                reader, writer = await self.open(port)
+                writer.write_eof()
+                await reader.read()
+            return [*asked, (await self.ask(port, GET % b"/"))[0]]
+
+        self.assertEqual(self.run_it(work), ["HTTP/1.1 503 Service Unavailable"] * 41)
+        self.assertLess(MOST_REFUSED, 40)
 
     def test_a_system_without_open_files_is_told_once_and_asked_again(self) -> None:
         async def work(port: int) -> str:
