@@ -33,6 +33,7 @@ WELCOME = 10
 LINES = ["own 16", "quote 10", "bid 0 ((1 500))", "cash", "bid 10 ((2 90))", "bid 28 ((1 1))",
          "quote 10", "buy 5", "bid 16 ((2 60))", "x" * 513, "own 0", "bid 3 ((0 1))", "withdraw 5",
          "cash", "quote 16", "bid 10 ((1 50))", "own 4", "quit"]
+ASKED_GOODS = (0, 4, 8, 15, 20)  # of agents in a served game
 SELLING = "5 bid 16 ((-1 50) (-1 40))"
 
 
@@ -465,6 +466,9 @@ class Served(unittest.TestCase):
         self.folder = Path(place.name)
         self.game, self.log = self.folder / "game", self.folder / "log"
         self.game.write_text(program.make(7))
+        patch = mock.patch.dict("os.environ", {"AGENT_RECORD": str(self.folder)})
+        patch.start()
+        self.addCleanup(patch.stop)
 
     def play(self, form: str) -> None:
         """Serves a game to eight agents, of which seat 6 leaves without `quit`, and seat 7 resets
@@ -484,10 +488,8 @@ class Served(unittest.TestCase):
 
     def agent(self, port: int, seat: int, form: str) -> None:
         """Asks a little of all kinds."""
-        with mock.patch.dict("os.environ", {"AGENT_RECORD": str(self.folder)}):
-            link = Link.greet("127.0.0.1", port, f"seat{seat}", form, limit=0)
-        with link:
-            for good in GOODS:
+        with Link.greet("127.0.0.1", port, f"seat{seat}", form, limit=0) as link:
+            for good in ASKED_GOODS:
                 link.bid(good, (1, 400 - good - seat))
                 link.quote(good)
                 link.own(good)
@@ -527,7 +529,7 @@ class Served(unittest.TestCase):
             self.play(form)
             more = ["json"] * (form == "json")
             for seat in range(7):
-                count = 3 * len(GOODS) + 1 + (seat < 6)
+                count = 3 * len(ASKED_GOODS) + 1 + (seat < 6)
                 self.assertEqual(self.command(*self.files(seat), *more),
                                  (0, f"vouched {seat} whole {count}"))
             after = read_log(self.log.read_bytes()).calls_of(7) - 1
@@ -536,8 +538,8 @@ class Served(unittest.TestCase):
             asked, said = self.files(3)
             said.write_bytes(said.read_bytes()[:-2])
             self.assertEqual(self.command(asked, said, *more),
-                             (0, f"vouched 3 cut {3 * len(GOODS) + 1} 0"))
-            asked.write_bytes(asked.read_bytes().replace(b"26", b"27", 1))
+                             (0, f"vouched 3 cut {3 * len(ASKED_GOODS) + 1} 0"))
+            asked.write_bytes(asked.read_bytes().replace(b"20", b"21", 1))
             status, told = self.command(asked, said, *more)
             self.assertEqual((status, told[:15]), (9, "unvouched line "))
             self.assertEqual(self.command(self.folder / "none", said), (3, "fault read"))
