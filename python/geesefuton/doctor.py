@@ -80,7 +80,7 @@ def version() -> int:
 
 
 def _version() -> int:
-    Parser("version", "Tells the version, the program with its hash, and the platform."
+    Parser("version", "Shows the version, the program with its hash, and the platform."
            ).parse_args()
     lines = [f"geesefuton {geesefuton.__version__}", *_program_lines(),
              f"platform: {_platform()}; Python {platform.python_version()}"]
@@ -205,7 +205,7 @@ def main() -> int:
 
 
 def _doctor() -> int:
-    Parser("doctor", "Says what is at hand on this machine, and what to do about what is not.\n"
+    Parser("doctor", "Says what this machine has and lacks, and how to get what is missing.\n"
            "The exit status is 1 if something is missing.").parse_args()
     findings = [look() for look in FINDINGS]
     status = _print("doctor", [f"{'ok  ' if is_due else 'MEND'} {text}"

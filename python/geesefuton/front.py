@@ -1,6 +1,6 @@
 """The command `geesefuton`: every program of the package under one word.
 
-`geesefuton WORD --help` tells about one of those below. `geesefuton tac` passes its words to the
+`geesefuton WORD --help` describes one of those below. `geesefuton tac` passes its words to the
 proved program, and ends as that does.
 """
 
@@ -43,8 +43,8 @@ PROGRAMS: Dict[str, Program] = {
                         "plays all profiles of some strategies"),
     "data": Program("geesefuton.experiments.data_command",
                     "writes a tournament's games as tables"),
-    "doctor": Program("geesefuton.doctor", "says what is at hand on this machine"),
-    "version": Program("geesefuton.doctor", "tells the version, the program and its hash"),
+    "doctor": Program("geesefuton.doctor", "checks this machine for what is needed"),
+    "version": Program("geesefuton.doctor", "shows the version, the program and its hash"),
 }
 TAC = "passes its words to the proved program"
 

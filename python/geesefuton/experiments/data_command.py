@@ -1,4 +1,4 @@
-"""The command `data`: writes what a tournament's games have as tables of CSV.
+"""The command `data`: writes the games of a tournament as tables of CSV.
 
     tournament --turns 40 --games 20 --out runs/1 mine.py theirs.py
     data runs/1 tables

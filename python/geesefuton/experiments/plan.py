@@ -122,9 +122,9 @@ def add_playing(parser: Parser, games: str) -> None:
     add("--pace", type=whole(1, 60000), metavar="MILLISECONDS",
         help=f"from tick to tick; {PACE}")
     add("--turns", type=whole(1, MOST_TURNS), default=0, metavar="R",
-        help="no clock: each agent has R turns between two ticks, and asks one request in each")
+        help="no clock: each agent has R turns between two ticks, and makes one request in each")
     add("--patience", type=seconds, metavar="SECONDS",
-        help="in turns: how long an agent says nothing before it is passed over; "
+        help="in turns: how long an agent is silent before it is passed over; "
              f"{PATIENCE:g}")
     add("--json", action="store_true", help="agents speak JSON objects in place of words")
     add("--start", type=seconds, default=20.0, metavar="SECONDS",
@@ -153,7 +153,7 @@ def make_parser(description: Optional[str]) -> Parser:
     add("--summary", type=_summary_file, action="append", default=[], metavar="FILE",
         help="a file for the summary: .txt, .csv or .json; may be given again")
     add("--detect", type=whole(1), metavar="DOLLARS",
-        help="tell how many games it takes to tell such a difference of two agents")
+        help="say how many games show such a difference between two agents")
     add("--join", type=Path, nargs="+", metavar="FOLDER",
         help="play nothing, and summarize what earlier tournaments wrote, folders or CSV, if all "
              "belongs together")

@@ -10,8 +10,8 @@ which a player is one seat, and its rivals stand for the other seven.
 FOLDER keeps the games, as a tournament's --out does: --resume goes on after a stop, and more
 --games play more. With --part I/N only the I-th of N parts is played, on any machine that has
 FOLDER; the same command without --part takes what the parts played, and plays what they lack. It
-writes payoffs.csv, payoffs.json and payoffs.nfg, and prints payoffs, what a seat gains by another
-strategy, and the symmetric equilibria with how often each comes in resamples of the deals.
+writes payoffs.csv, payoffs.json and payoffs.nfg, and prints payoffs, a seat's gain by another
+strategy, and the symmetric equilibria with how often each occurs in resamples of the deals.
 
 The exit status is 0 if every game was scored and everything was written, 1 if not, and 128 plus
 the signal's number if a signal stopped it.
@@ -58,7 +58,7 @@ def _make_parser() -> Parser:
     add_playing(parser, "how many games of each profile, each with a deal of its own; 4")
     add("--players", type=int, choices=PLAYERS, default=PLAYERS[0],
         help="8 for all profiles, fewer for the reduced game; 2")
-    add("--out", type=Path, required=True, metavar="FOLDER", help="where the games stand")
+    add("--out", type=Path, required=True, metavar="FOLDER", help="the folder of the games")
     add("--part", type=_part, metavar="I/N", help="play only this part of the games")
     parser.set_defaults(swap=False, keep=None, summary=[], detect=None, pool=False)
     return parser

@@ -6,24 +6,24 @@ An agent is a Python file, a program, or a command in quotes, such as 'java -jar
 run with the words HOST PORT WORD --pause SECONDS, like those of examples/agents. Each game goes
 through a lobby, so an agent that fails or hangs costs only its own seat.
 
-With --turns R there is no clock: in each turn one request of an agent is asked, and each has R of
-them between two ticks. So agents whose requests follow from what they were sent, such as those of
-examples/agents, play the same games for the same seed on any machine, busy or not. They are run
-with --pause 0, and draw from the variable AGENT_SEED. An agent that says nothing for --patience
+With --turns R there is no clock: in each turn an agent gets one request answered, and each has R
+turns between two ticks. So agents whose requests depend only on what they received, such as those
+of examples/agents, play the same games for the same seed on any machine, busy or not. They are run
+with --pause 0, and draw from the variable AGENT_SEED. An agent that is silent for --patience
 seconds is passed over, and its game is marked as `unrepeatable2`.
 
-A deal has the clients, the tickets, the flights and the order of the hotels of a game. Between two
-agents each deal is played twice, with swapped seats, so that both have the same clients; with
---swap any number of agents play each deal once for each of them.
+A deal has the clients, the tickets, the flights and the order of the hotels of a game. Two agents
+play each deal twice, with swapped seats, so that both have the same clients; with --swap any number
+of agents play each deal once for each of them.
 
-The line of a seat tells how its game went: `played`, or `absent`, `crashed`, `hung`, `refused`. At
+The line of a seat says how its game went: `played`, or `absent`, `crashed`, `hung`, `refused`. At
 the end the summary has each agent's mean over all its seats with a 95 % interval, that of the seats
-that played to the end, how many did not, and the difference of each pair. Failures are told as they
-happen.
+that played to the end, how many did not, and the difference of each pair. Failures are
+reported as they happen.
 
-With --out FOLDER the run stands in a folder: the rows of each game are added to its scores.csv as
-the game ends, and its run.json has what was played with. With --resume it goes on where it was
-stopped, however it was stopped, and plays the games that are missing. --join FOLDER .. summarizes
+With --out FOLDER the run is kept in a folder: scores.csv gains the rows of each game as the game
+ends, and run.json has the settings, the agents and their files. With --resume it goes on after any
+stop, and plays the games that are missing. --join FOLDER .. summarizes
 several, if they were played in the same way by the same agents.
 
 The exit status is 0 if every game was scored and everything was written, 1 if not, and 128 plus

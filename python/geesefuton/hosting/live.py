@@ -3,12 +3,12 @@ to any number of viewers.
 
 The lobby starts it for `--page PORT`. It is a process of its own, reads only the journal, and runs
 at a lower priority, so neither it nor a viewer slows the game. Once a tick, and once a second at
-most, it lets `tac play` play the game so far, and finds what each agent's best plan is worth: with
-what it holds, what is still to be bought at the prices of that time, and what it has paid. When the
-game is over all viewers are sent the scores, and keep them.
+most, it runs `tac play` on the game so far, and finds the worth of each agent's best plan: from its
+holdings, the cost of missing goods at current prices, and the dollars that it has paid. When the
+game is over it sends all viewers the scores, and they keep them.
 
-With --late TICKS the page shows at once only what each agent can ask itself: prices that are
-published, what is closed, the time, and who is here. Scores, trades, numbers of requests and
+With --late TICKS the page shows at once only what each agent can ask itself: published prices,
+closed auctions, the time, and who is here. Scores, trades, numbers of requests and
 standing bids are shown as they were TICKS before, or after the game if TICKS is 54. With --late 0
 all is shown at once: then no agent may see the page. Seat words are passwords: the page calls an
 agent by the letters before the digits of its word, if these differ, or by its number, and with
@@ -270,7 +270,7 @@ def _arguments() -> argparse.Namespace:
     add("--names", action="store_true",
         help="call agents by their seat words, which are passwords")
     add("--agents", type=whole(1, 65535), metavar="PORT",
-        help="the port for agents, which the page tells before the game")
+        help="the port for agents, which the page shows before the game")
     add("--start", type=seconds, metavar="SECONDS",
         help="the time until the game begins by itself, which the page counts down")
     add("--until-over", action="store_true",

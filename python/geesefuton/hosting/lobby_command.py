@@ -3,15 +3,15 @@
 Agents connect to the port as to the server. The lobby shows who is there and who is missing. Once
 all are there it starts the server on a port of its own, and passes lines on. An agent whose link
 ends may reconnect with its word, before the game and in it, and gets the welcome again; one that
-is missing when the game begins may come late. A while after the last tick the links that are left
-are ended, so that the log is written whatever an agent does.
+is missing when the game begins may come late. A while after the last tick the lobby ends the links
+that are left, so that the log is written whatever an agent does.
 
-All that happens is written into a journal while it happens: however the game ends, `recover` makes
-a log of it. The log is written to standard output, and to a file beside the journal.
+The lobby writes all that happens into a journal at once: however the game ends, `recover` makes a
+log of it. The log is written to standard output, and to a file beside the journal.
 
 The lobby reads commands from standard input: an empty line begins the game without those who are
 missing, and after the last tick ends it without those who have not left; `without WORD` does not
-wait for that one any longer. Errors are told in lines that begin with `!`. The exit status is that
+wait for that one any longer. Lines that begin with `!` report errors. The exit status is that
 of the server, and 4 if standard output took no more.
 """
 
@@ -54,7 +54,7 @@ def _arguments() -> argparse.Namespace:
     add("--patience", type=seconds, default=30.0, metavar="SECONDS",
         help="how long to wait for the first line of a link; 30")
     add("--silence", type=seconds, default=SILENCE, metavar="SECONDS",
-        help="how long an agent's link says nothing before it gives way to another one with its "
+        help="how long an agent's link is silent before it gives way to another one with its "
              f"word, if two ticks are no longer; {SILENCE:g}")
     add("--journal", type=Path, metavar="FILE",
         help="the journal, a new file; by default GAME-DATE.journal beside the log")

@@ -1,14 +1,14 @@
 """Makes the log of a game from the journal that the lobby wrote, however the game ended.
 
-It makes a game script of the journal, and lets `tac play` play it. After the last call that is
-known nobody does anything more.
+It makes a game script of the journal, and lets `tac play` play it, as if nobody had asked anything
+after the last known call.
 
 A request that had no reply yet is left out, unless the replies of others show that it was made.
-Nobody can know whether those left out were made: with --pending they are asked after all others,
-and the command tells for whom that changes a score.
+Nobody can know whether the others were made: with --pending they are asked after all the rest, and
+the command reports each score that this changes.
 
-Each reply is compared with what `tac play` answers. A difference is told, and the exit status is
-then 1. Readings of cash are put near where they were, and are not compared.
+Each reply is compared with what `tac play` answers. It reports a difference, and the exit status
+is then 1. Readings of cash are placed near where they were, and are not compared.
 """
 
 from __future__ import annotations

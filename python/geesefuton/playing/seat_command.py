@@ -1,14 +1,14 @@
 """The command `seat`: a person plays a seat in a browser.
 
 It is an agent like any other, whose decisions come from a page. It prints the address of that page,
-which has a token made for it: who does not know the address sees and asks nothing. The seat is
-taken once a browser opens its page, and until then its word is free for an agent. With several
-words it has a page for each seat. A lost link is connected again.
+which has a token made for it: without the address nobody sees or asks anything. The seat is taken
+once a browser opens its page, and until then its word is free for an agent. With several words it
+has a page for each seat. It reconnects a lost link.
 
 With --listen the pages are for browsers on other machines too, such as phones in the room, and if
-`qrencode` is installed their addresses are printed as QR codes as well. The pages show what the
-proved solver says of a seat if it is asked, where the program is there; --no-advice switches that
-off. The command stays until ctrl-C, also after the game, whose result the page shows.
+`qrencode` is installed their addresses are printed as QR codes as well. On request the pages show
+what the proved solver says of a seat, if the program is installed; --no-advice switches that off.
+The command stays until ctrl-C, also after the game, whose result the page shows.
 """
 
 from __future__ import annotations

@@ -1,13 +1,13 @@
 """The command `room`: a practice room, which plays game after game at one port.
 
 Each game begins some seconds after its first guest; house agents take the seats that are empty. A
-guest that comes later, or whose seat the house plays, is refused as `taken`, and plays the next
+guest that arrives later, or whose seat the house plays, is refused as `taken`, and plays the next
 game if it asks again, as `--agent-- HOST PORT WORD --again` does. A game counts once its log was
-audited and its manifest is in the folder. Stopped at any moment, also by `kill -9`, the same
-command goes on with the next game.
+audited and its manifest is in the folder. After a stop at any moment, even by `kill -9`, the
+same command goes on with the next game.
 
 The page shows the standings between games, and each game while it runs. ctrl-C closes the room
-after the game that runs, a second one at once. `help` on the terminal lists commands.
+after the current game, a second one at once. `help` on the terminal lists commands.
 """
 
 from __future__ import annotations
@@ -50,14 +50,14 @@ def _arguments() -> argparse.Namespace:
     add("--after", type=seconds, default=10.0, metavar="SECONDS",
         help="how long after the last tick links are ended; 10")
     add("--house", action="append", metavar="AGENT",
-        help="an agent for empty seats, in several options several in turn, and '' for none; "
+        help="an agent for empty seats; given again, several in turn; '' for none; "
              f"default: {USUAL} of the examples")
     add("--folder", type=Path, default=Path("room"), help="where the games are kept; room")
     add("--seed", type=whole(0), metavar="NUMBER",
         help="the seed of the first game of a new folder; 1")
     add("--games", type=whole(1), metavar="NUMBER", help="end after so many games")
     add("--teams", type=Path, metavar="FILE",
-        help="the teams, a CSV file of lines NAME or NAME,WORD; words are made and kept")
+        help="the teams, a CSV file of lines NAME or NAME,WORD; missing words are made, and kept")
     add("--slips", type=Path, metavar="FILE",
         help="write a slip for each team, with its word, as text or .html")
     add("--address", help="the host's address on the slips and the page; default: this machine's")
