@@ -6,8 +6,9 @@ use Rattle.std.proofs.lemmas.Grind.{flat_map-append}
 use Rattle.tac_base.specs.declared.calls.Call.{Call}
 use Rattle.tac_base.specs.declared.calls.Reply.{Reply}
 use Rattle.floor.specs.declared.desk.Desk.{Desk}
-use Rattle.floor.specs.Answers.{IsCallAnswered, IsDueTaken}
+use Rattle.floor.specs.Answers.{IsCallAnswered, IsStepTaken}
 use Rattle.floor.specs.Desks.{desk_cash, desk_entries, entries_at}
+use Rattle.floor.specs.Steps.{Step}
 use Rattle.floor.proofs.Rows.{row_more}
 use Rattle.clock_events.specs.ClockTurns.{ClockTurn, call_made, clock_entries, clock_entry, clock_post, clock_posts}
 use Rattle.clock_events.specs.MadeCalls.{MakesCalls}
@@ -15,13 +16,13 @@ use Rattle.clock_events.specs.MadeCalls.{MakesCalls}
 pub makes_none : (d : Desk) → MakesCalls [] d d
 makes_none d = record { turns = []; asked = refl; entries = λ good low. sym (append-nil (entries_at d good)); cash = sym (append-nil (desk_cash d)) }
 
--- a due that was taken is no call
-pub makes_nothing : (before after : Desk) {tick : ℕ} → IsDueTaken before after tick → MakesCalls [] before after
-makes_nothing before after taken = record {
-  turns = [];
-  asked = refl;
-  entries = λ good low. ap (λ rows. get_or rows good []) taken.entries ∙ sym (append-nil (entries_at before good));
-  cash = taken.cash ∙ sym (append-nil (desk_cash before));
+-- some calls, and then a step that is no call
+pub makes_still : (calls : List (ℕ × Call)) (before between after : Desk) {step : Step} → MakesCalls calls before between → IsStepTaken between after step → MakesCalls calls before after
+makes_still calls before between after made taken = record {
+  turns = made.turns;
+  asked = made.asked;
+  entries = λ good low. ap (λ rows. get_or rows good []) taken.entries ∙ made.entries good low;
+  cash = taken.cash ∙ made.cash;
 }
 
 makes_one : (good : ℕ) (call : Call) (position : ℕ) (reply : Reply) (before after : Desk) → good < 28 → IsCallAnswered before after good call position reply → MakesCalls ((good, call) ∷ []) before after

@@ -37,17 +37,13 @@ next_tick tick first last =
     let same : suc (tick - 1) ≡ tick = omega (arith, first) in
     ap (λ k. take k ticks) (sym same) ∙ more ∙ ap (λ k. take (tick - 1) ticks ++ k ∷ []) (tick_is tick first last)
 
--- what is of the ticks before one, and of that tick
-pub all_done : {A : Type 0} (of_tick : ℕ → List A) (tick : ℕ) → 1 ≤ tick → tick ≤ 54 → flat_map of_tick (take (tick - 1) ticks) ++ of_tick tick ≡ flat_map of_tick (take tick ticks)
-all_done of_tick tick first last =
-    ap (λ more. flat_map of_tick (take (tick - 1) ticks) ++ more) (sym (append-nil (of_tick tick)))
-    ∙ sym (flat_map-append of_tick (take (tick - 1) ticks) (tick ∷ []))
-    ∙ ap (flat_map of_tick) (sym (next_tick tick first last))
-
 module _ (game : GameFile) where
   -- the calls of the ticks before one, and of that tick
   pub tick_done : (tick : ℕ) → 1 ≤ tick → tick ≤ 54 → flat_map (calls_at game) (take (tick - 1) ticks) ++ calls_at game tick ≡ flat_map (calls_at game) (take tick ticks)
-  tick_done tick first last = all_done (calls_at game) tick first last
+  tick_done tick first last =
+      ap (λ more. flat_map (calls_at game) (take (tick - 1) ticks) ++ more) (sym (append-nil (calls_at game tick)))
+      ∙ sym (flat_map-append (calls_at game) (take (tick - 1) ticks) (tick ∷ []))
+      ∙ ap (flat_map (calls_at game)) (sym (next_tick tick first last))
 
   -- the calls that follow the first calls of a tick
   pub to_come : (tick n : ℕ) → 1 ≤ tick → tick ≤ 54 → schedule game ≡ (flat_map (calls_at game) (take (tick - 1) ticks) ++ take n (calls_at game tick)) ++ (drop n (calls_at game tick) ++ flat_map (calls_at game) (drop tick ticks))

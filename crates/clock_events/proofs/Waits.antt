@@ -1,5 +1,5 @@
 -- Waiting tick by tick.
-use Rattle.std.proofs.Common.{◌≡◌, ℕ, zero, suc, ◌+◌, ◌-◌, ◌≤◌, Bool, true, false, cond, List, [], ◌∷◌, ◌++◌, map, take, refl, sym, ap, ◌∙◌, arith, subst}
+use Rattle.std.proofs.Common.{◌≡◌, ℕ, zero, suc, ◌+◌, ◌-◌, ◌≤◌, Bool, true, false, cond, List, [], ◌∷◌, ◌++◌, map, take, Option, refl, sym, ap, ◌∙◌, arith, subst, append_assoc, append-nil}
 use Rattle.std.specs.Prelude.{All, MatchBool, count_by}
 use Rattle.std.specs.Int.{from_bool}
 use Rattle.std.proofs.lemmas.List.{map-append}
@@ -9,8 +9,11 @@ use Rattle.tac_io.specs.Counts.{Rose}
 use Rattle.tac_io.specs.States.{TickWait, TickerState}
 use Rattle.tac_io.specs.Known.{known_then}
 use Rattle.tac_io.proofs.KnownPieces.{known_then-nothing, known_then-twice}
+use Rattle.floor.specs.Steps.{Step, WaitsNoted}
+use Rattle.game_text.specs.Games.{GameFile}
 use Rattle.game_text.specs.Schedule.{ticks}
 use Rattle.clock_events.specs.Clocking.{HasMissedCause, WaitsForAll}
+use Rattle.clock_events.specs.Steps.{steps_at, steps_over}
 use Rattle.clock_events.proofs.TickCalls.{next_tick}
 
 rose_twice : (first before now : ℕ) → Rose first before → Rose before now → Rose first now
@@ -85,6 +88,43 @@ waits_for_all before after many missed so_far all = record {
   cause = so_far.cause;
   paced = so_far.paced;
 }
+
+-- the steps of a desk over the waits that are known so far
+pub record TakesSteps (mark : ℕ) (game : GameFile) (before after : TickerState) (first last : List Step) (many missed : ℕ) : Type 0 where
+  pub waits : WaitsFor before after many missed
+  pub steps : last ≡ first ++ steps_over mark game before.waited waits.waits
+
+pub takes_none : (mark : ℕ) (game : GameFile) (ticker : TickerState) (steps : List Step) → TakesSteps mark game ticker ticker steps steps 0 0
+unfolding waits_for_none
+takes_none mark game ticker steps = record { waits = waits_for_none ticker; steps = sym (append-nil steps) }
+
+steps_over-more : (mark : ℕ) (game : GameFile) (waited : Option (List TickWait)) (waits : List TickWait) (wait : TickWait)
+    → steps_over mark game waited (waits ++ wait ∷ []) ≡ steps_over mark game waited waits ++ (steps_at mark game wait.tick ++ WaitsNoted (known_then waited (waits ++ wait ∷ [])) ∷ [])
+steps_over-more mark game waited [] wait = refl
+steps_over-more mark game waited (w ∷ waits) wait =
+    let now : Option (List TickWait) = known_then waited (w ∷ []) in
+    let more : Option (List TickWait) → List Step = λ known. steps_at mark game wait.tick ++ WaitsNoted known ∷ [] in
+    ap (λ l. steps_at mark game w.tick ++ WaitsNoted now ∷ l) (steps_over-more mark game now waits wait ∙ ap (λ known. steps_over mark game now waits ++ more known) (known_then-twice waited (w ∷ []) (waits ++ wait ∷ [])))
+    ∙ sym (append_assoc (steps_at mark game w.tick) (WaitsNoted now ∷ steps_over mark game now waits) (more (known_then waited (w ∷ waits ++ wait ∷ []))))
+
+pub takes_more : (mark : ℕ) (game : GameFile) (before now after : TickerState) (first between last : List Step) (tick missed : ℕ) (lapsed : Bool) → 1 ≤ tick → tick ≤ 54 → TakesSteps mark game before now first between (tick - 1) missed
+    → after.waited ≡ known_then now.waited (record { tick = tick; lapsed = lapsed; paced = now.paced } ∷ []) → after.paced ≡ now.paced → MatchBool lapsed (Rose now.faults after.faults) (after.faults ≡ now.faults)
+    → last ≡ between ++ (steps_at mark game tick ++ WaitsNoted after.waited ∷ []) → TakesSteps mark game before after first last tick (missed + from_bool lapsed)
+unfolding waits_for_more
+takes_more mark game before now after first between last tick missed lapsed low high so_far e paced rose more =
+    let wait : TickWait = record { tick = tick; lapsed = lapsed; paced = now.paced } in
+    let waits = waits_for_more before now after tick missed lapsed low high so_far.waits e paced rose in
+    record {
+      waits = waits;
+      steps = more ∙ (λ i. so_far.steps i ++ (steps_at mark game tick ++ WaitsNoted (waits.known i) ∷ []))
+          ∙ append_assoc first (steps_over mark game before.waited so_far.waits.waits) (steps_at mark game tick ++ WaitsNoted (known_then before.waited (so_far.waits.waits ++ wait ∷ [])) ∷ [])
+          ∙ ap (λ l. first ++ l) (sym (steps_over-more mark game before.waited so_far.waits.waits wait));
+    }
+
+pub takes_all : (mark : ℕ) (game : GameFile) (before after : TickerState) (first last : List Step) (many missed : ℕ) → TakesSteps mark game before after first last many missed → many ≡ 54
+    → (all : WaitsForAll before after missed) × (last ≡ first ++ steps_over mark game before.waited all.waits)
+unfolding waits_for_all
+takes_all mark game before after first last many missed so_far all = (waits_for_all before after many missed so_far.waits all, so_far.steps)
 
 pub one_at_most : (lapsed : Bool) → from_bool lapsed ≤ 1
 one_at_most true = omega arith

@@ -1,10 +1,11 @@
 -- The calls of the quiet game.
-use Rattle.std.proofs.Common.{◌≡◌, [], ◌∷◌, length, map, slice_get, Some, None, refl}
+use Rattle.std.proofs.Common.{◌≡◌, ℕ, false, [], ◌∷◌, length, map, slice_get, Some, None, refl}
 use Rattle.tac_base.specs.declared.calls.Call.TheVariants.{Update, Publish, Close}
 use Rattle.game_text.specs.QuietGames.{quiet_game}
 use Rattle.game_text.specs.Schedule.{calls_at, clock_calls, open_after, schedule}
-use Rattle.floor.specs.Steps.{CallMade, DueTaken}
-use Rattle.clock_events.specs.Steps.{steps_of_game, steps_at}
+use Rattle.floor.specs.Steps.{CallMade, DueTaken, WaitsNoted}
+use Rattle.tac_io.specs.States.{TickWait}
+use Rattle.clock_events.specs.Steps.{steps_at, steps_over}
 
 flights_alone_are_updated_first : map (slice_get (calls_at quiet_game 1)) (0 ∷ 8 ∷ []) ≡ Some (0, Update 1 10) ∷ None ∷ []
 unfolding quiet_game calls_at
@@ -30,7 +31,15 @@ unfolding quiet_game calls_at open_after
 all_calls_and_those_of_two_goods = (refl, refl, refl)
 
 -- the due of tick 54 is taken, and then its 20 calls are made
-each_tick_begins_with_its_due : (map (λ n. slice_get (steps_at quiet_game 54) n) (0 ∷ 1 ∷ 20 ∷ 21 ∷ []) ≡ Some (DueTaken 54) ∷ Some (CallMade 0 Close) ∷ Some (CallMade 27 Close) ∷ None ∷ [])
-    × (length (steps_of_game quiet_game) ≡ 534)
+each_tick_begins_with_its_due : (map (λ n. slice_get (steps_at 2 quiet_game 54) n) (0 ∷ 1 ∷ 20 ∷ 21 ∷ []) ≡ Some (DueTaken 2 54) ∷ Some (CallMade 0 Close) ∷ Some (CallMade 27 Close) ∷ None ∷ [])
 unfolding quiet_game calls_at open_after
-each_tick_begins_with_its_due = (refl, refl)
+each_tick_begins_with_its_due = refl
+
+abbrev half_a_second : ℕ → TickWait
+half_a_second tick = record { tick = tick; lapsed = false; paced = Some (Some 500) }
+
+-- the 8 updates of tick 53 are made before tick 54 is waited for
+next_tick_is_waited_for_after_the_calls : map (λ n. slice_get (steps_over 2 quiet_game (Some []) (half_a_second 53 ∷ half_a_second 54 ∷ [])) n) (0 ∷ 8 ∷ 9 ∷ 10 ∷ 31 ∷ 32 ∷ [])
+    ≡ Some (DueTaken 2 53) ∷ Some (CallMade 7 (Update 53 10)) ∷ Some (WaitsNoted (Some (half_a_second 53 ∷ []))) ∷ Some (DueTaken 2 54) ∷ Some (WaitsNoted (Some (half_a_second 53 ∷ half_a_second 54 ∷ []))) ∷ None ∷ []
+unfolding quiet_game calls_at open_after
+next_tick_is_waited_for_after_the_calls = refl

@@ -8,7 +8,7 @@ ghost use Rattle.tac_io.specs.Counts.{Rose};
 ghost use Rattle.tac_io.specs.Known.{known_then};
 ghost use Rattle.clock_events.specs.Clocking.{WaitsForAll};
 ghost use Rattle.clock_events.specs.MadeCalls.{HasMade, MakesCalls};
-ghost use Rattle.clock_events.specs.Steps.{steps_at, steps_of_game};
+ghost use Rattle.clock_events.specs.Steps.{steps_at, steps_over};
 ghost use Rattle.game_text.specs.Schedule as spec;
 ghost use Rattle.game_text.specs.Schedule.{clock_calls};
 
@@ -44,7 +44,7 @@ pub fn clock_tick<R: Wait + Clock, T: Ticker>(
     requires own { desk_ids desk.old ≡ floor_ids floor.now }
     requires clock { desk_caller desk.old ≡ clock }
     requires before { HasMade game.now (tick - 1) desk.old }
-    ensures steps { desk_steps desk.new ≡ desk_steps desk.old ++ steps_at game.now tick }
+    ensures steps { desk_steps desk.new ≡ desk_steps desk.old ++ steps_at T.mark game.now tick }
     ensures calls { desk_calls desk.new ≡ desk_calls desk.old ++ spec.calls_at game.now tick }
     ensures made { HasMade game.now tick desk.new }
     ensures turns { MakesCalls (spec.calls_at game.now tick) desk.old desk.new }
@@ -77,9 +77,8 @@ fn wait_for<R: Wait + Clock, T: Ticker>(rt: &R, ticker: &mut T, tick: Tick) -> (
 }
 
 /// Waits for each of the 54 ticks in turn, and makes its calls: altogether the schedule of the game from its first call to its last, in
-/// that order across the goods, and no other call. The due of each tick is taken before its calls and after those of the tick before. The
-/// calls of a tick that lapsed are made at once, and the next one is waited for again. No clause says that a tick's calls are made before
-/// the next wait. It takes no memory.
+/// that order across the goods, and no other call. The due of each tick is taken before its calls, and the next tick is waited for after
+/// them. The calls of a tick that lapsed are made at once, and the next one is waited for again. It takes no memory.
 pub fn run_clock<R: Wait + Clock, T: Ticker>(
     rt: &R,
     floor: &Floor,
@@ -94,7 +93,8 @@ pub fn run_clock<R: Wait + Clock, T: Ticker>(
     ensures calls { desk_calls result.desk ≡ spec.schedule game.now }
     ensures made { HasMade game.now TICKS result.desk }
     ensures whole { (good : ℕ) → good < GOODS → map (λ p. p.1.call) (entries_at result.desk good) ≡ clock_calls game.now good }
-    ensures steps { desk_steps result.desk ≡ desk_steps desk ++ steps_of_game game.now }
+    ensures steps { (all : WaitsForAll (T.state ticker.old) (T.state ticker.new) result.missed)
+        × (desk_steps result.desk ≡ desk_steps desk ++ steps_over T.mark game.now (T.state ticker.old).waited all.waits) }
     ensures turns { MakesCalls (spec.schedule game.now) desk result.desk }
     ensures boards { boards_of result.desk ≡ boards_of desk }
     ensures same { IsSameDesk desk result.desk }
@@ -105,6 +105,7 @@ pub fn run_clock<R: Wait + Clock, T: Ticker>(
         let tick = Tick::new(number).unwrap();
         let (due, lapsed) = wait_for(rt, ticker, tick);
         clock_tick::<R, T>(rt, floor, &mut desk, game, tick, due);
+        desk.note_waits(&*ticker);
         missed += u8::from(lapsed);
     }
     ClockEnd { desk, missed }

@@ -1,5 +1,5 @@
 -- The list of a desk's calls and its entries: at first, with one call more, and if there is no entry.
-use Rattle.std.proofs.Common.{◌≡◌, ◌≢◌, ℕ, ◌==◌, ◌<◌, Bool, true, false, cond, List, [], ◌∷◌, ◌++◌, map, length, get_or, set, replicate, refl, sym, ap, ◌∙◌, subst, arith, append-nil}
+use Rattle.std.proofs.Common.{◌≡◌, ◌≢◌, ℕ, ◌==◌, ◌<◌, Bool, true, false, cond, List, [], ◌∷◌, ◌++◌, map, length, get_or, set, replicate, None, refl, sym, ap, ◌∙◌, subst, arith, append-nil}
 use Rattle.std.specs.Prelude.{filter}
 use Rattle.std.proofs.lemmas.List.{map-append, get_or-set_same, get_or-set_other, get_or-replicate}
 use Rattle.std.proofs.lemmas.List.Elements.{filter-append, filter_map-append, All-nil, All-push, All-head}
@@ -7,7 +7,7 @@ use Rattle.std.proofs.lemmas.Bool.Decides.{nat_tests}
 use Rattle.tac_base.specs.declared.calls.Call.{Call}
 use Rattle.auction_rules.specs.History.{Entry}
 use Rattle.floor.specs.Keeping.{AreListed, calls_of_good}
-use Rattle.floor.specs.Steps.{Step, CallMade, DueTaken, call_of_step, calls_of_steps}
+use Rattle.floor.specs.Steps.{Step, CallMade, DueTaken, WaitsNoted, call_of_step, calls_of_steps}
 
 abbrev of : ℕ → ℕ × Call → Bool
 of good call = call.0 == good
@@ -50,9 +50,11 @@ listed_more {entries = entries} {calls = calls} listed good asked position e ins
 pub calls_of_steps-call : (steps : List Step) (good : ℕ) (call : Call) → calls_of_steps (steps ++ CallMade good call ∷ []) ≡ calls_of_steps steps ++ (good, call) ∷ []
 calls_of_steps-call steps good call = filter_map-append call_of_step steps (CallMade good call ∷ [])
 
--- the same with a due more
-pub calls_of_steps-due : (steps : List Step) (tick : ℕ) → calls_of_steps (steps ++ DueTaken tick ∷ []) ≡ calls_of_steps steps
-calls_of_steps-due steps tick = filter_map-append call_of_step steps (DueTaken tick ∷ []) ∙ append-nil (calls_of_steps steps)
+-- the same with a step more that is no call
+pub calls_of_steps-other : (steps : List Step) (step : Step) → call_of_step step ≡ None → calls_of_steps (steps ++ step ∷ []) ≡ calls_of_steps steps
+calls_of_steps-other steps (DueTaken mark tick) none = filter_map-append call_of_step steps (DueTaken mark tick ∷ []) ∙ append-nil (calls_of_steps steps)
+calls_of_steps-other steps (CallMade good call) none = cc
+calls_of_steps-other steps (WaitsNoted waited) none = filter_map-append call_of_step steps (WaitsNoted waited ∷ []) ∙ append-nil (calls_of_steps steps)
 
 -- the same if the code names the parts otherwise
 pub listed_as : {entries entries' : List (List (ℕ × Entry))} {calls calls' : List (ℕ × Call)} → AreListed entries calls → entries' ≡ entries → calls' ≡ calls → AreListed entries' calls'

@@ -14,12 +14,12 @@ use Rattle.turn_lock.specs.Passes.{LockId, lock_of, caller_of, turns_left, made_
 use Rattle.floor.specs.Rows.{with_each}
 use Rattle.floor.specs.Dealing.{IsFresh, AreFresh, MakeDesk}
 use Rattle.floor.specs.declared.desk.Desk.{Desk}
-use Rattle.floor.specs.Desks.{IsNewDesk}
+use Rattle.floor.specs.Desks.{desk_steps, IsNewDesk}
 use Rattle.floor.proofs.Tables.{with_each_at}
 use Rattle.floor.proofs.Desks.{kept_first, kept_as}
 use Rattle.floor.proofs.Orders.{order_as, order_first}
 use Rattle.floor.specs.Steps.{calls_of_steps}
-use Rattle.floor.proofs.CallLists.{listed_as, listed_first, none_listed}
+use Rattle.floor.proofs.CallLists.{listed_as, listed_first}
 
 -- how many calls each caller may make
 pub calls_are : (i : ℕ) → i < 9 → get_or (1024 ∷ 1024 ∷ 1024 ∷ 1024 ∷ 1024 ∷ 1024 ∷ 1024 ∷ 1024 ∷ 64 ∷ []) i 0 ≡ cap i
@@ -95,12 +95,13 @@ module _ {S C R G T D Q H : Type 0} {K : Ghosts S C R G Entry} {L : Ghosts T D Q
     listed_as listed_first (fresh.made ∙ ap (λ (n : ℕ). replicate n []) long) refl,
   )
 
-pub new_desk : (d : Desk) (i : ℕ) (ids : List (LockId AuctionHistory)) (id : LockId (List CashEntry)) → length ids ≡ 28 → IsFresh ids i (cap i) d.passes.items → IsFreshPass id i (cash_cap i) d.cash → IsNewDesk (ids, id) i d
-new_desk d i ids id long fresh one = record {
+pub new_desk : (d : Desk) (i : ℕ) (ids : List (LockId AuctionHistory)) (id : LockId (List CashEntry)) → length ids ≡ 28 → IsFresh ids i (cap i) d.passes.items → IsFreshPass id i (cash_cap i) d.cash → desk_steps d ≡ [] → IsNewDesk (ids, id) i d
+new_desk d i ids id long fresh one no_steps = record {
   ids = λ k. (fresh.locks k, one.lock k);
   caller = one.caller_is;
   entries = fresh.made ∙ ap (λ (n : ℕ). replicate n []) long;
-  calls = none_listed (map (λ p. made_by p) d.passes.items) (calls_of_steps d.steps.items) (fresh.made ∙ ap (λ (n : ℕ). replicate n []) long) d.listed;
+  steps = no_steps;
+  calls = ap calls_of_steps no_steps;
   cash = one.made;
   boards = fresh.noted ∙ ap (λ (n : ℕ). replicate n []) long;
   seen = fresh.seen ∙ ap (λ (n : ℕ). replicate n 0) long;

@@ -22,7 +22,7 @@ use Rattle.floor.specs.declared.outcomes.Outcome.TheVariants.{At, Spent}
 use Rattle.floor.specs.declared.outcomes.CashOutcome.{CashOutcome}
 use Rattle.floor.specs.declared.outcomes.CashOutcome.TheVariants as cash_outcomes
 use Rattle.floor.specs.Keeping.{AddsCash, count_readings}
-use Rattle.floor.specs.Steps.{CallMade, DueTaken}
+use Rattle.floor.specs.Steps.{Step, CallMade}
 use Rattle.floor.specs.Desks.{desk_ids, desk_caller, setup_at, desk_entries, entries_at, desk_steps, desk_calls, desk_cash, boards_of, boards_at, seen_of, seen_at}
 
 -- the desk is of the same locks, and of the same caller
@@ -92,9 +92,9 @@ pub record IsSeen (before after : Desk) (good : ℕ) (board : Board) : Type 0 wh
   pub cash : desk_cash after ≡ desk_cash before
   pub same : IsSameDesk before after
 
--- the due of a tick was taken, and nothing else is changed
-pub record IsDueTaken (before after : Desk) (tick : ℕ) : Type 0 where
-  pub steps : desk_steps after ≡ desk_steps before ++ DueTaken tick ∷ []
+-- a step was taken that is no call, and nothing else is changed
+pub record IsStepTaken (before after : Desk) (step : Step) : Type 0 where
+  pub steps : desk_steps after ≡ desk_steps before ++ step ∷ []
   pub calls : desk_calls after ≡ desk_calls before
   pub entries : desk_entries after ≡ desk_entries before
   pub cash : desk_cash after ≡ desk_cash before

@@ -62,6 +62,7 @@ pub record IsNewDesk (floor : List (LockId AuctionHistory) × LockId (List CashE
   pub ids : desk_ids d ≡ floor
   pub caller : desk_caller d ≡ number
   pub entries : desk_entries d ≡ replicate GOODS []
+  pub steps : desk_steps d ≡ []
   pub calls : desk_calls d ≡ []
   pub cash : desk_cash d ≡ []
   pub boards : boards_of d ≡ replicate GOODS []

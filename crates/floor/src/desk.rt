@@ -43,7 +43,7 @@ fn place(good: Good) -> usize
 }
 
 impl Desk {
-    ghost use Rattle.std.specs.Prelude.{◌≡◌, ◌+◌, ◌<◌, ◌≤◌, length, slice_index_or};
+    ghost use Rattle.std.specs.Prelude.{◌≡◌, ◌+◌, ◌<◌, ◌≤◌, None, length, slice_index_or};
     ghost use Rattle.auction_core.specs.Calls.{IsFit};
     ghost use Rattle.tac_base.specs.declared.calls.Call.{Call};
     ghost use Rattle.auction_rules.specs.Legal.{cap};
@@ -51,7 +51,8 @@ impl Desk {
     ghost use Rattle.floor.specs.Keeping.{IsPosted, count_entries};
     ghost use Rattle.floor.specs.Desks.{desk_ids, desk_caller, desk_entries, entries_at, desk_cash};
     ghost use Rattle.floor.specs.Floors.{floor_ids};
-    ghost use Rattle.floor.specs.Answers.{IsSameDesk, IsCallAnswered, IsOutcome, TakesLawfulBid, IsCashOutcome, IsSeen, IsClockCall, IsDueTaken};
+    ghost use Rattle.floor.specs.Answers.{IsSameDesk, IsCallAnswered, IsOutcome, TakesLawfulBid, IsCashOutcome, IsSeen, IsClockCall, IsStepTaken};
+    ghost use Rattle.floor.specs.Steps.{Step, DueTaken, WaitsNoted, call_of_step};
 
     /// The desk's caller.
     pub fn caller(&self) -> Caller
@@ -169,14 +170,32 @@ impl Desk {
         floor.auctions[place].peek(&mut self.passes[place])
     }
 
-    /// Takes the due of a tick as a step of the desk, and changes nothing else.
+    /// Takes a step that is no call, and that a value determines.
+    fn take_step<X>(&mut self, _of: &X)
+        ghost step: { Step }
+        requires no_call { call_of_step step ≡ None }
+        ensures taken { IsStepTaken self.old self.new step }
+        ensures posted { IsPosted (desk_entries self.new) (desk_cash self.new) }
+    {
+        self.steps = self.steps.with();
+    }
+
+    /// Takes the due of a tick, which a ticker of this type gave, as a step of the desk, and changes nothing else.
     pub fn take_due<T: Ticker>(&mut self, tick: Tick, due: T::Due)
         requires due { T.due_tick due ≡ tick }
-        ensures taken { IsDueTaken self.old self.new tick }
+        ensures taken { IsStepTaken self.old self.new (DueTaken T.mark tick) }
         ensures posted { IsPosted (desk_entries self.new) (desk_cash self.new) }
     {
         drop(due);
-        self.steps = self.steps.with_due(&tick);
+        self.take_step(&tick);
+    }
+
+    /// Notes as a step of the desk the waits of a ticker so far, where they are known, and changes nothing else.
+    pub fn note_waits<T: Ticker>(&mut self, ticker: &T)
+        ensures noted { IsStepTaken self.old self.new (WaitsNoted (T.state ticker.now).waited) }
+        ensures posted { IsPosted (desk_entries self.new) (desk_cash self.new) }
+    {
+        self.take_step(ticker);
     }
 
     /// A call of the clock: an update of one of the ticks 1..53, a publication or a closing. The clock makes at most 64 at a good, and

@@ -1,5 +1,5 @@
 //! The passes are made lock by lock, and each caller gets its own.
-ghost use Rattle.std.specs.Prelude.{◌≡◌, ℕ, List, [], ◌∷◌, ◌++◌, length, map, replicate, IfOk, OnOk};
+ghost use Rattle.std.specs.Prelude.{◌≡◌, ℕ, List, [], ◌∷◌, ◌++◌, length, map, replicate, All, IfOk, OnOk};
 ghost use mathlib.Core.Option.{some};
 ghost use lib.ListN.{get_elem?};
 ghost use Rattle.auction_core.specs.Setups.{setup_of};
@@ -8,6 +8,7 @@ ghost use Rattle.trade_ledger.specs.CashHistory.{cash_cap};
 ghost use Rattle.auction_core.specs.Auctions.{AuctionHistory};
 ghost use Rattle.turn_lock.specs.Passes.{LockId, lock_of, lock_id, caller_of, turns_left, made_by, noted_by, seen_by, start_of, passes_of, returned_to};
 ghost use Rattle.floor.specs.Rows.{with_each};
+ghost use Rattle.floor.specs.Desks.{desk_steps};
 ghost use Rattle.floor.specs.Dealing.{AreFresh, MakeDesk};
 
 use crate::desk::Desk;
@@ -116,6 +117,7 @@ pub(crate) fn seat(
     requires fit { (i : ℕ) (hand : _) (pass : _) → get_elem? hands.items i ≡ some hand → get_elem? passes.items i ≡ some pass → MakeDesk hand.items pass }
     ensures hands { IfOk result (λ desks. map (λ d. d.passes) desks.items ≡ hands.items) }
     ensures passes { IfOk result (λ desks. map (λ d. d.cash) desks.items ≡ passes.items) }
+    ensures steps { IfOk result (λ desks. All (λ d. desk_steps d ≡ []) desks.items) }
 {
     let mut desks = Vec::with_capacity(alloc, usize::from(CALLERS))?;
     let mut hands = hands.into_iter();

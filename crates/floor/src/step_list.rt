@@ -1,9 +1,9 @@
 ghost use Rattle.std.specs.Prelude.{◌≡◌, List, [], ◌∷◌, ◌++◌};
 ghost use base.Fml.{ftrue};
-ghost use Rattle.floor.specs.Steps.{Step, DueTaken, CallMade};
+ghost use Rattle.floor.specs.Steps.{Step};
 
 use std::marker::Model;
-use tac_base::{Call, Good, Tick};
+use tac_base::{Call, Good};
 
 /// The steps of a desk, in the order in which they were taken. It takes no bytes: only clauses read it.
 #[derive(Drop)]
@@ -23,18 +23,20 @@ impl StepList {
         StepList {}
     }
 
-    /// These steps, and the due of a tick.
-    pub(crate) fn with_due(&self, _tick: &Tick) -> StepList
-        ensures { result.items ≡ self.now.items ++ DueTaken _tick.now ∷ [] }
+    /// These steps, and one more.
+    pub(crate) fn with(&self) -> StepList
+        ghost step: { Step }
+        ensures { result.items ≡ self.now.items ++ step ∷ [] }
     {
         StepList {}
     }
 
-    /// These steps, and a call.
+    /// The same, for a step that a call of a good determines.
     pub(crate) fn with_call(&self, _good: &Good, _call: &Call) -> StepList
-        ensures { result.items ≡ self.now.items ++ CallMade _good.now _call.now ∷ [] }
+        ghost step: { Step }
+        ensures { result.items ≡ self.now.items ++ step ∷ [] }
     {
-        StepList {}
+        self.with()
     }
 }
 

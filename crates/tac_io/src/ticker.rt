@@ -19,6 +19,9 @@ pub trait Ticker {
     /// What shows that the wait for a tick failed.
     type Lapse: Drop;
 
+    /// A number for this type of ticker. The step of a desk that takes a due has it.
+    ghost mark: { ℕ };
+
     /// The tick of a due.
     ghost due_tick: { Self.Due → ℕ };
 

@@ -72,6 +72,8 @@ impl Ticker for SleepTicker {
 
     type Lapse = SleptLapse;
 
+    ghost mark = { 2 };
+
     ghost due_tick = { λ due. due.tick };
 
     ghost lapse_tick = { λ lapse. lapse.tick };

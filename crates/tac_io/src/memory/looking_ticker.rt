@@ -44,6 +44,8 @@ impl<L: Look> Ticker for LookingTicker<L> {
 
     type Lapse = MemLapse;
 
+    ghost mark = { 1 };
+
     ghost due_tick = { λ due. due };
 
     ghost lapse_tick = { λ lapse. lapse };

@@ -94,6 +94,8 @@ impl Ticker for MemTicker {
 
     type Lapse = MemLapse;
 
+    ghost mark = { 0 };
+
     ghost due_tick = { λ due. due };
 
     ghost lapse_tick = { λ lapse. lapse };

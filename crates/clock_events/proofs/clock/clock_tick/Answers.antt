@@ -7,7 +7,7 @@ use Rattle.floor.specs.Desks.{desk_calls, desk_entries, desk_steps}
 use Rattle.game_text.specs.Schedule.{calls_at, ticks}
 use Rattle.clock_events.specs.MadeCalls.{MakesCalls}
 use Rattle.floor.specs.Steps.{Step, CallMade, DueTaken}
-use Rattle.clock_events.proofs.ClockTurns.{makes_more, makes_nothing}
+use Rattle.clock_events.proofs.ClockTurns.{makes_more, makes_none, makes_still}
 use Rattle.clock_events.proofs.MadeCalls.{AreMade, made_after, made_count, made_length}
 use Rattle.clock_events.proofs.TickCalls.{all_taken, call_is_due, few_so_far, one_more, so_far, some_to_come, tick_done}
 use Rattle.clock_events.proofs.clock.clock_tick.Goals as goal
@@ -21,7 +21,7 @@ loop-good-init g c = record {
   within = omega arith;
   calls = c.take_due.ensures.taken.calls ∙ sym (append-nil (desk_calls c.args.desk.now));
   steps = c.take_due.ensures.taken.steps;
-  turns = makes_nothing c.args.desk.now c.take_due.new.self c.take_due.ensures.taken;
+  turns = makes_still [] c.args.desk.now c.args.desk.now c.take_due.new.self (makes_none c.args.desk.now) c.take_due.ensures.taken;
   boards = c.take_due.ensures.taken.boards;
   same = c.take_due.ensures.taken.same;
 }
@@ -85,8 +85,8 @@ loop-good-preserved g c =
       calls = known.calls ∙ ap (λ l. l ++ (c.in-Some.good, c.in-Some.call) ∷ []) c.loop-good.invariant.calls
           ∙ append_assoc before (take c.loop-good.n calls) ((c.in-Some.good, c.in-Some.call) ∷ []) ∙ ap (λ l. before ++ l) (one_more calls c.loop-good.n (c.in-Some.good, c.in-Some.call) at);
       steps = known.steps ∙ ap (λ l. l ++ CallMade c.in-Some.good c.in-Some.call ∷ []) c.loop-good.invariant.steps
-          ∙ append_assoc (desk_steps c.args.desk.now) (DueTaken c.args.tick ∷ map step (take c.loop-good.n calls)) (CallMade c.in-Some.good c.in-Some.call ∷ [])
-          ∙ ap (λ l. (desk_steps c.args.desk.now) ++ DueTaken c.args.tick ∷ l) (sym (map-append step (take c.loop-good.n calls) ((c.in-Some.good, c.in-Some.call) ∷ []))
+          ∙ append_assoc (desk_steps c.args.desk.now) (DueTaken g.T.Ticker.mark c.args.tick ∷ map step (take c.loop-good.n calls)) (CallMade c.in-Some.good c.in-Some.call ∷ [])
+          ∙ ap (λ l. (desk_steps c.args.desk.now) ++ DueTaken g.T.Ticker.mark c.args.tick ∷ l) (sym (map-append step (take c.loop-good.n calls) ((c.in-Some.good, c.in-Some.call) ∷ []))
           ∙ ap (map step) (one_more calls c.loop-good.n (c.in-Some.good, c.in-Some.call) at));
       turns = subst (λ l. MakesCalls l c.args.desk.now c.clock_call.new.self) (one_more calls c.loop-good.n (c.in-Some.good, c.in-Some.call) at)
           (makes_more (take c.loop-good.n calls) c.in-Some.good c.in-Some.call _ _ c.args.desk.now c.loop-good.desk c.clock_call.new.self low c.loop-good.invariant.turns known);
@@ -102,7 +102,7 @@ returns-clause-calls g c =
 pub returns-clause-steps : goal.returns-clause-steps
 returns-clause-steps g c =
     let all = all_taken (calls_at c.args.game.now c.args.tick) c.loop-good.n (sym c.schedule.ensures ∙ c.in_default.is) in
-    c.loop-good.invariant.steps ∙ ap (λ l. (desk_steps c.args.desk.now) ++ DueTaken c.args.tick ∷ map step l) all
+    c.loop-good.invariant.steps ∙ ap (λ l. (desk_steps c.args.desk.now) ++ DueTaken g.T.Ticker.mark c.args.tick ∷ map step l) all
 
 pub returns-clause-turns : goal.returns-clause-turns
 returns-clause-turns g c =

@@ -10,7 +10,7 @@ abbrev pub invariant-loop-good : goal.invariant-loop-good
 invariant-loop-good g l = record {
   within : l.n ≤ length (calls_at l.game l.tick);
   calls : desk_calls l.desk ≡ desk_calls l.fn.desk ++ take l.n (calls_at l.game l.tick);
-  steps : desk_steps l.desk ≡ desk_steps l.fn.desk ++ DueTaken l.tick ∷ map (λ call. CallMade call.0 call.1) (take l.n (calls_at l.game l.tick));
+  steps : desk_steps l.desk ≡ desk_steps l.fn.desk ++ DueTaken g.T.Ticker.mark l.tick ∷ map (λ call. CallMade call.0 call.1) (take l.n (calls_at l.game l.tick));
   turns : MakesCalls (take l.n (calls_at l.game l.tick)) l.fn.desk l.desk;
   boards : boards_of l.desk ≡ boards_of l.fn.desk;
   same : IsSameDesk l.fn.desk l.desk;

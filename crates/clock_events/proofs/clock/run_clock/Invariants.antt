@@ -1,20 +1,18 @@
-use Rattle.std.proofs.Common.{◌≡◌, ◌++◌, ◌-◌, ◌<◌, take}
+use Rattle.std.proofs.Common.{◌≡◌, ◌-◌, ◌<◌, take}
 use Rattle.std.specs.List.{flat_map}
 use Rattle.floor.specs.Answers.{IsSameDesk}
 use Rattle.floor.specs.Desks.{boards_of, desk_calls, desk_steps}
 use Rattle.game_text.specs.Schedule.{calls_at, ticks}
 use Rattle.clock_events.specs.MadeCalls.{MakesCalls}
-use Rattle.clock_events.specs.Steps.{steps_at}
-use Rattle.clock_events.proofs.Waits.{WaitsFor}
+use Rattle.clock_events.proofs.Waits.{TakesSteps}
 use Rattle.clock_events.proofs.clock.run_clock.Given as goal
 
 abbrev pub invariant-loop-number : goal.invariant-loop-number
 invariant-loop-number g l = record {
   calls : desk_calls l.desk ≡ flat_map (calls_at l.game) (take (l.number - 1) ticks);
-  steps : desk_steps l.desk ≡ desk_steps l.initial.desk ++ flat_map (steps_at l.game) (take (l.number - 1) ticks);
   turns : MakesCalls (flat_map (calls_at l.game) (take (l.number - 1) ticks)) l.initial.desk l.desk;
   boards : boards_of l.desk ≡ boards_of l.initial.desk;
   same : IsSameDesk l.initial.desk l.desk;
   few : l.missed < l.number;
-  waits : WaitsFor (g.T.Ticker.state l.fn.ticker) (g.T.Ticker.state l.ticker) (l.number - 1) l.missed;
+  steps : TakesSteps g.T.Ticker.mark l.game (g.T.Ticker.state l.fn.ticker) (g.T.Ticker.state l.ticker) (desk_steps l.initial.desk) (desk_steps l.desk) (l.number - 1) l.missed;
 }

@@ -1,8 +1,12 @@
-use Rattle.std.proofs.Common.{◌≡◌, ℕ, ◌+◌, [], ◌∷◌, ◌++◌, map, length, refl, sym, ap, ◌∙◌, arith, append-nil, length-append}
+use Rattle.std.proofs.Common.{◌≡◌, ℕ, ◌+◌, [], ◌∷◌, ◌++◌, map, length, refl, sym, ap, ◌∙◌, subst, arith, append-nil, length-append}
 use Rattle.std.specs.Vec.Iter.{into_iter_items}
 use Rattle.std.specs.Option.{option_to_list}
+use Rattle.std.specs.Prelude.{All}
 use Rattle.std.proofs.lemmas.List.{length-map, append_assoc, nil_from_length, map_push}
+use Rattle.std.proofs.lemmas.List.Elements.{All-push}
 use lib.ListN.{get_elem?}
+use Rattle.floor.specs.declared.desk.Desk.{Desk}
+use Rattle.floor.specs.Desks.{desk_steps}
 use Rattle.floor.proofs.Tables.{at_next}
 use Rattle.floor.specs.Steps.{calls_of_steps}
 use Rattle.floor.proofs.CallLists.{listed_as}
@@ -27,6 +31,7 @@ loop-cash-preserved c =
           ∙ (ap (λ l. l ++ into_iter_items c.next-in-loop-cash.new.self) (map_push (λ d. d.passes) desks _) ∙ append_assoc (map (λ d. d.passes) desks) (c.unwrap-hand.result ∷ []) (into_iter_items c.next-in-loop-cash.new.self)));
       rest = passes_are ∙ sym (ap (λ l. map (λ d. d.cash) l ++ into_iter_items c.next.new.self) added
           ∙ (ap (λ l. l ++ into_iter_items c.next.new.self) (map_push (λ d. d.cash) desks _) ∙ append_assoc (map (λ d. d.cash) desks) (c.in-Some.cash ∷ []) (into_iter_items c.next.new.self)));
+      steps = subst (All (λ (d : Desk). desk_steps d ≡ [])) (sym added) (All-push (λ (d : Desk). desk_steps d ≡ []) desks _ v.steps c.new.ensures);
     }
 
 pub returns-clause-hands : goal.returns-clause-hands

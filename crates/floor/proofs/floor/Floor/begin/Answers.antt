@@ -11,10 +11,11 @@ use Rattle.auction_rules.specs.Legal.{cap}
 use Rattle.auction_core.specs.Auctions.{AuctionHistory}
 use Rattle.auction_core.specs.Setups.{setup_of}
 use Rattle.turn_lock.specs.Passes.{LockId, lock_id, start_of, passes_of, returned_to}
+use Rattle.turn_lock.proofs.Places.{place_below}
 use Rattle.floor.specs.declared.desk.Desk.{Desk}
 use Rattle.floor.specs.Keeping.{goods_of}
-use Rattle.floor.specs.Desks.{desk_ids, desk_caller, setup_at}
-use Rattle.floor.proofs.BornOut.{all_same, all_numbered, all_by_place}
+use Rattle.floor.specs.Desks.{desk_ids, desk_caller, desk_steps, setup_at}
+use Rattle.floor.proofs.BornOut.{all_same, all_numbered, all_by_place, get_or_place}
 use Rattle.floor.proofs.Rows.{read_twice, at_numbered}
 use Rattle.floor.specs.Dealing.{AreFresh}
 use Rattle.floor.proofs.FreshPasses.{fresh_first, make_desk, new_desk}
@@ -83,6 +84,7 @@ returns-clause-new_desks c =
     let at_hand = ap (λ l. get_elem? l i) (sym seated.hands) ∙ at_map (λ (x : Desk). x.passes) desks i d at in
     new_desk d i (map (λ l. lock_id l) locks) (lock_id c.in_ok-cash.cash) long (v.fresh i d.passes.items (at_map (λ h. h.items) c.loop-number.hands.items i d.passes at_hand))
     (record { lock = b.0; caller_is = b.1; left_is = b.2; made = b.3; noted = b.4; seen = b.5 })
+    (subst (λ (x : Desk). desk_steps x ≡ []) (get_or_place desks i d d at) (seated.steps i d (place_below desks i d at)))
 
 pub returns-clause-desks : goal.returns-clause-desks
 returns-clause-desks c =
