@@ -1,5 +1,5 @@
--- Pieces of a text that are written one after another.
-use Rattle.std.proofs.Common.{◌≡◌, ℕ, ◌+◌, ◌<◌, ◌≤◌, List, [], ◌∷◌, ◌++◌, length, take, drop, get_or, ap, sym, subst, ◌∙◌, append_assoc, arith, Result, Ok, Err, inl, inr}
+-- Texts that are gathered one after another.
+use Rattle.std.proofs.Common.{◌≡◌, refl, ℕ, ◌+◌, ◌<◌, ◌≤◌, List, [], ◌∷◌, ◌++◌, length, take, drop, get_or, ap, sym, subst, ◌∙◌, append_assoc, arith, Result, Ok, Err, inl, inr}
 use Rattle.std.proofs.Math.Seq.{take-append-add}
 use Rattle.std.proofs.lemmas.List.{length-append, take-append-le, take_more, take_all, take-append-drop, append-nil}
 use Rattle.std.proofs.lemmas.List.Concat.{flat_map-cons}
@@ -12,9 +12,10 @@ use Rattle.tac_io.specs.Counts.{Rose}
 use Rattle.tac_io.specs.States.{SinkState}
 use Rattle.tac_io.specs.Known.{known_then, failed_at, TakesSome}
 use Rattle.tac_io.specs.declared.failed.Failed.{Failed}
-use Rattle.tac_io.proofs.KnownPieces.{known_then-twice}
+use Rattle.tac_io.proofs.KnownPieces.{known_then-nothing, known_then-twice}
 use Rattle.tac_io.specs.Taken.{TookWhole, TookPart}
 use Rattle.tac_io.specs.Written.{WritesPiece}
+use Rattle.game_log.specs.Gathering.{GathersWhole, GathersPart, Gathers}
 
 pub wrote_both : (t0 t1 t2 : Option (List ℕ)) (p q : List ℕ) → t1 ≡ known_then t0 p → t2 ≡ known_then t1 q → t2 ≡ known_then t0 (p ++ q)
 wrote_both t0 t1 t2 p q e f = f ∙ ap (λ (t : Option (List ℕ)). known_then t q) e ∙ known_then-twice t0 p q
@@ -47,27 +48,72 @@ rose_from f0 f1 f2 e r = rw e at r
 failed_from : (s0 s1 s2 : SinkState) → s1.failures ≡ s0.failures → s2.failures ≡ failed_at s2.taken s1.failures → s2.failures ≡ failed_at s2.taken s0.failures
 failed_from s0 s1 s2 same failed = failed ∙ ap (failed_at s2.taken) same
 
--- two pieces, of which the first was written whole
-pub writes_both : (a b p q : List ℕ) (s0 s1 s2 : SinkState) (r : Result (Unit {0}) Failed) → a ≡ p → b ≡ q → TookWhole s0 s1 a → WritesPiece b s1 s2 r → WritesPiece (p ++ q) s0 s2 r
-writes_both a b p q s0 s1 s2 (Ok done) pa qb v w =
-    (wrote_both s0.taken s1.taken s2.taken p q (v.0 ∙ ap (known_then s0.taken) pa) (w.0 ∙ ap (known_then s1.taken) qb), w.1 ∙ v.1, w.2 ∙ v.2)
-writes_both a b p q s0 s1 s2 (Err failed) pa qb v w =
-    (some_after s0.taken s1.taken s2.taken p q (v.0 ∙ ap (known_then s0.taken) pa) (subst (TakesSome s1.taken s2.taken) qb w.0), rose_from s0.faults s1.faults s2.faults v.1 w.1, failed_from s0 s1 s2 v.2 w.2)
-
--- two pieces, of which the first was not written whole
-pub fails_both : (a p q : List ℕ) (s0 s1 : SinkState) → a ≡ p → TookPart s0 s1 a → TookPart s0 s1 (p ++ q)
-fails_both a p q s0 s1 pa w = (some_before s0.taken s1.taken p q (subst (TakesSome s0.taken s1.taken) pa w.0), w.1, w.2)
-
 pub then_whole : (p q : List ℕ) (s0 s1 s2 : SinkState) → TookWhole s0 s1 p → TookWhole s1 s2 q → TookWhole s0 s2 (p ++ q)
 then_whole p q s0 s1 s2 v w = (wrote_both s0.taken s1.taken s2.taken p q v.0 w.0, w.1 ∙ v.1, w.2 ∙ v.2)
 
 pub then_some : (p q : List ℕ) (s0 s1 s2 : SinkState) → TookWhole s0 s1 p → TookPart s1 s2 q → TookPart s0 s2 (p ++ q)
 then_some p q s0 s1 s2 v w = (some_after s0.taken s1.taken s2.taken p q v.0 w.0, rose_from s0.faults s1.faults s2.faults v.1 w.1, failed_from s0 s1 s2 v.2 w.2)
 
+-- ---- texts that are gathered
+
+joined : (held p written between q more held' : List ℕ) → held ++ p ≡ written ++ between → between ++ q ≡ more ++ held' → held ++ (p ++ q) ≡ (written ++ more) ++ held'
+joined held p written between q more held' e f =
+    sym (append_assoc held p q) ∙ ap (λ (t : List ℕ). t ++ q) e ∙ append_assoc written between q ∙ ap (λ (t : List ℕ). written ++ t) f ∙ sym (append_assoc written more held')
+
+pub gathers_nothing : (held : List ℕ) (s : SinkState) → GathersWhole [] held held s s
+gathers_nothing held s = record { written = []; split = append-nil held; took = (sym (known_then-nothing s.taken), refl, refl) }
+
+pub whole_both : (p q h0 h1 h2 : List ℕ) (s0 s1 s2 : SinkState) → GathersWhole p h0 h1 s0 s1 → GathersWhole q h1 h2 s1 s2 → GathersWhole (p ++ q) h0 h2 s0 s2
+whole_both p q h0 h1 h2 s0 s1 s2 v w = record {
+  written = v.written ++ w.written;
+  split = joined h0 p v.written h1 q w.written h2 v.split w.split;
+  took = then_whole v.written w.written s0 s1 s2 v.took w.took;
+}
+
+pub part_second : (p q h0 h1 : List ℕ) (s0 s1 s2 : SinkState) → GathersWhole p h0 h1 s0 s1 → GathersPart q h1 s1 s2 → GathersPart (p ++ q) h0 s0 s2
+part_second p q h0 h1 s0 s1 s2 v w = record {
+  written = v.written ++ w.written;
+  rest = w.rest;
+  split = joined h0 p v.written h1 q w.written w.rest v.split w.split;
+  took = then_some v.written w.written s0 s1 s2 v.took w.took;
+}
+
+pub part_first : (p q h0 : List ℕ) (s0 s1 : SinkState) → GathersPart p h0 s0 s1 → GathersPart (p ++ q) h0 s0 s1
+part_first p q h0 s0 s1 w = record {
+  written = w.written;
+  rest = w.rest ++ q;
+  split = sym (append_assoc h0 p q) ∙ ap (λ (t : List ℕ). t ++ q) w.split ∙ append_assoc w.written w.rest q;
+  took = w.took;
+}
+
+-- two texts, of which the first was gathered whole
+pub gathers_both : (a b p q h0 h1 h2 : List ℕ) (s0 s1 s2 : SinkState) (r : Result (Unit {0}) Failed) → a ≡ p → b ≡ q → GathersWhole a h0 h1 s0 s1 → Gathers b h1 h2 s1 s2 r → Gathers (p ++ q) h0 h2 s0 s2 r
+gathers_both a b p q h0 h1 h2 s0 s1 s2 (Ok done) pa qb v w =
+    whole_both p q h0 h1 h2 s0 s1 s2 (subst (λ (t : List ℕ). GathersWhole t h0 h1 s0 s1) pa v) (subst (λ (t : List ℕ). GathersWhole t h1 h2 s1 s2) qb w)
+gathers_both a b p q h0 h1 h2 s0 s1 s2 (Err failed) pa qb v w =
+    part_second p q h0 h1 s0 s1 s2 (subst (λ (t : List ℕ). GathersWhole t h0 h1 s0 s1) pa v) (subst (λ (t : List ℕ). GathersPart t h1 s1 s2) qb w)
+
+-- two texts, of which the first was not gathered whole
+pub fails_both : (a p q h0 : List ℕ) (s0 s1 : SinkState) → a ≡ p → GathersPart a h0 s0 s1 → GathersPart (p ++ q) h0 s0 s1
+fails_both a p q h0 s0 s1 pa w = part_first p q h0 s0 s1 (subst (λ (t : List ℕ). GathersPart t h0 s0 s1) pa w)
+
 -- an answer that is no success
-pub refused : (p : List ℕ) (s0 s1 : SinkState) (r : Result (Unit {0}) Failed) → TookPart s0 s1 p → IsErr r → WritesPiece p s0 s1 r
-refused p s0 s1 (Ok done) w h = absurd cc
-refused p s0 s1 (Err failed) w h = w
+pub refused : (p h0 h1 : List ℕ) (s0 s1 : SinkState) (r : Result (Unit {0}) Failed) → GathersPart p h0 s0 s1 → IsErr r → Gathers p h0 h1 s0 s1 r
+refused p h0 h1 s0 s1 (Ok done) w h = absurd cc
+refused p h0 h1 s0 s1 (Err failed) w h = w
+
+-- ---- from no bytes held to none
+
+-- what is held at last is written
+pub writes_gathered : (text h0 held : List ℕ) (s0 s1 s2 : SinkState) (r : Result (Unit {0}) Failed) → h0 ≡ [] → GathersWhole text h0 held s0 s1 → WritesPiece held s1 s2 r → WritesPiece text s0 s2 r
+writes_gathered text h0 held s0 s1 s2 (Ok done) none v w =
+    subst (TookWhole s0 s2) (sym v.split ∙ ap (λ (t : List ℕ). t ++ text) none) (then_whole v.written held s0 s1 s2 v.took w)
+writes_gathered text h0 held s0 s1 s2 (Err failed) none v w =
+    subst (TookPart s0 s2) (sym v.split ∙ ap (λ (t : List ℕ). t ++ text) none) (then_some v.written held s0 s1 s2 v.took w)
+
+pub fails_gathered : (text h0 : List ℕ) (s0 s1 : SinkState) → h0 ≡ [] → GathersPart text h0 s0 s1 → TookPart s0 s1 text
+fails_gathered text h0 s0 s1 none w =
+    subst (TookPart s0 s1) (sym w.split ∙ ap (λ (t : List ℕ). t ++ text) none) (some_before s0.taken s1.taken w.written w.rest w.took.0, w.took.1, w.took.2)
 
 -- ---- the pieces of a list
 
@@ -86,39 +132,30 @@ pieces_all piece xs i d lt =
     ∙ ap (λ (t : List ℕ). t ++ flat_map piece (drop (i + 1) xs)) (pieces_more piece xs i d lt)
     ∙ append_assoc (flat_map piece (take i xs)) (piece (get_or xs i d)) (flat_map piece (drop (i + 1) xs))
 
--- ---- loops that write a piece for each item
+-- ---- loops that gather a text for each item
 
--- the pieces of the items before one were written whole
-pub record WroteUpTo {A : Type 0} (piece : A → List ℕ) (xs : List A) (i : ℕ) (s0 s1 : SinkState) : Type 0 where
-  pub taken : s1.taken ≡ known_then s0.taken (flat_map piece (take i xs))
-  pub quiet : s1.faults ≡ s0.faults
-  pub unmarked : s1.failures ≡ s0.failures
+-- the texts of the items before one were gathered whole
+abbrev pub GatheredUpTo : {A : Type 0} → (A → List ℕ) → List A → ℕ → List ℕ → List ℕ → SinkState → SinkState → Type 0
+GatheredUpTo piece xs i = GathersWhole (flat_map piece (take i xs))
 
--- one more piece was written
-pub wrote_next : {A : Type 0} (piece : A → List ℕ) (xs : List A) (i : ℕ) (x : A) (a : List ℕ) (s0 s1 s2 : SinkState) → i < length xs → get_or xs i x ≡ x → a ≡ piece x → WroteUpTo piece xs i s0 s1 → TookWhole s1 s2 a → WroteUpTo piece xs (i + 1) s0 s2
-wrote_next {A = A} piece xs i x a s0 s1 s2 lt is e before w = record {
-  taken = wrote_both s0.taken s1.taken s2.taken (flat_map piece (take i xs)) (piece x) before.taken (w.0 ∙ ap (known_then s1.taken) e)
-      ∙ ap (known_then s0.taken) (sym (pieces_more piece xs i x lt ∙ ap (λ (y : A). flat_map piece (take i xs) ++ piece y) is));
-  quiet = w.1 ∙ before.quiet;
-  unmarked = w.2 ∙ before.unmarked;
-}
+-- one more text was gathered
+pub gathered_next : {A : Type 0} (piece : A → List ℕ) (xs : List A) (i : ℕ) (x : A) (a h0 h1 h2 : List ℕ) (s0 s1 s2 : SinkState) → i < length xs → get_or xs i x ≡ x → a ≡ piece x → GatheredUpTo piece xs i h0 h1 s0 s1 → GathersWhole a h1 h2 s1 s2 → GatheredUpTo piece xs (i + 1) h0 h2 s0 s2
+gathered_next {A = A} piece xs i x a h0 h1 h2 s0 s1 s2 lt is e before w =
+    let all : flat_map piece (take (i + 1) xs) ≡ flat_map piece (take i xs) ++ a = pieces_more piece xs i x lt ∙ ap (λ (y : A). flat_map piece (take i xs) ++ piece y) is ∙ ap (λ (t : List ℕ). flat_map piece (take i xs) ++ t) (sym e) in
+    subst (λ (t : List ℕ). GathersWhole t h0 h2 s0 s2) (sym all) (whole_both (flat_map piece (take i xs)) a h0 h1 h2 s0 s1 s2 before w)
 
-some_next : {A : Type 0} (piece : A → List ℕ) (xs : List A) (i : ℕ) (x : A) (s0 s1 s2 : SinkState) → i < length xs → get_or xs i x ≡ x → WroteUpTo piece xs i s0 s1 → TakesSome s1.taken s2.taken (piece x) → TakesSome s0.taken s2.taken (flat_map piece xs)
-some_next {A = A} piece xs i x s0 s1 s2 lt is before some =
+-- a text was not gathered whole, which is the loop's answer
+pub failed_next : {A : Type 0} (piece : A → List ℕ) (xs : List A) (i : ℕ) (x : A) (a h0 h1 h2 : List ℕ) (s0 s1 s2 : SinkState) (r : Result (Unit {0}) Failed) → i < length xs → get_or xs i x ≡ x → a ≡ piece x → GatheredUpTo piece xs i h0 h1 s0 s1 → GathersPart a h1 s1 s2 → IsErr r → Gathers (flat_map piece xs) h0 h2 s0 s2 r
+failed_next {A = A} piece xs i x a h0 h1 h2 s0 s1 s2 r lt is e before w h =
     let after = flat_map piece (drop (i + 1) xs) in
-    let all : flat_map piece xs ≡ flat_map piece (take i xs) ++ (piece x ++ after) = pieces_all piece xs i x lt ∙ ap (λ (y : A). flat_map piece (take i xs) ++ (piece y ++ after)) is in
-    subst (TakesSome s0.taken s2.taken) (sym all)
-    (some_after s0.taken s1.taken s2.taken (flat_map piece (take i xs)) (piece x ++ after) before.taken (some_before s1.taken s2.taken (piece x) after some))
+    let all : flat_map piece xs ≡ flat_map piece (take i xs) ++ (a ++ after) = pieces_all piece xs i x lt ∙ ap (λ (y : A). flat_map piece (take i xs) ++ (piece y ++ after)) is ∙ ap (λ (t : List ℕ). flat_map piece (take i xs) ++ (t ++ after)) (sym e) in
+    refused (flat_map piece xs) h0 h2 s0 s2 r
+    (subst (λ (t : List ℕ). GathersPart t h0 s0 s2) (sym all) (part_second (flat_map piece (take i xs)) (a ++ after) h0 h1 s0 s1 s2 before (part_first a after h1 s1 s2 w)))
+    h
 
--- a piece was not written whole, which is the loop's answer
-pub failed_next : {A : Type 0} (piece : A → List ℕ) (xs : List A) (i : ℕ) (x : A) (a : List ℕ) (s0 s1 s2 : SinkState) (r : Result (Unit {0}) Failed) → i < length xs → get_or xs i x ≡ x → a ≡ piece x → WroteUpTo piece xs i s0 s1 → TookPart s1 s2 a → IsErr r → WritesPiece (flat_map piece xs) s0 s2 r
-failed_next piece xs i x a s0 s1 s2 (Ok done) lt is e before w h = absurd cc
-failed_next piece xs i x a s0 s1 s2 (Err failed) lt is e before w h =
-    (some_next piece xs i x s0 s1 s2 lt is before (subst (TakesSome s1.taken s2.taken) e w.0), rose_from s0.faults s1.faults s2.faults before.quiet w.1, failed_from s0 s1 s2 before.unmarked w.2)
-
--- the pieces of all items were written whole
-pub wrote_all : {A : Type 0} (piece : A → List ℕ) (xs : List A) (i : ℕ) (s0 s1 : SinkState) → length xs ≤ i → WroteUpTo piece xs i s0 s1 → TookWhole s0 s1 (flat_map piece xs)
-wrote_all {A = A} piece xs i s0 s1 past w = (w.taken ∙ ap (λ (ys : List A). known_then s0.taken (flat_map piece ys)) (take_all i xs past), w.quiet, w.unmarked)
+-- the texts of all items were gathered whole
+pub gathered_all : {A : Type 0} (piece : A → List ℕ) (xs : List A) (i : ℕ) (h0 h1 : List ℕ) (s0 s1 : SinkState) → length xs ≤ i → GatheredUpTo piece xs i h0 h1 s0 s1 → GathersWhole (flat_map piece xs) h0 h1 s0 s1
+gathered_all {A = A} piece xs i h0 h1 s0 s1 past w = subst (λ (ys : List A). GathersWhole (flat_map piece ys) h0 h1 s0 s1) (take_all i xs past) w
 
 -- the item of a list at a place
 pub item_at : {A : Type 0} (xs : List A) (i : ℕ) → i < length xs → (x : A) × (slice_get xs i ≡ Some x) × (get_or xs i x ≡ x)

@@ -7,3 +7,4 @@ pub mod SheetWritten
 pub mod ScoredGames
 pub mod LogRanges
 pub mod ShownGames
+pub mod Gathering

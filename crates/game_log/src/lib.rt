@@ -3,6 +3,7 @@
 #![tactic(auto)]
 
 mod fault;
+mod gathered;
 mod head_part;
 mod known;
 mod play_part;

@@ -1,6 +1,6 @@
 use Rattle.log_text.specs.LogText.{end_line}
-use Rattle.game_log.proofs.Writing.{WroteUpTo}
+use Rattle.game_log.proofs.Writing.{GatheredUpTo}
 use Rattle.game_log.proofs.head_part.write_ends.Given as goal
 
 abbrev pub invariant-loop-end : goal.invariant-loop-end
-invariant-loop-end g l = WroteUpTo end_line l.ends l.end-index (g.K.Sink.state l.fn.sink) (g.K.Sink.state l.sink)
+invariant-loop-end g l = GatheredUpTo end_line l.ends l.end-index l.fn.gathered l.gathered (g.K.Sink.state l.fn.sink) (g.K.Sink.state l.sink)

@@ -1,6 +1,6 @@
 use Rattle.log_text.proofs.InOrder.{kept_text}
-use Rattle.game_log.proofs.Writing.{WroteUpTo}
+use Rattle.game_log.proofs.Writing.{GatheredUpTo}
 use Rattle.game_log.proofs.play_part.write_auctions.Given as goal
 
 abbrev pub invariant-loop-auction : goal.invariant-loop-auction
-invariant-loop-auction g l = WroteUpTo kept_text l.auctions l.auction-index (g.K.Sink.state l.fn.sink) (g.K.Sink.state l.sink)
+invariant-loop-auction g l = GatheredUpTo kept_text l.auctions l.auction-index l.fn.gathered l.gathered (g.K.Sink.state l.fn.sink) (g.K.Sink.state l.sink)

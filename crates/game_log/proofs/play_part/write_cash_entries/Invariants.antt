@@ -1,6 +1,6 @@
 use Rattle.log_text.specs.LogText.{cash_entry_line}
-use Rattle.game_log.proofs.Writing.{WroteUpTo}
+use Rattle.game_log.proofs.Writing.{GatheredUpTo}
 use Rattle.game_log.proofs.play_part.write_cash_entries.Given as goal
 
 abbrev pub invariant-loop-position : goal.invariant-loop-position
-invariant-loop-position g l = WroteUpTo cash_entry_line l.cash l.position (g.K.Sink.state l.fn.sink) (g.K.Sink.state l.sink)
+invariant-loop-position g l = GatheredUpTo cash_entry_line l.cash l.position l.fn.gathered l.gathered (g.K.Sink.state l.fn.sink) (g.K.Sink.state l.sink)

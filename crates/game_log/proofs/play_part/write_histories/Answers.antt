@@ -3,8 +3,8 @@ use Rattle.std.specs.List.{flat_map}
 use Rattle.auction_core.specs.ClosedGame.{ClosedGame}
 use Rattle.log_text.proofs.InOrder.{kept_text, in_order}
 use Rattle.log_text.specs.LogText.{cash_text}
-use Rattle.tac_io.specs.Written.{WritesPiece}
-use Rattle.game_log.proofs.Writing.{writes_both, fails_both}
+use Rattle.game_log.specs.Gathering.{Gathers}
+use Rattle.game_log.proofs.Writing.{gathers_both, fails_both}
 use Rattle.log_text.proofs.Trades.{goods_of}
 use Rattle.game_log.proofs.play_part.write_histories.Goals as goal
 
@@ -14,8 +14,8 @@ returns-in-Ok g c =
     let goods = sym (ap (λ (game : ClosedGame). goods_of game.auctions) c.closed.view_is) ∙ c.closed.invariant in
     let auctions = ap (flat_map kept_text) (c.as_slice.ensures.value ∙ ap (λ (game : ClosedGame). game.auctions) c.closed.view_is) in
     let sink = g.K.Sink.state in
-    subst (λ (t : List ℕ). WritesPiece t (sink c.args.sink.now) (sink c.write_cash.new.sink) c.write_cash.result) (in_order game goods) (
-    writes_both _ _ (flat_map kept_text game.auctions) (cash_text game.cash) _ _ _ c.write_cash.result
+    subst (λ (t : List ℕ). Gathers t c.args.gathered.now c.write_cash.new.gathered (sink c.args.sink.now) (sink c.write_cash.new.sink) c.write_cash.result) (in_order game goods) (
+    gathers_both _ _ (flat_map kept_text game.auctions) (cash_text game.cash) _ _ _ _ _ _ c.write_cash.result
     auctions (ap (λ (game : ClosedGame). cash_text game.cash) c.closed.view_is) c.in-Ok.ensures c.write_cash.ensures
     )
 
@@ -25,6 +25,6 @@ returns-in-Err g c =
     let goods = sym (ap (λ (game : ClosedGame). goods_of game.auctions) c.closed.view_is) ∙ c.closed.invariant in
     let auctions = ap (flat_map kept_text) (c.as_slice.ensures.value ∙ ap (λ (game : ClosedGame). game.auctions) c.closed.view_is) in
     let sink = g.K.Sink.state in
-    subst (λ (t : List ℕ). WritesPiece t (sink c.args.sink.now) (sink c.write_auctions.new.sink) (Err c.in-Err.failed)) (in_order game goods) (
-    fails_both _ (flat_map kept_text game.auctions) (cash_text game.cash) _ _ auctions c.in-Err.ensures
+    subst (λ (t : List ℕ). Gathers t c.args.gathered.now c.write_auctions.new.gathered (sink c.args.sink.now) (sink c.write_auctions.new.sink) (Err c.in-Err.failed)) (in_order game goods) (
+    fails_both _ (flat_map kept_text game.auctions) (cash_text game.cash) _ _ _ auctions c.in-Err.ensures
     )

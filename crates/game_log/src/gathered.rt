@@ -1,0 +1,58 @@
+// Short texts are gathered, so that a sink is given few and long pieces.
+ghost use Rattle.std.specs.Prelude.{◌≡◌, [], ◌≤◌, length, IfOk};
+ghost use Rattle.tac_io.specs.Written.{WritesPiece};
+ghost use Rattle.game_log.specs.Gathering.{Gathers};
+
+use arrayvec::ArrayVec;
+use std::marker::Model;
+use tac_io::{Failed, Sink, write_all};
+
+/// How many bytes a piece holds: some hundred lines of a log.
+const GATHERED_BYTES: usize = 8_192;
+
+/// The bytes that a sink is given next.
+#[derive(Drop)]
+pub(crate) struct Gathered {
+    bytes: ArrayVec<u8, GATHERED_BYTES>,
+}
+
+impl Model for Gathered {
+    ghost use Rattle.std.specs.Prelude.{ℕ, List};
+
+    ghost Value = { List ℕ };
+
+    ghost view = { λ g. g.bytes.items };
+}
+
+impl Gathered {
+    /// No bytes.
+    pub(crate) fn new() -> Gathered
+        ensures { result ≡ [] }
+    {
+        Gathered {
+            bytes: ArrayVec::new(),
+        }
+    }
+
+    /// Writes the bytes, and holds none.
+    pub(crate) fn write<K: Sink>(&mut self, sink: &mut K) -> Result<(), Failed>
+        ensures text { WritesPiece self.old (K.state sink.old) (K.state sink.new) result }
+        ensures empty { IfOk result (λ _. self.new ≡ []) }
+    {
+        write_all(sink, self.bytes.as_slice())?;
+        self.bytes.clear();
+        Ok(())
+    }
+
+    /// Adds a text, before which the bytes are written if there is no room for both.
+    pub(crate) fn add<K: Sink>(&mut self, sink: &mut K, text: &[u8]) -> Result<(), Failed>
+        requires short { length text.now ≤ 640 }
+        ensures { Gathers text.now self.old self.new (K.state sink.old) (K.state sink.new) result }
+    {
+        if text.len() > GATHERED_BYTES - self.bytes.len() {
+            self.write(sink)?;
+        }
+        let _added = self.bytes.try_extend_from_slice(text);
+        Ok(())
+    }
+}
