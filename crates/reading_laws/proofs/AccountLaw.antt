@@ -9,10 +9,10 @@ use Rattle.game_text.proofs.AccountLaws.{account_in_is, account_in_again}
 use Rattle.reading_laws.specs.FirstBadLine.{IsFirstBadLine}
 use Rattle.reading_laws.specs.Games.{IsTextOfAccount, IsRefusedAccountAt}
 use Rattle.reading_laws.proofs.Steady.{any_line, Never}
-use Rattle.reading_laws.proofs.Law.{left_of, nothing_within, is_first, is_refused}
-use Rattle.reading_laws.proofs.LineSteps.{IsBadAt}
+use Rattle.reading_laws.proofs.Law.{left_of, is_first, is_refused}
+use Rattle.reading_laws.proofs.LineSteps.{IsBadAt, one_place}
 use Rattle.reading_laws.proofs.AccountSteps.{account_closes}
-use Rattle.reading_laws.proofs.GameLaw.{bad_line_of, shown, one_place}
+use Rattle.reading_laws.proofs.GameLaw.{bad_line_of, shown}
 
 found : (text : List ℕ) (account : AccountFile) → account_in (left_of true text) ≡ Ok account → IsTextOfAccount text
 found text account e = let is = account_in_is (left_of true text) account e in (account, is.1, is.0)
@@ -28,6 +28,6 @@ short_account text short = let long : ltb 67108864 (length text) ≡ false = le-
 
 pub account_law : (text : List ℕ) (line : ℕ) → length text ≤ 67108864 → IsRefusedAccountAt text line ↔ IsFirstBadLine IsTextOfAccount text line
 account_law text line short = (
-  λ r. let bad = bad_line_of (account_in (left_of true text)) line r.0 (sym (short_account text short) ∙ r.1) in is_first IsBadAt any_line Never true account_in IsTextOfAccount found only account_closes one_place text (nothing_within IsBadAt any_line account_in (left_of true text)) line bad.bad bad.is bad.at,
-  λ is. let r = is_refused IsBadAt any_line Never true account_in IsTextOfAccount found only account_closes text (nothing_within IsBadAt any_line account_in (left_of true text)) line is in (reason_number r.0.reason, short_account text short ∙ shown (account_in (left_of true text)) r.0 line r.1 r.2),
+  λ r. let bad = bad_line_of (account_in (left_of true text)) line r.0 (sym (short_account text short) ∙ r.1) in is_first IsBadAt any_line Never true account_in IsTextOfAccount found only account_closes one_place text (λ fault w. w.place.refused) line bad.bad bad.is bad.at,
+  λ is. let r = is_refused IsBadAt any_line Never true account_in IsTextOfAccount found only account_closes text line (λ fault w. absurd w.place.refused) is in (reason_number r.0.reason, short_account text short ∙ shown (account_in (left_of true text)) r.0 line r.1 r.2),
 )

@@ -10,7 +10,7 @@ use Rattle.bound_cert.proofs.TreesAgain.{spelling_again}
 use Rattle.reading_laws.specs.FirstBadLine.{IsFirstBadLine}
 use Rattle.reading_laws.specs.Certificates.{IsCertificateText, IsRefusedAt}
 use Rattle.reading_laws.proofs.Steady.{any_line, Never}
-use Rattle.reading_laws.proofs.Law.{left_of, nothing_within, is_first, is_refused}
+use Rattle.reading_laws.proofs.Law.{left_of, is_first, is_refused}
 use Rattle.reading_laws.proofs.CertificateSteps.{IsFaultAt, root_closes}
 
 found : (text : List ℕ) (tree : Tree) → root_in (left_of false text) ≡ Ok tree → IsCertificateText text
@@ -31,6 +31,6 @@ shown text line Memory e is = absurd is
 
 pub certificate_law : (text : List ℕ) (line : ℕ) → length text ≤ 67108864 → IsRefusedAt text line ↔ IsFirstBadLine IsCertificateText text line
 certificate_law text line short = (
-  λ r. is_first IsFaultAt any_line Never false root_in IsCertificateText found only root_closes one_place text (nothing_within IsFaultAt any_line root_in (left_of false text)) line (Line line r.0) (sym (short_text text short) ∙ r.1) refl,
-  λ is. let r = is_refused IsFaultAt any_line Never false root_in IsCertificateText found only root_closes text (nothing_within IsFaultAt any_line root_in (left_of false text)) line is in shown text line r.0 (short_text text short ∙ r.1) r.2,
+  λ r. is_first IsFaultAt any_line Never false root_in IsCertificateText found only root_closes one_place text (λ fault w. w.place.refused) line (Line line r.0) (sym (short_text text short) ∙ r.1) refl,
+  λ is. let r = is_refused IsFaultAt any_line Never false root_in IsCertificateText found only root_closes text line (λ fault w. absurd w.place.refused) is in shown text line r.0 (short_text text short ∙ r.1) r.2,
 )

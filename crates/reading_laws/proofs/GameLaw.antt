@@ -11,17 +11,11 @@ use Rattle.game_text.proofs.GameLaws.{game_in_is, game_in_again}
 use Rattle.reading_laws.specs.FirstBadLine.{IsFirstBadLine}
 use Rattle.reading_laws.specs.Games.{IsGameText, IsRefusedGameAt}
 use Rattle.reading_laws.proofs.Steady.{any_line, Never}
-use Rattle.reading_laws.proofs.Law.{left_of, nothing_within, is_first, is_refused}
-use Rattle.reading_laws.proofs.LineSteps.{IsBadAt}
+use Rattle.reading_laws.proofs.Law.{left_of, is_first, is_refused}
+use Rattle.reading_laws.proofs.LineSteps.{IsBadAt, BadLineOf, one_place}
 use Rattle.reading_laws.proofs.GameSteps.{game_closes}
 
 -- ---- what is shown of a bad line
-
--- the bad line of a refusal
-pub record BadLineOf {A : Type 0} (r : Result A BadLine) (line : ℕ) : Type 0 where
-  pub bad : BadLine
-  pub is : r ≡ Err bad
-  pub at : bad.line ≡ line
 
 pub bad_line_of : {A : Type 0} (r : Result A BadLine) (line reason : ℕ) → or_game_fault r ≡ Err (Line line reason) → BadLineOf r line
 bad_line_of (Ok x) line reason e = absurd cc
@@ -40,15 +34,12 @@ only text is =
     let ahead = left_ahead (game_lines is.0) (left_of true text) is.2 in
     (is.0, ap game_in ahead.2 ∙ game_in_again is.0 ahead.1 ahead.0 is.1)
 
-pub one_place : (bad : BadLine) (m n : ℕ) → IsBadAt bad m → IsBadAt bad n → m ≡ n
-one_place bad m n a b = sym a ∙ b
-
 short_game : (text : List ℕ) → length text ≤ 1048576 → game_of text ≡ or_game_fault (game_in (left_of true text))
 unfolding game_of
 short_game text short = let long : ltb 1048576 (length text) ≡ false = le-ltb _ _ short in rw long refl
 
 pub game_law : (text : List ℕ) (line : ℕ) → length text ≤ 1048576 → IsRefusedGameAt text line ↔ IsFirstBadLine IsGameText text line
 game_law text line short = (
-  λ r. let bad = bad_line_of (game_in (left_of true text)) line r.0 (sym (short_game text short) ∙ r.1) in is_first IsBadAt any_line Never true game_in IsGameText found only game_closes one_place text (nothing_within IsBadAt any_line game_in (left_of true text)) line bad.bad bad.is bad.at,
-  λ is. let r = is_refused IsBadAt any_line Never true game_in IsGameText found only game_closes text (nothing_within IsBadAt any_line game_in (left_of true text)) line is in (reason_number r.0.reason, short_game text short ∙ shown (game_in (left_of true text)) r.0 line r.1 r.2),
+  λ r. let bad = bad_line_of (game_in (left_of true text)) line r.0 (sym (short_game text short) ∙ r.1) in is_first IsBadAt any_line Never true game_in IsGameText found only game_closes one_place text (λ fault w. w.place.refused) line bad.bad bad.is bad.at,
+  λ is. let r = is_refused IsBadAt any_line Never true game_in IsGameText found only game_closes text line (λ fault w. absurd w.place.refused) is in (reason_number r.0.reason, short_game text short ∙ shown (game_in (left_of true text)) r.0 line r.1 r.2),
 )

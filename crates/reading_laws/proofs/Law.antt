@@ -8,17 +8,12 @@ use Rattle.text_forms.specs.Lines.{NumberedLine, Remaining, is_comment, lines_fr
 use Rattle.text_forms.proofs.Stepping.{HasPart, has_part, chosen}
 use Rattle.bound_cert.proofs.TreesAgain.{parts_again, lines_lack-append}
 use Rattle.reading_laws.specs.FirstBadLine.{lines_with_ends, with_ends, BeginsText, IsFirstBadLine}
-use Rattle.reading_laws.proofs.Steady.{Reader, onto, ending, Ends, Closes, OutcomeAtEnd, Refuses, AtLine, AtEnd, Within, Never}
+use Rattle.reading_laws.proofs.Steady.{Reader, onto, ending, Ends, Closes, OutcomeAtEnd, Refuses, AtLine, AtEnd, Within}
 use Rattle.reading_laws.proofs.Spots.{AllLack, Front, with_end, parts_lack, front_lacks, plain_lacks, spot, end_spot, numbered, part_after, front_again, last_lacks, take_before, agree_before, ends_append, same_front, same_end}
 
 -- the lines of a text
 abbrev pub left_of : Bool → List ℕ → Remaining
 left_of skips text = lines_from skips 1 (parts_of 10 text)
-
--- if no reader refuses within what some lines begin with, this one doesn't
-pub nothing_within : {X E : Type 0} (IsAt : E → ℕ → Type 0) (is_calm : List ℕ → Bool) (read : Reader X E) (left : Remaining) (front : List NumberedLine) (more : List (List ℕ)) (fault : E)
-    → Ends IsAt is_calm Never read front more → Within IsAt is_calm Never front more left fault → ⊥
-nothing_within IsAt is_calm read left front more fault e w = w.refused
 
 module _ {X E : Type 0} (IsAt : E → ℕ → Type 0) (is_calm : List ℕ → Bool) (In : Remaining → E → List (List ℕ) → Type 0) (skips : Bool) (read : Reader X E) (IsText : List ℕ → Type 0)
     (found : (text : List ℕ) (value : X) → read (left_of skips text) ≡ Ok value → IsText text) (only : (text : List ℕ) → IsText text → (value : X) × (read (left_of skips text) ≡ Ok value)) where
@@ -148,10 +143,6 @@ module _ {X E : Type 0} (IsAt : E → ℕ → Type 0) (is_calm : List ℕ → Bo
     pub goes : Ends IsAt is_calm In read front more
     pub place : Within IsAt is_calm In front more (left_of skips text) fault
 
-  -- nothing of a text is
-  abbrev pub NotWithin : List ℕ → Type 0
-  NotWithin text = (front : List NumberedLine) (more : List (List ℕ)) (fault : E) → Ends IsAt is_calm In read front more → Within IsAt is_calm In front more (left_of skips text) fault → ⊥
-
   module _ (closes : Closes IsAt is_calm In read) where
     either_bad : (text : List ℕ) (fault : E) → read (left_of skips text) ≡ Err fault → FirstBad text fault ⊎ IsWithin text fault
     either_bad text fault refused =
@@ -163,12 +154,6 @@ module _ {X E : Type 0} (IsAt : E → ℕ → Type 0) (is_calm : List ℕ → Bo
             | inr w ↦ inr (record { front = r.front; more = r.more; goes = r.goes; place = w })
           ]
         ]
-
-    first_bad : (text : List ℕ) → NotWithin text → (fault : E) → read (left_of skips text) ≡ Err fault → FirstBad text fault
-    first_bad text never fault refused = elim (either_bad text fault refused) as (λ _. FirstBad text fault) [
-      | inl bad ↦ bad
-      | inr w ↦ absurd (never w.front w.more fault w.goes w.place)
-    ]
 
     -- a text that agrees with one of the kind so far does so before
     begins_less : (text : List ℕ) (fewer count : ℕ) → fewer ≤ count → BeginsText IsText text count → BeginsText IsText text fewer
@@ -185,11 +170,6 @@ module _ {X E : Type 0} (IsAt : E → ℕ → Type 0) (is_calm : List ℕ → Bo
       by_order false true h k = absurd (less n m b a k)
       by_order false false h k = grind (arith, nat_tests, h, k)
 
-    pub is_first : (one_place : (fault : E) (m n : ℕ) → IsAt fault m → IsAt fault n → m ≡ n) (text : List ℕ) → NotWithin text → (line : ℕ) (fault : E) → read (left_of skips text) ≡ Err fault → IsAt fault line → IsFirstBadLine IsText text line
-    is_first one_place text never line fault refused at =
-        let f = first_bad text never fault refused in
-        subst (IsFirstBadLine IsText text) (one_place fault f.line line f.at at) f.first
-
     -- the line of a fault is the first bad one, or the fault is within
     pub is_first_or_within : (one_place : (fault : E) (m n : ℕ) → IsAt fault m → IsAt fault n → m ≡ n) (text : List ℕ) (line : ℕ) (fault : E) → read (left_of skips text) ≡ Err fault → IsAt fault line
         → IsFirstBadLine IsText text line ⊎ IsWithin text fault
@@ -198,11 +178,24 @@ module _ {X E : Type 0} (IsAt : E → ℕ → Type 0) (is_calm : List ℕ → Bo
       | inr w ↦ inr w
     ]
 
-    is_refused_by : (text : List ℕ) → NotWithin text → (line : ℕ) → IsFirstBadLine IsText text line → (r : Result X E) → read (left_of skips text) ≡ r → (fault : E) × (read (left_of skips text) ≡ Err fault) × IsAt fault line
-    is_refused_by text never line is (Ok value) e = absurd (is.bad (text, found text value e, refl))
-    is_refused_by text never line is (Err fault) e =
-        let f = first_bad text never fault e in
-        (fault, e, subst (IsAt fault) (one_bad text f.line line f.first is) f.at)
+    -- so it is the first bad one if nothing is refused within
+    pub is_first : (one_place : (fault : E) (m n : ℕ) → IsAt fault m → IsAt fault n → m ≡ n) (text : List ℕ) → ((fault : E) → IsWithin text fault → ⊥) → (line : ℕ) (fault : E) → read (left_of skips text) ≡ Err fault → IsAt fault line → IsFirstBadLine IsText text line
+    is_first one_place text never line fault refused at = elim (is_first_or_within one_place text line fault refused at) as (λ _. IsFirstBadLine IsText text line) [
+      | inl first ↦ first
+      | inr w ↦ absurd (never fault w)
+    ]
 
-    pub is_refused : (text : List ℕ) → NotWithin text → (line : ℕ) → IsFirstBadLine IsText text line → (fault : E) × (read (left_of skips text) ≡ Err fault) × IsAt fault line
-    is_refused text never line is = is_refused_by text never line is (read (left_of skips text)) refl
+    -- a text is refused at its first bad line, if what is refused within is at no other
+    is_refused_by : (text : List ℕ) (line : ℕ) → ((fault : E) → IsWithin text fault → IsAt fault line) → IsFirstBadLine IsText text line → (r : Result X E) → read (left_of skips text) ≡ r → (fault : E) × (read (left_of skips text) ≡ Err fault) × IsAt fault line
+    is_refused_by text line there is (Ok value) e = absurd (is.bad (text, found text value e, refl))
+    is_refused_by text line there is (Err fault) e = (
+      fault,
+      e,
+      elim (either_bad text fault e) as (λ _. IsAt fault line) [
+        | inl f ↦ subst (IsAt fault) (one_bad text f.line line f.first is) f.at
+        | inr w ↦ there fault w
+      ],
+    )
+
+    pub is_refused : (text : List ℕ) (line : ℕ) → ((fault : E) → IsWithin text fault → IsAt fault line) → IsFirstBadLine IsText text line → (fault : E) × (read (left_of skips text) ≡ Err fault) × IsAt fault line
+    is_refused text line there is = is_refused_by text line there is (read (left_of skips text)) refl

@@ -11,4 +11,5 @@ pub mod AccountLaw
 pub mod Runs
 pub mod Blocks
 pub mod LogSteps
+pub mod CertificateLines
 pub mod LogLaw

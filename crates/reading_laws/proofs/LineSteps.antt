@@ -1,5 +1,5 @@
 -- Steps that read a line by its form, and a number of parts one after another.
-use Rattle.std.proofs.Common.{◌≡◌, ℕ, zero, suc, ◌+◌, ◌<◌, ◌≤◌, ◌⊎◌, inl, inr, Bool, true, List, [], ◌∷◌, Result, Ok, Err, refl, arith}
+use Rattle.std.proofs.Common.{◌≡◌, ℕ, zero, suc, ◌+◌, ◌<◌, ◌≤◌, ◌⊎◌, inl, inr, Bool, true, List, [], ◌∷◌, Result, Ok, Err, refl, sym, ◌∙◌, arith}
 use Rattle.text_forms.specs.declared.lines.Reason.{Reason}
 use Rattle.text_forms.specs.declared.lines.Reason.TheVariants.{TextEnd}
 use Rattle.text_forms.specs.declared.lines.BadLine.{BadLine}
@@ -11,6 +11,15 @@ use Rattle.reading_laws.proofs.Steady.{Step, onto, IsPlain, Steady, ReadsLine, s
 -- a bad line is at its number
 abbrev pub IsBadAt : BadLine → ℕ → Type 0
 IsBadAt bad n = bad.line ≡ n
+
+pub one_place : (bad : BadLine) (m n : ℕ) → IsBadAt bad m → IsBadAt bad n → m ≡ n
+one_place bad m n a b = sym a ∙ b
+
+-- the bad line of a refusal
+pub record BadLineOf {A : Type 0} (r : Result A BadLine) (line : ℕ) : Type 0 where
+  pub bad : BadLine
+  pub is : r ≡ Err bad
+  pub at : bad.line ≡ line
 
 -- a line that is printed is plain
 pub plain : (most : ℕ) (line : List ℕ) → IsLine most line → IsPlain line

@@ -1,5 +1,5 @@
 -- The first bad line of logs, and the exception of certificates.
-use Rattle.std.proofs.Common.{◌≡◌, ℕ, zero, suc, ◌+◌, ◌<◌, ◌≤◌, ◌⊎◌, inl, inr, lit≤, Bool, true, false, cond, eqb, ltb, List, [], ◌∷◌, ◌++◌, Option, Some, None, Result, Ok, Err, length, map, take, flat_map, refl, sym, ap, subst, ◌∙◌, arith, append_assoc}
+use Rattle.std.proofs.Common.{◌≡◌, ℕ, zero, suc, ◌+◌, ◌<◌, ◌≤◌, ◌↔◌, ◌⊎◌, inl, inr, lit≤, Bool, true, false, cond, eqb, ltb, List, [], ◌∷◌, ◌++◌, Option, Some, None, Result, Ok, Err, length, map, take, flat_map, refl, sym, ap, subst, ◌∙◌, arith, append_assoc}
 use Rattle.std.specs.Prelude.{codes, ◌==◌}
 use Rattle.std.specs.List.{All}
 use Rattle.std.proofs.lemmas.Bool.{le-ltb, eq-eqb}
@@ -21,23 +21,26 @@ use Rattle.bound_cert.specs.Trees.{Tree}
 use Rattle.bound_cert.proofs.RootCases.{long_text}
 use Rattle.bound_cert.proofs.TreeTexts.{cert_printed}
 use Rattle.settlement.specs.Sheets.{Scored}
+use Rattle.log_text.specs.SheetText.{cert_line}
 use Rattle.log_text.specs.HeadForms.{formed, is_text}
 use Rattle.log_text.specs.SheetForms.{read_score, package_of, read_count}
 use Rattle.log_text.specs.LogReading.{line_by, head_in, history_in, cash_in, cert_by, block_by, cert_in, score_in, log_in}
 use Rattle.log_text.specs.LoggedGames.{LoggedGame, IsLoggedScore}
-use Rattle.log_text.proofs.SheetFormLaws.{count_body}
+use Rattle.log_text.proofs.SheetFormLaws.{count_body, count_again}
 use Rattle.log_text.proofs.LogTaking.{log_is}
 use Rattle.log_text.proofs.Taking.{AllFrom}
 use Rattle.log_text.proofs.SheetGiving.{IsScore, log_given_by}
 use Rattle.log_reader.specs.declared.fault.LogFault.TheVariants.{Line}
 use Rattle.log_reader.specs.Faults.{or_log_fault}
 use Rattle.log_reader.specs.Logs.{log_of}
-use Rattle.reading_laws.specs.FirstBadLine.{IsFirstBadLine, with_ends}
-use Rattle.reading_laws.specs.Logs.{HasShortText, IsLogText, IsRefusedLogAt, IsCertificateDue, IsBadAfter, IsBadOfCertificate, HasNoBadCertificate, bad_line_after}
-use Rattle.reading_laws.proofs.Spots.{Front, with_end, part_after, spot, ends_append}
+use Rattle.reading_laws.specs.FirstBadLine.{with_ends}
+use Rattle.reading_laws.specs.Logs.{HasShortText, IsLogText, IsRefusedLogAt, IsCertificateDue, IsBadAfter, IsBadCertificateLine, IsBadLogLine, bad_line_after}
+use Rattle.reading_laws.proofs.Steady.{bytes_of}
+use Rattle.reading_laws.proofs.Spots.{AllLack, Front, with_end, parts_lack, left_lack, part_after, all_front, spot, ends_append, same_prior, cut}
 use Rattle.reading_laws.proofs.Law.{Begun, IsWithin, left_of, begun, is_first_or_within, is_refused}
-use Rattle.reading_laws.proofs.LineSteps.{IsBadAt}
-use Rattle.reading_laws.proofs.LogSteps.{BadBlock, is_calm, read_block, log_closes}
+use Rattle.reading_laws.proofs.LineSteps.{IsBadAt, BadLineOf, one_place}
+use Rattle.reading_laws.proofs.LogSteps.{BadBlock, is_calm, counted, read_block, log_closes}
+use Rattle.reading_laws.proofs.CertificateLines.{there, log_meets}
 
 -- ---- what was read has short certificates
 
@@ -154,14 +157,21 @@ no_block number bad e = cc
 abbrev with_rest : Remaining → Result Tree BadLine → Result (Tree × Remaining) BadLine
 with_rest rest read = read >>= λ tree. Ok (tree, rest)
 
-by_reason : (ended : Bool) (number line : ℕ) (rest : Remaining) (bad : BadLine) → with_rest rest (cond ended (Err (record { line = number; reason = TextEnd })) (Err (record { line = number + line; reason = TextEnd }))) ≡ Err bad → bad.line ≡ cond ended number (number + line)
-by_reason true number line rest bad e = cc
-by_reason false number line rest bad e = cc
+-- the refusal of a certificate
+abbrev Refused : ℕ → Remaining → CertFault → Type 0
+Refused number rest fault = (bad : BadLine) × (with_rest rest (cert_by number (Err fault)) ≡ Err bad) × (bad.line ≡ bad_line_after number fault)
+
+by_reason : (ended : Bool) (number line : ℕ) (rest : Remaining) → (bad : BadLine) × (with_rest rest (cond ended (Err (record { line = number; reason = TextEnd })) (Err (record { line = number + line; reason = TextEnd }))) ≡ Err bad) × (bad.line ≡ cond ended number (number + line))
+by_reason true number line rest = (_, refl, refl)
+by_reason false number line rest = (_, refl, refl)
+
+refused : (number : ℕ) (rest : Remaining) (fault : CertFault) → Refused number rest fault
+refused number rest (certs.Line line reason) = by_reason (reason == 7) number line rest
+refused number rest certs.TooLong = (_, refl, refl)
+refused number rest certs.Memory = (_, refl, refl)
 
 by_fault : (number : ℕ) (rest : Remaining) (bad : BadLine) (fault : CertFault) → with_rest rest (cert_by number (Err fault)) ≡ Err bad → bad.line ≡ bad_line_after number fault
-by_fault number rest bad (certs.Line line reason) e = by_reason (reason == 7) number line rest bad e
-by_fault number rest bad certs.TooLong e = cc
-by_fault number rest bad certs.Memory e = cc
+by_fault number rest bad fault e = let r = refused number rest fault in let same : r.0 ≡ bad = cc in ap (λ (b : BadLine). b.line) (sym same) ∙ r.2
 
 by_cert : (number : ℕ) (bytes : List ℕ) (rest : Remaining) (bad : BadLine) (read : Result Tree CertFault) → cert_of bytes ≡ read → with_rest rest (cert_by number read) ≡ Err bad → (fault : CertFault) × (cert_of bytes ≡ Err fault) × (bad.line ≡ bad_line_after number fault)
 by_cert number bytes rest bad (Ok tree) is e = absurd cc
@@ -172,6 +182,15 @@ bad_after number count ends block bad (inl none) e = inl (none.0, no_block numbe
 bad_after number count ends block bad (inr some) e =
     let bytes = joined (take count ends) in
     inr (some.0, by_cert number bytes some.1.0 bad (cert_of bytes) refl (subst (λ (b : Option (List ℕ × Remaining)). Refusal number b bad) some.1.1 e))
+
+-- and the other way round
+after_bad : (number count line : ℕ) (ends : List (List ℕ)) (block : Option (List ℕ × Remaining)) → Taken block count ends → IsBadAfter number ends count line → (bad : BadLine) × (block_by number block ≡ Err bad) × (bad.line ≡ line)
+after_bad number count line ends block (inl none) (inl few) = (record { line = number; reason = TextEnd }, ap (block_by number) none.1, sym few.1)
+after_bad number count line ends block (inl none) (inr cert) = let few = none.0 in let many = cert.0 in absurd (omega (arith, few, many))
+after_bad number count line ends block (inr some) (inl few) = let many = some.0 in let less = few.0 in absurd (omega (arith, many, less))
+after_bad number count line ends block (inr some) (inr cert) =
+    let r = refused number some.1.0 cert.1.0 in
+    (r.0, ap (block_by number) some.1.1 ∙ ap (λ (read : Result Tree CertFault). with_rest some.1.0 (cert_by number read)) cert.1.1 ∙ r.1, r.2 ∙ sym cert.1.2)
 
 -- the lines after a line of a text
 lines_after : (prior : List (List ℕ)) (front : List NumberedLine) (line : NumberedLine) (lines : List NumberedLine) (next : List ℕ) (after : List (List ℕ)) → Front false 1 prior front → (lines_from false 1 (prior ++ line.bytes ∷ next ∷ after)).lines ≡ front ++ line ∷ lines
@@ -200,7 +219,7 @@ due_there prior more others agent start rest more_is start_is b =
     }
 
 -- what is refused within is the exception
-bad_within : (text : List ℕ) (bad : BadLine) → IsWithin IsBadAt is_calm BadBlock false log_in IsLogText found only text bad → IsBadOfCertificate text bad.line
+bad_within : (text : List ℕ) (bad : BadLine) → IsWithin IsBadAt is_calm BadBlock false log_in IsLogText found only text bad → IsBadCertificateLine text bad.line
 bad_within text bad w =
     let b = w.place.refused in
     let whole : (left_of false text).lines ≡ w.front ++ b.line ∷ b.lines = w.place.split ∙ ap (λ (ls : List NumberedLine). w.front ++ ls) {y = b.line ∷ b.lines} b.left_is in
@@ -215,6 +234,7 @@ bad_within text bad w =
     record {
       before = map with_end s.prior;
       agent = b.agent;
+      known = let low = b.low in omega (arith, low);
       count = b.count;
       few = b.few;
       after = with_ends (s.next ∷ s.after);
@@ -225,34 +245,66 @@ bad_within text bad w =
           (subst (λ (n : ℕ). Refusal n (block_of b.count left) bad) number b.refused);
     }
 
+-- ---- the exception is refused
+
+-- a log has a line of this agent's certificate only where these lines are before it, so the text is read up to there
+exception_refused : (text : List ℕ) (line : ℕ) → IsBadCertificateLine text line → (bad : BadLine) × (log_in (left_of false text) ≡ Err bad) × (bad.line ≡ line)
+exception_refused text line b =
+    let known = b.known in
+    let low : b.agent ≤ 7 = omega (arith, known) in
+    let d = b.due in
+    let t = cut (parts_of 10 text) b.before (cert_line b.agent b.count) b.after (parts_lack text) b.lines in
+    let o = cut (parts_of 10 d.other) b.before (cert_line b.agent d.count) d.after (parts_lack d.other) d.lines in
+    let prior = same_prior o.prior t.prior (sym o.before_is ∙ t.before_is) in
+    let front = all_front 1 t.prior in
+    let number = 1 + length t.prior in
+    let rest = lines_from false (number + 1) (t.part ∷ t.others) in
+    let others = lines_from false (number + 1) (o.part ∷ o.others) in
+    let said : NumberedLine = record { number = number; bytes = cert_line b.agent b.count } in
+    let told : NumberedLine = record { number = number; bytes = cert_line b.agent d.count } in
+    let here : left_of false text ≡ there front.0 said rest = ap (lines_from false 1) t.are ∙ front.1.again said.bytes (t.part ∷ t.others) in
+    let log_here : left_of false d.other ≡ there front.0 told others =
+    ap (lines_from false 1) (o.are ∙ ap (λ (ls : List (List ℕ)). ls ++ told.bytes ∷ o.part ∷ o.others) prior) ∙ front.1.again told.bytes (o.part ∷ o.others) in
+    let lack = subst (λ (l : Remaining). AllLack (bytes_of l.lines)) log_here (left_lack 1 (parts_of 10 d.other) (parts_lack d.other)) in
+    let log = only d.other d.is in
+    let r = (log_meets b.agent low).met front.0 told others (d.count, refl) lack log.0 (ap log_in (sym log_here) ∙ log.1) in
+    let count = length-map t.prior with_end in
+    let before = ap length t.before_is in
+    let place : length b.before + 1 ≡ number = omega (arith, count, before) in
+    let bad = subst (λ (n : ℕ). IsBadAfter n (with_ends (t.part ∷ t.others)) b.count line) place (subst (λ (ls : List (List ℕ)). IsBadAfter (length b.before + 1) ls b.count line) t.after_is b.bad) in
+    let a = after_bad number b.count line (with_ends (t.part ∷ t.others)) (block_of b.count rest) (block_of_taken b.count (number + 1) rest t.part t.others refl) bad in
+    let cert = counted b.agent low said b.count rest (count_again b.agent b.count low b.few) ∙ a.1 in
+    (a.0, ap log_in here ∙ r.is said rest (b.count, refl) ∙ ap (λ (s : Result (Tree × Remaining) BadLine). s >>= r.next) cert, a.2)
+
 -- ---- the law
 
 short_log : (text : List ℕ) → length text ≤ 67108864 → log_of text ≡ or_log_fault (log_in (left_of false text))
 unfolding log_of
 short_log text short = let long : ltb 67108864 (length text) ≡ false = le-ltb _ _ short in rw long refl
 
--- the bad line of a refusal
-record BadLineOf {A : Type 0} (r : Result A BadLine) (line : ℕ) : Type 0 where
-  bad : BadLine
-  is : r ≡ Err bad
-  at : bad.line ≡ line
-
 bad_line_of : {A : Type 0} (r : Result A BadLine) (line : ℕ) → or_log_fault r ≡ Err (Line line) → BadLineOf r line
 bad_line_of (Ok x) line e = absurd cc
 bad_line_of (Err bad) line e = record { bad = bad; is = refl; at = cc }
 
-one_place : (bad : BadLine) (m n : ℕ) → IsBadAt bad m → IsBadAt bad n → m ≡ n
-one_place bad m n a b = sym a ∙ b
+shown : (text : List ℕ) (line : ℕ) → length text ≤ 67108864 → (bad : BadLine) × (log_in (left_of false text) ≡ Err bad) × (bad.line ≡ line) → IsRefusedLogAt text line
+shown text line short r = short_log text short ∙ ap or_log_fault r.1 ∙ ap (λ (n : ℕ). Err (Line n)) r.2
 
-pub log_only : (text : List ℕ) (line : ℕ) → length text ≤ 67108864 → IsRefusedLogAt text line → IsFirstBadLine IsLogText text line ⊎ IsBadOfCertificate text line
-log_only text line short r =
+-- the exception gives one line
+one_line : (text : List ℕ) (bad : BadLine) → log_in (left_of false text) ≡ Err bad → (line : ℕ) → IsBadCertificateLine text line → line ≡ bad.line
+one_line text bad e line is = let r = exception_refused text line is in let same : r.0 ≡ bad = cc in sym r.2 ∙ ap (λ (b : BadLine). b.line) same
+
+log_refused : (text : List ℕ) (line : ℕ) → length text ≤ 67108864 → IsRefusedLogAt text line → IsBadLogLine text line
+log_refused text line short r =
     let bad = bad_line_of (log_in (left_of false text)) line (sym (short_log text short) ∙ r) in
-    elim (is_first_or_within IsBadAt is_calm BadBlock false log_in IsLogText found only log_closes one_place text line bad.bad bad.is bad.at) as (λ _. IsFirstBadLine IsLogText text line ⊎ IsBadOfCertificate text line) [
-      | inl first ↦ inl first
-      | inr w ↦ inr (subst (IsBadOfCertificate text) bad.at (bad_within text bad.bad w))
+    elim (is_first_or_within IsBadAt is_calm BadBlock false log_in IsLogText found only log_closes one_place text line bad.bad bad.is bad.at) as (λ _. IsBadLogLine text line) [
+      | inl first ↦ inr (first, λ other is. one_line text bad.bad bad.is other is ∙ bad.at)
+      | inr w ↦ inl (subst (IsBadCertificateLine text) bad.at (bad_within text bad.bad w))
     ]
 
-pub log_first : (text : List ℕ) (line : ℕ) → length text ≤ 67108864 → HasNoBadCertificate text → IsFirstBadLine IsLogText text line → IsRefusedLogAt text line
-log_first text line short none is =
-    let r = is_refused IsBadAt is_calm BadBlock false log_in IsLogText found only log_closes text (λ front more fault e w. none fault.line (bad_within text fault (record { front = front; more = more; goes = e; place = w }))) line is in
-    short_log text short ∙ ap or_log_fault r.1 ∙ ap (λ (n : ℕ). Err (Line n)) r.2
+log_bad : (text : List ℕ) (line : ℕ) → length text ≤ 67108864 → IsBadLogLine text line → IsRefusedLogAt text line
+log_bad text line short (inl is) = shown text line short (exception_refused text line is)
+log_bad text line short (inr first) =
+    shown text line short (is_refused IsBadAt is_calm BadBlock false log_in IsLogText found only log_closes text line (λ fault w. first.1 fault.line (bad_within text fault w)) first.0)
+
+pub log_law : (text : List ℕ) (line : ℕ) → length text ≤ 67108864 → IsRefusedLogAt text line ↔ IsBadLogLine text line
+log_law text line short = (log_refused text line short, log_bad text line short)

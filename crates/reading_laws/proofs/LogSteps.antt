@@ -45,6 +45,7 @@ use Rattle.reading_laws.proofs.Blocks.{next_block}
 -- the next line says how long a certificate is, and the lines after it are none; one of the same agent with one line would have been read
 pub record BadBlock (left : Remaining) (bad : BadLine) (start : List (List ℕ)) : Type 0 where
   pub agent : ℕ
+  pub low : agent ≤ 7
   pub count : ℕ
   pub line : NumberedLine
   pub lines : List NumberedLine
@@ -213,12 +214,12 @@ module _ (agent : ℕ) (low : agent ≤ 7) where
   Ends_so left = Outcome IsBadAt any_line BadBlock (cert_in agent) left (cert_in agent left)
 
   -- a line that says no count
-  no_count : (line : NumberedLine) (other : Remaining) → read_count agent line.bytes ≡ None → cert_in agent (onto (line ∷ []) other) ≡ Err (record { line = line.number; reason = Spelling })
+  pub no_count : (line : NumberedLine) (other : Remaining) → read_count agent line.bytes ≡ None → cert_in agent (onto (line ∷ []) other) ≡ Err (record { line = line.number; reason = Spelling })
   unfolding cert_in
   no_count line other h = rw h refl
 
   -- a line that says one
-  counted : (line : NumberedLine) (count : ℕ) (other : Remaining) → read_count agent line.bytes ≡ Some count → cert_in agent (onto (line ∷ []) other) ≡ block_by line.number (block_of count other)
+  pub counted : (line : NumberedLine) (count : ℕ) (other : Remaining) → read_count agent line.bytes ≡ Some count → cert_in agent (onto (line ∷ []) other) ≡ block_by line.number (block_of count other)
   unfolding cert_in
   counted line count other h = rw h refl
 
@@ -252,7 +253,7 @@ module _ (agent : ℕ) (low : agent ≤ 7) where
 
   counted_outcome : (line : NumberedLine) (count : ℕ) (after : Remaining) → read_count agent line.bytes ≡ Some count → (r : Result (Tree × Remaining) BadLine) → block_by line.number (block_of count after) ≡ r → Outcome IsBadAt any_line BadBlock (cert_in agent) (onto (line ∷ []) after) r
   counted_outcome line count after said (Err bad) e =
-      record { front = []; more = least; goes = cert_start; place = inr (inr (record { lines = line ∷ after.lines; split = refl; start = least; others = []; more_is = refl; refused = record { agent = agent; count = count; line = line; lines = after.lines; left_is = refl; said = (count_is agent line.bytes count said).0; few = (count_is agent line.bytes count said).1; others = zero_leaf ∷ []; due = refl; refused = e } })) }
+      record { front = []; more = least; goes = cert_start; place = inr (inr (record { lines = line ∷ after.lines; split = refl; start = least; others = []; more_is = refl; refused = record { agent = agent; low = low; count = count; line = line; lines = after.lines; left_is = refl; said = (count_is agent line.bytes count said).0; few = (count_is agent line.bytes count said).1; others = zero_leaf ∷ []; due = refl; refused = e } })) }
   counted_outcome line count after said (Ok x) e =
       let b = read_block line.number count after x (block_of count after) refl e in
       let n = next_block count after.last after.ended after.lines b.block b.found in

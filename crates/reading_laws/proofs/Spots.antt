@@ -43,6 +43,11 @@ pub plain_lacks : (lines : List (List ℕ)) → ArePlain lines → AllLack lines
 plain_lacks [] h = tt
 plain_lacks (line ∷ lines) h = (h.0.lacks, plain_lacks lines h.1)
 
+pub left_lack : (number : ℕ) (parts : List (List ℕ)) → AllLack parts → AllLack (bytes_of (lines_from false number parts).lines)
+left_lack number [] h = tt
+left_lack number (rest ∷ []) h = tt
+left_lack number (line ∷ next ∷ parts) h = (h.0, left_lack (number + 1) (next ∷ parts) h.1)
+
 -- a line with its end has one
 has_end : (line : List ℕ) → Lacks 10 (line ++ 10 ∷ []) → ⊥
 has_end [] h = absurd (let no : eqb 10 10 ≡ false = h.0 in cc)
@@ -81,6 +86,11 @@ front_kept skips number line prior front test f = record {
       let count : number + 1 + length prior ≡ number + suc (length prior) = omega arith in
       line_then skips number line (prior ++ part ∷ parts) (part_after prior part parts) ∙ rw test (ap (λ (m : Remaining). onto (one ∷ []) m) (f.again part parts ∙ ap (λ (n : ℕ). onto front (lines_from skips n (part ∷ parts))) count));
 }
+
+-- the lines of a text without comments that is read to its end
+pub all_front : (number : ℕ) (prior : List (List ℕ)) → (front : List NumberedLine) × Front false number prior front
+all_front number [] = ([], no_front false number)
+all_front number (line ∷ prior) = let f = all_front (number + 1) prior in (record { number = number; bytes = line } ∷ f.0, front_kept false number line prior f.0 refl f.1)
 
 -- a line that is left, and the parts of the text before and after it
 pub record Spot (skips : Bool) (number : ℕ) (parts : List (List ℕ)) (front : List NumberedLine) (line : NumberedLine) : Type 0 where
@@ -253,16 +263,44 @@ same_front (x ∷ xs) (part ∷ next ∷ parts) lack h same =
     let more = same_front xs (next ∷ parts) lack.1 (next, parts, refl) cc in
     record { part = more.part; rest = more.rest; split = longer part x (next ∷ parts) (xs ++ more.part ∷ more.rest) first more.split }
 
+not_empty : {A : Type 0} (xs : List A) (x : A) (ys : List A) → [] ≡ xs ++ x ∷ ys → ⊥
+not_empty [] x ys h = absurd cc
+not_empty (y ∷ xs) x ys h = absurd cc
+
 -- and those that end as these do
 pub same_end : (xs : List (List ℕ)) (rest : List ℕ) (parts : List (List ℕ)) → Lacks 10 rest → HasPart parts → take (suc (length xs)) (with_ends parts) ≡ map with_end xs ++ rest ∷ [] → parts ≡ xs ++ rest ∷ []
 same_end xs rest [] lack h same = absurd (let no = h.2 in cc)
 same_end [] rest (part ∷ []) lack h same = same
 same_end [] rest (part ∷ next ∷ parts) lack h same = absurd (let is : with_end part ≡ rest = cc in has_end part (subst (Lacks 10) (sym is) lack))
-same_end (x ∷ xs) rest (part ∷ []) lack h same = absurd (let no : [] ≡ map with_end xs ++ rest ∷ [] = cc in none xs no) where
-  none : (ys : List (List ℕ)) → [] ≡ map with_end ys ++ rest ∷ [] → ⊥
-  none [] e = absurd cc
-  none (y ∷ ys) e = absurd cc
+same_end (x ∷ xs) rest (part ∷ []) lack h same = absurd (not_empty (map with_end xs) rest [] cc)
 same_end (x ∷ xs) rest (part ∷ next ∷ parts) lack h same =
     let first = same_line part x cc in
     let more = same_end xs rest (next ∷ parts) lack (next, parts, refl) cc in
     longer part x (next ∷ parts) (xs ++ rest ∷ []) first more
+
+-- a line among those of a text, with its end
+pub record Cut (parts before : List (List ℕ)) (line : List ℕ) (after : List (List ℕ)) : Type 0 where
+  pub prior : List (List ℕ)
+  pub part : List ℕ
+  pub others : List (List ℕ)
+  pub are : parts ≡ prior ++ line ∷ part ∷ others
+  pub before_is : before ≡ map with_end prior
+  pub after_is : after ≡ with_ends (part ∷ others)
+
+pub cut : (parts before : List (List ℕ)) (line : List ℕ) (after : List (List ℕ)) → AllLack parts → with_ends parts ≡ before ++ with_end line ∷ after → Cut parts before line after
+cut [] before line after lack h = absurd (not_empty before (with_end line) after h)
+cut (rest ∷ []) [] line after lack h = absurd (let is : rest ≡ with_end line = cc in has_end line (subst (Lacks 10) is lack.0))
+cut (rest ∷ []) (first ∷ before) line after lack h = absurd (not_empty before (with_end line) after cc)
+cut (part ∷ next ∷ parts) [] line after lack h =
+    let same = same_line part line cc in
+    record { prior = []; part = next; others = parts; are = longer part line (next ∷ parts) (next ∷ parts) same refl; before_is = refl; after_is = cc }
+cut (part ∷ next ∷ parts) (first ∷ before) line after lack h =
+    let more = cut (next ∷ parts) before line after lack.1 cc in
+    let same : first ≡ with_end part = cc in
+    record { prior = part ∷ more.prior; part = more.part; others = more.others; are = longer part part (next ∷ parts) (more.prior ++ line ∷ more.part ∷ more.others) refl more.are; before_is = longer first (with_end part) before (map with_end more.prior) same more.before_is; after_is = more.after_is }
+
+pub same_prior : (xs ys : List (List ℕ)) → map with_end xs ≡ map with_end ys → xs ≡ ys
+same_prior [] [] h = refl
+same_prior [] (y ∷ ys) h = absurd cc
+same_prior (x ∷ xs) [] h = absurd cc
+same_prior (x ∷ xs) (y ∷ ys) h = longer x y xs ys (same_line x y cc) (same_prior xs ys cc)

@@ -1,7 +1,7 @@
 -- The texts of logs, and when a text is refused as one at a line.
 use Rattle.std.specs.Prelude.{◌≡◌, ◌+◌, ◌<◌, ◌≤◌, ◌==◌, ◌⊎◌, ℕ, List, [], ◌∷◌, ◌++◌, Err, flat_map, if◌then◌else◌, length, take}
 use Rattle.std.specs.List.{All}
-use Rattle.tac_base.specs.declared.limits.TheConstants.{TEXT_BYTES}
+use Rattle.tac_base.specs.declared.limits.TheConstants.{AGENTS, TEXT_BYTES}
 use Rattle.bound_cert.specs.declared.faults.CertFault.{CertFault}
 use Rattle.bound_cert.specs.declared.faults.CertFault.TheVariants as certs
 use Rattle.bound_cert.specs.Reading.{cert_of}
@@ -11,7 +11,7 @@ use Rattle.log_text.specs.SheetText.{cert_line}
 use Rattle.log_text.specs.LoggedGames.{LoggedGame, IsLogged, logged_text}
 use Rattle.log_reader.specs.declared.fault.LogFault.TheVariants.{Line}
 use Rattle.log_reader.specs.Logs.{log_of}
-use Rattle.reading_laws.specs.FirstBadLine.{lines_with_ends}
+use Rattle.reading_laws.specs.FirstBadLine.{lines_with_ends, IsFirstBadLine}
 
 -- a certificate whose text may be read
 abbrev pub HasShortText : Tree → Type 0
@@ -50,9 +50,10 @@ IsBadAfter number after count line =
 
 -- The exception of certificates: a line says how long a certificate is, where that of its agent is due; so many lines after it are none; and for
 -- this the given line is the bad one.
-pub record IsBadOfCertificate (text : List ℕ) (line : ℕ) : Type 0 where
+pub record IsBadCertificateLine (text : List ℕ) (line : ℕ) : Type 0 where
   pub before : List (List ℕ)
   pub agent : ℕ
+  pub known : agent < AGENTS
   pub count : ℕ
   pub few : count ≤ 4294967295
   pub after : List (List ℕ)
@@ -60,6 +61,6 @@ pub record IsBadOfCertificate (text : List ℕ) (line : ℕ) : Type 0 where
   pub due : IsCertificateDue before agent
   pub bad : IsBadAfter (length before + 1) after count line
 
--- a text has no such line
-abbrev pub HasNoBadCertificate : List ℕ → Type 0
-HasNoBadCertificate text = (line : ℕ) → IsBadOfCertificate text line → ⊥
+-- the line at which a text is refused: the one by the exception, or the first bad line if the exception gives no other
+abbrev pub IsBadLogLine : List ℕ → ℕ → Type 0
+IsBadLogLine text line = IsBadCertificateLine text line ⊎ (IsFirstBadLine IsLogText text line × ((other : ℕ) → IsBadCertificateLine text other → other ≡ line))

@@ -1,13 +1,10 @@
-ghost use Rattle.std.specs.Prelude.{◌≤◌, ◌⊎◌, ℕ, List, length};
+ghost use Rattle.std.specs.Prelude.{◌≤◌, ◌↔◌, ℕ, List, length};
 ghost use Rattle.tac_base.specs.declared.limits.TheConstants.{TEXT_BYTES};
-ghost use Rattle.reading_laws.specs.FirstBadLine.{IsFirstBadLine};
-ghost use Rattle.reading_laws.specs.Logs.{IsLogText, IsRefusedLogAt, IsBadOfCertificate, HasNoBadCertificate};
+ghost use Rattle.reading_laws.specs.Logs.{IsRefusedLogAt, IsBadLogLine};
 
-/// The law of the first bad line of logs, as this call's contract, for texts of at most 67,108,864 bytes.
+/// The law of the first bad line of logs, as this call's contract: a text of at most 67,108,864 bytes is refused at a line exactly if that
+/// is its bad line by the exception of certificates, or if the exception gives no other line, the lines before it begin the text of some
+/// log, and with it they begin none.
 pub fn first_bad_line_of_logs()
-    // A text is refused at a line only if the lines before it begin the text of some log, and with it they begin none; or by the exception of
-    // certificates.
-    ensures only { (text : List ℕ) (line : ℕ) → length text ≤ TEXT_BYTES → IsRefusedLogAt text line → IsFirstBadLine IsLogText text line ⊎ IsBadOfCertificate text line }
-    // It is refused at the former, if the exception applies nowhere in it.
-    ensures first { (text : List ℕ) (line : ℕ) → length text ≤ TEXT_BYTES → HasNoBadCertificate text → IsFirstBadLine IsLogText text line → IsRefusedLogAt text line }
+    ensures { (text : List ℕ) (line : ℕ) → length text ≤ TEXT_BYTES → IsRefusedLogAt text line ↔ IsBadLogLine text line }
 {}

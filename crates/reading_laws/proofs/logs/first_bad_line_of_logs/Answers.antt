@@ -1,8 +1,6 @@
-use Rattle.reading_laws.proofs.LogLaw.{log_first, log_only}
+use Rattle.reading_laws.proofs.LogLaw.{log_law}
 use Rattle.reading_laws.proofs.logs.first_bad_line_of_logs.Goals as goal
 
-pub returns-clause-only : goal.returns-clause-only
-returns-clause-only c = log_only
-
-pub returns-clause-first : goal.returns-clause-first
-returns-clause-first c = log_first
+-- src/logs.rt:8:1
+pub returns : goal.returns
+returns c = log_law
