@@ -22,11 +22,12 @@ use Rattle.log_text.specs.SheetText.{cert_line}
 use Rattle.log_text.specs.HeadForms.{is_text, link_of_words, read_link, end_of_words, read_end, read_missed}
 use Rattle.log_text.specs.EntryForms.{first_is, auction_of, trade_of, read_entry, read_cash_line, cash_entry_of}
 use Rattle.log_text.specs.SheetForms.{read_score, package_of, read_count}
-use Rattle.log_text.specs.LogReading.{line_by, begins, refused_line, as_long_as, is_served, served_in, head_by, head_in, entry_in, history_in, cash_in, cert_in, score_in, log_in}
+use Rattle.log_text.specs.LogReading.{line_by, begins, as_long_as, is_served, served_in, head_by, head_in, entry_in, history_in, cash_in, cert_in, score_in, log_in}
 use Rattle.log_text.proofs.SheetFormLaws.{count_is}
 use Rattle.log_text.proofs.TreesCut.{tree_lacks}
 use Rattle.reading_laws.proofs.Steady.{Reader, Step, onto, bytes_of}
 use Rattle.reading_laws.proofs.Spots.{AllLack, front_lacks, later_lack}
+use Rattle.reading_laws.proofs.Runs.{stops, full, goes}
 use Rattle.reading_laws.proofs.Blocks.{next_block}
 use Rattle.reading_laws.proofs.LogSteps.{counted, no_count, read_block}
 
@@ -196,28 +197,15 @@ module _ (agent : ℕ) (low : agent ≤ 7) where
     abbrev one_part : ℕ → ℕ → Step (List A) BadLine
     one_part room from left = step from left >>= λ first. run room (from + 1) first.1 >>= λ others. Ok (first.0 ∷ others.0, others.1)
 
-    run_stops : (room from : ℕ) (left : Remaining) → begins word left ≡ false → run room from left ≡ Ok ([], left)
-    unfolding as_long_as
-    run_stops zero from left h = rw h refl
-    run_stops (suc room) from left h = rw h refl
-
-    run_full : (from : ℕ) (left : Remaining) → begins word left ≡ true → run 0 from left ≡ refused_line left
-    unfolding as_long_as
-    run_full from left h = rw h refl
-
-    run_goes : (room from : ℕ) (left : Remaining) → begins word left ≡ true → run (suc room) from left ≡ one_part room from left
-    unfolding as_long_as
-    run_goes room from left h = rw h refl
-
     stopped : (room from : ℕ) (front : List NumberedLine) (said : NumberedLine) (rest : Remaining) → IsSaid said.bytes → AllLack (bytes_of (front ++ said ∷ rest.lines)) → (x : List A × Remaining) → run room from (there front said rest) ≡ Ok x
         → ((line : NumberedLine) (other : Remaining) → IsSaid line.bytes → begins word (there front line other) ≡ false) → Passes (run room from) front said rest x
-    stopped room from front said rest is lack x e stops = passed (run room from) front front said rest [] x is e lack (λ line other is'. run_stops room from (there front line other) (stops line other is'))
+    stopped room from front said rest is lack x e none = passed (run room from) front front said rest [] x is e lack (λ line other is'. stops word step room from (there front line other) (none line other is'))
 
     -- a part, and those after it
-    goes : (room from : ℕ) (line : NumberedLine) (front : List NumberedLine) → first_is word (words_of line.bytes) ≡ true → Meets (one_part room from) → (said : NumberedLine) (rest : Remaining) → IsSaid said.bytes → AllLack (bytes_of ((line ∷ front) ++ said ∷ rest.lines)) → (x : List A × Remaining)
+    longer : (room from : ℕ) (line : NumberedLine) (front : List NumberedLine) → first_is word (words_of line.bytes) ≡ true → Meets (one_part room from) → (said : NumberedLine) (rest : Remaining) → IsSaid said.bytes → AllLack (bytes_of ((line ∷ front) ++ said ∷ rest.lines)) → (x : List A × Remaining)
         → run (suc room) from (there (line ∷ front) said rest) ≡ Ok x → Met (run (suc room) from) (line ∷ front) said rest x
-    goes room from line front begun m said rest is lack x e =
-        let again = λ (l : NumberedLine) (other : Remaining). run_goes room from (there (line ∷ front) l other) begun in
+    longer room from line front begun m said rest is lack x e =
+        let again = λ (l : NumberedLine) (other : Remaining). goes word step room from (there (line ∷ front) l other) begun in
         elim (m.met (line ∷ front) said rest is lack x (sym (again said rest) ∙ e)) as (λ _. Met (run (suc room) from) (line ∷ front) said rest x) [
           | inl r ↦ inl (record { next = r.next; is = λ l other is'. again l other ∙ r.is l other is' })
           | inr p ↦ inr (record { back = p.back; left_is = p.left_is; lack = p.lack; again = λ l other is'. again l other ∙ p.again l other is' })
@@ -226,7 +214,7 @@ module _ (agent : ℕ) (low : agent ≤ 7) where
     at_most : (from : ℕ) (line : NumberedLine) (front : List NumberedLine) (said : NumberedLine) (rest : Remaining) → IsSaid said.bytes → AllLack (bytes_of ((line ∷ front) ++ said ∷ rest.lines)) → (x : List A × Remaining) → run 0 from (there (line ∷ front) said rest) ≡ Ok x
         → (b : Bool) → first_is word (words_of line.bytes) ≡ b → Met (run 0 from) (line ∷ front) said rest x
     at_most from line front said rest is lack x e false h = inr (stopped 0 from (line ∷ front) said rest is lack x e (λ l other is'. h))
-    at_most from line front said rest is lack x e true h = absurd (let no = run_full from (there (line ∷ front) said rest) h in cc)
+    at_most from line front said rest is lack x e true h = absurd (let no = full word step from (there (line ∷ front) said rest) h in cc)
 
     at_part : (room from : ℕ) → Meets (run room (from + 1)) → (line : NumberedLine) (front : List NumberedLine) (said : NumberedLine) (rest : Remaining) → IsSaid said.bytes → AllLack (bytes_of ((line ∷ front) ++ said ∷ rest.lines)) → (x : List A × Remaining)
         → run (suc room) from (there (line ∷ front) said rest) ≡ Ok x → (b : Bool) → first_is word (words_of line.bytes) ≡ b → Met (run (suc room) from) (line ∷ front) said rest x
@@ -234,7 +222,7 @@ module _ (agent : ℕ) (low : agent ≤ 7) where
     at_part room from others line front said rest is lack x e true h =
         let m = then_meets (step from) (λ first left. run room (from + 1) left >>= λ others. Ok (first ∷ others.0, others.1)) (each from)
         (λ first. then_meets (run room (from + 1)) (λ xs left. Ok (first ∷ xs, left)) others (λ xs. done_meets (first ∷ xs))) in
-        goes room from line front h m said rest is lack x e
+        longer room from line front h m said rest is lack x e
 
     run_met : (room from : ℕ) (front : List NumberedLine) (said : NumberedLine) (rest : Remaining) → IsSaid said.bytes → AllLack (bytes_of (front ++ said ∷ rest.lines)) → (x : List A × Remaining) → run room from (there front said rest) ≡ Ok x → Met (run room from) front said rest x
     run_met room from [] said rest is lack x e = inr (stopped room from [] said rest is lack x e (λ line other is'. ap (λ (b : List ℕ). first_is word (words_of b)) is'.1 ∙ other_word is'.0))

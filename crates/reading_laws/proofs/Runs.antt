@@ -6,20 +6,34 @@ use Rattle.text_forms.specs.Lines.{NumberedLine, Remaining}
 use Rattle.text_forms.specs.Words.{words_of}
 use Rattle.text_forms.specs.Steps.{◌>>=◌}
 use Rattle.log_text.specs.EntryForms.{first_is}
-use Rattle.log_text.specs.LogReading.{line_by, begins_in, begins, as_long_as}
+use Rattle.log_text.specs.LogReading.{line_by, begins_in, begins, refused_line, as_long_as}
 use Rattle.reading_laws.proofs.Steady.{Reader, Step, onto, bytes_of, ending, any_line, IsCalm, Follows, Completes, Outcome, Steady, AtLine, AtEnd, Within, ReadsLine, Ends, OutcomeAtEnd, Closes, no_lines}
 use Rattle.reading_laws.proofs.LineSteps.{IsBadAt}
 
+-- ---- whether one more part is read
+
+module _ {A : Type 0} (word : List ℕ) (step : ℕ → Step A BadLine) where
+  pub stops : (room from : ℕ) (left : Remaining) → begins word left ≡ false → as_long_as word step room from left ≡ Ok ([], left)
+  unfolding as_long_as
+  stops zero from left h = rw h refl
+  stops (suc room) from left h = rw h refl
+
+  pub full : (from : ℕ) (left : Remaining) → begins word left ≡ true → as_long_as word step 0 from left ≡ refused_line left
+  unfolding as_long_as
+  full from left h = rw h refl
+
+  pub goes : (room from : ℕ) (left : Remaining) → begins word left ≡ true → as_long_as word step (suc room) from left ≡ (step from left >>= λ first. as_long_as word step room (from + 1) first.1 >>= λ others. Ok (first.0 ∷ others.0, others.1))
+  unfolding as_long_as
+  goes room from left h = rw h refl
+
 module _ {A : Type 0} (is_calm : List ℕ → Bool) (In : Remaining → BadLine → List (List ℕ) → Type 0) (word : List ℕ) (quiet : (line : List ℕ) → is_calm line ≡ true → first_is word (words_of line) ≡ false) (form : ℕ → List ℕ → Option A) where
+  abbrev part : ℕ → Step A BadLine
+  part i left = line_by (form i) left
+
   abbrev run : ℕ → ℕ → Step (List A) BadLine
-  run room from = as_long_as word (λ i. line_by (form i)) room from
+  run room from = as_long_as word part room from
 
   -- ---- where the parts end
-
-  stops : (room from : ℕ) (other : Remaining) → begins word other ≡ false → run room from other ≡ Ok ([], other)
-  unfolding as_long_as
-  stops zero from other h = rw h refl
-  stops (suc room) from other h = rw h refl
 
   calm_stops : (lines : List NumberedLine) → IsCalm IsBadAt is_calm In (bytes_of lines) → begins_in word lines ≡ false
   calm_stops [] h = refl
@@ -39,25 +53,22 @@ module _ {A : Type 0} (is_calm : List ℕ → Bool) (In : Remaining → BadLine 
     value = [];
     plain = tt;
     calm = tt;
-    reads = λ lines h other calm. ap (λ (ls : List NumberedLine). run room from (onto ls other)) (no_lines IsBadAt is_calm In lines h) ∙ stops room from other (calm_stops other.lines calm);
+    reads = λ lines h other calm. ap (λ (ls : List NumberedLine). run room from (onto ls other)) (no_lines IsBadAt is_calm In lines h) ∙ stops word part room from other (calm_stops other.lines calm);
   }
 
   run_stopped : (room from : ℕ) (left : Remaining) → begins word left ≡ false → Outcome IsBadAt is_calm In (run room from) left (run room from left)
-  run_stopped room from left h = subst (Outcome IsBadAt is_calm In (run room from) left) (sym (stops room from left h)) (record { used = []; split = refl; rest = refl; again = λ other follows. stops room from other (follows_stops left.lines other.lines h follows) })
+  run_stopped room from left h = subst (Outcome IsBadAt is_calm In (run room from) left) (sym (stops word part room from left h)) (record { used = []; split = refl; rest = refl; again = λ other follows. stops word part room from other (follows_stops left.lines other.lines h follows) })
 
   -- ---- one part more
 
   none_more : (from : ℕ) (line : NumberedLine) (other : Remaining) → first_is word (words_of line.bytes) ≡ true → run 0 from (onto (line ∷ []) other) ≡ Err (record { line = line.number; reason = TextEnd })
-  unfolding as_long_as
-  none_more from line other begun = rw begun refl
+  none_more from line other begun = full word part from (onto (line ∷ []) other) begun
 
   no_part : (room from : ℕ) (line : NumberedLine) (other : Remaining) → first_is word (words_of line.bytes) ≡ true → form from line.bytes ≡ None → run (suc room) from (onto (line ∷ []) other) ≡ Err (record { line = line.number; reason = Spelling })
-  unfolding as_long_as
-  no_part room from line other begun bad = rw (begun, bad) refl
+  no_part room from line other begun bad = goes word part room from (onto (line ∷ []) other) begun ∙ rw bad refl
 
   one_more : (room from : ℕ) (line : NumberedLine) (x : A) (other : Remaining) → first_is word (words_of line.bytes) ≡ true → form from line.bytes ≡ Some x → run (suc room) from (onto (line ∷ []) other) ≡ (run room (from + 1) other >>= λ others. Ok (x ∷ others.0, others.1))
-  unfolding as_long_as
-  one_more room from line x other begun good = rw (begun, good) refl
+  one_more room from line x other begun good = goes word part room from (onto (line ∷ []) other) begun ∙ rw good refl
 
   refused_here : (room from : ℕ) (left : Remaining) (line : NumberedLine) (lines : List NumberedLine) (bad : BadLine) → left.lines ≡ line ∷ lines → bad.line ≡ line.number → ((other : Remaining) → run room from (onto (line ∷ []) other) ≡ Err bad) → Outcome IsBadAt is_calm In (run room from) left (Err bad)
   refused_here room from left line lines bad is at again = record { front = []; more = []; goes = run_start room from; place = inl (record { line = line; lines = lines; split = is; at = at; again = again }) }
