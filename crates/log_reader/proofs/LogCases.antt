@@ -1,5 +1,5 @@
 -- Reading a whole log, case by case.
-use Rattle.std.proofs.Common.{◌≡◌, List, Result, Ok, Err, refl}
+use Rattle.std.proofs.Common.{◌≡◌, List, Result, Ok, Err, refl, sym}
 use Rattle.std.specs.Prelude.{codes}
 use Rattle.text_forms.specs.declared.lines.BadLine.{BadLine}
 use Rattle.text_forms.specs.Lines.{Remaining, nothing_left}
@@ -10,9 +10,16 @@ use Rattle.line_protocol.specs.Heads.{Head}
 use Rattle.settlement.specs.Sheets.{Scored}
 use Rattle.log_text.specs.HeadForms.{is_text}
 use Rattle.log_text.specs.LogReading.{line_by, head_in, history_in, cash_in, score_in, log_in}
+use Rattle.log_reader.specs.Faults.{or_log_fault}
+use Rattle.log_reader.proofs.Refusals.{was_read}
 
-abbrev Is : {A : Type 0} → Result A BadLine → A → Type 0
-Is read x = read ≡ Ok x
+-- a part was read as this
+abbrev WasRead : {A : Type 0} → Result A BadLine → A → Type 0
+WasRead read x = or_log_fault read ≡ Ok x
+
+-- a line was
+abbrev IsLine : {A : Type 0} → Result A BadLine → A → Type 0
+IsLine read x = Ok x ≡ read
 
 abbrev pub Fails : {A : Type 0} → Result A BadLine → BadLine → Type 0
 Fails read bad = read ≡ Err bad
@@ -21,36 +28,36 @@ pub no_head : (left : Remaining) (bad : BadLine) → Fails (head_in left) bad �
 unfolding log_in
 no_head left bad h = rw h refl
 
-module _ (left : Remaining) (head : Head × Remaining) (headed : Is (head_in left) head) where
+module _ (left : Remaining) {head : Head × Remaining} (headed : WasRead (head_in left) head) where
   pub no_histories : (bad : BadLine) → Fails (repeat 28 0 history_in head.1) bad → Fails (log_in left) bad
   unfolding log_in
-  no_histories bad h = rw (headed, h) refl
+  no_histories bad h = rw (was_read (head_in left) head headed, h) refl
 
-  module _ (histories : List (List Entry) × Remaining) (told : Is (repeat 28 0 history_in head.1) histories) where
+  module _ {histories : List (List Entry) × Remaining} (told : WasRead (repeat 28 0 history_in head.1) histories) where
     pub no_cash : (bad : BadLine) → Fails (cash_in histories.1) bad → Fails (log_in left) bad
     unfolding log_in
-    no_cash bad h = rw (headed, told, h) refl
+    no_cash bad h = rw (was_read (head_in left) head headed, was_read (repeat 28 0 history_in head.1) histories told, h) refl
 
-    module _ (cash : List CashEntry × Remaining) (paid : Is (cash_in histories.1) cash) where
+    module _ {cash : List CashEntry × Remaining} (paid : WasRead (cash_in histories.1) cash) where
       pub no_sheet : (bad : BadLine) → Fails (line_by (is_text (codes "sheet")) cash.1) bad → Fails (log_in left) bad
       unfolding log_in
-      no_sheet bad h = rw (headed, told, paid, h) refl
+      no_sheet bad h = rw (was_read (head_in left) head headed, was_read (repeat 28 0 history_in head.1) histories told, was_read (cash_in histories.1) cash paid, h) refl
 
-      module _ (sheet : Unit {0} × Remaining) (opened : Is (line_by (is_text (codes "sheet")) cash.1) sheet) where
+      module _ {sheet : Unit {0} × Remaining} (opened : IsLine (line_by (is_text (codes "sheet")) cash.1) sheet) where
         pub no_scores : (bad : BadLine) → Fails (repeat 8 0 score_in sheet.1) bad → Fails (log_in left) bad
         unfolding log_in
-        no_scores bad h = rw (headed, told, paid, opened, h) refl
+        no_scores bad h = rw (was_read (head_in left) head headed, was_read (repeat 28 0 history_in head.1) histories told, was_read (cash_in histories.1) cash paid, sym opened, h) refl
 
-        module _ (scores : List Scored × Remaining) (scored : Is (repeat 8 0 score_in sheet.1) scores) where
+        module _ {scores : List Scored × Remaining} (scored : WasRead (repeat 8 0 score_in sheet.1) scores) where
           pub no_end : (bad : BadLine) → Fails (line_by (is_text (codes "end")) scores.1) bad → Fails (log_in left) bad
           unfolding log_in
-          no_end bad h = rw (headed, told, paid, opened, scored, h) refl
+          no_end bad h = rw (was_read (head_in left) head headed, was_read (repeat 28 0 history_in head.1) histories told, was_read (cash_in histories.1) cash paid, sym opened, was_read (repeat 8 0 score_in sheet.1) scores scored, h) refl
 
-          module _ (end : Unit {0} × Remaining) (closed : Is (line_by (is_text (codes "end")) scores.1) end) where
+          module _ {end : Unit {0} × Remaining} (closed : IsLine (line_by (is_text (codes "end")) scores.1) end) where
             pub more_lines : (bad : BadLine) → Fails (nothing_left end.1) bad → Fails (log_in left) bad
             unfolding log_in
-            more_lines bad h = rw (headed, told, paid, opened, scored, closed, h) refl
+            more_lines bad h = rw (was_read (head_in left) head headed, was_read (repeat 28 0 history_in head.1) histories told, was_read (cash_in histories.1) cash paid, sym opened, was_read (repeat 8 0 score_in sheet.1) scores scored, sym closed, h) refl
 
-            pub whole_log : (u : Unit {0}) → Is (nothing_left end.1) u → Is (log_in left) (record { head = head.0; histories = histories.0; cash = cash.0; scores = scores.0 })
+            pub whole_log : (u : Unit {0}) → IsLine (nothing_left end.1) u → log_in left ≡ Ok (record { head = head.0; histories = histories.0; cash = cash.0; scores = scores.0 })
             unfolding log_in
-            whole_log u h = rw (headed, told, paid, opened, scored, closed, h) refl
+            whole_log u h = rw (was_read (head_in left) head headed, was_read (repeat 28 0 history_in head.1) histories told, was_read (cash_in histories.1) cash paid, sym opened, was_read (repeat 8 0 score_in sheet.1) scores scored, sym closed, sym h) refl
