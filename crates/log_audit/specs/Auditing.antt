@@ -53,11 +53,11 @@ pub record IsStruck (setup : Setup) (history : List Entry) (position : ℕ) (aft
 abbrev pub calls_for : ℕ → List (ℕ × Call) → List Call
 calls_for good calls = map (λ entry. entry.1) (filter (λ entry. entry.0 == good) calls)
 
--- An entry, before which this many of the calls that are due were made: how many were made with it, and None if it is of the clock and
--- not the next one.
-abbrev pub IsFollowed : List Call → ℕ → ℕ → Call → Option ℕ → Type 0
-IsFollowed due made caller call None = (caller ≡ clock) × (slice_get due made ≡ Some call → ⊥)
-IsFollowed due made caller call (Some next) = ((caller ≡ clock) × (slice_get due made ≡ Some call) × (next ≡ made + 1)) ⊎ ((caller ≢ clock) × (next ≡ made))
+-- An entry keeps to the schedule if it makes the next call that is due, or is not of the clock. This many of the calls were made before it; the result
+-- is how many were made with it, and None if it does not keep to the schedule.
+abbrev pub KeepsSchedule : List Call → ℕ → ℕ → Call → Option ℕ → Type 0
+KeepsSchedule due made caller call None = (caller ≡ clock) × (slice_get due made ≡ Some call → ⊥)
+KeepsSchedule due made caller call (Some next) = ((caller ≡ clock) × (slice_get due made ≡ Some call) × (next ≡ made + 1)) ⊎ ((caller ≢ clock) × (next ≡ made))
 
 -- ---- cash
 
@@ -81,8 +81,8 @@ HasNamedEntry history named good position = (e : Entry) → slice_get history po
 
 -- ---- ends
 
--- An agent whose seat this many links have, before which this many ends were due: how many are due with it, and None if it has a seat
--- and the next end is not its own.
-abbrev pub IsEndFollowed : List ℕ → ℕ → ℕ → ℕ → Option ℕ → Type 0
-IsEndFollowed ended place agent seats None = (0 < seats) × (slice_get ended place ≡ Some agent → ⊥)
-IsEndFollowed ended place agent seats (Some next) = ((0 < seats) × (slice_get ended place ≡ Some agent) × (next ≡ place + 1)) ⊎ ((seats ≡ 0) × (next ≡ place))
+-- The ends of sessions keep to an agent if the next one is the agent's, or no link has its seat. This many ends are of agents before it; the result is
+-- how many are of agents up to it, and None if they do not keep to it.
+abbrev pub KeepsEnds : List ℕ → ℕ → ℕ → ℕ → Option ℕ → Type 0
+KeepsEnds ended place agent seats None = (0 < seats) × (slice_get ended place ≡ Some agent → ⊥)
+KeepsEnds ended place agent seats (Some next) = ((0 < seats) × (slice_get ended place ≡ Some agent) × (next ≡ place + 1)) ⊎ ((seats ≡ 0) × (next ≡ place))

@@ -1,7 +1,7 @@
 // The head of a log, compared with its histories.
 ghost use Rattle.std.specs.Prelude.{◌≡◌, ◌==◌, ℕ, ◌≤◌, ◌↔◌, map, Some, length, slice_get, IsTrue};
 ghost use Rattle.std.specs.List.{list_any};
-ghost use Rattle.log_audit.specs.Auditing.{IsEndFollowed};
+ghost use Rattle.log_audit.specs.Auditing.{KeepsEnds};
 ghost use Rattle.log_text.specs.SoundLog.{seatings, logged_seats, HasNoEntry, IsService, IsSoundHead};
 
 use crate::goods::good_of;
@@ -50,7 +50,7 @@ fn follow_end(
     agent: Agent,
 ) -> Option<usize>
     requires { ended ≤ length ends.now }
-    ensures { IsEndFollowed (map (λ end. end.0) ends.now) ended agent (seatings verdicts.now agent) result }
+    ensures { KeepsEnds (map (λ end. end.0) ends.now) ended agent (seatings verdicts.now agent) result }
 {
     if count_seats(verdicts, agent) == 0 {
         return Some(ended);

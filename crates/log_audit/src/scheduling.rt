@@ -2,7 +2,7 @@
 ghost use Rattle.std.specs.Prelude.{◌≡◌, ◌↔◌, ◌++◌, [], ◌∷◌, ℕ, ◌≤◌, Some, length, take, slice_get, IfOk, OnOk, OnErr, IsTrue};
 ghost use Rattle.game_text.specs.Schedule.{calls_at, clock_calls};
 ghost use Rattle.log_text.specs.SoundLog.{clock_calls_in, logged_history};
-ghost use Rattle.log_audit.specs.{IsOnSchedule, IsFollowed, IsLowestBelow, calls_for};
+ghost use Rattle.log_audit.specs.{IsOnSchedule, KeepsSchedule, IsLowestBelow, calls_for};
 
 use crate::goods::{good_of, tick_after};
 use clock_events::{schedule, schedule_law};
@@ -66,7 +66,7 @@ fn is_next(due: &[Call], place: usize, call: &Call) -> bool
 /// How many calls that are due were made with an entry, if this many were made before it. None if it is of the clock, and not the next one.
 fn follow(due: &[Call], made: usize, entry: &Entry) -> Option<usize>
     requires { made ≤ length due.now }
-    ensures { IsFollowed due.now made entry.now.caller entry.now.call result }
+    ensures { KeepsSchedule due.now made entry.now.caller entry.now.call result }
 {
     if entry.caller != Caller::clock() {
         return Some(made);

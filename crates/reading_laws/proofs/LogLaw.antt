@@ -260,21 +260,21 @@ exception_refused text line b =
     let number = 1 + length t.prior in
     let rest = lines_from false (number + 1) (t.part ∷ t.others) in
     let others = lines_from false (number + 1) (o.part ∷ o.others) in
-    let said : NumberedLine = record { number = number; bytes = cert_line b.agent b.count } in
-    let told : NumberedLine = record { number = number; bytes = cert_line b.agent d.count } in
-    let here : left_of false text ≡ there front.0 said rest = ap (lines_from false 1) t.are ∙ front.1.again said.bytes (t.part ∷ t.others) in
-    let log_here : left_of false d.other ≡ there front.0 told others =
-    ap (lines_from false 1) (o.are ∙ ap (λ (ls : List (List ℕ)). ls ++ told.bytes ∷ o.part ∷ o.others) prior) ∙ front.1.again told.bytes (o.part ∷ o.others) in
+    let cert : NumberedLine = record { number = number; bytes = cert_line b.agent b.count } in
+    let log_cert : NumberedLine = record { number = number; bytes = cert_line b.agent d.count } in
+    let here : left_of false text ≡ there front.0 cert rest = ap (lines_from false 1) t.are ∙ front.1.again cert.bytes (t.part ∷ t.others) in
+    let log_here : left_of false d.other ≡ there front.0 log_cert others =
+    ap (lines_from false 1) (o.are ∙ ap (λ (ls : List (List ℕ)). ls ++ log_cert.bytes ∷ o.part ∷ o.others) prior) ∙ front.1.again log_cert.bytes (o.part ∷ o.others) in
     let lack = subst (λ (l : Remaining). AllLack (bytes_of l.lines)) log_here (left_lack 1 (parts_of 10 d.other) (parts_lack d.other)) in
     let log = only d.other d.is in
-    let r = (log_meets b.agent low).met front.0 told others (d.count, refl) lack log.0 (ap log_in (sym log_here) ∙ log.1) in
+    let r = (log_meets b.agent low).met front.0 log_cert others (d.count, refl) lack log.0 (ap log_in (sym log_here) ∙ log.1) in
     let count = length-map t.prior with_end in
     let before = ap length t.before_is in
     let place : length b.before + 1 ≡ number = omega (arith, count, before) in
     let bad = subst (λ (n : ℕ). IsBadAfter n (with_ends (t.part ∷ t.others)) b.count line) place (subst (λ (ls : List (List ℕ)). IsBadAfter (length b.before + 1) ls b.count line) t.after_is b.bad) in
     let a = after_bad number b.count line (with_ends (t.part ∷ t.others)) (block_of b.count rest) (block_of_taken b.count (number + 1) rest t.part t.others refl) bad in
-    let cert = counted b.agent low said b.count rest (count_again b.agent b.count low b.few) ∙ a.1 in
-    (a.0, ap log_in here ∙ r.is said rest (b.count, refl) ∙ ap (λ (s : Result (Tree × Remaining) BadLine). s >>= r.next) cert, a.2)
+    let read = counted b.agent low cert b.count rest (count_again b.agent b.count low b.few) ∙ a.1 in
+    (a.0, ap log_in here ∙ r.is cert rest (b.count, refl) ∙ ap (λ (s : Result (Tree × Remaining) BadLine). s >>= r.next) read, a.2)
 
 -- ---- the law
 

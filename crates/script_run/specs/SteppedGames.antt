@@ -39,17 +39,13 @@ TellsGame game given sink sink' (Err Unwritten) = (text : List ℕ) × (IsFirstO
 TellsGame game given sink sink' (Err Memory) = (text : List ℕ) × IsFirstOut game given text × TookWhole sink sink' text
 TellsGame game given sink sink' result = ⊥
 
--- a read failed, and nothing else: the replies had been written whole
-abbrev pub IsUnread : List ℕ → SinkState → SinkState → Result (Unit {0}) StepFault → Type 0
-IsUnread text sink sink' result = (result ≡ Err Unread) × TookWhole sink sink' text
-
 -- What was written and answered of a script that gave these bytes and stands so. Any read may fail, and a write may fail after it; so the replies to
 -- all lines that came before a read are written before it.
 abbrev pub Tells : GameFile → List ℕ → Standing → SinkState → SinkState → Result (Unit {0}) StepFault → Type 0
 Tells game given Whole sink sink' result = TellsGame game given sink sink' result
 Tells game given (BadAt line reason) sink sink' result = TellsFault (replies game (heard_lines given)) (Line line reason) sink sink' result
 Tells game given Overlong sink sink' result = TellsFault (replies game (heard_lines given)) TooLong sink sink' result
-Tells game given BrokenOff sink sink' result = IsUnread (replies game (heard_lines given)) sink sink' result
+Tells game given BrokenOff sink sink' result = (result ≡ Err Unread) × TookWhole sink sink' (replies game (heard_lines given))
 Tells game given Open sink sink' result = IsUnwritten (replies game (heard_lines given)) sink sink' result
 
 -- ---- both
