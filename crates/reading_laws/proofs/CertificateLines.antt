@@ -94,23 +94,34 @@ module _ (agent : ℕ) (low : agent ≤ 7) where
     pub next : Tree × Remaining → Result X BadLine
     pub is : (cert : NumberedLine) (other : Remaining) → IsCertLine cert.bytes → read (there front cert other) ≡ (cert_in agent (onto (cert ∷ []) other) >>= next)
 
+  -- such a line after these, and those after it
+  pub record Place (front : List NumberedLine) : Type 0 where
+    pub cert : NumberedLine
+    pub rest : Remaining
+    pub is : IsCertLine cert.bytes
+    pub lack : AllLack (bytes_of (front ++ cert ∷ rest.lines))
+
+  -- all of them
+  abbrev pub whole : (front : List NumberedLine) → Place front → Remaining
+  whole front p = there front p.cert p.rest
+
   -- or it ends before the line, and would do so with any such line there
-  pub record Passes {A : Type 0} (step : Step A BadLine) (front : List NumberedLine) (cert : NumberedLine) (rest : Remaining) (x : A × Remaining) : Type 0 where
+  pub record Passes {A : Type 0} (step : Step A BadLine) (front : List NumberedLine) (p : Place front) (x : A × Remaining) : Type 0 where
     pub back : List NumberedLine
-    pub left_is : x.1 ≡ there back cert rest
-    pub lack : AllLack (bytes_of (back ++ cert ∷ rest.lines))
+    pub left_is : x.1 ≡ there back p.cert p.rest
+    pub lack : AllLack (bytes_of (back ++ p.cert ∷ p.rest.lines))
     pub again : (line : NumberedLine) (other : Remaining) → IsCertLine line.bytes → step (there front line other) ≡ Ok (x.0, there back line other)
 
-  abbrev Met : {A : Type 0} → Step A BadLine → List NumberedLine → NumberedLine → Remaining → A × Remaining → Type 0
-  Met step front cert rest x = Reaches step front ⊎ Passes step front cert rest x
+  abbrev Met : {A : Type 0} → Step A BadLine → (front : List NumberedLine) → Place front → A × Remaining → Type 0
+  Met step front p x = Reaches step front ⊎ Passes step front p x
 
   -- each success of a step is one of the two
   pub record Meets {A : Type 0} (step : Step A BadLine) : Type 0 where
-    pub met : (front : List NumberedLine) (cert : NumberedLine) (rest : Remaining) → IsCertLine cert.bytes → AllLack (bytes_of (front ++ cert ∷ rest.lines)) → (x : A × Remaining) → step (there front cert rest) ≡ Ok x → Met step front cert rest x
+    pub met : (front : List NumberedLine) (p : Place front) (x : A × Remaining) → step (whole front p) ≡ Ok x → Met step front p x
 
   -- a reader of a whole text comes to the line
   pub record MeetsAll {X : Type 0} (read : Reader X BadLine) : Type 0 where
-    pub met : (front : List NumberedLine) (cert : NumberedLine) (rest : Remaining) → IsCertLine cert.bytes → AllLack (bytes_of (front ++ cert ∷ rest.lines)) → (x : X) → read (there front cert rest) ≡ Ok x → Reaches read front
+    pub met : (front : List NumberedLine) (p : Place front) (x : X) → read (whole front p) ≡ Ok x → Reaches read front
 
   -- ---- one after another
 
@@ -123,41 +134,48 @@ module _ (agent : ℕ) (low : agent ≤ 7) where
       let follows = λ (x : A × Remaining). next x.0 x.1 in
       record { next = λ y. r.next y >>= follows; is = λ cert other is. ap (λ (s : Result (A × Remaining) BadLine). s >>= follows) (r.is cert other is) ∙ bind_bind (cert_in agent (onto (cert ∷ []) other)) r.next follows }
 
-  reaches_later : {A X : Type 0} (step : Step A BadLine) (next : A → Reader X BadLine) (front : List NumberedLine) (cert : NumberedLine) (rest : Remaining) (x : A × Remaining) (p : Passes step front cert rest x) → Reaches (next x.0) p.back → Reaches (λ l. step l >>= λ y. next y.0 y.1) front
-  reaches_later {A} {X} step next front cert rest x p r =
-      record { next = r.next; is = λ line other is. ap (λ (s : Result (A × Remaining) BadLine). s >>= λ y. next y.0 y.1) (p.again line other is) ∙ r.is line other is }
+  -- the next step begins at the lines that are left before the line
+  module _ {A X : Type 0} (step : Step A BadLine) (next : A → Reader X BadLine) (front : List NumberedLine) (p : Place front) (x : A × Remaining) (q : Passes step front p x) where
+    abbrev place : Place q.back
+    place = record { cert = p.cert; rest = p.rest; is = p.is; lack = q.lack }
+
+    follows : (line : NumberedLine) (other : Remaining) → IsCertLine line.bytes → (step (there front line other) >>= λ y. next y.0 y.1) ≡ next x.0 (there q.back line other)
+    follows line other is = ap (λ (s : Result (A × Remaining) BadLine). s >>= λ y. next y.0 y.1) (q.again line other is)
+
+    reaches_later : Reaches (next x.0) q.back → Reaches (λ l. step l >>= λ y. next y.0 y.1) front
+    reaches_later r = record { next = r.next; is = λ line other is. follows line other is ∙ r.is line other is }
 
   then_meets : {A B : Type 0} (step : Step A BadLine) (next : A → Step B BadLine) → Meets step → ((a : A) → Meets (next a)) → Meets (λ l. step l >>= λ x. next x.0 x.1)
   then_meets {A} {B} step next m each = record {
-    met = λ front cert rest is lack y e.
-        let a = bind_ok (step (there front cert rest)) (λ x. next x.0 x.1) y e in
+    met = λ front p y e.
+        let a = bind_ok (step (whole front p)) (λ x. next x.0 x.1) y e in
         let both = λ (l : Remaining). step l >>= λ x. next x.0 x.1 in
-        elim (m.met front cert rest is lack a.0 a.1) as (λ _. Met both front cert rest y) [
+        elim (m.met front p a.0 a.1) as (λ _. Met both front p y) [
           | inl r ↦ inl (reaches_first step next front r)
-          | inr p ↦ elim ((each a.0.0).met p.back cert rest is p.lack y (ap (next a.0.0) (sym p.left_is) ∙ a.2)) as (λ _. Met both front cert rest y) [
-            | inl r ↦ inl (reaches_later step next front cert rest a.0 p r)
-            | inr q ↦ inr (record { back = q.back; left_is = q.left_is; lack = q.lack; again = λ line other is'. ap (λ (s : Result (A × Remaining) BadLine). s >>= λ x. next x.0 x.1) (p.again line other is') ∙ q.again line other is' })
+          | inr q ↦ elim ((each a.0.0).met q.back (place step next front p a.0 q) y (ap (next a.0.0) (sym q.left_is) ∙ a.2)) as (λ _. Met both front p y) [
+            | inl r ↦ inl (reaches_later step next front p a.0 q r)
+            | inr o ↦ inr (record { back = o.back; left_is = o.left_is; lack = o.lack; again = λ line other is. follows step next front p a.0 q line other is ∙ o.again line other is })
           ]
         ];
   }
 
   all_then : {A X : Type 0} (step : Step A BadLine) (next : A → Reader X BadLine) → Meets step → ((a : A) → MeetsAll (next a)) → MeetsAll (λ l. step l >>= λ x. next x.0 x.1)
   all_then {A} {X} step next m each = record {
-    met = λ front cert rest is lack y e.
-        let a = bind_ok (step (there front cert rest)) (λ x. next x.0 x.1) y e in
-        elim (m.met front cert rest is lack a.0 a.1) as (λ _. Reaches (λ (l : Remaining). step l >>= λ x. next x.0 x.1) front) [
+    met = λ front p y e.
+        let a = bind_ok (step (whole front p)) (λ x. next x.0 x.1) y e in
+        elim (m.met front p a.0 a.1) as (λ _. Reaches (λ (l : Remaining). step l >>= λ x. next x.0 x.1) front) [
           | inl r ↦ reaches_first step next front r
-          | inr p ↦ reaches_later step next front cert rest a.0 p ((each a.0.0).met p.back cert rest is p.lack y (ap (next a.0.0) (sym p.left_is) ∙ a.2))
+          | inr q ↦ reaches_later step next front p a.0 q ((each a.0.0).met q.back (place step next front p a.0 q) y (ap (next a.0.0) (sym q.left_is) ∙ a.2))
         ];
   }
 
-  passed : {A : Type 0} (step : Step A BadLine) (front back : List NumberedLine) (cert : NumberedLine) (rest : Remaining) (value : A) (x : A × Remaining) → IsCertLine cert.bytes → step (there front cert rest) ≡ Ok x → AllLack (bytes_of (back ++ cert ∷ rest.lines))
-      → ((line : NumberedLine) (other : Remaining) → IsCertLine line.bytes → step (there front line other) ≡ Ok (value, there back line other)) → Passes step front cert rest x
-  passed step front back cert rest value x is e lack again =
-      subst (Passes step front cert rest) (ok_is {E = BadLine} (value, there back cert rest) x (sym (again cert rest is) ∙ e)) (record { back = back; left_is = refl; lack = lack; again = again })
+  passed : {A : Type 0} (step : Step A BadLine) (front back : List NumberedLine) (p : Place front) (value : A) (x : A × Remaining) → step (whole front p) ≡ Ok x → AllLack (bytes_of (back ++ p.cert ∷ p.rest.lines))
+      → ((line : NumberedLine) (other : Remaining) → IsCertLine line.bytes → step (there front line other) ≡ Ok (value, there back line other)) → Passes step front p x
+  passed step front back p value x e lack again =
+      subst (Passes step front p) (ok_is {E = BadLine} (value, there back p.cert p.rest) x (sym (again p.cert p.rest p.is) ∙ e)) (record { back = back; left_is = refl; lack = lack; again = again })
 
   done_meets : {A : Type 0} (x : A) → Meets (λ left. Ok (x, left))
-  done_meets x = record { met = λ front cert rest is lack y e. inr (passed (λ left. Ok (x, left)) front front cert rest x y is e lack (λ line other is'. refl)) }
+  done_meets x = record { met = λ front p y e. inr (passed (λ left. Ok (x, left)) front front p x y e p.lack (λ line other is. refl)) }
 
   repeat_meets : {A : Type 0} (step : ℕ → Step A BadLine) (most : ℕ) → ((i : ℕ) → i < most → Meets (step i)) → (count from : ℕ) → from + count ≤ most → Meets (repeat count from step)
   unfolding repeat
@@ -169,9 +187,9 @@ module _ (agent : ℕ) (low : agent ≤ 7) where
   -- nothing may be left
   end_meets : {X : Type 0} (x : X) → MeetsAll (λ left. nothing_left left >>= λ done. Ok x)
   end_meets {X} x = record { met = by_front } where
-    by_front : (front : List NumberedLine) (cert : NumberedLine) (rest : Remaining) → IsCertLine cert.bytes → AllLack (bytes_of (front ++ cert ∷ rest.lines)) → (y : X) → (nothing_left (there front cert rest) >>= λ done. Ok x) ≡ Ok y → Reaches (λ left. nothing_left left >>= λ done. Ok x) front
-    by_front [] cert rest is lack y e = absurd cc
-    by_front (line ∷ front) cert rest is lack y e = absurd cc
+    by_front : (front : List NumberedLine) (p : Place front) (y : X) → (nothing_left (whole front p) >>= λ done. Ok x) ≡ Ok y → Reaches (λ left. nothing_left left >>= λ done. Ok x) front
+    by_front [] p y e = absurd cc
+    by_front (line ∷ front) p y e = absurd cc
 
   -- ---- a line by a form that such a line does not have
 
@@ -180,14 +198,13 @@ module _ (agent : ℕ) (low : agent ≤ 7) where
     refused : (line : NumberedLine) (other : Remaining) → form line.bytes ≡ None → line_by form (onto (line ∷ []) other) ≡ Err (record { line = line.number; reason = Spelling })
     refused line other h = rw h refl
 
-    by_form : (line : NumberedLine) (front : List NumberedLine) (cert : NumberedLine) (rest : Remaining) → IsCertLine cert.bytes → AllLack (bytes_of (front ++ cert ∷ rest.lines)) → (x : A × Remaining) → line_by form (there (line ∷ front) cert rest) ≡ Ok x → (read : Option A) → form line.bytes ≡ read
-        → Met (λ left. line_by form left) (line ∷ front) cert rest x
-    by_form line front cert rest is lack x e None h = absurd (let no = refused line (there front cert rest) h in cc)
-    by_form line front cert rest is lack x e (Some value) h = inr (passed (λ left. line_by form left) (line ∷ front) front cert rest value x is e lack (λ other after is'. rw h refl))
+    by_form : (line : NumberedLine) (front : List NumberedLine) (p : Place (line ∷ front)) (x : A × Remaining) → line_by form (whole (line ∷ front) p) ≡ Ok x → (read : Option A) → form line.bytes ≡ read → Met (λ left. line_by form left) (line ∷ front) p x
+    by_form line front p x e None h = absurd (let no = refused line (there front p.cert p.rest) h in cc)
+    by_form line front p x e (Some value) h = inr (passed (λ left. line_by form left) (line ∷ front) front p value x e p.lack.1 (λ other after is. rw h refl))
 
-    by_front : (front : List NumberedLine) (cert : NumberedLine) (rest : Remaining) → IsCertLine cert.bytes → AllLack (bytes_of (front ++ cert ∷ rest.lines)) → (x : A × Remaining) → line_by form (there front cert rest) ≡ Ok x → Met (λ left. line_by form left) front cert rest x
-    by_front [] cert rest is lack x e = absurd (let no = refused cert rest (ap form is.1 ∙ none is.0) in cc)
-    by_front (line ∷ front) cert rest is lack x e = by_form line front cert rest is lack.1 x e (form line.bytes) refl
+    by_front : (front : List NumberedLine) (p : Place front) (x : A × Remaining) → line_by form (whole front p) ≡ Ok x → Met (λ left. line_by form left) front p x
+    by_front [] p x e = absurd (let no = refused p.cert p.rest (ap form p.is.1 ∙ none p.is.0) in cc)
+    by_front (line ∷ front) p x e = by_form line front p x e (form line.bytes) refl
 
   -- ---- parts as long as the next line begins with a word that such a line does not have
 
@@ -198,37 +215,34 @@ module _ (agent : ℕ) (low : agent ≤ 7) where
     abbrev one_part : ℕ → ℕ → Step (List A) BadLine
     one_part room from left = step from left >>= λ first. run room (from + 1) first.1 >>= λ others. Ok (first.0 ∷ others.0, others.1)
 
-    stopped : (room from : ℕ) (front : List NumberedLine) (cert : NumberedLine) (rest : Remaining) → IsCertLine cert.bytes → AllLack (bytes_of (front ++ cert ∷ rest.lines)) → (x : List A × Remaining) → run room from (there front cert rest) ≡ Ok x
-        → ((line : NumberedLine) (other : Remaining) → IsCertLine line.bytes → begins word (there front line other) ≡ false) → Passes (run room from) front cert rest x
-    stopped room from front cert rest is lack x e none = passed (run room from) front front cert rest [] x is e lack (λ line other is'. stops word step room from (there front line other) (none line other is'))
+    stopped : (room from : ℕ) (front : List NumberedLine) (p : Place front) (x : List A × Remaining) → run room from (whole front p) ≡ Ok x → ((line : NumberedLine) (other : Remaining) → IsCertLine line.bytes → begins word (there front line other) ≡ false) → Passes (run room from) front p x
+    stopped room from front p x e none = passed (run room from) front front p [] x e p.lack (λ line other is. stops word step room from (there front line other) (none line other is))
 
     -- a part, and those after it
-    longer : (room from : ℕ) (line : NumberedLine) (front : List NumberedLine) → first_is word (words_of line.bytes) ≡ true → Meets (one_part room from) → (cert : NumberedLine) (rest : Remaining) → IsCertLine cert.bytes → AllLack (bytes_of ((line ∷ front) ++ cert ∷ rest.lines)) → (x : List A × Remaining)
-        → run (suc room) from (there (line ∷ front) cert rest) ≡ Ok x → Met (run (suc room) from) (line ∷ front) cert rest x
-    longer room from line front begun m cert rest is lack x e =
+    longer : (room from : ℕ) (line : NumberedLine) (front : List NumberedLine) → first_is word (words_of line.bytes) ≡ true → Meets (one_part room from) → (p : Place (line ∷ front)) (x : List A × Remaining) → run (suc room) from (whole (line ∷ front) p) ≡ Ok x → Met (run (suc room) from) (line ∷ front) p x
+    longer room from line front begun m p x e =
         let again = λ (l : NumberedLine) (other : Remaining). goes word step room from (there (line ∷ front) l other) begun in
-        elim (m.met (line ∷ front) cert rest is lack x (sym (again cert rest) ∙ e)) as (λ _. Met (run (suc room) from) (line ∷ front) cert rest x) [
-          | inl r ↦ inl (record { next = r.next; is = λ l other is'. again l other ∙ r.is l other is' })
-          | inr p ↦ inr (record { back = p.back; left_is = p.left_is; lack = p.lack; again = λ l other is'. again l other ∙ p.again l other is' })
+        elim (m.met (line ∷ front) p x (sym (again p.cert p.rest) ∙ e)) as (λ _. Met (run (suc room) from) (line ∷ front) p x) [
+          | inl r ↦ inl (record { next = r.next; is = λ l other is. again l other ∙ r.is l other is })
+          | inr q ↦ inr (record { back = q.back; left_is = q.left_is; lack = q.lack; again = λ l other is. again l other ∙ q.again l other is })
         ]
 
-    at_most : (from : ℕ) (line : NumberedLine) (front : List NumberedLine) (cert : NumberedLine) (rest : Remaining) → IsCertLine cert.bytes → AllLack (bytes_of ((line ∷ front) ++ cert ∷ rest.lines)) → (x : List A × Remaining) → run 0 from (there (line ∷ front) cert rest) ≡ Ok x
-        → (b : Bool) → first_is word (words_of line.bytes) ≡ b → Met (run 0 from) (line ∷ front) cert rest x
-    at_most from line front cert rest is lack x e false h = inr (stopped 0 from (line ∷ front) cert rest is lack x e (λ l other is'. h))
-    at_most from line front cert rest is lack x e true h = absurd (let no = full word step from (there (line ∷ front) cert rest) h in cc)
+    at_most : (from : ℕ) (line : NumberedLine) (front : List NumberedLine) (p : Place (line ∷ front)) (x : List A × Remaining) → run 0 from (whole (line ∷ front) p) ≡ Ok x → (b : Bool) → first_is word (words_of line.bytes) ≡ b → Met (run 0 from) (line ∷ front) p x
+    at_most from line front p x e false h = inr (stopped 0 from (line ∷ front) p x e (λ l other is. h))
+    at_most from line front p x e true h = absurd (let no = full word step from (whole (line ∷ front) p) h in cc)
 
-    at_part : (room from : ℕ) → Meets (run room (from + 1)) → (line : NumberedLine) (front : List NumberedLine) (cert : NumberedLine) (rest : Remaining) → IsCertLine cert.bytes → AllLack (bytes_of ((line ∷ front) ++ cert ∷ rest.lines)) → (x : List A × Remaining)
-        → run (suc room) from (there (line ∷ front) cert rest) ≡ Ok x → (b : Bool) → first_is word (words_of line.bytes) ≡ b → Met (run (suc room) from) (line ∷ front) cert rest x
-    at_part room from others line front cert rest is lack x e false h = inr (stopped (suc room) from (line ∷ front) cert rest is lack x e (λ l other is'. h))
-    at_part room from others line front cert rest is lack x e true h =
+    at_part : (room from : ℕ) → Meets (run room (from + 1)) → (line : NumberedLine) (front : List NumberedLine) (p : Place (line ∷ front)) (x : List A × Remaining) → run (suc room) from (whole (line ∷ front) p) ≡ Ok x → (b : Bool) → first_is word (words_of line.bytes) ≡ b
+        → Met (run (suc room) from) (line ∷ front) p x
+    at_part room from others line front p x e false h = inr (stopped (suc room) from (line ∷ front) p x e (λ l other is. h))
+    at_part room from others line front p x e true h =
         let m = then_meets (step from) (λ first left. run room (from + 1) left >>= λ others. Ok (first ∷ others.0, others.1)) (each from)
         (λ first. then_meets (run room (from + 1)) (λ xs left. Ok (first ∷ xs, left)) others (λ xs. done_meets (first ∷ xs))) in
-        longer room from line front h m cert rest is lack x e
+        longer room from line front h m p x e
 
-    run_met : (room from : ℕ) (front : List NumberedLine) (cert : NumberedLine) (rest : Remaining) → IsCertLine cert.bytes → AllLack (bytes_of (front ++ cert ∷ rest.lines)) → (x : List A × Remaining) → run room from (there front cert rest) ≡ Ok x → Met (run room from) front cert rest x
-    run_met room from [] cert rest is lack x e = inr (stopped room from [] cert rest is lack x e (λ line other is'. ap (λ (b : List ℕ). first_is word (words_of b)) is'.1 ∙ other_word is'.0))
-    run_met zero from (line ∷ front) cert rest is lack x e = at_most from line front cert rest is lack x e (first_is word (words_of line.bytes)) refl
-    run_met (suc room) from (line ∷ front) cert rest is lack x e = at_part room from (record { met = run_met room (from + 1) }) line front cert rest is lack x e (first_is word (words_of line.bytes)) refl
+    run_met : (room from : ℕ) (front : List NumberedLine) (p : Place front) (x : List A × Remaining) → run room from (whole front p) ≡ Ok x → Met (run room from) front p x
+    run_met room from [] p x e = inr (stopped room from [] p x e (λ line other is. ap (λ (b : List ℕ). first_is word (words_of b)) is.1 ∙ other_word is.0))
+    run_met zero from (line ∷ front) p x e = at_most from line front p x e (first_is word (words_of line.bytes)) refl
+    run_met (suc room) from (line ∷ front) p x e = at_part room from (record { met = run_met room (from + 1) }) line front p x e (first_is word (words_of line.bytes)) refl
 
     run_meets : (room from : ℕ) → Meets (run room from)
     run_meets room from = record { met = run_met room from }
@@ -250,42 +264,42 @@ module _ (agent : ℕ) (low : agent ≤ 7) where
 
   module _ (other : ℕ) (small : other ≤ 7) where
     -- the line is the first
-    at_first : (cert : NumberedLine) (rest : Remaining) → IsCertLine cert.bytes → (x : Tree × Remaining) → cert_in other (onto (cert ∷ []) rest) ≡ Ok x → (count : Option ℕ) → read_count other cert.bytes ≡ count → Reaches (cert_in other) []
-    at_first cert rest is x e None h = absurd (let no = no_count other small cert rest h in cc)
-    at_first cert rest is x e (Some count) h =
-        let same = one_agent other is.0 count small (sym is.1 ∙ (count_is other cert.bytes count h).0) in
-        subst (λ (a : ℕ). Reaches (cert_in a) []) same (record { next = λ y. Ok y; is = λ line left is'. bind_done (cert_in agent (onto (line ∷ []) left)) })
+    at_first : (p : Place []) (x : Tree × Remaining) → cert_in other (whole [] p) ≡ Ok x → (count : Option ℕ) → read_count other p.cert.bytes ≡ count → Reaches (cert_in other) []
+    at_first p x e None h = absurd (let no = no_count other small p.cert p.rest h in cc)
+    at_first p x e (Some count) h =
+        let same = one_agent other p.is.0 count small (sym p.is.1 ∙ (count_is other p.cert.bytes count h).0) in
+        subst (λ (a : ℕ). Reaches (cert_in a) []) same (record { next = λ y. Ok y; is = λ line left is. bind_done (cert_in agent (onto (line ∷ []) left)) })
 
-    -- the line is after the first, and no line of the certificate
-    within : (lines : List NumberedLine) (front : List NumberedLine) (cert : NumberedLine) (back : List NumberedLine) (bytes : List ℕ) (tree : Tree) → IsCertLine cert.bytes → AllLack (bytes_of lines) → lines ≡ front ++ cert ∷ back → bytes ≡ text_of (bytes_of lines) → cert_of bytes ≡ Ok tree → ⊥
+    -- it is no line of the certificate
+    within : (lines front : List NumberedLine) (cert : NumberedLine) (back : List NumberedLine) (bytes : List ℕ) (tree : Tree) → IsCertLine cert.bytes → AllLack (bytes_of lines) → lines ≡ front ++ cert ∷ back → bytes ≡ text_of (bytes_of lines) → cert_of bytes ≡ Ok tree → ⊥
     within lines front cert back bytes tree is lack parts made read =
         let printed = cert_printed bytes tree read in
         let same = same_lines (tree_lines tree) (bytes_of lines) (tree_lacks 32 tree printed.fits) lack (sym printed.same ∙ made) in
         not_among (tree_lines tree) (tree_others tree) (bytes_of front) cert.bytes (bytes_of back) is (same ∙ ap bytes_of parts ∙ map-append (λ (l : NumberedLine). l.bytes) front (cert ∷ back))
 
-    beyond : (count : ℕ) (line : NumberedLine) (used back : List NumberedLine) (cert : NumberedLine) (rest : Remaining) (bytes : List ℕ) (x : Tree × Remaining) → read_count other line.bytes ≡ Some count → ((after : Remaining) → block_of count (onto used after) ≡ Some (bytes, after)) → cert_of bytes ≡ Ok x.0
-        → (l : NumberedLine) (after : Remaining) → cert_in other (there (line ∷ (used ++ back)) l after) ≡ Ok (x.0, there back l after)
-    beyond count line used back cert rest bytes x h again read l after =
+    -- it is after the certificate
+    beyond : (count : ℕ) (line : NumberedLine) (used back : List NumberedLine) (bytes : List ℕ) (tree : Tree) → read_count other line.bytes ≡ Some count → ((after : Remaining) → block_of count (onto used after) ≡ Some (bytes, after)) → cert_of bytes ≡ Ok tree
+        → (l : NumberedLine) (after : Remaining) → cert_in other (there (line ∷ (used ++ back)) l after) ≡ Ok (tree, there back l after)
+    beyond count line used back bytes tree h again read l after =
         ap (λ (ls : List NumberedLine). cert_in other (record after { lines = line ∷ ls })) (append_assoc used back (l ∷ after.lines)) ∙ counted other small line count (onto used (there back l after)) h ∙ rw (again (there back l after), read) refl
 
-    later : (line : NumberedLine) (front : List NumberedLine) (cert : NumberedLine) (rest : Remaining) → IsCertLine cert.bytes → AllLack (bytes_of (front ++ cert ∷ rest.lines)) → (x : Tree × Remaining) → cert_in other (there (line ∷ front) cert rest) ≡ Ok x → (count : Option ℕ) → read_count other line.bytes ≡ count
-        → Met (cert_in other) (line ∷ front) cert rest x
-    later line front cert rest is lack x e None h = absurd (let no = no_count other small line (there front cert rest) h in cc)
-    later line front cert rest is lack x e (Some count) h =
-        let after = there front cert rest in
+    later : (line : NumberedLine) (front : List NumberedLine) (p : Place (line ∷ front)) (x : Tree × Remaining) → cert_in other (whole (line ∷ front) p) ≡ Ok x → (count : Option ℕ) → read_count other line.bytes ≡ count → Met (cert_in other) (line ∷ front) p x
+    later line front p x e None h = absurd (let no = no_count other small line (there front p.cert p.rest) h in cc)
+    later line front p x e (Some count) h =
+        let after = there front p.cert p.rest in
         let b = read_block other small line.number count after x (block_of count after) refl (sym (counted other small line count after h) ∙ e) in
         let n = next_block count after.last after.ended after.lines b.block b.found in
         let parts = map-append (λ (l : NumberedLine). l.bytes) n.used b.block.1.lines in
-        let lacks = subst AllLack (ap bytes_of n.split ∙ parts) lack in
-        elim (in_either n.used b.block.1.lines front cert rest.lines (sym n.split)) as (λ _. Met (cert_in other) (line ∷ front) cert rest x) [
-          | inl i ↦ absurd (within n.used front cert i.0 b.block.0 x.0 is (front_lacks (bytes_of n.used) (bytes_of b.block.1.lines) lacks) i.1 n.bytes_are b.tree)
-          | inr i ↦ inr (passed (cert_in other) (line ∷ front) i.0 cert rest x.0 x is e (subst (λ (ls : List NumberedLine). AllLack (bytes_of ls)) i.2 (later_lack (bytes_of n.used) (bytes_of b.block.1.lines) lacks)) (λ l left is'.
-              ap (λ (ls : List NumberedLine). cert_in other (there (line ∷ ls) l left)) i.1 ∙ beyond count line n.used i.0 cert rest b.block.0 x h n.again b.tree l left))
+        let lacks = subst AllLack (ap bytes_of n.split ∙ parts) p.lack.1 in
+        elim (in_either n.used b.block.1.lines front p.cert p.rest.lines (sym n.split)) as (λ _. Met (cert_in other) (line ∷ front) p x) [
+          | inl i ↦ absurd (within n.used front p.cert i.0 b.block.0 x.0 p.is (front_lacks (bytes_of n.used) (bytes_of b.block.1.lines) lacks) i.1 n.bytes_are b.tree)
+          | inr i ↦ inr (passed (cert_in other) (line ∷ front) i.0 p x.0 x e (subst (λ (ls : List NumberedLine). AllLack (bytes_of ls)) i.2 (later_lack (bytes_of n.used) (bytes_of b.block.1.lines) lacks)) (λ l left is.
+              ap (λ (ls : List NumberedLine). cert_in other (there (line ∷ ls) l left)) i.1 ∙ beyond count line n.used i.0 b.block.0 x.0 h n.again b.tree l left))
         ]
 
-    cert_met : (front : List NumberedLine) (cert : NumberedLine) (rest : Remaining) → IsCertLine cert.bytes → AllLack (bytes_of (front ++ cert ∷ rest.lines)) → (x : Tree × Remaining) → cert_in other (there front cert rest) ≡ Ok x → Met (cert_in other) front cert rest x
-    cert_met [] cert rest is lack x e = inl (at_first cert rest is x e (read_count other cert.bytes) refl)
-    cert_met (line ∷ front) cert rest is lack x e = later line front cert rest is lack.1 x e (read_count other line.bytes) refl
+    cert_met : (front : List NumberedLine) (p : Place front) (x : Tree × Remaining) → cert_in other (whole front p) ≡ Ok x → Met (cert_in other) front p x
+    cert_met [] p x e = inl (at_first p x e (read_count other p.cert.bytes) refl)
+    cert_met (line ∷ front) p x e = later line front p x e (read_count other line.bytes) refl
 
   -- ---- the parts of a log
 

@@ -267,7 +267,7 @@ exception_refused text line b =
     ap (lines_from false 1) (o.are ∙ ap (λ (ls : List (List ℕ)). ls ++ log_cert.bytes ∷ o.part ∷ o.others) prior) ∙ front.1.again log_cert.bytes (o.part ∷ o.others) in
     let lack = subst (λ (l : Remaining). AllLack (bytes_of l.lines)) log_here (left_lack 1 (parts_of 10 d.other) (parts_lack d.other)) in
     let log = only d.other d.is in
-    let r = (log_meets b.agent low).met front.0 log_cert others (d.count, refl) lack log.0 (ap log_in (sym log_here) ∙ log.1) in
+    let r = (log_meets b.agent low).met front.0 (record { cert = log_cert; rest = others; is = (d.count, refl); lack = lack }) log.0 (ap log_in (sym log_here) ∙ log.1) in
     let count = length-map t.prior with_end in
     let before = ap length t.before_is in
     let place : length b.before + 1 ≡ number = omega (arith, count, before) in
