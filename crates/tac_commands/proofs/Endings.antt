@@ -9,7 +9,7 @@ use Rattle.tac_commands.specs.declared.refusals.Refusal.TheVariants.{ReadFault}
 use Rattle.tac_commands.specs.declared.ends.End.{End}
 use Rattle.tac_commands.specs.declared.ends.End.TheVariants as ends
 use Rattle.tac_commands.specs.{Outcome, Done, Unsound, Stopped, Unread, Unwritten, Refused, refusal_end, Reports}
-use Rattle.tac_commands.specs.Ends.{BreaksOff, Ends, EndsOrStops, Stops, Finishes}
+use Rattle.tac_commands.specs.Ends.{Ends, EndsOrStops, Stops, Finishes}
 
 -- a write of a text failed
 reports_some : (allows : Outcome → Type 0) (sink sink' : SinkState) (text : List ℕ) → allows (Done text) ⊎ allows (Unsound text) ⊎ allows (Unwritten text) → TookPart sink sink' text →
@@ -55,10 +55,10 @@ broken_by : (b : Bool) (replies line : List ℕ) (due : ℕ) (sink sink' sink'' 
 broken_by true replies line due sink sink' sink'' code first told = (sink', first, told)
 broken_by false replies line due sink sink' sink'' code first told = (told.0, then_whole replies line sink sink' sink'' first told.1)
 
-reports_broken : (replies : List ℕ) (sink sink' sink'' : SinkState) (end : End) (code : ℕ) → BreaksOff replies sink sink' end → Finishes end sink' sink'' code → Reports (Unread replies) sink sink'' code
-reports_broken replies sink sink' sink'' end code broken finished =
-    let told : Reports (Refused ReadFault) sink' sink'' code = subst (λ (e : End). Finishes e sink' sink'' code) broken.0 finished in
-    broken_by (code == 4) replies (refusal_end ReadFault).1 (refusal_end ReadFault).0 sink sink' sink'' code broken.1 told
+reports_broken : (replies : List ℕ) (sink sink' sink'' : SinkState) (end : End) (code : ℕ) → end ≡ ends.Refused ReadFault → TookWhole sink sink' replies → Finishes end sink' sink'' code → Reports (Unread replies) sink sink'' code
+reports_broken replies sink sink' sink'' end code is whole finished =
+    let told : Reports (Refused ReadFault) sink' sink'' code = subst (λ (e : End). Finishes e sink' sink'' code) is finished in
+    broken_by (code == 4) replies (refusal_end ReadFault).1 (refusal_end ReadFault).0 sink sink' sink'' code whole told
 
 pub reports_or_stops : (allows : Outcome → Type 0) (sink sink' sink'' : SinkState) (end : End) (code : ℕ) → EndsOrStops allows sink sink' end → Finishes end sink' sink'' code →
     (outcome : Outcome) × allows outcome × Reports outcome sink sink'' code
@@ -66,7 +66,7 @@ reports_or_stops allows sink sink' sink'' end code (inl ended) finished = report
 reports_or_stops allows sink sink' sink'' end code (inr (inl stops)) finished =
     (Stopped stops.0 stops.1, stops.2, reports_stopped stops.0 stops.1 sink sink' sink'' end code stops.3 finished)
 reports_or_stops allows sink sink' sink'' end code (inr (inr broken)) finished =
-    (Unread broken.0, broken.1, reports_broken broken.0 sink sink' sink'' end code broken.2 finished)
+    (Unread broken.0, broken.1, reports_broken broken.0 sink sink' sink'' end code broken.2 broken.3 finished)
 
 -- a command that allows some outcomes allows them also if more are allowed
 ends_weaker : (P Q : Outcome → Type 0) (sink sink' : SinkState) (end : End) → ((outcome : Outcome) → P outcome → Q outcome) → Ends P sink sink' end → Ends Q sink sink' end
@@ -83,4 +83,4 @@ ends_weaker P Q sink sink' (ends.Refused refusal) more ended = (more (Refused re
 pub weaker : (P Q : Outcome → Type 0) (sink sink' : SinkState) (end : End) → ((outcome : Outcome) → P outcome → Q outcome) → EndsOrStops P sink sink' end → EndsOrStops Q sink sink' end
 weaker P Q sink sink' end more (inl ended) = inl (ends_weaker P Q sink sink' end more ended)
 weaker P Q sink sink' end more (inr (inl stops)) = inr (inl (stops.0, stops.1, more (Stopped stops.0 stops.1) stops.2, stops.3))
-weaker P Q sink sink' end more (inr (inr broken)) = inr (inr (broken.0, more (Unread broken.0) broken.1, broken.2))
+weaker P Q sink sink' end more (inr (inr broken)) = inr (inr (broken.0, more (Unread broken.0) broken.1, broken.2, broken.3))

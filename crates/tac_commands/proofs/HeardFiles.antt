@@ -14,7 +14,7 @@ use Rattle.script_run.specs.HeardReads.{HasReadCause, StopsThere}
 use Rattle.script_run.proofs.StoodScripts.{bad_is, overlong_is, whole_is}
 use Rattle.tac_commands.specs.declared.file_kinds.FileKind.{FileKind}
 use Rattle.tac_commands.specs.declared.file_kinds.FileKind.TheVariants.{GameScript}
-use Rattle.tac_commands.specs.{read_as, refused_code, Content, HasFault, IsFileRead, Answers, IsGiven, IsHeard, IsUnheard, Outcome, code_of}
+use Rattle.tac_commands.specs.{read_as, refused_code, Content, HasFault, IsFileRead, IsScriptOutcome, IsGiven, IsHeard, IsUnheard, Outcome, code_of}
 use Rattle.tac_commands.proofs.LongFiles.{bad_script, good_script, long_file}
 
 -- why the run stopped at a file, with its code
@@ -73,7 +73,7 @@ module _ (replies : List ScriptLine → List ℕ) (allows : List ScriptLine → 
   unheard_so (inr memory) = inl (inr (inl (ap code_of memory.0, memory.2)))
 
   module _ (given : List ℕ) (reading : Reading) (is : IsGiven files.content name given files'.left) (stops : StopsThere reading files'.left) where
-    by_standing : (stands : Standing) → standing given reading ≡ stands → HasReadCause stands files.faults files'.faults → Answers replies allows (heard_lines given) stands outcome →
+    by_standing : (stands : Standing) → standing given reading ≡ stands → HasReadCause stands files.faults files'.faults → IsScriptOutcome replies allows (heard_lines given) stands outcome →
         HeardSo files files' allows name outcome
     by_standing Whole so cause answer =
         let whole = whole_is given reading so in

@@ -5,7 +5,7 @@ use Rattle.tac_io.specs.States.{FilesState, SinkState}
 use Rattle.tac_io.specs.Known.{known_then, then_known}
 use Rattle.tac_io.proofs.KnownPieces.{then_known-nothing}
 use Rattle.game_text.specs.Games.{GameFile}
-use Rattle.tac_io.specs.Taken.{TookPart}
+use Rattle.tac_io.specs.Taken.{TookPart, TookWhole}
 use Rattle.script_run.specs.declared.fault.StepFault.{StepFault}
 use Rattle.script_run.specs.declared.fault.StepFault.TheVariants.{Line, TooLong, Unread, Unwritten, Memory}
 use Rattle.script_run.specs.declared.game.lines.GameLine.{GameLine}
@@ -16,11 +16,11 @@ use Rattle.script_run.specs.LawfulGames.{IsLawfulGame}
 use Rattle.script_run.specs.OneThreadRun.{replies}
 use Rattle.script_run.specs.PlayOuts.{IsFirstOut, IsPlayOut}
 use Rattle.script_run.specs.HeardReads.{HasReadCause}
-use Rattle.script_run.specs.SteppedGames.{Gave, StepsGame, Tells, TellsFault, TellsGame, IsUnread, IsUnwritten}
+use Rattle.script_run.specs.SteppedGames.{Gave, StepsGame, Tells, TellsFault, TellsGame, IsUnwritten}
 use Rattle.script_run.proofs.StoodScripts.{whole_is}
 use Rattle.tac_commands.specs.declared.refusals.Refusal.{Refusal}
 use Rattle.tac_commands.specs.declared.refusals.Refusal.TheVariants as refusals
-use Rattle.tac_commands.specs.{IsPlayText, StepAllows, step_steps, EndsSteps, step_end, Content, Answers, IsGiven, Outcome, Done, Stopped}
+use Rattle.tac_commands.specs.{IsPlayText, StepAllows, step_steps, EndsSteps, step_end, Content, IsScriptOutcome, IsGiven, Outcome, Done, Stopped}
 use Rattle.tac_commands.specs.Outcomes as outcomes
 use Rattle.tac_commands.specs.Runs.{Runs}
 use Rattle.tac_commands.proofs.OneThreadCash.{cash_of_script}
@@ -53,7 +53,7 @@ module _ (game : GameFile) (law : (script : List ℕ) (lines : List GameLine) �
 
   module _ (given : List ℕ) (reading : Reading) (gave : Gave given reading between files') where
     -- the script was heard, and this outcome answers it
-    heard : (outcome : Outcome) (stands : Standing) → standing given reading ≡ stands → Answers (replies game) (StepAllows game) (heard_lines given) stands outcome → Runs (step_steps game name) files files' outcome
+    heard : (outcome : Outcome) (stands : Standing) → standing given reading ≡ stands → IsScriptOutcome (replies game) (StepAllows game) (heard_lines given) stands outcome → Runs (step_steps game name) files files' outcome
     heard outcome stands is answer = (
       inr (
         given,
@@ -61,7 +61,7 @@ module _ (game : GameFile) (law : (script : List ℕ) (lines : List GameLine) �
         given_is files.content name given between.left files'.left found gave.0,
         gave.1,
         subst (λ (n : ℕ). HasReadCause (standing given reading) n files'.faults) quiet gave.2,
-        subst (λ (s : Standing). Answers (replies game) (StepAllows game) (heard_lines given) s outcome) (sym is) answer,
+        subst (λ (s : Standing). IsScriptOutcome (replies game) (StepAllows game) (heard_lines given) s outcome) (sym is) answer,
       ),
       kept ∙ selected,
     )
@@ -107,8 +107,8 @@ module _ (game : GameFile) (law : (script : List ℕ) (lines : List GameLine) �
     fault_end fault text (Err Unwritten) run reports = inr (inl (text, refusal_by fault, run, reports))
     fault_end fault text (Err Memory) run reports = inr (inl (text, refusal_by fault, run, (ap refusal_by reports.0, reports.1)))
 
-    unread_end : (text : List ℕ) (result : Result (Unit {0}) StepFault) → Runs (step_steps game name) files files' (outcomes.Unread text) → IsUnread text sink sink' result → IsEnd result
-    unread_end text result run reports = rw reports.0 (inr (inr (text, run, (refl, reports.1))))
+    unread_end : (text : List ℕ) (result : Result (Unit {0}) StepFault) → Runs (step_steps game name) files files' (outcomes.Unread text) → (result ≡ Err Unread) × TookWhole sink sink' text → IsEnd result
+    unread_end text result run reports = rw reports.0 (inr (inr (text, run, refl, reports.1)))
 
     open_end : (text : List ℕ) (result : Result (Unit {0}) StepFault) → Runs (step_steps game name) files files' (outcomes.Unwritten text) → IsUnwritten text sink sink' result → IsEnd result
     open_end text (Ok done) run reports = absurd reports

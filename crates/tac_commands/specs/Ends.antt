@@ -32,16 +32,13 @@ Stops text refusal sink sink' ends.Unsound = ⊥
 Stops text refusal sink sink' ends.WriteFault = TookPart sink sink' text
 Stops text refusal sink sink' (ends.Refused told) = (told ≡ refusal) × TookWhole sink sink' text
 
--- the replies to a script were written whole, and then a read of it failed, which is to be told
-abbrev pub BreaksOff : List ℕ → SinkState → SinkState → End → Type 0
-BreaksOff replies sink sink' end = (end ≡ ends.Refused ReadFault) × TookWhole sink sink' replies
-
--- a command that allows these outcomes, some of which may stop after a first part or break off, ended so, and left the sink so
+-- A command that allows these outcomes ended so, and left the sink so. It may have stopped after a first part of its text, or after the replies to the
+-- lines of a script that came before a failed read: these were written whole.
 abbrev pub EndsOrStops : (Outcome → Type 0) → SinkState → SinkState → End → Type 0
 EndsOrStops allows sink sink' end =
     Ends allows sink sink' end
     ⊎ ((text : List ℕ) × (refusal : Refusal) × allows (Stopped text refusal) × Stops text refusal sink sink' end)
-    ⊎ ((replies : List ℕ) × allows (Unread replies) × BreaksOff replies sink sink' end)
+    ⊎ ((replies : List ℕ) × allows (Unread replies) × (end ≡ ends.Refused ReadFault) × TookWhole sink sink' replies)
 
 -- a command with these steps over its files ended so, and left the files and the sink so
 abbrev pub EndsSteps : Steps → FilesState → FilesState → SinkState → SinkState → End → Type 0
@@ -52,8 +49,8 @@ abbrev pub EndsBatch : BatchCommand → FilesState → FilesState → SinkState 
 EndsBatch command files files' sink sink' end = EndsSteps (batch_steps command) files files' sink sink' end
 
 -- steps that select no more files ended so, whatever the files are
-abbrev pub EndsUnread : Steps → SinkState → SinkState → End → Type 0
-EndsUnread steps sink sink' end = (files : FilesState) → EndsSteps steps files files sink sink' end
+abbrev pub EndsUnasked : Steps → SinkState → SinkState → End → Type 0
+EndsUnasked steps sink sink' end = (files : FilesState) → EndsSteps steps files files sink sink' end
 
 -- how a command ends that runs a script
 abbrev pub script_end : {A : Type 0} → Result A ScriptFault → End

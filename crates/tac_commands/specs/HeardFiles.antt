@@ -20,17 +20,17 @@ IsUnheard files files' name outcome =
     ((outcome ≡ Refused ReadFault) × IsAtEnd files'.left × Rose files.faults files'.faults)
     ⊎ ((outcome ≡ Refused Memory) × IsGiven files.content name [] files'.left × (files'.faults ≡ files.faults))
 
--- What a script allows that stands so, after these good lines: the replies to them are written, and then what is due; or a failed write kept them
--- from being written whole, but not after a failed read, before which they were written.
-abbrev pub Answers : (List ScriptLine → List ℕ) → (List ScriptLine → Outcome → Type 0) → List ScriptLine → Standing → Outcome → Type 0
-Answers replies allows lines Whole outcome = allows lines outcome
-Answers replies allows lines (BadAt line reason) outcome = outcome ≡ Stopped (replies lines) (TextLine line reason)
-Answers replies allows lines Overlong outcome = outcome ≡ Stopped (replies lines) TextTooLong
-Answers replies allows lines BrokenOff outcome = outcome ≡ Unread (replies lines)
-Answers replies allows lines Open outcome = outcome ≡ Unwritten (replies lines)
+-- The outcome of a script that stands so, after these good lines: the replies to them are written, and then what is due; or a write of them failed,
+-- which ends the reading of a script. So before a read that failed they were written whole.
+abbrev pub IsScriptOutcome : (List ScriptLine → List ℕ) → (List ScriptLine → Outcome → Type 0) → List ScriptLine → Standing → Outcome → Type 0
+IsScriptOutcome replies allows lines Whole outcome = allows lines outcome
+IsScriptOutcome replies allows lines (BadAt line reason) outcome = outcome ≡ Stopped (replies lines) (TextLine line reason)
+IsScriptOutcome replies allows lines Overlong outcome = outcome ≡ Stopped (replies lines) TextTooLong
+IsScriptOutcome replies allows lines BrokenOff outcome = outcome ≡ Unread (replies lines)
+IsScriptOutcome replies allows lines Open outcome = outcome ≡ Unwritten (replies lines)
 
 -- the script of that name was heard, as far as it gave its bytes, and this is the outcome
 abbrev pub IsHeard : (List ScriptLine → List ℕ) → (List ScriptLine → Outcome → Type 0) → FilesState → FilesState → List ℕ → Outcome → Type 0
 IsHeard replies allows files files' name outcome =
     (given : List ℕ) × (reading : Reading) × IsGiven files.content name given files'.left × StopsThere reading files'.left
-    × HasReadCause (standing given reading) files.faults files'.faults × Answers replies allows (heard_lines given) (standing given reading) outcome
+    × HasReadCause (standing given reading) files.faults files'.faults × IsScriptOutcome replies allows (heard_lines given) (standing given reading) outcome

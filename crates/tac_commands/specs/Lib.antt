@@ -30,13 +30,13 @@ pub use Rattle.tac_commands.specs.Words.{IsShortBatch, IsWithinBatch}
 pub use Rattle.tac_commands.specs.Outcomes.{Done, Lapsed, Outcome, Refused, Stopped, Unread, Unsound, Unwritten, code_of, refusal_end}
 pub use Rattle.tac_commands.specs.Steps.{Reads, file}
 pub use Rattle.tac_commands.specs.Files.{Content, HasFault, IsFileRead, IsNotRead}
-pub use Rattle.tac_commands.specs.HeardFiles.{Answers, IsGiven, IsHeard, IsUnheard}
+pub use Rattle.tac_commands.specs.HeardFiles.{IsScriptOutcome, IsGiven, IsHeard, IsUnheard}
 pub use Rattle.tac_commands.specs.Outsides.{outside_of}
 pub use Rattle.tac_commands.specs.SoundTexts.{EndsInSoundLog, log_of_game}
 pub use Rattle.tac_commands.specs.Allowed.{Allows, IsFlawText, IsPlayText, IsServiceEnd, StepAllows, WritesDue, WritesInParts, WritesOrStops, audit_steps, batch_steps, play_steps, step_steps, steps_of, table_steps}
 pub use Rattle.tac_commands.specs.TableRuns.{EndsAtPair, HasAdded, IsAdded, TableGoesOn, outcome_of}
 pub use Rattle.tac_commands.specs.Reporting.{IsCutShort, Reports}
-pub use Rattle.tac_commands.specs.Ends.{EndsBatch, EndsSteps, EndsUnread, Finishes, script_end, step_end}
+pub use Rattle.tac_commands.specs.Ends.{EndsBatch, EndsSteps, EndsUnasked, Finishes, script_end, step_end}
 pub use Rattle.tac_commands.specs.Causes.{AreGood, ClockFaultExactly, GameRefusedExactly, HasBad, HasGoodFiles, HasRefused, HasRefusedGame, HasRefusedText, HasUnsound, HasUnsoundLog, Holds, IsComplete, IsFaultless, IsGoodEnd, IsQuiet, LinkFaultExactly, ReadFaultExactly, TextRefusedExactly, UnsoundExactly, UsageExactly}
 pub use Rattle.tac_commands.specs.Selected.{EndsAt, EndsAtAudit, Selects, SelectsFiles}
 pub use Rattle.tac_commands.specs.Prompt.{HearsPromptly, IsPromptBatch, IsPromptCommand, StepsPromptly}

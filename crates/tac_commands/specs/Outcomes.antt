@@ -4,16 +4,21 @@ use Rattle.tac_commands.specs.declared.refusals.Refusal.{Refusal}
 use Rattle.tac_commands.specs.declared.refusals.Refusal.TheVariants.{Usage, GameLine, GameTooLong, ReadFault, LinkFault, Memory, TextLine, TextTooLong}
 use Rattle.tac_commands.specs.NumberedLines.{numbered}
 
--- a command's text; that of a game in which ticks lapsed; a text that reports an unsound log; a first part of a text, and what is written in
--- place of the rest; a first part that a failed write kept from being written whole; the replies to a script that a failed read broke off, after
--- which that is told; or what is written in place of a text
+-- what a command has to write, and why it ends
 pub data Outcome : Type 0 where
+  -- its text
   Done : (text : List ℕ) → Outcome
+  -- the text of a game in which ticks were missed
   Lapsed : (text : List ℕ) → Outcome
+  -- a text that reports an unsound log
   Unsound : (text : List ℕ) → Outcome
+  -- a first part of a text, and then a refusal
   Stopped : (text : List ℕ) → (refusal : Refusal) → Outcome
+  -- a first part of a text, of which a write failed
   Unwritten : (text : List ℕ) → Outcome
-  Unread : (text : List ℕ) → Outcome
+  -- the replies to the lines of a script that came before a read failed, and then the refusal for that
+  Unread : (replies : List ℕ) → Outcome
+  -- a refusal in place of a text
   Refused : (refusal : Refusal) → Outcome
 
 -- the code that a refusal ends with, and the line that is written
@@ -34,7 +39,7 @@ exit_of (Lapsed text) = (6, text)
 exit_of (Unsound text) = (9, text)
 exit_of (Stopped text refusal) = ((refusal_end refusal).0, text ++ (refusal_end refusal).1)
 exit_of (Unwritten text) = (4, text)
-exit_of (Unread text) = ((refusal_end ReadFault).0, text ++ (refusal_end ReadFault).1)
+exit_of (Unread replies) = ((refusal_end ReadFault).0, replies ++ (refusal_end ReadFault).1)
 exit_of (Refused refusal) = refusal_end refusal
 
 abbrev pub code_of : Outcome → ℕ

@@ -1,7 +1,7 @@
 // The command that judges the log of a game by the game.
 ghost use Rattle.std.specs.Prelude.{◌≡◌, ◌≤◌, [], ◌∷◌, length, IfSome};
 ghost use Rattle.tac_base.specs.declared.limits.TheConstants.{NAME_BYTES};
-ghost use Rattle.tac_commands.specs.{audit_steps, EndsBatch, EndsSteps, EndsUnread, Reads, file};
+ghost use Rattle.tac_commands.specs.{audit_steps, EndsBatch, EndsSteps, EndsUnasked, Reads, file};
 ghost use Rattle.tac_commands.specs.Commands as commands;
 ghost use Rattle.tac_commands.specs.declared.file_kinds.FileKind.TheVariants.{Log as LogKind};
 ghost use Rattle.tac_commands.specs.FlawTexts as texts;
@@ -39,7 +39,7 @@ fn flaw_text(flaw: Flaw) -> Text
 
 /// Judges a log by its game, and writes what was found.
 fn judge<K: Sink>(alloc: Global, game: &Game, log: &Log, out: &mut K) -> End
-    ensures { EndsUnread (audit_steps game.now log.now) (K.state out.old) (K.state out.new) result }
+    ensures { EndsUnasked (audit_steps game.now log.now) (K.state out.old) (K.state out.new) result }
 {
     let Ok(finding) = audit_log(alloc, game, log) else {
         return End::Refused(Refusal::Memory);
