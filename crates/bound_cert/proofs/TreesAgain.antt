@@ -116,7 +116,7 @@ lines_lack-append (x ∷ xs) ys h k = (h.0, lines_lack-append xs ys h.1 k)
 
 -- no line of a certificate has a line end in it
 mutual
-  tree_lines_lack : (depth : ℕ) (tree : Tree) → is_tree depth tree ≡ true → AllByRecursion (Lacks 10) (tree_lines tree)
+  pub tree_lines_lack : (depth : ℕ) (tree : Tree) → is_tree depth tree ≡ true → AllByRecursion (Lacks 10) (tree_lines tree)
   tree_lines_lack depth (leaf prices) h = (row_lacks (codes "leaf") leaf_columns (map pos prices) (lacks_from 10 (codes "leaf") refl) refl (leaf_in prices h), tt)
   tree_lines_lack zero (split client feature trees) h = absurd cc
   tree_lines_lack (suc depth) (split client feature trees) h =

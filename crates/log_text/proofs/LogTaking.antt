@@ -472,11 +472,11 @@ part_lacks_by : (b : Bool) (byte : ℕ) (parts : List (List ℕ)) → eqb byte 1
 part_lacks_by true byte parts e h = (tt, h)
 part_lacks_by false byte parts e h = part_lacks_onto byte parts e h
 
-part_lacks : (text : List ℕ) → AllByRecursion (Lacks 10) (parts_of 10 text)
+pub part_lacks : (text : List ℕ) → AllByRecursion (Lacks 10) (parts_of 10 text)
 part_lacks [] = (tt, tt)
 part_lacks (byte ∷ text) = part_lacks_by (eqb byte 10) byte (parts_of 10 text) refl (part_lacks text)
 
-lines_lack : (number : ℕ) (parts : List (List ℕ)) → AllByRecursion (Lacks 10) parts → AreLines (lines_from false number parts)
+pub lines_lack : (number : ℕ) (parts : List (List ℕ)) → AllByRecursion (Lacks 10) parts → AreLines (lines_from false number parts)
 lines_lack number [] h = tt
 lines_lack number (rest ∷ []) h = tt
 lines_lack number (line ∷ next ∷ parts) h = (h.0, lines_lack (number + 1) (next ∷ parts) h.1)

@@ -13,18 +13,16 @@ use Rattle.text_forms.specs.Lines.{Remaining, text_of, first_number, block_in, b
 use Rattle.text_forms.specs.Steps.{◌>>=◌, repeat, lines_of_parts, one_line}
 use Rattle.text_forms.proofs.PrintedLines.{join_lacks}
 use Rattle.packages.specs.declared.travel_packages.Package.{Package}
-use Rattle.packages.specs.declared.travel_packages.Package.TheVariants as packages
 use Rattle.packages.specs.Packages.{IsPackage}
 use Rattle.bound_cert.specs.Trees.{Tree, leaf, split, IsCertificate}
 use Rattle.bound_cert.specs.Texts.{tree_lines, cert_text}
-use Rattle.bound_cert.proofs.TreesAgain.{text_again}
+use Rattle.bound_cert.proofs.TreesAgain.{text_again, tree_lines_lack}
 use Rattle.settlement.specs.Sheets.{Scored}
 use Rattle.line_protocol.specs.Heads.{Head}
 use Rattle.line_protocol.proofs.JoinedWords.{lacks}
 use Rattle.log_text.specs.{cash_text, histories_text, first_lines, score_line, package_line, cert_line, agent_lines, sheet_part, is_text, read_score, package_of, LoggedGame, logged_text, IsLoggedScore, IsLogged}
 use Rattle.log_text.specs.LogReading.{line_by, cert_in, score_in, head_in, history_in, cash_in, log_in}
 use Rattle.log_text.proofs.SheetFormLaws.{score_again, package_again, count_again, package_lacks, score_lacks}
-use Rattle.log_text.proofs.TreesCut.{tree_lacks}
 use Rattle.log_text.proofs.Taking.{bytes_of_parts, AllFrom, parts_of_lines}
 use Rattle.log_text.proofs.Giving.{Any, and_then, at, next_at, in_front, line_given, GivesBytes, repeat_given}
 use Rattle.log_text.proofs.LogGiving.{text_given, head_given, histories_given, any_kept}
@@ -84,7 +82,7 @@ cert_given agent tree low fits few short number rest =
     ap (λ (t : List ℕ). t ++ rest) (flat_map-cons (λ l. l ++ 10 ∷ []) line (tree_lines tree) ∙ append_assoc line (10 ∷ []) (cert_text tree)) ∙ append_assoc line (10 ∷ cert_text tree) rest in
     let here = ap (at number) made ∙ next_at number line after (count_lacks agent (length (tree_lines tree)) low few) in
     let read = count_again agent (length (tree_lines tree)) low few in
-    let block = block_found (tree_lines tree) (number + 1) rest (some_line tree) (tree_lacks 32 tree fits) in
+    let block = block_found (tree_lines tree) (number + 1) rest (some_line tree) (tree_lines_lack 32 tree fits) in
     let cert = text_again (cert_text tree) tree fits short refl in
     (block.0, ap (cert_in agent) here ∙ rw (read, block.1, cert) refl)
 

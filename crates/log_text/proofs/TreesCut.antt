@@ -15,9 +15,7 @@ use Rattle.bound_cert.specs.NodeLines.{leaf_text, split_text}
 use Rattle.bound_cert.specs.Texts.{tree_lines, forest_lines}
 use Rattle.bound_cert.specs.Trees.{Tree, leaf, split, Trees, no_trees, more, tree_count, are_prices, is_tree, are_trees}
 use Rattle.log_text.specs.Logged.{IsSigned}
-use Rattle.tac_base.proofs.Signed.{Lacks}
-use Rattle.text_forms.proofs.PrintedLines.{join_lacks}
-use Rattle.log_text.proofs.Cuts.{IsWord, row_same, pieces_cons, no_line_ends}
+use Rattle.log_text.proofs.Cuts.{IsWord, row_same, pieces_cons}
 use Rattle.log_text.proofs.Trades.{known_word}
 use Rattle.log_text.proofs.Histories.{signed_are, dollars_same}
 
@@ -142,26 +140,3 @@ mutual
       (sym (text_both (tree_lines t) (forest_lines ts) rest) ∙ e ∙ text_both (tree_lines u) (forest_lines us) more_rest) in
       let others = forest_same depth ts us rest more_rest here.1 here'.1 (omega (arith, n)) first.1 in
       ((λ i. more (first.0 i) (others.0 i)), others.1)
-
--- ---- no line of a certificate has a line end within it
-
-row_lacks : (keyword : List ℕ) (ns : List ℤ) → IsWord keyword → AllByRecursion IsSigned ns → Lacks 10 (row_text keyword ns)
-row_lacks keyword ns word h = join_lacks 10 (keyword ∷ map signed_decimal ns) refl (word.1, no_line_ends (map signed_decimal ns) (signed_are ns h))
-
-both_lack : (xs ys : List (List ℕ)) → AllByRecursion (Lacks 10) xs → AllByRecursion (Lacks 10) ys → AllByRecursion (Lacks 10) (xs ++ ys)
-both_lack [] ys h k = k
-both_lack (x ∷ xs) ys h k = (h.0, both_lack xs ys h.1 k)
-
-mutual
-  pub tree_lacks : (depth : ℕ) (t : Tree) → is_tree depth t ≡ true → AllByRecursion (Lacks 10) (tree_lines t)
-  tree_lacks depth (leaf prices) h = (row_lacks word_leaf (map pos prices) is_word_leaf (prices_are prices h), tt)
-  tree_lacks zero (split client feature children) h = absurd cc
-  tree_lacks (suc depth) (split client feature children) h =
-      let is = split_is depth client feature children h in
-      (row_lacks word_split (pos client ∷ pos feature ∷ []) is_word_split (is.client_signed, (is.feature_signed, tt)), forest_lacks depth children is.below)
-
-  forest_lacks : (depth : ℕ) (ts : Trees) → are_trees depth ts ≡ true → AllByRecursion (Lacks 10) (forest_lines ts)
-  forest_lacks depth no_trees h = tt
-  forest_lacks depth (more t ts) h =
-      let here = both_true (is_tree depth t) (are_trees depth ts) h in
-      both_lack (tree_lines t) (forest_lines ts) (tree_lacks depth t here.0) (forest_lacks depth ts here.1)

@@ -15,7 +15,7 @@ use Rattle.text_forms.proofs.Reading.{bind_ok, ok_is}
 use Rattle.bound_cert.specs.Reading.{cert_of}
 use Rattle.bound_cert.specs.Texts.{tree_lines, forest_lines}
 use Rattle.bound_cert.specs.Trees.{Tree, leaf, split, Trees, no_trees, more}
-use Rattle.bound_cert.proofs.TreesAgain.{parts_again}
+use Rattle.bound_cert.proofs.TreesAgain.{parts_again, tree_lines_lack}
 use Rattle.bound_cert.proofs.TreeTexts.{cert_printed}
 use Rattle.line_protocol.specs.Heads.{Play, Serve}
 use Rattle.log_text.specs.SheetText.{cert_line}
@@ -24,9 +24,9 @@ use Rattle.log_text.specs.EntryForms.{first_is, auction_of, trade_of, read_entry
 use Rattle.log_text.specs.SheetForms.{read_score, package_of, read_count}
 use Rattle.log_text.specs.LogReading.{line_by, begins, as_long_as, is_served, served_in, head_by, head_in, entry_in, history_in, cash_in, cert_in, score_in, log_in}
 use Rattle.log_text.proofs.SheetFormLaws.{count_is}
-use Rattle.log_text.proofs.TreesCut.{tree_lacks}
+use Rattle.log_text.proofs.Taking.{later_lines}
 use Rattle.reading_laws.proofs.Steady.{Reader, Step, onto, bytes_of}
-use Rattle.reading_laws.proofs.Spots.{AllLack, front_lacks, later_lack}
+use Rattle.reading_laws.proofs.Spots.{AllLack, front_lacks}
 use Rattle.reading_laws.proofs.Runs.{stops, full, goes}
 use Rattle.reading_laws.proofs.Blocks.{next_block}
 use Rattle.reading_laws.proofs.LogSteps.{counted, no_count, read_block}
@@ -274,7 +274,7 @@ module _ (agent : ℕ) (low : agent ≤ 7) where
     within : (lines front : List NumberedLine) (cert : NumberedLine) (back : List NumberedLine) (bytes : List ℕ) (tree : Tree) → IsCertLine cert.bytes → AllLack (bytes_of lines) → lines ≡ front ++ cert ∷ back → bytes ≡ text_of (bytes_of lines) → cert_of bytes ≡ Ok tree → ⊥
     within lines front cert back bytes tree is lack parts made read =
         let printed = cert_printed bytes tree read in
-        let same = same_lines (tree_lines tree) (bytes_of lines) (tree_lacks 32 tree printed.fits) lack (sym printed.same ∙ made) in
+        let same = same_lines (tree_lines tree) (bytes_of lines) (tree_lines_lack 32 tree printed.fits) lack (sym printed.same ∙ made) in
         not_among (tree_lines tree) (tree_others tree) (bytes_of front) cert.bytes (bytes_of back) is (same ∙ ap bytes_of parts ∙ map-append (λ (l : NumberedLine). l.bytes) front (cert ∷ back))
 
     -- it is after the certificate
@@ -293,7 +293,7 @@ module _ (agent : ℕ) (low : agent ≤ 7) where
         let lacks = subst AllLack (ap bytes_of n.split ∙ parts) p.lack.1 in
         elim (in_either n.used b.block.1.lines front p.cert p.rest.lines (sym n.split)) as (λ _. Met (cert_in other) (line ∷ front) p x) [
           | inl i ↦ absurd (within n.used front p.cert i.0 b.block.0 x.0 p.is (front_lacks (bytes_of n.used) (bytes_of b.block.1.lines) lacks) i.1 n.bytes_are b.tree)
-          | inr i ↦ inr (passed (cert_in other) (line ∷ front) i.0 p x.0 x e (subst (λ (ls : List NumberedLine). AllLack (bytes_of ls)) i.2 (later_lack (bytes_of n.used) (bytes_of b.block.1.lines) lacks)) (λ l left is.
+          | inr i ↦ inr (passed (cert_in other) (line ∷ front) i.0 p x.0 x e (subst (λ (ls : List NumberedLine). AllLack (bytes_of ls)) i.2 (later_lines (bytes_of n.used) (bytes_of b.block.1.lines) lacks)) (λ l left is.
               ap (λ (ls : List NumberedLine). cert_in other (there (line ∷ ls) l left)) i.1 ∙ beyond count line n.used i.0 b.block.0 x.0 h n.again b.tree l left))
         ]
 

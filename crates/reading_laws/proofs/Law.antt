@@ -7,9 +7,10 @@ use Rattle.text_forms.specs.Words.{parts_of}
 use Rattle.text_forms.specs.Lines.{NumberedLine, Remaining, is_comment, lines_from, text_of}
 use Rattle.text_forms.proofs.Stepping.{HasPart, has_part, chosen}
 use Rattle.bound_cert.proofs.TreesAgain.{parts_again, lines_lack-append}
+use Rattle.log_text.proofs.LogTaking.{part_lacks}
 use Rattle.reading_laws.specs.FirstBadLine.{lines_with_ends, with_ends, BeginsText, IsFirstBadLine}
 use Rattle.reading_laws.proofs.Steady.{Reader, onto, ending, Ends, Closes, OutcomeAtEnd, Refuses, AtLine, AtEnd, Within}
-use Rattle.reading_laws.proofs.Spots.{AllLack, Front, with_end, parts_lack, front_lacks, plain_lacks, spot, end_spot, numbered, part_after, front_again, last_lacks, take_before, agree_before, ends_append, same_front, same_end}
+use Rattle.reading_laws.proofs.Spots.{AllLack, Front, with_end, front_lacks, plain_lacks, spot, end_spot, numbered, part_after, front_again, last_lacks, take_before, agree_before, ends_append, same_front, same_end}
 
 -- the lines of a text
 abbrev pub left_of : Bool → List ℕ → Remaining
@@ -30,7 +31,7 @@ module _ {X E : Type 0} (IsAt : E → ℕ → Type 0) (is_calm : List ℕ → Bo
       let lines = prior ++ more in
       let last = more ++ [] ∷ [] in
       let last_has = part_after more [] [] in
-      let lack : AllLack lines = lines_lack-append prior more (front_lacks prior parts (subst AllLack are (parts_lack text))) (plain_lacks more e.plain) in
+      let lack : AllLack lines = lines_lack-append prior more (front_lacks prior parts (subst AllLack are (part_lacks text))) (plain_lacks more e.plain) in
       let cut : parts_of 10 (text_of lines) ≡ prior ++ last = parts_again lines lack ∙ append_assoc prior more ([] ∷ []) in
       let n = numbered skips (1 + length prior) more e.plain in
       let left : left_of skips (text_of lines) ≡ onto (front ++ n.all) (ending n.last) =
@@ -88,7 +89,7 @@ module _ {X E : Type 0} (IsAt : E → ℕ → Type 0) (is_calm : List ℕ → Bo
   line_fits_none : (text : List ℕ) (fault : E) (prior : List (List ℕ)) (front : List NumberedLine) (line : NumberedLine) (next : List ℕ) (after : List (List ℕ)) → parts_of 10 text ≡ prior ++ line.bytes ∷ next ∷ after → Front skips 1 prior front → line.number ≡ 1 + length prior
       → skips && is_comment line.bytes ≡ false → ((other : Remaining) → read (onto front (onto (line ∷ []) other)) ≡ Err fault) → BeginsText IsText text (suc (length prior)) → ⊥
   line_fits_none text fault prior front line next after are f number kept again b =
-      let heads = same_front (prior ++ line.bytes ∷ []) (parts_of 10 b.0) (parts_lack b.0) (has_part 10 b.0) (taken_to text b.0 prior line.bytes next after are b.2) in
+      let heads = same_front (prior ++ line.bytes ∷ []) (parts_of 10 b.0) (part_lacks b.0) (has_part 10 b.0) (taken_to text b.0 prior line.bytes next after are b.2) in
       let value = only b.0 b.1 in
       let left = left_to b.0 prior front line heads.part heads.rest heads.split f number kept in
       not_both (read (left_of skips b.0)) value.0 fault value.1 (ap read left ∙ again (lines_from skips (1 + length prior + 1) (heads.part ∷ heads.rest)))
@@ -107,7 +108,7 @@ module _ {X E : Type 0} (IsAt : E → ℕ → Type 0) (is_calm : List ℕ → Bo
 
   -- a text that agrees with another to its end is that text
   whole_to : (text other : List ℕ) (prior : List (List ℕ)) (rest : List ℕ) → parts_of 10 text ≡ prior ++ rest ∷ [] → take (suc (length prior)) (lines_with_ends other) ≡ take (suc (length prior)) (lines_with_ends text) → parts_of 10 other ≡ parts_of 10 text
-  whole_to text other prior rest are same = same_end prior rest (parts_of 10 other) (last_lacks prior rest (subst AllLack are (parts_lack text))) (has_part 10 other) taken ∙ sym are where
+  whole_to text other prior rest are same = same_end prior rest (parts_of 10 other) (last_lacks prior rest (subst AllLack are (part_lacks text))) (has_part 10 other) taken ∙ sym are where
     whole : lines_with_ends text ≡ map with_end prior ++ rest ∷ []
     whole = ap with_ends are ∙ ends_append prior rest []
 

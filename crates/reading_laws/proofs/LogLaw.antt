@@ -27,7 +27,7 @@ use Rattle.log_text.specs.SheetForms.{read_score, package_of, read_count}
 use Rattle.log_text.specs.LogReading.{line_by, head_in, history_in, cash_in, cert_by, block_by, cert_in, score_in, log_in}
 use Rattle.log_text.specs.LoggedGames.{LoggedGame, IsLoggedScore}
 use Rattle.log_text.proofs.SheetFormLaws.{count_body, count_again}
-use Rattle.log_text.proofs.LogTaking.{log_is}
+use Rattle.log_text.proofs.LogTaking.{part_lacks, lines_lack, log_is}
 use Rattle.log_text.proofs.Taking.{AllFrom}
 use Rattle.log_text.proofs.SheetGiving.{IsScore, log_given_by}
 use Rattle.log_reader.specs.declared.fault.LogFault.TheVariants.{Line}
@@ -36,7 +36,7 @@ use Rattle.log_reader.specs.Logs.{log_of}
 use Rattle.reading_laws.specs.FirstBadLine.{with_ends}
 use Rattle.reading_laws.specs.Logs.{HasShortText, IsLogText, IsRefusedLogAt, IsCertificateDue, IsBadAfter, IsBadCertificateLine, IsBadLogLine, bad_line_after}
 use Rattle.reading_laws.proofs.Steady.{bytes_of}
-use Rattle.reading_laws.proofs.Spots.{AllLack, Front, with_end, parts_lack, left_lack, part_after, all_front, spot, ends_append, same_prior, cut}
+use Rattle.reading_laws.proofs.Spots.{AllLack, Front, with_end, part_after, all_front, spot, ends_append, same_prior, cut}
 use Rattle.reading_laws.proofs.Law.{Begun, IsWithin, left_of, begun, is_first_or_within, is_refused}
 use Rattle.reading_laws.proofs.LineSteps.{IsBadAt, BadLineOf, one_place}
 use Rattle.reading_laws.proofs.LogSteps.{BadBlock, is_calm, counted, read_block, log_closes}
@@ -253,8 +253,8 @@ exception_refused text line b =
     let known = b.known in
     let low : b.agent ≤ 7 = omega (arith, known) in
     let d = b.due in
-    let t = cut (parts_of 10 text) b.before (cert_line b.agent b.count) b.after (parts_lack text) b.lines in
-    let o = cut (parts_of 10 d.other) b.before (cert_line b.agent d.count) d.after (parts_lack d.other) d.lines in
+    let t = cut (parts_of 10 text) b.before (cert_line b.agent b.count) b.after (part_lacks text) b.lines in
+    let o = cut (parts_of 10 d.other) b.before (cert_line b.agent d.count) d.after (part_lacks d.other) d.lines in
     let prior = same_prior o.prior t.prior (sym o.before_is ∙ t.before_is) in
     let front = all_front 1 t.prior in
     let number = 1 + length t.prior in
@@ -265,7 +265,7 @@ exception_refused text line b =
     let here : left_of false text ≡ there front.0 cert rest = ap (lines_from false 1) t.are ∙ front.1.again cert.bytes (t.part ∷ t.others) in
     let log_here : left_of false d.other ≡ there front.0 log_cert others =
     ap (lines_from false 1) (o.are ∙ ap (λ (ls : List (List ℕ)). ls ++ log_cert.bytes ∷ o.part ∷ o.others) prior) ∙ front.1.again log_cert.bytes (o.part ∷ o.others) in
-    let lack = subst (λ (l : Remaining). AllLack (bytes_of l.lines)) log_here (left_lack 1 (parts_of 10 d.other) (parts_lack d.other)) in
+    let lack = subst (λ (l : Remaining). AllLack (bytes_of l.lines)) log_here (lines_lack 1 (parts_of 10 d.other) (part_lacks d.other)) in
     let log = only d.other d.is in
     let r = (log_meets b.agent low).met front.0 (record { cert = log_cert; rest = others; is = (d.count, refl); lack = lack }) log.0 (ap log_in (sym log_here) ∙ log.1) in
     let count = length-map t.prior with_end in

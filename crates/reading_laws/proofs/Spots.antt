@@ -1,9 +1,8 @@
 -- Where a line that is left stands in the text, and what another text with the same lines before it has there.
-use Rattle.std.proofs.Common.{◌≡◌, ℕ, zero, suc, ◌+◌, ◌≤◌, Bool, true, false, cond, eqb, List, [], ◌∷◌, ◌++◌, length, map, take, refl, sym, ap, subst, ◌∙◌, arith}
+use Rattle.std.proofs.Common.{◌≡◌, ℕ, zero, suc, ◌+◌, ◌≤◌, Bool, true, false, eqb, List, [], ◌∷◌, ◌++◌, length, map, take, refl, sym, ap, subst, ◌∙◌, arith}
 use Rattle.std.specs.Prelude.{◌&&◌}
-use Rattle.std.specs.List.{AllByRecursion, onto_first}
+use Rattle.std.specs.List.{AllByRecursion}
 use Rattle.tac_base.proofs.Signed.{Lacks}
-use Rattle.text_forms.specs.Words.{parts_of}
 use Rattle.text_forms.specs.Lines.{NumberedLine, Remaining, is_comment, lines_from}
 use Rattle.text_forms.proofs.Stepping.{HasPart, chosen}
 use Rattle.reading_laws.specs.FirstBadLine.{with_ends}
@@ -14,19 +13,6 @@ use Rattle.reading_laws.proofs.Steady.{ArePlain, onto, bytes_of, ending}
 abbrev pub AllLack : List (List ℕ) → Type 0
 AllLack parts = AllByRecursion (Lacks 10) parts
 
-onto_lacks : (b : ℕ) (parts : List (List ℕ)) → eqb b 10 ≡ false → AllLack parts → AllLack (onto_first b parts)
-onto_lacks b [] e h = ((e, tt), tt)
-onto_lacks b (part ∷ parts) e h = ((e, h.0), h.1)
-
-either_lacks : (t : Bool) (b : ℕ) (parts : List (List ℕ)) → eqb b 10 ≡ t → AllLack parts → AllLack (cond t ([] ∷ parts) (onto_first b parts))
-either_lacks true b parts e h = (tt, h)
-either_lacks false b parts e h = onto_lacks b parts e h
-
--- no part of a text has a line end in it
-pub parts_lack : (bytes : List ℕ) → AllLack (parts_of 10 bytes)
-parts_lack [] = (tt, tt)
-parts_lack (b ∷ bytes) = either_lacks (eqb b 10) b (parts_of 10 bytes) refl (parts_lack bytes)
-
 pub front_lacks : (xs ys : List (List ℕ)) → AllLack (xs ++ ys) → AllLack xs
 front_lacks [] ys h = tt
 front_lacks (x ∷ xs) ys h = (h.0, front_lacks xs ys h.1)
@@ -35,18 +21,9 @@ pub last_lacks : (xs : List (List ℕ)) (part : List ℕ) → AllLack (xs ++ par
 last_lacks [] part h = h.0
 last_lacks (x ∷ xs) part h = last_lacks xs part h.1
 
-pub later_lack : (xs ys : List (List ℕ)) → AllLack (xs ++ ys) → AllLack ys
-later_lack [] ys h = h
-later_lack (x ∷ xs) ys h = later_lack xs ys h.1
-
 pub plain_lacks : (lines : List (List ℕ)) → ArePlain lines → AllLack lines
 plain_lacks [] h = tt
 plain_lacks (line ∷ lines) h = (h.0.lacks, plain_lacks lines h.1)
-
-pub left_lack : (number : ℕ) (parts : List (List ℕ)) → AllLack parts → AllLack (bytes_of (lines_from false number parts).lines)
-left_lack number [] h = tt
-left_lack number (rest ∷ []) h = tt
-left_lack number (line ∷ next ∷ parts) h = (h.0, left_lack (number + 1) (next ∷ parts) h.1)
 
 -- a line with its end has one
 has_end : (line : List ℕ) → Lacks 10 (line ++ 10 ∷ []) → ⊥
